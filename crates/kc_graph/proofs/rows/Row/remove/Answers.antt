@@ -1,0 +1,17 @@
+use Rattle.std.proofs.Common.{◌∙◌, sym, ap}
+use Rattle.kc_graph.specs.Numbers.{without}
+use Rattle.kc_graph.proofs.SearchLemmas.{removed, without_not_found}
+use Rattle.kc_graph.proofs.rows.Row.remove.Goals as goal
+
+pub invariant_of-self : goal.invariant_of-self
+invariant_of-self c =
+    (removed _ _ _ _ c.self.invariant (rw c.deref.ensures.value at c.in-Ok.ensures) c.remove.ensures.items).1
+
+pub returns-in-Ok : goal.returns-in-Ok
+returns-in-Ok c =
+    (removed _ _ _ _ c.self.invariant (rw c.deref.ensures.value at c.in-Ok.ensures) c.remove.ensures.items).0
+    ∙ ap (without c.args.x) c.self.view_is
+
+pub returns-in_default : goal.returns-in_default
+returns-in_default c =
+    sym (without_not_found _ c.args.x _ (rw (c.deref.ensures.value, c.self.view_is) at c.in_default.ensures))

@@ -1,0 +1,5 @@
+pub mod Numbers
+pub mod Shape
+pub mod Changes
+pub mod KeptRows
+pub mod Laws

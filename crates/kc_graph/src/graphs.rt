@@ -1,0 +1,124 @@
+ghost use Rattle.std.specs.Prelude.{◌≡◌, ℕ, ◌<◌, ◌≤◌, [], length, false, true, All, IfOk, OnOk, OnErr};
+ghost use Rattle.kc_graph.specs.Numbers.{RisesFrom};
+ghost use Rattle.kc_graph.specs.Shape.{GraphShape, IsGraph, neighbours_of, has_edge, with_edge, without_edge};
+
+use crate::edges::Edge;
+use crate::limits::{MAX_EDGES, MAX_VERTICES};
+use crate::links;
+use crate::rows::Row;
+use std::alloc::{AllocError, Global};
+use std::marker::Model;
+
+/// A graph on the vertices 0 to n - 1, without loops, each edge once.
+///
+/// Contracts see it as a `GraphShape`: the number n and the ascending list of the edges.
+#[derive(Drop)]
+pub struct Graph {
+    // The number of vertices, 1 to `MAX_VERTICES`.
+    n: u32,
+    // The number of edges, at most `MAX_EDGES`.
+    count: u32,
+    // A row for each vertex: its neighbours in the graph that all rows together stand for.
+    rows: Vec<Row>,
+}
+
+impl Model for Graph {
+    ghost use Rattle.kc_graph.specs.Shape.{GraphShape};
+    ghost use Rattle.kc_graph.specs.KeptRows.{edges_of, IsKept};
+
+    ghost Value = { GraphShape };
+
+    ghost view = { λ g. record { vertices = g.n; edges = edges_of 0 g.rows.items } };
+
+    ghost invariant = { λ g. IsKept g.n g.rows.items g.count };
+}
+
+impl Graph {
+    /// The graph on n vertices without edges; n is 1 to `MAX_VERTICES`.
+    ///
+    /// Takes memory for n empty rows. The error is want of memory.
+    pub fn new(alloc: Global, n: u32) -> Result<Graph, AllocError>
+        requires positive { 1 ≤ n }
+        requires small { n ≤ MAX_VERTICES }
+        ensures { IfOk result (λ g. g ≡ record { vertices = n; edges = [] }) }
+    {
+        let mut rows = Vec::with_capacity(alloc, n as usize)?;
+        for _ in 0..n {
+            rows.push(Row::new(alloc))?;
+        }
+        Ok(Graph { n, count: 0, rows })
+    }
+
+    /// The number of vertices.
+    pub fn vertices(&self) -> u32
+        ensures count { result ≡ self.now.vertices }
+        ensures graph { IsGraph self.now }
+        ensures positive { 1 ≤ self.now.vertices }
+        ensures small { self.now.vertices ≤ MAX_VERTICES }
+    {
+        self.n
+    }
+
+    /// The number of edges.
+    pub fn edge_count(&self) -> u32
+        ensures count { result ≡ length self.now.edges }
+        ensures few { length self.now.edges ≤ MAX_EDGES }
+    {
+        self.count
+    }
+
+    /// Whether the edge is there. Costs a binary search in one row.
+    pub fn has(&self, e: Edge) -> bool
+        requires { e.1 < self.now.vertices }
+        ensures { result ≡ has_edge e self.now.edges }
+    {
+        self.rows[e.a as usize].has(e.b)
+    }
+
+    /// The vertices that share an edge with v, ascending (`neighbours_of`). Costs O(1).
+    pub fn neighbours(&self, v: u32) -> &[u32]
+        requires { v < self.now.vertices }
+        ensures value { result.now ≡ neighbours_of v self.now.edges }
+        ensures ascending { RisesFrom 0 result.now }
+        ensures below { All (λ w. w < self.now.vertices) result.now }
+        ensures fewer { length result.now < self.now.vertices }
+        ensures small { self.now.vertices ≤ MAX_VERTICES }
+    {
+        self.rows[v as usize].as_slice()
+    }
+
+    /// Puts in an edge that is not there (`with_edge`); fewer than `MAX_EDGES` edges may be there.
+    ///
+    /// The error is want of memory, and the graph is then unchanged. The memory comes from the
+    /// allocator that `new` was given.
+    ///
+    /// Costs a binary search and a move of the greater neighbours in the rows of both ends, and
+    /// neither where the new neighbour is greater than all others: edges that come in ascending
+    /// order cost O(1) each, amortized.
+    pub fn insert(&mut self, _alloc: Global, e: Edge) -> Result<(), AllocError>
+        requires below { e.1 < self.old.vertices }
+        requires absent { has_edge e self.old.edges ≡ false }
+        requires room { length self.old.edges < MAX_EDGES }
+        ensures ok { OnOk result (self.new ≡ with_edge self.old e) }
+        ensures err { OnErr result (self.new ≡ self.old) }
+    {
+        links::join(&mut self.rows, e.a, e.b)?;
+        self.count += 1;
+        Ok(())
+    }
+
+    /// Takes out an edge that is there (`without_edge`). Takes no memory, and gives none back.
+    ///
+    /// Costs a binary search and a move of the greater neighbours in the rows of both ends.
+    pub fn remove(&mut self, e: Edge)
+        requires below { e.1 < self.old.vertices }
+        requires present { has_edge e self.old.edges ≡ true }
+        ensures { self.new ≡ without_edge self.old e }
+    {
+        links::part(&mut self.rows, e.a, e.b);
+        self.count -= 1;
+    }
+}
+
+#[cfg(test)]
+mod tests;

@@ -1,0 +1,92 @@
+use super::*;
+use std::process::Abort;
+use std::test::Fail;
+
+// A graph on n vertices by its edges, a further edge, and the neighbours of v without and with it.
+struct Case {
+    n: u32,
+    edges: &'static [(u32, u32)],
+    further: (u32, u32),
+    v: u32,
+    without: &'static [u32],
+    with: &'static [u32],
+}
+
+// The complete graph on 0 to 3 in ascending and in descending order, a path, and a star.
+const CASES: [Case; 4] = [
+    Case {
+        n: 5,
+        edges: &[(0, 1), (0, 2), (0, 3), (1, 2), (1, 3)],
+        further: (2, 3),
+        v: 3,
+        without: &[0, 1],
+        with: &[0, 1, 2],
+    },
+    Case {
+        n: 4,
+        edges: &[(2, 3), (1, 3), (1, 2), (0, 3), (0, 2)],
+        further: (0, 1),
+        v: 1,
+        without: &[2, 3],
+        with: &[0, 2, 3],
+    },
+    Case {
+        n: 5,
+        edges: &[(3, 4), (1, 2), (0, 1)],
+        further: (2, 3),
+        v: 2,
+        without: &[1],
+        with: &[1, 3],
+    },
+    Case {
+        n: 5,
+        edges: &[(0, 2), (0, 4), (0, 1)],
+        further: (0, 3),
+        v: 0,
+        without: &[1, 2, 4],
+        with: &[1, 2, 3, 4],
+    },
+];
+
+fn put_in(rt: &impl Abort, alloc: Global, graph: &mut Graph, edge: (u32, u32)) -> Result<(), Fail> {
+    let (a, b) = edge;
+    assert!(rt; a < b && b < graph.vertices());
+    let e = Edge { a, b };
+    assert!(rt; !graph.has(e) && graph.edge_count() < MAX_EDGES);
+    graph.insert(alloc, e)?;
+    assert!(rt; graph.has(e), "{e:?}");
+    Ok(())
+}
+
+fn take_out(rt: &impl Abort, graph: &mut Graph, edge: (u32, u32)) {
+    let (a, b) = edge;
+    assert!(rt; a < b && b < graph.vertices());
+    let e = Edge { a, b };
+    assert!(rt; graph.has(e), "{e:?}");
+    graph.remove(e);
+    assert!(rt; !graph.has(e), "{e:?}");
+}
+
+fn assert_shape(rt: &impl Abort, graph: &Graph, edge_count: usize, v: u32, neighbours: &[u32]) {
+    assert!(rt; v < graph.vertices());
+    assert_eq!(rt; graph.edge_count() as usize, edge_count);
+    assert_eq!(rt; graph.neighbours(v), neighbours);
+}
+
+#[test]
+fn edges_in_and_out(rt: HostRuntime) -> Result<(), Fail> {
+    for case in &CASES {
+        let mut graph = Graph::new(rt.alloc(), case.n)?;
+        assert_eq!(rt; graph.vertices(), case.n);
+        for &edge in case.edges {
+            put_in(&rt, rt.alloc(), &mut graph, edge)?;
+        }
+        let count = case.edges.len();
+        assert_shape(&rt, &graph, count, case.v, case.without);
+        put_in(&rt, rt.alloc(), &mut graph, case.further)?;
+        assert_shape(&rt, &graph, count + 1, case.v, case.with);
+        take_out(&rt, &mut graph, case.further);
+        assert_shape(&rt, &graph, count, case.v, case.without);
+    }
+    Ok(())
+}

@@ -1,0 +1,89 @@
+ghost use Rattle.std.specs.Prelude.{◌≡◌, ℕ, ◌<◌, ◌↔◌, [], List, IsTrue, OnOk, OnErr, All};
+ghost use Rattle.kc_graph.specs.Numbers.{has_number, put, without, RisesFrom, Found};
+
+use std::alloc::{AllocError, Global};
+use std::marker::Model;
+
+/// A set of numbers, seen as the ascending list of them.
+#[derive(Drop)]
+pub struct Row {
+    // Strictly ascending.
+    items: Vec<u32>,
+}
+
+impl Model for Row {
+    ghost Value = { List ℕ };
+
+    ghost view = { λ r. r.items.items };
+
+    ghost invariant = { λ r. RisesFrom 0 r.items.items };
+}
+
+// Where x stands in the list, or where it is to be put.
+fn place_of(items: &[u32], x: u32) -> Result<usize, usize>
+    requires { RisesFrom 0 items.now }
+    ensures { Found items.now x result }
+{
+    items.binary_search(&x)
+}
+
+// Whether all of the list is below x, which its last number tells.
+fn ends_below(items: &[u32], x: u32) -> bool
+    requires { RisesFrom 0 items.now }
+    ensures { IsTrue result ↔ All (λ y. y < x) items.now }
+{
+    match items.last() {
+        Some(last) => *last < x,
+        None => true,
+    }
+}
+
+impl Row {
+    pub fn new(alloc: Global) -> Self
+        ensures { result ≡ [] }
+    {
+        Row {
+            items: Vec::new(alloc),
+        }
+    }
+
+    pub fn as_slice(&self) -> &[u32]
+        ensures { result.now ≡ self.now }
+    {
+        self.items.as_slice()
+    }
+
+    pub fn has(&self, x: u32) -> bool
+        ensures { result ≡ has_number x self.now }
+    {
+        place_of(&self.items, x).is_ok()
+    }
+
+    /// Puts x at its place; a row that has x stays as it is. A number above all others costs no
+    /// search and no move.
+    pub fn insert(&mut self, x: u32) -> Result<(), AllocError>
+        ensures ok { OnOk result (self.new ≡ put x self.old) }
+        ensures err { OnErr result (self.new ≡ self.old) }
+    {
+        if ends_below(&self.items, x) {
+            self.items.push(x)?;
+            return Ok(());
+        }
+        match place_of(&self.items, x) {
+            Ok(_) => Ok(()),
+            Err(place) => {
+                self.items.insert(place, x)?;
+                Ok(())
+            }
+        }
+    }
+
+    /// Takes x out; a row without x stays as it is.
+    pub fn remove(&mut self, x: u32)
+        ensures { self.new ≡ without x self.old }
+    {
+        if let Ok(place) = place_of(&self.items, x) {
+            let _ = self.items.remove(place);
+        }
+    }
+}

@@ -1,0 +1,210 @@
+-- What a reader gives and takes.
+use Rattle.std.proofs.Common.{ℕ, suc, ◌+◌, ◌-◌, ◌<◌, ◌≤◌, ◌≡◌, ◌==◌, List, [], ◌∷◌, ◌++◌, length, take, drop, arith, refl, sym, ap, ◌∙◌, subst, append_assoc, get_or, true, false, Bool, cond, nat_le, add-one, drop-cons, replicate, inl, inr}
+use Rattle.std.specs.Prelude.{Option, None, Some, if◌then◌else◌, ◌&&◌, ◌||◌, nat_lt, not, ◌*◌}
+use Rattle.std.proofs.lemmas.List.{length-append, length-take-le, take-append-drop, length-replicate, length-drop}
+use Rattle.std.proofs.lemmas.Bool.Decides.{nat_tests}
+use Rattle.std.proofs.lemmas.Bool.{cases_lt}
+use Rattle.kc_text.specs.declared.line.Line.{Line}
+use Rattle.kc_text.specs.declared.line.Body.{Body}
+use Rattle.kc_text.specs.declared.line.Body.TheVariants.{Text, TooLong, Limit, End}
+use Rattle.kc_text.specs.Lines.{lines, lines_from, line_of, last_of, at_limit, body_of, without_cr}
+use Rattle.std.specs.Io.KnownBytes.{prepend_known, IsAtEnd}
+use Rattle.std.specs.Option.{option_map}
+use Rattle.std.specs.List.{list_any}
+use borrow.Author.Tests.{ltb-true}
+use Rattle.kc_text.specs.Reading.{Reading, lines_left, lines_of_rest, onto, behind, Takes, IsLast, is_decided}
+use Rattle.kc_text.specs.ReaderState.{piece_of}
+use Rattle.kc_text.specs.ReaderSteps.{Gives, Absorbs}
+use Rattle.kc_text.proofs.Passing.{HasNoEnd, pass_over, line_closed, limit_met, over_same}
+use Rattle.kc_text.proofs.Ends.{FirstEnd}
+
+pub behind_line : (limit : ℕ) (piece : List ℕ) (rest : List Line) → behind (body_of limit piece) rest ≡ rest
+behind_line limit piece rest = elim (nat_le (length piece) limit) as (λ b. behind (if b then Text (without_cr piece) else TooLong) rest ≡ rest) [ true ↦ refl | false ↦ refl ]
+
+pub takes_line : (limit : ℕ) (piece : List ℕ) (old new : ℕ) → new < old → Takes (body_of limit piece) old new
+takes_line limit piece old new h = elim (nat_le (length piece) limit) as (λ b. Takes (if b then Text (without_cr piece) else TooLong) old new) [ true ↦ h | false ↦ h ]
+
+pub not_last : (limit : ℕ) (piece : List ℕ) → IsLast (body_of limit piece) → ⊥
+not_last limit piece = elim (nat_le (length piece) limit) as (λ b. IsLast (if b then Text (without_cr piece) else TooLong) → ⊥) [ true ↦ λ h. h | false ↦ λ h. h ]
+
+-- whether what was read decides the next line
+decided_full : (room : ℕ) (ready : List ℕ) (ended : Bool) → room < length ready → (ended || (nat_lt room (length ready) || list_any (λ b. b == 10) ready)) ≡ true
+decided_full room ready ended h = grind (arith, nat_tests, ltb-true room (length ready))
+
+no_end_any : (c : List ℕ) → HasNoEnd c → list_any (λ b. b == 10) c ≡ false
+no_end_any [] h = refl
+no_end_any (x ∷ xs) h =
+    let e : (x == 10) ≡ false = h 0 (omega arith) in
+    rw (e, no_end_any xs (λ k lt. h (suc k) (omega arith))) refl
+
+undecided : (room : ℕ) (ready : List ℕ) → length ready ≤ room → HasNoEnd ready → (nat_lt room (length ready) || list_any (λ b. b == 10) ready) ≡ false
+undecided room ready h f =
+    let e : nat_lt room (length ready) ≡ false = grind (arith, nat_tests) in
+    rw (e, no_end_any ready f) refl
+
+cut_at : (ready : List ℕ) (at : ℕ) → at < length ready → get_or ready at 0 ≡ 10 → ready ≡ take at ready ++ 10 ∷ drop (at + 1) ready
+cut_at ready at h e =
+    let d : drop at ready ≡ 10 ∷ drop (at + 1) ready = rw (add-one, drop-cons ready at 0) (ap (λ x. x ∷ drop (suc at) ready) e) in
+    sym (take-append-drop at ready) ∙ ap (λ xs. take at ready ++ xs) d
+
+-- the lines of a rest that begins with c and an end
+closed : (limit n room room' : ℕ) (piece ready c d more : List ℕ) → ready ≡ c ++ 10 ∷ d → room ≡ length c + suc room' → HasNoEnd c
+    → lines_from limit n room piece (ready ++ more) ≡ line_of limit n (piece ++ c) ∷ lines_from limit (n + 1) room' [] (d ++ more)
+closed limit n room room' piece ready c d more e er h = rw (e, append_assoc) (line_closed limit n room' room piece c (d ++ more) er h)
+
+pub gives_line : (limit n room : ℕ) (piece ready : List ℕ) (ended : Bool) (within at : ℕ) (body : Body) (room' : ℕ) (piece' ready' : List ℕ)
+    → within ≤ length ready → within ≤ room → FirstEnd ready within at → body ≡ body_of limit (piece ++ take at ready)
+    → room' ≡ room - (at + 1) → piece' ≡ [] → ready' ≡ drop (at + 1) ready
+    → Gives (record { number = n; body = body }) (record { limit = limit; number = n; room = room; piece = piece; ready = ready; ended = ended })
+    (record { limit = limit; number = n + 1; room = room'; piece = piece'; ready = ready'; ended = ended })
+unfolding lines_of_rest
+gives_line limit n room piece ready ended within at body room' piece' ready' w1 w2 f e er ep ed =
+    let lt = f.below in
+    record {
+      lines = λ bs.
+          let more = if ended then [] else bs in
+          rw (e, ep, ed, behind_line) (closed limit n room room' piece ready (take at ready) (drop (at + 1) ready) more (cut_at ready at (omega arith) f.here) (omega (arith, length-take-le at ready (omega arith))) f.before);
+      takes = rw (e, ep) (takes_line limit (piece ++ take at ready) _ _ (omega arith));
+      last = λ h. absurd (not_last limit _ (subst IsLast e h));
+      settled = λ h. absurd (not_last limit _ (subst IsLast e h));
+    }
+
+-- the lines of a rest that is longer than the room, with no end within it
+limited : (limit n room : ℕ) (piece c d more : List ℕ) → room ≡ length c → HasNoEnd c → 0 < length d → lines_from limit n room piece ((c ++ d) ++ more) ≡ at_limit n
+limited limit n room piece c [] more e h p = absurd (omega arith)
+limited limit n room piece c (b ∷ d) more e h p = rw append_assoc (limit_met limit n room piece c b (d ++ more) e h)
+
+pub gives_limit : (limit n room : ℕ) (piece ready : List ℕ) (ended : Bool) → room < length ready → HasNoEnd (take room ready)
+    → let r : Reading = record { limit = limit; number = n; room = room; piece = piece; ready = ready; ended = ended } in Gives (record { number = n; body = Limit }) r r
+unfolding lines_of_rest
+gives_limit limit n room piece ready ended h f = record {
+  lines = λ bs.
+      let more = if ended then [] else bs in
+      let all = limited limit n room piece (take room ready) (drop room ready) more (sym (length-take-le room ready (omega arith))) f (simp length-drop (omega arith)) in
+      rw take-append-drop at all;
+  takes = omega arith;
+  last = λ _. refl;
+  settled = λ _. decided_full room ready ended h;
+}
+
+-- the lines of a rest whose front has no end
+passed : (limit n room room' : ℕ) (piece piece' c more : List ℕ) → room ≡ length c + room' → HasNoEnd c
+    → length piece' ≡ length piece + length c → (length piece' ≤ limit → piece' ≡ piece ++ c)
+    → lines_from limit n room piece (c ++ more) ≡ lines_from limit n room' piece' more
+passed limit n room room' piece piece' c more e h len same =
+    let all = pass_over limit n room' room piece c more e h in
+    elim (cases_lt limit (length piece')) [
+      | inr small ↦ all ∙ ap (λ p. lines_from limit n room' p more) (sym (same small))
+      | inl large ↦ all ∙ over_same limit n room' (piece ++ c) piece' more (simp length-append (omega arith)) large
+    ]
+
+work_falls : (room room' : ℕ) (ready ready' : List ℕ) → room' ≡ room - length ready → ready' ≡ [] → length ready ≤ room
+    → 2 * room' + (if (length ready' == 0) && not false then 1 else 0) ≤ 2 * room + (if (length ready == 0) && not false then 1 else 0)
+work_falls room room' [] ready' e er h = rw er (omega arith)
+work_falls room room' (x ∷ xs) ready' e er h = rw er (omega arith)
+
+pub absorbs : (limit n room : ℕ) (piece ready piece' : List ℕ) (room' : ℕ) (ready' : List ℕ) → length ready ≤ room → HasNoEnd ready
+    → length piece' ≡ length piece + length ready → (length piece' ≤ limit → piece' ≡ piece ++ ready) → room' ≡ room - length ready → ready' ≡ []
+    → Absorbs (record { limit = limit; number = n; room = room; piece = piece; ready = ready; ended = false }) (record { limit = limit; number = n; room = room'; piece = piece'; ready = ready'; ended = false })
+unfolding lines_of_rest
+absorbs limit n room piece ready piece' room' ready' h f len same er ed = record {
+  lines = λ bs. rw ed (passed limit n room room' piece piece' ready bs (omega arith) f len same);
+  ready = ed;
+  ended = refl;
+  budget = omega arith;
+  work = work_falls room room' ready ready' er ed h;
+  open_before = undecided room ready h f;
+}
+
+-- the end, and the line before it
+pub gives_end : (limit n room : ℕ) (piece ready : List ℕ) (ended : Bool) → piece ≡ [] → ready ≡ [] → ended ≡ true
+    → let r : Reading = record { limit = limit; number = n; room = room; piece = piece; ready = ready; ended = ended } in Gives (record { number = n; body = End }) r r
+unfolding lines_of_rest lines_from
+gives_end limit n room piece ready ended ep er ee = record { lines = λ bs. rw (ep, er, ee) refl; takes = omega arith; last = λ _. refl; settled = λ _. rw ee refl }
+
+last_line : (limit n : ℕ) (piece : List ℕ) → 0 < length piece → last_of limit n piece ≡ line_of limit n piece ∷ record { number = n + 1; body = End } ∷ []
+last_line limit n [] h = absurd (omega arith)
+last_line limit n (x ∷ xs) h = refl
+
+pub gives_last : (limit n room : ℕ) (piece ready : List ℕ) (ended : Bool) (body : Body) (piece' : List ℕ) → 0 < length piece → ready ≡ [] → ended ≡ true → body ≡ body_of limit piece → piece' ≡ []
+    → Gives (record { number = n; body = body }) (record { limit = limit; number = n; room = room; piece = piece; ready = ready; ended = ended })
+    (record { limit = limit; number = n + 1; room = room; piece = piece'; ready = ready; ended = ended })
+unfolding lines_of_rest lines_from
+gives_last limit n room piece ready ended body piece' h er ee e ep = record {
+  lines = λ bs. rw (er, ee, ep, e, behind_line) (last_line limit n piece h);
+  takes = rw (e, ep) (takes_line limit piece _ _ (omega arith));
+  last = λ h. absurd (not_last limit _ (subst IsLast e h));
+  settled = λ h. absurd (not_last limit _ (subst IsLast e h));
+}
+
+-- nothing is kept of a line of which nothing is taken
+pub piece_none : (limit : ℕ) (part : List ℕ) → part ≡ [] → piece_of limit 0 part ≡ []
+piece_none limit part e = let none : List ℕ = [] in rw e (elim (nat_le 0 limit) as (λ b. cond b none none ≡ none) [ true ↦ refl | false ↦ refl ])
+
+-- a read moves bytes from the source to the reader
+pub filled : (limit n room : ℕ) (piece ready new : List ℕ) (ended : Bool) (old left : Option (List ℕ)) → ready ≡ [] → ended ≡ false → old ≡ prepend_known new left
+    → lines_left (record { limit = limit; number = n; room = room; piece = piece; ready = new; ended = ended }) left ≡ lines_left (record { limit = limit; number = n; room = room; piece = piece; ready = ready; ended = ended }) old
+unfolding lines_left lines_of_rest
+filled limit n room piece ready new ended old None er ee e = rw e refl
+filled limit n room piece ready new ended old (Some bs) er ee e = rw (e, er, ee) refl
+
+-- a read at the end finds nothing
+pub at_end : (limit n room : ℕ) (piece ready new : List ℕ) (ended : Bool) (old left : Option (List ℕ)) → ready ≡ [] → ended ≡ false → new ≡ [] → old ≡ prepend_known new left → IsAtEnd left
+    → lines_left (record { limit = limit; number = n; room = room; piece = piece; ready = new; ended = true }) left ≡ lines_left (record { limit = limit; number = n; room = room; piece = piece; ready = ready; ended = ended }) old
+unfolding lines_left lines_of_rest
+at_end limit n room piece ready new ended old None er ee en e h = rw e refl
+at_end limit n room piece ready new ended old (Some bs) er ee en e h = rw (e, er, ee, en, h) refl
+
+piece_small : (limit taken : ℕ) (part : List ℕ) → taken ≤ limit → piece_of limit taken part ≡ part
+piece_small limit taken part h = grind (arith, nat_tests)
+
+piece_large : (limit taken : ℕ) (part : List ℕ) → limit < taken → piece_of limit taken part ≡ replicate taken 0
+piece_large limit taken part h = grind (arith, nat_tests)
+
+-- the piece after more bytes of the line
+pub record Grows (limit : ℕ) (piece more piece' : List ℕ) : Type 0 where
+  pub long : length piece' ≡ length piece + length more
+  pub same : length piece' ≤ limit → piece' ≡ piece ++ more
+
+pub piece_grows : (limit taken taken' : ℕ) (part more part' : List ℕ) → length (piece_of limit taken part) ≡ taken → taken' ≡ taken + length more
+    → (taken + length more ≤ limit → part' ≡ part ++ more) → Grows limit (piece_of limit taken part) more (piece_of limit taken' part')
+piece_grows limit taken taken' part more part' h e k = elim (cases_lt limit taken') [
+  | inl large ↦ let b = piece_large limit taken' part' large in
+      record { long = rw b (simp length-replicate (omega arith)); same = rw b (λ small. absurd (omega (arith, simp length-replicate at small))) }
+  | inr small ↦ let b = piece_small limit taken' part' small in let a = piece_small limit taken part (omega arith) in let j = k (omega arith) in
+      record { long = rw (a, b, j) (simp length-append refl); same = rw (a, b, j) (λ _. refl) }
+]
+
+pub told_line : (line : Line) (old new : Reading) (left : Option (List ℕ)) → Gives line old new → lines_left old left ≡ option_map (onto line) (lines_left new left)
+unfolding lines_left
+told_line line old new None h = refl
+told_line line old new (Some bs) h = ap Some (h.lines bs)
+
+pub told_same : (old new : Reading) (left : Option (List ℕ)) → Absorbs old new → lines_left old left ≡ lines_left new left
+unfolding lines_left
+told_same old new None h = refl
+told_same old new (Some bs) h = ap Some (h.lines bs)
+
+pub told_fresh : (limit room : ℕ) (piece ready : List ℕ) (left : Option (List ℕ)) → piece ≡ [] → ready ≡ []
+    → lines_left (record { limit = limit; number = 1; room = room; piece = piece; ready = ready; ended = false }) left ≡ option_map (lines limit room) left
+unfolding lines_left lines_of_rest
+told_fresh limit room piece ready None ep er = refl
+told_fresh limit room piece ready (Some bs) ep er = rw (ep, er) refl
+
+-- what was read can't both decide the next line and not
+pub opened : (first now : Reading) → is_decided first ≡ true → is_decided now ≡ false → now ≡ first → ⊥
+opened first now d o e = let x : true ≡ false = sym d ∙ ap is_decided (sym e) ∙ o in cc
+
+-- the line, whatever comes, of a reader that was the first
+pub decided_line : (line : Line) (first now new : Reading) → now ≡ first → Gives line now new → (bs : List ℕ) → lines_of_rest first bs ≡ onto line (lines_of_rest new bs)
+decided_line line first now new e h bs = ap (λ r. lines_of_rest r bs) (sym e) ∙ h.lines bs
+
+none_behind : (body : Body) (rest : List Line) → IsLast body → behind body rest ≡ []
+none_behind (Text _) rest h = absurd h
+none_behind TooLong rest h = absurd h
+none_behind Limit rest h = refl
+none_behind End rest h = refl
+
+-- the last line comes again
+pub gives_again : (line : Line) (old new : Reading) → Gives line old new → IsLast line.body → (bs : List ℕ) → lines_of_rest new bs ≡ line ∷ []
+gives_again line old new h l bs = ap (λ r. lines_of_rest r bs) (h.last l) ∙ h.lines bs ∙ ap (λ rest. line ∷ rest) (none_behind line.body (lines_of_rest new bs) l)

@@ -1,0 +1,9 @@
+pub mod Digits
+pub mod Ends
+pub mod Giving
+pub mod Known
+pub mod Passing
+pub mod Pieces
+pub mod Ranges
+pub mod Runs
+pub mod Wording

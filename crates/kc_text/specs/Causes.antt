@@ -1,0 +1,14 @@
+-- When a fault may be answered: causes, on the count of faults of a source or sink before a call and after it.
+use Rattle.std.specs.Prelude.{ℕ, ◌+◌, ◌-◌, ◌^◌, ◌≤◌, ◌≡◌, min, Result, Ok, Err}
+use Rattle.kc_text.specs.declared.line.LineFault.{LineFault}
+use Rattle.kc_text.specs.declared.line.LineFault.TheVariants.{ReadFault, Memory}
+
+-- the count rose, or stands at its last value
+abbrev pub Rose : ℕ → ℕ → Type 0
+Rose before now = min (before + 1) (2 ^ 64 - 1) ≤ now
+
+-- a read fault comes only where the count rose, and else the count stays
+abbrev pub ReadCause : {T : Type 0} → ℕ → ℕ → Result T LineFault → Type 0
+ReadCause before now (Err ReadFault) = Rose before now
+ReadCause before now (Err (Memory _)) = now ≡ before
+ReadCause before now (Ok _) = now ≡ before

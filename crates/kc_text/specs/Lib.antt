@@ -1,0 +1,11 @@
+pub mod Causes
+pub mod Laws
+pub mod Lines
+pub mod Mem
+pub mod Numbers
+pub mod ReaderState
+pub mod ReaderSteps
+pub mod Reading
+pub mod Reasons
+pub mod Words
+pub mod Writing

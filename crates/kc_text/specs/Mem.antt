@@ -1,0 +1,48 @@
+-- Sources and sinks in memory, of which chosen calls fail.
+use Rattle.std.specs.Prelude.{ℕ, ◌+◌, ◌-◌, ◌^◌, ◌==◌, nat_lt, nat_le, Bool, ◌&&◌, ◌||◌, List, length, min}
+use Rattle.std.specs.List.{list_any}
+
+-- the number of the call that follows so many; 4,294,967,296 stands for every call that has no number
+abbrev pub next_number : ℕ → ℕ
+next_number calls = min (calls + 1) (2 ^ 32)
+
+-- the call of this number was chosen to fail
+abbrev pub is_failing : List ℕ → ℕ → Bool
+is_failing failing number = nat_lt number (2 ^ 32) && list_any (λ k. k == number) failing
+
+-- a count of faults that rises by one, and stands still at its type's end
+abbrev pub one_more : ℕ → ℕ
+one_more faults = min (faults + 1) (2 ^ 64 - 1)
+
+-- a source: the bytes not yet read, the most bytes of one call, the numbers of the calls that fail, the number of the last call, the faults
+pub record MemInput : Type 0 where
+  pub left : List ℕ
+  pub piece : ℕ
+  pub failing : List ℕ
+  pub calls : ℕ
+  pub faults : ℕ
+
+-- the next read fails
+abbrev pub read_fails : MemInput → Bool
+read_fails m = is_failing m.failing (next_number m.calls)
+
+-- how many bytes a read gives that doesn't fail and has room for so many
+abbrev pub read_size : MemInput → ℕ → ℕ
+read_size m room = min (min m.piece room) (length m.left)
+
+-- a sink: the bytes taken, how many it takes in all, the most bytes of one call, the numbers of the calls that fail, the number of the last call, the faults
+pub record MemOutput : Type 0 where
+  pub taken : List ℕ
+  pub capacity : ℕ
+  pub piece : ℕ
+  pub failing : List ℕ
+  pub calls : ℕ
+  pub faults : ℕ
+
+-- the next write fails: it was chosen to, or the sink is full
+abbrev pub write_fails : MemOutput → Bool
+write_fails m = is_failing m.failing (next_number m.calls) || nat_le m.capacity (length m.taken)
+
+-- how many bytes a write takes that doesn't fail and offers so many
+abbrev pub write_size : MemOutput → ℕ → ℕ
+write_size m offered = min (min m.piece offered) (m.capacity - length m.taken)

@@ -1,0 +1,20 @@
+-- Numbers of a text.
+use Rattle.std.specs.Prelude.{ℕ, ◌+◌, ◌-◌, ◌*◌, ◌^◌, nat_le, nat_lt, Bool, ◌&&◌, List, [], ◌∷◌, length, Option, Some, None, if◌then◌else◌}
+use Rattle.std.specs.List.{list_all}
+
+-- an ASCII digit
+abbrev pub is_digit : ℕ → Bool
+is_digit b = nat_le 48 b && nat_le b 57
+
+-- the value of digits that stand behind others of this value
+unfoldable pub value_from : ℕ → List ℕ → ℕ
+value_from value [] = value
+value_from value (d ∷ ds) = value_from (10 * value + (d - 48)) ds
+
+-- one to ten digits, of a value below 2 ^ 32
+abbrev pub is_number : List ℕ → Bool
+is_number bs = (nat_lt 0 (length bs) && nat_le (length bs) 10) && (list_all is_digit bs && nat_lt (value_from 0 bs) (2 ^ 32))
+
+-- the number that bytes say, if they say one
+abbrev pub number_of : List ℕ → Option ℕ
+number_of bs = if is_number bs then Some (value_from 0 bs) else None

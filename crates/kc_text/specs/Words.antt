@@ -1,0 +1,33 @@
+-- The words of a line.
+use Rattle.std.specs.Prelude.{ℕ, ◌≡◌, ◌<◌, ◌≤◌, ◌==◌, Bool, true, ◌||◌, List, [], ◌∷◌, ◌++◌, length, drop, slice_index, if◌then◌else◌}
+use Rattle.std.specs.List.{slice_range}
+
+-- a byte that parts words: a blank or a tab
+abbrev pub is_blank : ℕ → Bool
+is_blank b = (b == 32) || (b == 9)
+
+-- a word that has begun, and the words behind it
+abbrev pub closed : List ℕ → List (List ℕ) → List (List ℕ)
+closed [] rest = rest
+closed (x ∷ xs) rest = (x ∷ xs) ∷ rest
+
+-- the words of a rest of a line, where a piece of the first was passed before
+unfoldable pub words_from : List ℕ → List ℕ → List (List ℕ)
+words_from piece [] = closed piece []
+words_from piece (b ∷ bs) = if is_blank b then closed piece (words_from [] bs) else words_from (piece ++ b ∷ []) bs
+
+-- the words of a line
+abbrev pub words : List ℕ → List (List ℕ)
+words line = words_from [] line
+
+-- a line of these words says nothing: there is none, or the first begins with `#`
+abbrev pub is_skip : List (List ℕ) → Bool
+is_skip [] = true
+is_skip (w ∷ ws) = slice_index w 0 == 35
+
+-- the first word at or after `from` lies there, and the other words behind it
+pub record WordAt (line : List ℕ) (from start end : ℕ) : Type 0 where
+  pub after : from ≤ start
+  pub some : start < end
+  pub within : end ≤ length line
+  pub words : words (drop from line) ≡ slice_range line start end ∷ words (drop end line)

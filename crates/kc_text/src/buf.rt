@@ -1,0 +1,82 @@
+// A line of text that is put together and sent.
+ghost use Rattle.std.specs.Prelude.{◌≡◌, ◌++◌, ◌∷◌, [], OnErr, OnOk, IfErr, decimal};
+
+use crate::{Failed, Sink, put_all};
+use std::alloc::{AllocError, Global};
+use std::marker::Model;
+
+/// Why a text wasn't sent whole.
+#[derive(Drop, Debug)]
+pub enum SendFault {
+    /// A write to the sink failed.
+    WriteFault,
+    /// There was no memory for the line.
+    Memory(AllocError),
+}
+
+/// A line that is put together piece by piece and then sent. It keeps its memory from one line to
+/// the next. A contract sees it as the list of its bytes.
+#[derive(Drop, Debug)]
+pub struct LineBuf {
+    bytes: Vec<u8>,
+}
+
+impl Model for LineBuf {
+    ghost use Rattle.std.specs.Prelude.{List, ℕ};
+
+    ghost Value = { List ℕ };
+
+    ghost view = { λ b. b.bytes.items };
+}
+
+impl LineBuf {
+    ghost use Rattle.kc_text.specs.Writing.{Sends, WriteCause, KeptAfter};
+
+    /// An empty line; takes no memory.
+    pub fn new(alloc: Global) -> Self
+        ensures { result ≡ [] }
+    {
+        LineBuf {
+            bytes: Vec::new(alloc),
+        }
+    }
+
+    /// Appends bytes. Without memory the line stays as it was.
+    pub fn text(&mut self, _alloc: Global, bytes: &[u8]) -> Result<(), AllocError>
+        ensures ok { OnOk result (self.new ≡ self.old ++ bytes.now) }
+        ensures err { OnErr result (self.new ≡ self.old) }
+    {
+        self.bytes.extend_from_slice(bytes)
+    }
+
+    /// Appends a number in decimal digits, without leading zeros. Without memory the line stays as
+    /// it was.
+    pub fn number(&mut self, _alloc: Global, value: u32) -> Result<(), AllocError>
+        ensures ok { OnOk result (self.new ≡ self.old ++ decimal value) }
+        ensures err { OnErr result (self.new ≡ self.old) }
+    {
+        let mut digits = itoa::Buffer::new();
+        self.bytes
+            .extend_from_slice(digits.format(value).as_bytes())
+    }
+
+    /// Sends the line with a line feed behind it, and empties it. After `WriteFault` the sink took a
+    /// front of the line, and the line is empty too. After `Memory` nothing was sent, and the line
+    /// stays as it was.
+    pub fn send<K: Sink>(&mut self, _alloc: Global, sink: &mut K) -> Result<(), SendFault>
+        ensures sent { Sends (K.taken sink.old) (K.taken sink.new) (self.old ++ 10 ∷ []) result }
+        ensures ok { OnOk result (self.new ≡ []) }
+        ensures err { IfErr result (KeptAfter self.old self.new) }
+        ensures cause { WriteCause (K.faults sink.old) (K.faults sink.new) result }
+    {
+        if self.bytes.push(b'\n').is_err() {
+            return Err(SendFault::Memory(AllocError));
+        }
+        let sent = put_all(sink, &self.bytes);
+        self.bytes.clear();
+        match sent {
+            Ok(()) => Ok(()),
+            Err(Failed) => Err(SendFault::WriteFault),
+        }
+    }
+}

@@ -1,0 +1,18 @@
+// The numbers of calls, some of which were chosen to fail.
+ghost use Rattle.std.specs.Prelude.{◌≡◌};
+ghost use Rattle.kc_text.specs.Mem.{next_number, is_failing};
+
+// Stands for every call past the last that has a number.
+const NO_NUMBER: u64 = 4294967296;
+
+pub fn number_after(calls: u64) -> u64
+    ensures { result ≡ next_number calls }
+{
+    calls.saturating_add(1).min(NO_NUMBER)
+}
+
+pub fn is_chosen(failing: &[u32], number: u64) -> bool
+    ensures { result ≡ is_failing failing.now number }
+{
+    number < NO_NUMBER && failing.contains(&(number as u32))
+}

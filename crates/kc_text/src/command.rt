@@ -1,0 +1,64 @@
+// The words of a command line.
+ghost use Rattle.std.specs.Prelude.{◌≡◌, ◌<◌, ◌++◌, ◌∷◌, [], length, OnOk, OnErr, slice_get, Some, IsTrue, ◌↔◌};
+
+use crate::Bytes;
+use std::alloc::{AllocError, Global};
+use std::marker::Model;
+
+/// The words of a command line, without the program's name.
+/// A contract sees them as a list of byte lists.
+#[derive(Drop, Debug)]
+pub struct Words {
+    words: Vec<Bytes>,
+}
+
+impl Model for Words {
+    ghost use Rattle.std.specs.Prelude.{List, ℕ};
+
+    ghost Value = { List (List ℕ) };
+
+    ghost view = { λ w. w.words.items };
+}
+
+impl Words {
+    /// No words; takes no memory.
+    pub fn new(alloc: Global) -> Self
+        ensures { result ≡ [] }
+    {
+        Words {
+            words: Vec::new(alloc),
+        }
+    }
+
+    /// Adds a word at the end.
+    pub fn push(&mut self, alloc: Global, word: &[u8]) -> Result<(), AllocError>
+        ensures ok { OnOk result (self.new ≡ self.old ++ word.now ∷ []) }
+        ensures err { OnErr result (self.new ≡ self.old) }
+    {
+        let copy = Vec::from_slice(alloc, word)?;
+        self.words.push(Bytes::from_vec(copy))?;
+        Ok(())
+    }
+
+    /// How many words there are.
+    pub fn len(&self) -> usize
+        ensures { result ≡ length self.now }
+    {
+        self.words.len()
+    }
+
+    /// Whether there is no word.
+    pub fn is_empty(&self) -> bool
+        ensures { IsTrue result ↔ (self.now ≡ []) }
+    {
+        self.words.is_empty()
+    }
+
+    /// The word at place `i`, counted from 0.
+    pub fn word(&self, i: usize) -> &[u8]
+        requires { i < length self.now }
+        ensures { slice_get self.now i ≡ Some result.now }
+    {
+        self.words[i].as_slice()
+    }
+}

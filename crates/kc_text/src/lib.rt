@@ -1,0 +1,39 @@
+// The byte layer: sources and sinks of bytes, an input's lines, words and numbers, and the lines
+// that are written. Every contract speaks of the bytes that a source has left and a sink has taken,
+// whatever pieces they come and go in, and each fault has a cause that its contract names.
+#![tactic(auto)]
+
+mod buf;
+mod bytes;
+mod calls;
+mod command;
+pub mod laws;
+mod line;
+mod mem_sink;
+mod mem_source;
+mod number;
+mod reader;
+mod reason;
+mod sink;
+mod source;
+mod std_sink;
+mod std_source;
+#[cfg(test)]
+mod tests;
+mod window;
+mod word;
+
+pub use buf::{LineBuf, SendFault};
+pub use bytes::Bytes;
+pub use command::Words;
+pub use line::{Body, Line, LineFault};
+pub use mem_sink::MemSink;
+pub use mem_source::MemSource;
+pub use number::read_number;
+pub use reader::LineReader;
+pub use reason::Reason;
+pub use sink::{Sink, put_all};
+pub use source::{Failed, Source};
+pub use std_sink::StdSink;
+pub use std_source::StdSource;
+pub use word::{is_skipped, next_word};

@@ -1,0 +1,33 @@
+// A line of an input, or how the input ended.
+use crate::Bytes;
+use std::alloc::AllocError;
+
+/// What stands at a line's number.
+#[derive(Drop, Debug)]
+pub enum Body {
+    /// A line, without its line feed and without one carriage return before that.
+    Text(Bytes),
+    /// A line with more bytes before its line feed than the line limit allows.
+    TooLong,
+    /// The input goes on past the input limit within this line.
+    Limit,
+    /// The input ended before this line.
+    End,
+}
+
+/// A line of an input, or how the input ended.
+#[derive(Drop, Debug)]
+pub struct Line {
+    /// Lines are numbered from 1.
+    pub number: u32,
+    pub body: Body,
+}
+
+/// Why a line wasn't given.
+#[derive(Drop, Debug)]
+pub enum LineFault {
+    /// A read of the source failed.
+    ReadFault,
+    /// There was no memory for the line.
+    Memory(AllocError),
+}

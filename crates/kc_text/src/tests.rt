@@ -1,0 +1,277 @@
+// Each public call, on values that were worked out by hand.
+ghost use Rattle.std.specs.Prelude.{◌<◌};
+
+use crate::{
+    Body, Failed, LineBuf, LineFault, LineReader, MemSink, MemSource, Reason, SendFault, Sink,
+    Source, StdSink, StdSource, Words, is_skipped, next_word, put_all, read_number,
+};
+use std::alloc::Global;
+use std::io;
+use std::io::{Read, Write};
+use std::test::Fail;
+
+// Adds what a reader gives next, a line each: its number and text; `*` for a line that is too
+// long, `!` for the limit, `.` for the end; `?` for a read fault. Returns whether it was the last.
+fn tell(
+    alloc: Global,
+    reader: &mut LineReader,
+    source: &mut MemSource,
+    out: &mut Vec<u8>,
+) -> Result<bool, Fail> {
+    let line = match reader.next_line(alloc, source) {
+        Ok(line) => line,
+        Err(LineFault::ReadFault) => {
+            out.extend_from_slice(b"?\n")?;
+            return Ok(false);
+        }
+        Err(LineFault::Memory(e)) => return Err(Fail::from(e)),
+    };
+    out.push(b'0' + (line.number % 10) as u8)?;
+    let (mark, last): (&[u8], bool) = match line.body {
+        Body::Text(bytes) => {
+            out.push(b':')?;
+            out.extend_from_slice(&bytes.into_vec())?;
+            (b"\n", false)
+        }
+        Body::TooLong => (b"*\n", false),
+        Body::Limit => (b"!\n", true),
+        Body::End => (b".\n", true),
+    };
+    out.extend_from_slice(mark)?;
+    Ok(last)
+}
+
+// All that a reader with a line limit of 8 and an input limit of 20 gives, the last line twice.
+fn told(alloc: Global, input: &[u8], piece: u32, failing: &[u32]) -> Result<Vec<u8>, Fail>
+    requires { 0 < piece }
+{
+    let mut source = MemSource::new(alloc, input, piece, failing)?;
+    let mut reader = LineReader::new(alloc, 8, 20)?;
+    let mut out = Vec::new(alloc);
+    for _ in 0..20 {
+        if tell(alloc, &mut reader, &mut source, &mut out)? {
+            tell(alloc, &mut reader, &mut source, &mut out)?;
+            break;
+        }
+    }
+    Ok(out)
+}
+
+#[test]
+fn lines_in_any_pieces(rt: HostRuntime) -> Result<(), Fail> {
+    let rows: [(&[u8], &[u8]); 8] = [
+        (b"", b"1.\n1.\n"),
+        (b"\r", b"1:\n2.\n2.\n"),
+        (b"a\r\n\n#x\n", b"1:a\n2:\n3:#x\n4.\n4.\n"),
+        (b"a\r\n\n#x", b"1:a\n2:\n3:#x\n4.\n4.\n"),
+        (b"1234567\r\n1234567\r\r\n", b"1:1234567\n2*\n3.\n3.\n"),
+        (b"12345678\n123456789\nx", b"1:12345678\n2*\n3:x\n4.\n4.\n"),
+        (b"12345678\n123456789\nxy", b"1:12345678\n2*\n3!\n3!\n"),
+        (b"123456789012345678901", b"1!\n1!\n"),
+    ];
+    for (input, want) in rows {
+        for piece in [1, 2, 7, 1000] {
+            let got = told(rt.alloc(), input, piece, &[])?;
+            assert_eq!(rt; got.as_slice(), want, "in pieces of {piece}");
+        }
+    }
+    Ok(())
+}
+
+#[test]
+fn lines_over_faults(rt: HostRuntime) -> Result<(), Fail> {
+    let rows: [(&[u8], u32, &[u32], &[u8]); 3] = [
+        (
+            b"a\r\n\n#x\n",
+            1000,
+            &[1, 2],
+            b"?\n?\n1:a\n2:\n3:#x\n4.\n4.\n",
+        ),
+        (b"a\r\n\n#x", 2, &[2, 4], b"?\n1:a\n2:\n?\n3:#x\n4.\n4.\n"),
+        (
+            b"12345678\n123456789\nxyz",
+            5,
+            &[3],
+            b"1:12345678\n?\n2*\n3!\n3!\n",
+        ),
+    ];
+    for (input, piece, failing, want) in rows {
+        assert!(rt; piece > 0);
+        let got = told(rt.alloc(), input, piece, failing)?;
+        assert_eq!(rt; got.as_slice(), want, "in pieces of {piece}");
+    }
+    Ok(())
+}
+
+#[test]
+fn sinks_in_memory(rt: HostRuntime) -> Result<(), Fail> {
+    // capacity, piece, failing calls; what five writes of eight bytes answer, and what was taken
+    let rows: [(u32, u32, &[u32], &[u8], &[u8]); 6] = [
+        (
+            1000,
+            1000,
+            &[],
+            b"88888",
+            b"abcdefghabcdefghabcdefghabcdefghabcdefgh",
+        ),
+        (1000, 7, &[5], b"7777F", b"abcdefgabcdefgabcdefgabcdefg"),
+        (20, 2, &[2], b"2F222", b"abababab"),
+        (12, 7, &[], b"75FFF", b"abcdefgabcde"),
+        (2, 1, &[1, 3], b"F1F1F", b"aa"),
+        (0, 1, &[], b"FFFFF", b""),
+    ];
+    for (capacity, piece, failing, answers, want) in rows {
+        assert!(rt; piece > 0);
+        let mut sink = MemSink::new(rt.alloc(), capacity, piece, failing)?;
+        let mut got = Vec::new(rt.alloc());
+        for _ in 0..5 {
+            match sink.write(b"abcdefgh") {
+                Ok(count) => got.push(b'0' + count as u8)?,
+                Err(Failed) => got.push(b'F')?,
+            }
+        }
+        assert_eq!(rt; got.as_slice(), answers, "in pieces of {piece}");
+        assert_eq!(rt; sink.bytes(), want, "in pieces of {piece}");
+    }
+    Ok(())
+}
+
+// A device that is gone.
+#[derive(Drop)]
+struct Gone;
+
+impl Read for Gone {
+    fn read(&mut self, _buf: &mut [u8]) -> io::Result<usize> {
+        Err(io::Error::from(io::ErrorKind::TimedOut))
+    }
+}
+
+impl Write for Gone {
+    fn write(&mut self, _buf: &[u8]) -> io::Result<usize> {
+        Err(io::Error::from(io::ErrorKind::TimedOut))
+    }
+
+    fn flush(&mut self) -> io::Result<()> {
+        Err(io::Error::from(io::ErrorKind::TimedOut))
+    }
+}
+
+#[test]
+fn ends_of_std(rt: HostRuntime) -> Result<(), Fail> {
+    let mut source = StdSource::new(b"abc".as_slice());
+    let mut buf = [0u8; 2];
+    for (count, want) in [(2, b"ab"), (1, b"cb"), (0, b"cb")] {
+        assert_eq!(rt; source.read(&mut buf), Ok(count));
+        assert_eq!(rt; &buf, want);
+    }
+    assert_eq!(rt; StdSource::new(Gone).read(&mut buf), Err(Failed));
+
+    let mut written = Vec::new(rt.alloc());
+    let mut sink = StdSink::new(&mut written);
+    assert_eq!(rt; put_all(&mut sink, b"abc"), Ok(()));
+    assert_eq!(rt; sink.flush(), Ok(()));
+    assert_eq!(rt; written.as_slice(), b"abc".as_slice());
+
+    let mut full = StdSink::new(buf.as_mut_slice());
+    assert_eq!(rt; full.write(b"xyz"), Ok(2));
+    assert_eq!(rt; full.write(b"z"), Err(Failed));
+    let mut gone = StdSink::new(Gone);
+    assert_eq!(rt; gone.write(b"z"), Err(Failed));
+    assert_eq!(rt; gone.flush(), Err(Failed));
+    Ok(())
+}
+
+#[test]
+fn sends_lines(rt: HostRuntime) -> Result<(), Fail> {
+    let alloc = rt.alloc();
+    // pieces and failing calls; what two sends of `v 4294967295` and then `w` answer, and what was taken
+    let rows: [(u32, &[u32], &[u8], &[u8]); 4] = [
+        (1000, &[], b"oo", b"v 4294967295\nw\n"),
+        (1, &[], b"oo", b"v 4294967295\nw\n"),
+        (5, &[3], b"fo", b"v 42949672w\n"),
+        (1000, &[2], b"of", b"v 4294967295\n"),
+    ];
+    for (piece, failing, answers, want) in rows {
+        assert!(rt; piece > 0);
+        let mut sink = MemSink::new(alloc, 1000, piece, failing)?;
+        let mut line = LineBuf::new(alloc);
+        let mut got = Vec::new(alloc);
+        line.text(alloc, b"v ")?;
+        line.number(alloc, 4294967295)?;
+        for word in [b"w", b"x"] {
+            match line.send(alloc, &mut sink) {
+                Ok(()) => got.push(b'o')?,
+                Err(SendFault::WriteFault) => got.push(b'f')?,
+                Err(SendFault::Memory(e)) => return Err(Fail::from(e)),
+            }
+            line.text(alloc, word)?;
+        }
+        assert_eq!(rt; got.as_slice(), answers, "in pieces of {piece}");
+        assert_eq!(rt; sink.bytes(), want, "in pieces of {piece}");
+    }
+    Ok(())
+}
+
+#[test]
+fn words_and_numbers(rt: HostRuntime) {
+    let line = b" +  10\t20";
+    let rows = [
+        (0, Some((1, 2))),
+        (2, Some((4, 6))),
+        (5, Some((5, 6))),
+        (6, Some((7, 9))),
+        (9, None),
+    ];
+    for (from, want) in rows {
+        assert!(rt; from <= 9);
+        assert_eq!(rt; next_word(line, from), want, "from {from}");
+    }
+    let skips: [(&[u8], bool); 5] = [
+        (b"", true),
+        (b" \t", true),
+        (b" #", true),
+        (b"a #", false),
+        (b"+ 1 2", false),
+    ];
+    for (line, want) in skips {
+        assert_eq!(rt; is_skipped(line), want, "at {line:?}");
+    }
+    let numbers: [(&[u8], Option<u32>); 7] = [
+        (b"4294967295", Some(4294967295)),
+        (b"4294967296", None),
+        (b"0000000001", Some(1)),
+        (b"00000000001", None),
+        (b"0", Some(0)),
+        (b"1a", None),
+        (b"", None),
+    ];
+    for (digits, want) in numbers {
+        assert_eq!(rt; read_number(digits), want, "at {digits:?}");
+    }
+}
+
+#[test]
+fn reasons_and_words(rt: HostRuntime) -> Result<(), Fail> {
+    let mut words = Words::new(rt.alloc());
+    assert!(rt; words.is_empty());
+    words.push(rt.alloc(), b"run")?;
+    words.push(rt.alloc(), b"")?;
+    assert_eq!(rt; words.len(), 2);
+    assert_eq!(rt; words.word(0), b"run".as_slice());
+    assert_eq!(rt; words.word(1), b"".as_slice());
+    let reasons: [(Reason, &[u8]); 9] = [
+        (Reason::Header, b"header"),
+        (Reason::LineLong, b"line-long"),
+        (Reason::BadLine, b"bad-line"),
+        (Reason::BadVertex, b"bad-vertex"),
+        (Reason::TooMany, b"too-many"),
+        (Reason::Truncated, b"truncated"),
+        (Reason::InputLimit, b"input-limit"),
+        (Reason::EdgeLimit, b"edge-limit"),
+        (Reason::PhaseLimit, b"phase-limit"),
+    ];
+    for (reason, want) in reasons {
+        assert_eq!(rt; reason.word(), want, "at {reason:?}");
+    }
+    Ok(())
+}

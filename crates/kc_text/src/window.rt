@@ -1,0 +1,85 @@
+// A buffer of fixed size between a source and what reads it.
+ghost use Rattle.std.specs.Prelude.{◌≡◌, ℕ, ◌<◌, ◌≤◌, [], List, length, drop, IfOk, OnOk, OnErr};
+ghost use Rattle.std.specs.Io.KnownBytes.{prepend_known, IsAtEnd};
+ghost use Rattle.kc_text.specs.Causes.{Rose};
+
+use crate::{Failed, Source};
+use std::alloc::{AllocError, Global};
+use std::marker::Model;
+
+// The most bytes of one read: as many as a pipe holds by default.
+const SIZE: usize = 65536;
+
+/// The bytes of a source that were read and not yet taken. A contract sees them as a list.
+#[derive(Drop)]
+pub struct Window {
+    // what reads fill: never empty
+    buf: Vec<u8>,
+    // from here to `to` the bytes were read and not yet taken
+    from: usize,
+    // at least `from`, and at most the length of `buf`
+    to: usize,
+}
+
+impl Model for Window {
+    ghost use Rattle.std.specs.Prelude.{List, ℕ, ◌≤◌, ◌<◌, vec_len};
+    ghost use Rattle.std.specs.List.{slice_range};
+
+    ghost Value = { List ℕ };
+
+    ghost view = { λ w. slice_range w.buf.items w.from w.to };
+
+    ghost invariant = { λ w. (w.from ≤ w.to) × (w.to ≤ vec_len w.buf) × (0 < vec_len w.buf) };
+}
+
+impl Window {
+    /// A window that holds nothing.
+    pub fn new(alloc: Global) -> Result<Self, AllocError>
+        ensures { IfOk result (λ w. w ≡ []) }
+    {
+        Ok(Window {
+            buf: vec![in alloc; 0u8; SIZE]?,
+            from: 0,
+            to: 0,
+        })
+    }
+
+    /// The bytes that were read and not yet taken.
+    pub fn ready(&self) -> &[u8]
+        ensures { result.now ≡ self.now }
+    {
+        &self.buf[self.from..self.to]
+    }
+
+    /// Takes the first n bytes.
+    pub fn pass(&mut self, n: usize)
+        requires { n ≤ length self.old }
+        ensures { self.new ≡ drop n self.old }
+    {
+        self.from += n;
+    }
+
+    /// Takes all bytes.
+    pub fn clear(&mut self)
+        ensures { self.new ≡ [] }
+    {
+        self.from = 0;
+        self.to = 0;
+    }
+
+    /// Reads once, where nothing is left. Nothing is read at the end of the input.
+    pub fn fill<S: Source>(&mut self, src: &mut S) -> Result<(), Failed>
+        requires { self.old ≡ [] }
+        ensures given { OnOk result (S.left src.old ≡ prepend_known self.new (S.left src.new)) }
+        ensures end { OnOk result (self.new ≡ [] → IsAtEnd (S.left src.new)) }
+        ensures failed { OnErr result (S.left src.new ≡ S.left src.old) }
+        ensures same { OnErr result (self.new ≡ []) }
+        ensures cause { OnErr result (Rose (S.faults src.old) (S.faults src.new)) }
+        ensures quiet { OnOk result (S.faults src.new ≡ S.faults src.old) }
+    {
+        let count = src.read(&mut self.buf)?;
+        self.from = 0;
+        self.to = count;
+        Ok(())
+    }
+}
