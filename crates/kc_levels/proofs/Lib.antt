@@ -1,0 +1,13 @@
+pub mod ProfileFacts
+pub mod Least
+pub mod Sequences
+pub mod Groups
+pub mod TableLemmas
+pub mod Places
+pub mod AtLeast
+pub mod Raising
+pub mod RaisedLaw
+pub mod Lowering
+pub mod LoweredLaw
+pub mod BothKept
+pub mod BetweenLaw

@@ -1,0 +1,101 @@
+-- Laws of the thresholds and of raised and lowered lists, each the contract of a function of `laws`.
+use Rattle.std.specs.Prelude.{ℕ, ◌+◌, ◌-◌, ◌*◌, ◌≤◌, ◌<◌, ◌≡◌, List, [], ◌∷◌, length, min, max, map, replicate, All}
+use Rattle.kc_graph.specs.Shape.{GraphShape, Pair, IsGraph, with_edges, without_edges}
+use Rattle.kc_levels.specs.declared.profile.Profile.{Profile}
+use Rattle.kc_levels.specs.declared.profile.Profile.TheVariants.{One}
+use Rattle.kc_levels.specs.Thresholds.{low, high, grow, lo, est, last_group, top_level}
+use Rattle.kc_levels.specs.LevelList.{MeetsUpper, MeetsLower, IsCapped, MeetsBoth, IsRaisable, IsRaised, IsLowerable, IsLowered}
+
+-- 0 to 12
+abbrev pub first_groups : List ℕ
+first_groups = 0 ∷ 1 ∷ 2 ∷ 3 ∷ 4 ∷ 5 ∷ 6 ∷ 7 ∷ 8 ∷ 9 ∷ 10 ∷ 11 ∷ 12 ∷ []
+
+-- the first numbers of the sequences of the first profile
+pub record FirstProfileBegins : Type 0 where
+  pub lows : map (low One) first_groups ≡ 1 ∷ 1 ∷ 2 ∷ 3 ∷ 4 ∷ 5 ∷ 6 ∷ 7 ∷ 8 ∷ 10 ∷ 12 ∷ 15 ∷ 18 ∷ []
+  pub highs : map (high One) first_groups ≡ 0 ∷ 2 ∷ 4 ∷ 6 ∷ 8 ∷ 10 ∷ 12 ∷ 14 ∷ 16 ∷ 20 ∷ 24 ∷ 30 ∷ 36 ∷ []
+  pub los : map (lo One) first_groups ≡ 0 ∷ 1 ∷ 1 ∷ 1 ∷ 2 ∷ 2 ∷ 3 ∷ 3 ∷ 4 ∷ 4 ∷ 5 ∷ 6 ∷ 7 ∷ []
+  pub ests : map (est One) first_groups ≡ 0 ∷ 2 ∷ 2 ∷ 2 ∷ 4 ∷ 4 ∷ 6 ∷ 6 ∷ 8 ∷ 8 ∷ 10 ∷ 12 ∷ 14 ∷ []
+  pub grows : map (grow One) first_groups ≡ 1 ∷ 2 ∷ 3 ∷ 4 ∷ 5 ∷ 7 ∷ 9 ∷ 12 ∷ 15 ∷ 19 ∷ 24 ∷ 30 ∷ 38 ∷ []
+
+-- from each level list within the top exactly one list is raised
+abbrev pub RaisedIsOneList : Type 0
+RaisedIsOneList =
+    (p : Profile) (g : GraphShape) (x : List ℕ) → IsGraph g → length x ≡ g.vertices → IsCapped p g.vertices x →
+    (y : List ℕ) × (IsRaised p g x y × ((z : List ℕ) → IsRaised p g x z → z ≡ y))
+
+-- the top everywhere is raisable from each level list within the top
+abbrev pub TopIsRaisable : Type 0
+TopIsRaisable =
+    (p : Profile) (g : GraphShape) (x : List ℕ) → IsGraph g → IsCapped p g.vertices x →
+    IsRaisable p g x (replicate g.vertices (top_level p g.vertices))
+
+-- the lesser level at each vertex
+abbrev pub lesser : List ℕ → List ℕ → List ℕ
+lesser [] ys = []
+lesser (x ∷ xs) [] = []
+lesser (x ∷ xs) (y ∷ ys) = min x y ∷ lesser xs ys
+
+-- the lesser of two raisable lists is raisable
+abbrev pub LesserIsRaisable : Type 0
+LesserIsRaisable =
+    (p : Profile) (g : GraphShape) (x y z : List ℕ) → IsRaisable p g x y → IsRaisable p g x z →
+    IsRaisable p g x (lesser y z)
+
+-- from each level list exactly one list is lowered
+abbrev pub LoweredIsOneList : Type 0
+LoweredIsOneList =
+    (p : Profile) (g : GraphShape) (x : List ℕ) → length x ≡ g.vertices →
+    (y : List ℕ) × (IsLowered p g x y × ((z : List ℕ) → IsLowered p g x z → z ≡ y))
+
+-- level 0 everywhere is lowerable from each level list
+abbrev pub ZerosAreLowerable : Type 0
+ZerosAreLowerable = (p : Profile) (g : GraphShape) (x : List ℕ) → IsLowerable p g x (replicate g.vertices 0)
+
+-- the greater level at each vertex
+abbrev pub greater : List ℕ → List ℕ → List ℕ
+greater [] ys = []
+greater (x ∷ xs) [] = []
+greater (x ∷ xs) (y ∷ ys) = max x y ∷ greater xs ys
+
+-- the greater of two lowerable lists is lowerable
+abbrev pub GreaterIsLowerable : Type 0
+GreaterIsLowerable =
+    (p : Profile) (g : GraphShape) (x y z : List ℕ) → IsLowerable p g x y → IsLowerable p g x z →
+    IsLowerable p g x (greater y z)
+
+-- where edges come in and the levels rise, both invariants are kept
+abbrev pub InsertionKeepsBoth : Type 0
+InsertionKeepsBoth =
+    (p : Profile) (g : GraphShape) (added : List Pair) (x y : List ℕ) →
+    IsGraph g → All (λ e. (e.0 < e.1) × (e.1 < g.vertices)) added → MeetsBoth p g x →
+    IsRaised p (with_edges g added) x y → MeetsBoth p (with_edges g added) y
+
+-- where edges leave and the levels fall, both invariants are kept
+abbrev pub DeletionKeepsBoth : Type 0
+DeletionKeepsBoth =
+    (p : Profile) (g : GraphShape) (removed : List Pair) (x y : List ℕ) →
+    IsGraph g → MeetsBoth p g x →
+    IsLowered p (without_edges g removed) x y → MeetsBoth p (without_edges g removed) y
+
+-- the estimate is twice lo, and high is at most three times the estimate
+pub record EstimateIsNear : Type 0 where
+  pub twice : (p : Profile) (j : ℕ) → est p j ≡ 2 * lo p j
+  pub near : (p : Profile) (j : ℕ) → high p j ≤ 3 * est p j
+
+-- the sequences never fall, and a vertex that has too many neighbours for a group has enough for the next
+pub record SequencesRise : Type 0 where
+  pub low_rises : (p : Profile) (i j : ℕ) → i ≤ j → low p i ≤ low p j
+  pub high_rises : (p : Profile) (i j : ℕ) → i ≤ j → high p i ≤ high p j
+  pub lo_rises : (p : Profile) (i j : ℕ) → i ≤ j → lo p i ≤ lo p j
+  pub grow_rises : (p : Profile) (i j : ℕ) → i ≤ j → grow p i ≤ grow p j
+  pub next_is_reached : (p : Profile) (i : ℕ) → low p i ≤ high p i + 1
+
+-- the last group allows as many neighbours as a vertex can have
+abbrev pub LastGroupAllowsAll : Type 0
+LastGroupAllowsAll = (p : Profile) (n : ℕ) → n - 1 ≤ high p (last_group p n)
+
+-- a vertex that breaks the upper bound meets the lower one
+abbrev pub NoneBreaksBoth : Type 0
+NoneBreaksBoth =
+    (p : Profile) (g : GraphShape) (x : List ℕ) (v : ℕ) → IsGraph g → 1 ≤ g.vertices → ¬ (MeetsUpper p g x v) → MeetsLower p g x v

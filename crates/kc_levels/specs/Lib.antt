@@ -1,0 +1,6 @@
+pub mod Thresholds
+pub mod ThresholdTable
+pub mod LevelList
+pub mod Moved
+pub mod Laws
+pub mod Between

@@ -1,0 +1,59 @@
+ghost use Rattle.std.specs.Prelude.{◌≡◌, ℕ, ◌<◌, ◌≤◌, ◌↔◌, IsTrue, length, slice_index};
+ghost use Rattle.std.specs.Bool.{OnFalse};
+ghost use Rattle.kc_levels.specs.Thresholds.{top_level};
+ghost use Rattle.kc_levels.specs.LevelList.{at_least, MeetsUpper, MeetsLower};
+
+use crate::{Levels, Thresholds};
+use kc_graph::Graph;
+
+/// How many neighbours of `v` have a level of at least `level`, as `at_least` says.
+///
+/// One pass over the neighbours of `v`.
+pub fn at_least(graph: &Graph, levels: &Levels, v: u32, level: u16) -> u32
+    requires vertex { v < graph.now.vertices }
+    requires sized { length levels.now ≡ graph.now.vertices }
+    ensures value { result ≡ at_least graph.now levels.now v level }
+    ensures few { result < graph.now.vertices }
+{
+    let neighbours = graph.neighbours(v);
+    let levels = levels.as_slice();
+    let mut count = 0;
+    for w in neighbours {
+        if levels[*w as usize] >= level {
+            count += 1;
+        }
+    }
+    count
+}
+
+/// Whether `v` meets the upper bound: it has no more neighbours at its level or above than the level's group allows,
+/// as `MeetsUpper` says. A vertex on the top level always does, so one that does not can rise.
+///
+/// One pass over the neighbours of `v`.
+pub fn check_upper(graph: &Graph, levels: &Levels, th: &Thresholds, v: u32) -> bool
+    requires vertex { v < graph.now.vertices }
+    requires sized { length levels.now ≡ graph.now.vertices }
+    requires scale { th.now.vertices ≡ graph.now.vertices }
+    requires capped { slice_index levels.now v ≤ top_level th.now.profile th.now.vertices }
+    ensures meets { IsTrue result ↔ MeetsUpper th.now.profile graph.now levels.now v }
+    ensures can_rise { OnFalse result (slice_index levels.now v < top_level th.now.profile th.now.vertices) }
+    ensures small { top_level th.now.profile th.now.vertices < 4096 }
+{
+    let level = levels.get(v);
+    at_least(graph, levels, v, level) <= th.high(th.group(level))
+}
+
+/// Whether `v` meets the lower bound: on a level above 0 it has enough neighbours at the level below or above, as
+/// `MeetsLower` says.
+///
+/// One pass over the neighbours of `v`.
+pub fn check_lower(graph: &Graph, levels: &Levels, th: &Thresholds, v: u32) -> bool
+    requires vertex { v < graph.now.vertices }
+    requires sized { length levels.now ≡ graph.now.vertices }
+    requires scale { th.now.vertices ≡ graph.now.vertices }
+    requires capped { slice_index levels.now v ≤ top_level th.now.profile th.now.vertices }
+    ensures { IsTrue result ↔ MeetsLower th.now.profile graph.now levels.now v }
+{
+    let level = levels.get(v);
+    level == 0 || at_least(graph, levels, v, level - 1) >= th.low(th.group(level - 1))
+}

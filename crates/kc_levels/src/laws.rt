@@ -1,0 +1,50 @@
+// Laws of the definitions. The functions do nothing: each has laws as its contract.
+
+ghost use Rattle.kc_levels.specs.Laws.{FirstProfileBegins, EstimateIsNear, RaisedIsOneList, TopIsRaisable, LesserIsRaisable, LoweredIsOneList, ZerosAreLowerable, GreaterIsLowerable, InsertionKeepsBoth, DeletionKeepsBoth, SequencesRise, LastGroupAllowsAll, NoneBreaksBoth};
+ghost use Rattle.kc_levels.specs.Between.{BetweenMeetsBoth};
+
+/// The first numbers of each sequence of profile 1.
+pub fn profile_one_begins()
+    ensures { FirstProfileBegins }
+{}
+
+/// The estimate of a group is twice its lower bound, and its upper bound is at most three times the estimate.
+pub fn estimate_is_near()
+    ensures { EstimateIsNear }
+{}
+
+/// From each level list within the top exactly one list is raised. The top everywhere is raisable from it, and so is
+/// the lesser of two raisable lists.
+pub fn raised_is_one_list()
+    ensures one { RaisedIsOneList }
+    ensures top { TopIsRaisable }
+    ensures lesser { LesserIsRaisable }
+{}
+
+/// From each level list exactly one list is lowered. Level 0 everywhere is lowerable from it, and so is the greater of
+/// two lowerable lists.
+pub fn lowered_is_one_list()
+    ensures one { LoweredIsOneList }
+    ensures zeros { ZerosAreLowerable }
+    ensures greater { GreaterIsLowerable }
+{}
+
+/// Both invariants hold after a phase where they held before it.
+pub fn phases_keep_both()
+    ensures insertion { InsertionKeepsBoth }
+    ensures deletion { DeletionKeepsBoth }
+{}
+
+/// The sequences of a profile never fall, the last group allows as many neighbours as a vertex can have, and no vertex
+/// breaks both invariants.
+pub fn thresholds_fit()
+    ensures rise { SequencesRise }
+    ensures last { LastGroupAllowsAll }
+    ensures apart { NoneBreaksBoth }
+{}
+
+/// Both invariants hold in a graph with levels that lies between two in which they hold, where each vertex whose level
+/// differs in these two is as in one of them. So they hold at every point of a phase that takes effect part by part.
+pub fn between_meets_both()
+    ensures { BetweenMeetsBoth }
+{}

@@ -1,0 +1,52 @@
+ghost use Rattle.std.specs.Prelude.{◌≡◌, ◌≤◌, ◌<◌, ◌^◌};
+ghost use Rattle.kc_levels.specs.Thresholds.{next_low, high_over, next_grow, lo_after};
+
+/// Which sequences the thresholds go by.
+#[derive(Clone, Copy, Debug, PartialEq, Eq)]
+pub enum Profile {
+    /// Each `low` is the one before and a quarter of it, and each `high` is twice the `low`.
+    One,
+}
+
+impl Profile {
+    // The low that follows one.
+    pub(crate) fn next_low(self, low: u32) -> u32
+        requires { low < 2 ^ 24 }
+        ensures { result ≡ next_low self low }
+    {
+        match self {
+            Profile::One => low + (low / 4).max(1),
+        }
+    }
+
+    // The high of a group with this low.
+    pub(crate) fn high_over(self, low: u32) -> u32
+        requires { low < 2 ^ 24 }
+        ensures { result ≡ high_over self low }
+    {
+        match self {
+            Profile::One => 2 * low,
+        }
+    }
+
+    // The grow that follows one.
+    pub(crate) fn next_grow(self, grown: u32) -> u32
+        requires { grown < 2 ^ 24 }
+        ensures { result ≡ next_grow self grown }
+    {
+        match self {
+            Profile::One => (5 * grown + 3) / 4,
+        }
+    }
+
+    // The lo of the group after one with this low.
+    pub(crate) fn lo_after(self, low: u32) -> u32
+        requires { low < 2 ^ 24 }
+        ensures value { result ≡ lo_after self low }
+        ensures small { result < 2 ^ 24 }
+    {
+        match self {
+            Profile::One => 4 * low / 9 + 1,
+        }
+    }
+}
