@@ -6,3 +6,9 @@ pub mod NeighbourLemmas
 pub mod ChangeLemmas
 pub mod RowLemmas
 pub mod KeptLemmas
+pub mod EdgeListLemmas
+pub mod DecidingLemmas
+pub mod KeyLemmas
+pub mod BatchLemmas
+pub mod CleaningLemmas
+pub mod CleaningLawLemmas

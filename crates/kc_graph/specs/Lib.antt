@@ -1,5 +1,9 @@
 pub mod Numbers
 pub mod Shape
 pub mod Changes
+pub mod EdgeLists
 pub mod KeptRows
+pub mod Cleaning
+pub mod Keys
 pub mod Laws
+pub mod CleaningLaws

@@ -1,6 +1,7 @@
 // Laws of the definitions. The functions do nothing: each has a law as its contract.
 
 ghost use Rattle.kc_graph.specs.Laws.{InsertionsKeepGraph, RemovalsKeepGraph, AscendingEdgesFillEmptyGraph, NeighboursAreJoined, GraphIsItsEdges};
+ghost use Rattle.kc_graph.specs.CleaningLaws.{CleanedFitsGraph, CleanedLeadsAsItems, EachItemCountsOnce};
 
 /// Edges between vertices of a graph that come in leave a graph.
 pub fn insertions_keep_graph()
@@ -27,4 +28,22 @@ pub fn neighbours_are_joined()
 /// Two graphs on the same vertices that have the same edges are one.
 pub fn graph_is_its_edges()
     ensures { GraphIsItsEdges }
+{}
+
+/// What a cleaned batch removes is in the graph and may leave it, and what it adds is not and may
+/// come in after, if there is room.
+pub fn cleaned_fits_graph()
+    ensures { CleanedFitsGraph }
+{}
+
+/// Removing and adding what a cleaned batch says leads to the same graph as its items, one after
+/// another.
+pub fn cleaned_leads_as_items()
+    ensures { CleanedLeadsAsItems }
+{}
+
+/// Each item of a batch is counted once: as a loop, a repeat or idle, or by the edge that it removes
+/// or adds.
+pub fn each_item_counts_once()
+    ensures { EachItemCountsOnce }
 {}

@@ -1,17 +1,23 @@
 // Undirected graphs whose vertices are the numbers below n.
 // A `Graph` keeps the neighbours of each vertex in order; contracts see it as n and the ascending
-// list of its edges. An `Item` asks for one change of a graph.
+// list of its edges. An `Item` asks for one change of a graph, and `clean` says what a batch of
+// items comes to.
 #![tactic(auto)]
 
+mod cleaning;
+mod edge_lists;
 mod edges;
 mod graphs;
 mod items;
+mod keys;
 pub mod laws;
 mod limits;
 mod links;
 mod rows;
 
+pub use cleaning::{Cleaned, clean};
+pub use edge_lists::Edges;
 pub use edges::Edge;
 pub use graphs::Graph;
 pub use items::Item;
-pub use limits::{MAX_EDGES, MAX_VERTICES};
+pub use limits::{MAX_EDGES, MAX_ITEMS, MAX_VERTICES};

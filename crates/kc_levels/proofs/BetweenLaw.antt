@@ -1,7 +1,7 @@
 -- Both invariants between two states in which they hold, and in one vertex.
-use Rattle.std.proofs.Common.{ℕ, suc, zero, ◌+◌, ◌≤◌, ◌<◌, ◌≡◌, inl, inr, true, ◌&&◌, List, get_or, refl, sym, arith}
+use Rattle.std.proofs.Common.{ℕ, suc, zero, ◌≤◌, ◌<◌, ◌≡◌, inl, inr, true, ◌&&◌, List, get_or, refl, sym, arith}
 use Rattle.std.specs.Prelude.{nat_le}
-use Rattle.std.proofs.lemmas.Bool.{cases_Bool, cases_lt, leb-true, le-leb, and_parts, and_from}
+use Rattle.std.proofs.lemmas.Bool.{cases_Bool, leb-true, le-leb, and_parts, and_from}
 use Rattle.kc_graph.specs.Numbers.{count_below}
 use Rattle.kc_graph.specs.Shape.{GraphShape, IsGraph, joined}
 use Rattle.kc_graph.proofs.NeighbourLemmas.{count_by-neighbours_of}
@@ -10,16 +10,6 @@ use Rattle.kc_levels.specs.declared.profile.Profile.{Profile}
 use Rattle.kc_levels.specs.Thresholds.{low, high, group_of}
 use Rattle.kc_levels.specs.LevelList.{at_least, MeetsUpper, MeetsLower, IsHeld}
 use Rattle.kc_levels.specs.Between.{IsAlike, BetweenMeetsBoth}
-use Rattle.kc_levels.specs.Laws.{SequencesRise, LastGroupAllowsAll, NoneBreaksBoth}
-use Rattle.kc_levels.proofs.Sequences.{low-mono, high-mono, lo-mono, grow-mono, low-high}
-use Rattle.kc_levels.proofs.Groups.{high-last_group, group_of-mono}
-use Rattle.kc_levels.proofs.AtLeast.{at_least-down}
-
-pub sequences_rise : SequencesRise
-sequences_rise = record { low_rises = low-mono; high_rises = high-mono; lo_rises = lo-mono; grow_rises = grow-mono; next_is_reached = low-high }
-
-pub last_group_allows_all : LastGroupAllowsAll
-last_group_allows_all = high-last_group
 
 -- at_least as a count over all vertices
 over_all : (g : GraphShape) (x : List ℕ) (v l : ℕ) → IsGraph g → at_least g x v l ≡ count_below g.vertices (λ w. joined v w g.edges && nat_le l (get_or x w 0))
@@ -85,19 +75,4 @@ between_meets_both p a b h xa xb y is first last = record { sized = is.sized; up
       | inl same ↦
           let level : get_or y v 0 ≡ get_or xa v 0 = omega (arith, is.above v, is.below v) in
           rw level (held-from p a h xa y v (get_or xa v 0) is.same_lower (λ k. at_least-more a h xa y v k is.lower is.middle is.same_lower (λ w e. is.more v w e) is.above) (first.lower v (at_a v lt)))
-    ]
-
--- a vertex that breaks the upper bound is held on its level
-pub none_breaks_both : NoneBreaksBoth
-none_breaks_both p g x v graph some breaks = held (get_or x v 0) refl
-  where
-    held : (l : ℕ) → get_or x v 0 ≡ l → IsHeld p g x v l
-    held zero e = tt
-    held (suc l) e = elim (cases_lt (high p (group_of p g.vertices (get_or x v 0))) (at_least g x v (get_or x v 0))) [
-      | inr meets ↦ absurd (breaks meets)
-      | inl many ↦
-          let reached : low p (group_of p g.vertices l) ≤ low p (group_of p g.vertices (get_or x v 0)) = low-mono p _ _ (group_of-mono p g.vertices l (get_or x v 0) some (omega arith)) in
-          let enough : low p (group_of p g.vertices (get_or x v 0)) ≤ high p (group_of p g.vertices (get_or x v 0)) + 1 = low-high p _ in
-          let below : at_least g x v (get_or x v 0) ≤ at_least g x v l = at_least-down g x v l (get_or x v 0) (omega arith) in
-          omega arith
     ]

@@ -11,3 +11,4 @@ pub mod Lowering
 pub mod LoweredLaw
 pub mod BothKept
 pub mod BetweenLaw
+pub mod FitLaws

@@ -3,7 +3,7 @@ use Rattle.std.specs.Prelude.{ℕ, ◌+◌, ◌-◌, ◌*◌, ◌≤◌, ◌<◌
 use Rattle.kc_graph.specs.Shape.{GraphShape, Pair, IsGraph, with_edges, without_edges}
 use Rattle.kc_levels.specs.declared.profile.Profile.{Profile}
 use Rattle.kc_levels.specs.declared.profile.Profile.TheVariants.{One}
-use Rattle.kc_levels.specs.Thresholds.{low, high, grow, lo, est, last_group, top_level}
+use Rattle.kc_levels.specs.Thresholds.{low, high, grow, lo, est, height, last_group, top_level}
 use Rattle.kc_levels.specs.LevelList.{MeetsUpper, MeetsLower, IsCapped, MeetsBoth, IsRaisable, IsRaised, IsLowerable, IsLowered}
 
 -- 0 to 12
@@ -91,11 +91,17 @@ pub record SequencesRise : Type 0 where
   pub grow_rises : (p : Profile) (i j : ℕ) → i ≤ j → grow p i ≤ grow p j
   pub next_is_reached : (p : Profile) (i : ℕ) → low p i ≤ high p i + 1
 
--- the last group allows as many neighbours as a vertex can have
-abbrev pub LastGroupAllowsAll : Type 0
-LastGroupAllowsAll = (p : Profile) (n : ℕ) → n - 1 ≤ high p (last_group p n)
+-- the height is the least number of levels after which a set has grown over n vertices
+pub record HeightIsLeast : Type 0 where
+  pub over : (p : Profile) (n : ℕ) → n < grow p (height p n)
+  pub least : (p : Profile) (n j : ℕ) → j < height p n → grow p j ≤ n
 
--- a vertex that breaks the upper bound meets the lower one
+-- the last group is the least one, from group 1 on, that allows as many neighbours as a vertex can have
+pub record LastGroupIsLeast : Type 0 where
+  pub allows : (p : Profile) (n : ℕ) → n - 1 ≤ high p (last_group p n)
+  pub least : (p : Profile) (n i : ℕ) → 1 ≤ i → i < last_group p n → high p i < n - 1
+
+-- a vertex that breaks the upper invariant meets the lower one
 abbrev pub NoneBreaksBoth : Type 0
 NoneBreaksBoth =
     (p : Profile) (g : GraphShape) (x : List ℕ) (v : ℕ) → IsGraph g → 1 ≤ g.vertices → ¬ (MeetsUpper p g x v) → MeetsLower p g x v

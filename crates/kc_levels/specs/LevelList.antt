@@ -44,25 +44,25 @@ IsBelow n x y = (v : ℕ) → v < n → get_or x v 0 ≤ get_or y v 0
 abbrev pub IsCapped : Profile → ℕ → List ℕ → Type 0
 IsCapped p n x = (v : ℕ) → v < n → get_or x v 0 ≤ top_level p n
 
--- y is at least x, within the top, and meets the upper bound
+-- y is at least x, within the top, and meets the upper invariant
 pub record IsRaisable (p : Profile) (g : GraphShape) (x y : List ℕ) : Type 0 where
   pub sized : length y ≡ g.vertices
   pub from : IsBelow g.vertices x y
   pub capped : IsCapped p g.vertices y
   pub upper : (v : ℕ) → v < g.vertices → MeetsUpper p g y v
 
--- y is raised from x: the least list that is at least x, within the top, and meets the upper bound
+-- y is raised from x: the least list that is at least x, within the top, and meets the upper invariant
 pub record IsRaised (p : Profile) (g : GraphShape) (x y : List ℕ) : Type 0 where
   pub raisable : IsRaisable p g x y
   pub least : (z : List ℕ) → IsRaisable p g x z → IsBelow g.vertices y z
 
--- y is at most x and meets the lower bound
+-- y is at most x and meets the lower invariant
 pub record IsLowerable (p : Profile) (g : GraphShape) (x y : List ℕ) : Type 0 where
   pub sized : length y ≡ g.vertices
   pub under : IsBelow g.vertices y x
   pub lower : (v : ℕ) → v < g.vertices → MeetsLower p g y v
 
--- y is lowered from x: the greatest list that is at most x and meets the lower bound
+-- y is lowered from x: the greatest list that is at most x and meets the lower invariant
 pub record IsLowered (p : Profile) (g : GraphShape) (x y : List ℕ) : Type 0 where
   pub lowerable : IsLowerable p g x y
   pub greatest : (z : List ℕ) → IsLowerable p g x z → IsBelow g.vertices z y

@@ -44,13 +44,13 @@ grow p (suc j) = next_grow p (grow p j)
 abbrev pub lo_after : Profile → ℕ → ℕ
 lo_after One l = 4 * l / 9 + 1
 
--- the least coreness of a vertex of group j
+-- the lower bound that group j stands for
 unfoldable pub lo : Profile → ℕ → ℕ
 lo p zero = 0
 lo p (suc zero) = 1
 lo p (suc (suc j)) = lo_after p (low p (suc j))
 
--- the estimate of the coreness of a vertex of group j
+-- the estimate that group j stands for
 abbrev pub est : Profile → ℕ → ℕ
 est p j = 2 * lo p j
 

@@ -26,7 +26,7 @@ pub fn at_least(graph: &Graph, levels: &Levels, v: u32, level: u16) -> u32
     count
 }
 
-/// Whether `v` meets the upper bound: it has no more neighbours at its level or above than the level's group allows,
+/// Whether `v` meets the upper invariant: it has no more neighbours at its level or above than the level's group allows,
 /// as `MeetsUpper` says. A vertex on the top level always does, so one that does not can rise.
 ///
 /// One pass over the neighbours of `v`.
@@ -43,7 +43,7 @@ pub fn check_upper(graph: &Graph, levels: &Levels, th: &Thresholds, v: u32) -> b
     at_least(graph, levels, v, level) <= th.high(th.group(level))
 }
 
-/// Whether `v` meets the lower bound: on a level above 0 it has enough neighbours at the level below or above, as
+/// Whether `v` meets the lower invariant: on a level above 0 it has enough neighbours at the level below or above, as
 /// `MeetsLower` says.
 ///
 /// One pass over the neighbours of `v`.

@@ -1,6 +1,6 @@
 // Laws of the definitions. The functions do nothing: each has laws as its contract.
 
-ghost use Rattle.kc_levels.specs.Laws.{FirstProfileBegins, EstimateIsNear, RaisedIsOneList, TopIsRaisable, LesserIsRaisable, LoweredIsOneList, ZerosAreLowerable, GreaterIsLowerable, InsertionKeepsBoth, DeletionKeepsBoth, SequencesRise, LastGroupAllowsAll, NoneBreaksBoth};
+ghost use Rattle.kc_levels.specs.Laws.{FirstProfileBegins, EstimateIsNear, RaisedIsOneList, TopIsRaisable, LesserIsRaisable, LoweredIsOneList, ZerosAreLowerable, GreaterIsLowerable, InsertionKeepsBoth, DeletionKeepsBoth, SequencesRise, HeightIsLeast, LastGroupIsLeast, NoneBreaksBoth};
 ghost use Rattle.kc_levels.specs.Between.{BetweenMeetsBoth};
 
 /// The first numbers of each sequence of profile 1.
@@ -35,11 +35,12 @@ pub fn phases_keep_both()
     ensures deletion { DeletionKeepsBoth }
 {}
 
-/// The sequences of a profile never fall, the last group allows as many neighbours as a vertex can have, and no vertex
-/// breaks both invariants.
+/// The sequences of a profile never fall. The height of a group and the last group are the least numbers that they are
+/// meant to be, for every number of vertices. No vertex breaks both invariants.
 pub fn thresholds_fit()
     ensures rise { SequencesRise }
-    ensures last { LastGroupAllowsAll }
+    ensures height { HeightIsLeast }
+    ensures last { LastGroupIsLeast }
     ensures apart { NoneBreaksBoth }
 {}
 

@@ -36,7 +36,7 @@ impl Levels {
         })
     }
 
-    /// The level of `v`.
+    /// The level of `v`, a vertex of the list.
     pub fn get(&self, v: u32) -> u16
         requires { v < length self.now }
         ensures { result ≡ slice_index self.now v }

@@ -1,4 +1,4 @@
-//! Thresholds and levels: a level for each vertex of a graph, and what the levels say of a vertex's coreness.
+//! Thresholds and levels: a level for each vertex of a graph, and what the levels are to say of a vertex's coreness.
 //!
 //! [`Thresholds`] says how many neighbours a group of levels needs and allows, for a [`Profile`] and a number of
 //! vertices. [`Levels`] is a level for each vertex. [`at_least`] counts the neighbours from a level on, and
@@ -7,16 +7,13 @@
 #![tactic(auto)]
 
 mod counts;
-mod laws;
+pub mod laws;
 mod levels;
 mod moved;
 mod profile;
 mod thresholds;
 
 pub use counts::{at_least, check_lower, check_upper};
-pub use laws::{
-    estimate_is_near, lowered_is_one_list, phases_keep_both, profile_one_begins, raised_is_one_list,
-};
 pub use levels::Levels;
 pub use moved::moved_count;
 pub use profile::Profile;

@@ -4,7 +4,8 @@ ghost use Rattle.kc_levels.specs.Thresholds.{next_low, high_over, next_grow, lo_
 /// Which sequences the thresholds go by.
 #[derive(Clone, Copy, Debug, PartialEq, Eq)]
 pub enum Profile {
-    /// Each `low` is the one before and a quarter of it, and each `high` is twice the `low`.
+    /// From 1 on each `low` is the one before and a quarter of it, at least 1 more; each `high` but the first, which is 0,
+    /// is twice the `low`.
     One,
 }
 

@@ -6,7 +6,7 @@ use kc_graph::MAX_VERTICES;
 use std::alloc::{AllocError, Global};
 use std::marker::Model;
 
-/// What the group of a vertex's level says of the vertex's coreness.
+/// What the group of a vertex's level stands for: an estimate of the vertex's coreness, and two bounds of it.
 #[derive(Clone, Copy, Debug, PartialEq, Eq)]
 pub struct Estimate {
     /// The estimate of the coreness: twice the lower bound.
@@ -91,6 +91,7 @@ impl Thresholds {
     }
 
     /// How many neighbours on a level of group `i`, or above it, a vertex needs to stand on the next level.
+    /// Groups are 0 to the last group.
     pub fn low(&self, i: u16) -> u32
         requires { i ≤ last_group self.now.profile self.now.vertices }
         ensures value { result ≡ low self.now.profile i }
@@ -112,7 +113,7 @@ impl Thresholds {
         }
     }
 
-    /// The group of a level. Level 0 alone is group 0; each later group has the same number of levels, but for the
+    /// The group of a level, 0 to the last group, for a level from 0 to the top. Level 0 alone is group 0; each later group has the same number of levels, but for the
     /// last, which has one.
     pub fn group(&self, level: u16) -> u16
         requires { level ≤ top_level self.now.profile self.now.vertices }
@@ -127,7 +128,7 @@ impl Thresholds {
         }
     }
 
-    /// The greatest level.
+    /// The greatest level, 1 to 4095.
     pub fn top(&self) -> u16
         ensures value { result ≡ top_level self.now.profile self.now.vertices }
         ensures small { result < 4096 }
@@ -150,7 +151,7 @@ impl Thresholds {
         }
     }
 
-    /// What a level says of the coreness of a vertex that stands on it.
+    /// The estimate and the two bounds that a level, from 0 to the top, stands for.
     pub fn estimate(&self, level: u16) -> Estimate
         requires { level ≤ top_level self.now.profile self.now.vertices }
         ensures est { result.est ≡ est self.now.profile (group_of self.now.profile self.now.vertices level) }

@@ -1,4 +1,4 @@
--- What a reader gives and takes.
+-- What a scanner gives and takes.
 use Rattle.std.proofs.Common.{ℕ, suc, ◌+◌, ◌-◌, ◌<◌, ◌≤◌, ◌≡◌, ◌==◌, List, [], ◌∷◌, ◌++◌, length, take, drop, arith, refl, sym, ap, ◌∙◌, subst, append_assoc, get_or, true, false, Bool, cond, nat_le, add-one, drop-cons, replicate, inl, inr}
 use Rattle.std.specs.Prelude.{Option, None, Some, if◌then◌else◌, ◌&&◌, ◌||◌, nat_lt, not, ◌*◌}
 use Rattle.std.proofs.lemmas.List.{length-append, length-take-le, take-append-drop, length-replicate, length-drop}
@@ -12,9 +12,10 @@ use Rattle.std.specs.Io.KnownBytes.{prepend_known, IsAtEnd}
 use Rattle.std.specs.Option.{option_map}
 use Rattle.std.specs.List.{list_any}
 use borrow.Author.Tests.{ltb-true}
-use Rattle.kc_text.specs.Reading.{Reading, lines_left, lines_of_rest, onto, behind, Takes, IsLast, is_decided}
-use Rattle.kc_text.specs.ReaderState.{piece_of}
-use Rattle.kc_text.specs.ReaderSteps.{Gives, Absorbs}
+use Rattle.kc_text.specs.Following.{onto, behind, Takes, IsLast}
+use Rattle.kc_text.specs.Scanning.{Scan, scan_lines_left, scan_lines, is_scan_decided}
+use Rattle.kc_text.specs.ScannerState.{piece_of}
+use Rattle.kc_text.specs.ScannerSteps.{Gives, Absorbs}
 use Rattle.kc_text.proofs.Passing.{HasNoEnd, pass_over, line_closed, limit_met, over_same}
 use Rattle.kc_text.proofs.Ends.{FirstEnd}
 
@@ -57,7 +58,7 @@ pub gives_line : (limit n room : ℕ) (piece ready : List ℕ) (ended : Bool) (w
     → room' ≡ room - (at + 1) → piece' ≡ [] → ready' ≡ drop (at + 1) ready
     → Gives (record { number = n; body = body }) (record { limit = limit; number = n; room = room; piece = piece; ready = ready; ended = ended })
     (record { limit = limit; number = n + 1; room = room'; piece = piece'; ready = ready'; ended = ended })
-unfolding lines_of_rest
+unfolding scan_lines
 gives_line limit n room piece ready ended within at body room' piece' ready' w1 w2 f e er ep ed =
     let lt = f.below in
     record {
@@ -75,8 +76,8 @@ limited limit n room piece c [] more e h p = absurd (omega arith)
 limited limit n room piece c (b ∷ d) more e h p = rw append_assoc (limit_met limit n room piece c b (d ++ more) e h)
 
 pub gives_limit : (limit n room : ℕ) (piece ready : List ℕ) (ended : Bool) → room < length ready → HasNoEnd (take room ready)
-    → let r : Reading = record { limit = limit; number = n; room = room; piece = piece; ready = ready; ended = ended } in Gives (record { number = n; body = Limit }) r r
-unfolding lines_of_rest
+    → let r : Scan = record { limit = limit; number = n; room = room; piece = piece; ready = ready; ended = ended } in Gives (record { number = n; body = Limit }) r r
+unfolding scan_lines
 gives_limit limit n room piece ready ended h f = record {
   lines = λ bs.
       let more = if ended then [] else bs in
@@ -106,7 +107,7 @@ work_falls room room' (x ∷ xs) ready' e er h = rw er (omega arith)
 pub absorbs : (limit n room : ℕ) (piece ready piece' : List ℕ) (room' : ℕ) (ready' : List ℕ) → length ready ≤ room → HasNoEnd ready
     → length piece' ≡ length piece + length ready → (length piece' ≤ limit → piece' ≡ piece ++ ready) → room' ≡ room - length ready → ready' ≡ []
     → Absorbs (record { limit = limit; number = n; room = room; piece = piece; ready = ready; ended = false }) (record { limit = limit; number = n; room = room'; piece = piece'; ready = ready'; ended = false })
-unfolding lines_of_rest
+unfolding scan_lines
 absorbs limit n room piece ready piece' room' ready' h f len same er ed = record {
   lines = λ bs. rw ed (passed limit n room room' piece piece' ready bs (omega arith) f len same);
   ready = ed;
@@ -118,8 +119,8 @@ absorbs limit n room piece ready piece' room' ready' h f len same er ed = record
 
 -- the end, and the line before it
 pub gives_end : (limit n room : ℕ) (piece ready : List ℕ) (ended : Bool) → piece ≡ [] → ready ≡ [] → ended ≡ true
-    → let r : Reading = record { limit = limit; number = n; room = room; piece = piece; ready = ready; ended = ended } in Gives (record { number = n; body = End }) r r
-unfolding lines_of_rest lines_from
+    → let r : Scan = record { limit = limit; number = n; room = room; piece = piece; ready = ready; ended = ended } in Gives (record { number = n; body = End }) r r
+unfolding scan_lines lines_from
 gives_end limit n room piece ready ended ep er ee = record { lines = λ bs. rw (ep, er, ee) refl; takes = omega arith; last = λ _. refl; settled = λ _. rw ee refl }
 
 last_line : (limit n : ℕ) (piece : List ℕ) → 0 < length piece → last_of limit n piece ≡ line_of limit n piece ∷ record { number = n + 1; body = End } ∷ []
@@ -129,7 +130,7 @@ last_line limit n (x ∷ xs) h = refl
 pub gives_last : (limit n room : ℕ) (piece ready : List ℕ) (ended : Bool) (body : Body) (piece' : List ℕ) → 0 < length piece → ready ≡ [] → ended ≡ true → body ≡ body_of limit piece → piece' ≡ []
     → Gives (record { number = n; body = body }) (record { limit = limit; number = n; room = room; piece = piece; ready = ready; ended = ended })
     (record { limit = limit; number = n + 1; room = room; piece = piece'; ready = ready; ended = ended })
-unfolding lines_of_rest lines_from
+unfolding scan_lines lines_from
 gives_last limit n room piece ready ended body piece' h er ee e ep = record {
   lines = λ bs. rw (er, ee, ep, e, behind_line) (last_line limit n piece h);
   takes = rw (e, ep) (takes_line limit piece _ _ (omega arith));
@@ -143,15 +144,15 @@ piece_none limit part e = let none : List ℕ = [] in rw e (elim (nat_le 0 limit
 
 -- a read moves bytes from the source to the reader
 pub filled : (limit n room : ℕ) (piece ready new : List ℕ) (ended : Bool) (old left : Option (List ℕ)) → ready ≡ [] → ended ≡ false → old ≡ prepend_known new left
-    → lines_left (record { limit = limit; number = n; room = room; piece = piece; ready = new; ended = ended }) left ≡ lines_left (record { limit = limit; number = n; room = room; piece = piece; ready = ready; ended = ended }) old
-unfolding lines_left lines_of_rest
+    → scan_lines_left (record { limit = limit; number = n; room = room; piece = piece; ready = new; ended = ended }) left ≡ scan_lines_left (record { limit = limit; number = n; room = room; piece = piece; ready = ready; ended = ended }) old
+unfolding scan_lines_left scan_lines
 filled limit n room piece ready new ended old None er ee e = rw e refl
 filled limit n room piece ready new ended old (Some bs) er ee e = rw (e, er, ee) refl
 
 -- a read at the end finds nothing
 pub at_end : (limit n room : ℕ) (piece ready new : List ℕ) (ended : Bool) (old left : Option (List ℕ)) → ready ≡ [] → ended ≡ false → new ≡ [] → old ≡ prepend_known new left → IsAtEnd left
-    → lines_left (record { limit = limit; number = n; room = room; piece = piece; ready = new; ended = true }) left ≡ lines_left (record { limit = limit; number = n; room = room; piece = piece; ready = ready; ended = ended }) old
-unfolding lines_left lines_of_rest
+    → scan_lines_left (record { limit = limit; number = n; room = room; piece = piece; ready = new; ended = true }) left ≡ scan_lines_left (record { limit = limit; number = n; room = room; piece = piece; ready = ready; ended = ended }) old
+unfolding scan_lines_left scan_lines
 at_end limit n room piece ready new ended old None er ee en e h = rw e refl
 at_end limit n room piece ready new ended old (Some bs) er ee en e h = rw (e, er, ee, en, h) refl
 
@@ -175,36 +176,36 @@ piece_grows limit taken taken' part more part' h e k = elim (cases_lt limit take
       record { long = rw (a, b, j) (simp length-append refl); same = rw (a, b, j) (λ _. refl) }
 ]
 
-pub told_line : (line : Line) (old new : Reading) (left : Option (List ℕ)) → Gives line old new → lines_left old left ≡ option_map (onto line) (lines_left new left)
-unfolding lines_left
+pub told_line : (line : Line) (old new : Scan) (left : Option (List ℕ)) → Gives line old new → scan_lines_left old left ≡ option_map (onto line) (scan_lines_left new left)
+unfolding scan_lines_left
 told_line line old new None h = refl
 told_line line old new (Some bs) h = ap Some (h.lines bs)
 
-pub told_same : (old new : Reading) (left : Option (List ℕ)) → Absorbs old new → lines_left old left ≡ lines_left new left
-unfolding lines_left
+pub told_same : (old new : Scan) (left : Option (List ℕ)) → Absorbs old new → scan_lines_left old left ≡ scan_lines_left new left
+unfolding scan_lines_left
 told_same old new None h = refl
 told_same old new (Some bs) h = ap Some (h.lines bs)
 
 pub told_fresh : (limit room : ℕ) (piece ready : List ℕ) (left : Option (List ℕ)) → piece ≡ [] → ready ≡ []
-    → lines_left (record { limit = limit; number = 1; room = room; piece = piece; ready = ready; ended = false }) left ≡ option_map (lines limit room) left
-unfolding lines_left lines_of_rest
+    → scan_lines_left (record { limit = limit; number = 1; room = room; piece = piece; ready = ready; ended = false }) left ≡ option_map (lines limit room) left
+unfolding scan_lines_left scan_lines
 told_fresh limit room piece ready None ep er = refl
 told_fresh limit room piece ready (Some bs) ep er = rw (ep, er) refl
 
 -- what was read can't both decide the next line and not
-pub opened : (first now : Reading) → is_decided first ≡ true → is_decided now ≡ false → now ≡ first → ⊥
-opened first now d o e = let x : true ≡ false = sym d ∙ ap is_decided (sym e) ∙ o in cc
+pub opened : (first now : Scan) → is_scan_decided first ≡ true → is_scan_decided now ≡ false → now ≡ first → ⊥
+opened first now d o e = let x : true ≡ false = sym d ∙ ap is_scan_decided (sym e) ∙ o in cc
 
--- the line, whatever comes, of a reader that was the first
-pub decided_line : (line : Line) (first now new : Reading) → now ≡ first → Gives line now new → (bs : List ℕ) → lines_of_rest first bs ≡ onto line (lines_of_rest new bs)
-decided_line line first now new e h bs = ap (λ r. lines_of_rest r bs) (sym e) ∙ h.lines bs
+-- the line, whatever comes, of a scanner that was the first
+pub decided_line : (line : Line) (first now new : Scan) → now ≡ first → Gives line now new → (bs : List ℕ) → scan_lines first bs ≡ onto line (scan_lines new bs)
+decided_line line first now new e h bs = ap (λ r. scan_lines r bs) (sym e) ∙ h.lines bs
 
-none_behind : (body : Body) (rest : List Line) → IsLast body → behind body rest ≡ []
+pub none_behind : (body : Body) (rest : List Line) → IsLast body → behind body rest ≡ []
 none_behind (Text _) rest h = absurd h
 none_behind TooLong rest h = absurd h
 none_behind Limit rest h = refl
 none_behind End rest h = refl
 
 -- the last line comes again
-pub gives_again : (line : Line) (old new : Reading) → Gives line old new → IsLast line.body → (bs : List ℕ) → lines_of_rest new bs ≡ line ∷ []
-gives_again line old new h l bs = ap (λ r. lines_of_rest r bs) (h.last l) ∙ h.lines bs ∙ ap (λ rest. line ∷ rest) (none_behind line.body (lines_of_rest new bs) l)
+pub gives_again : (line : Line) (old new : Scan) → Gives line old new → IsLast line.body → (bs : List ℕ) → scan_lines new bs ≡ line ∷ []
+gives_again line old new h l bs = ap (λ r. scan_lines r bs) (h.last l) ∙ h.lines bs ∙ ap (λ rest. line ∷ rest) (none_behind line.body (scan_lines new bs) l)

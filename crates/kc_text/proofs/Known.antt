@@ -6,7 +6,7 @@ use Rattle.std.proofs.Math.Seq.{take-add}
 use Rattle.std.proofs.lemmas.List.{take_all, length-drop, append-nil}
 use Rattle.kc_text.specs.declared.buf.SendFault.{SendFault}
 use Rattle.kc_text.specs.declared.buf.SendFault.TheVariants.{WriteFault, Memory}
-use Rattle.kc_text.specs.Writing.{IsFront, IsPart, Sends, Appends}
+use Rattle.kc_text.specs.Writing.{IsPrefix, IsProperPrefix, Sends, Appends}
 
 -- taking nothing changes nothing
 pub append_none : (now : Option (List ℕ)) → now ≡ append_known now []
@@ -18,36 +18,36 @@ pub append_twice : (before now later : Option (List ℕ)) (a b : List ℕ) → n
 append_twice None now later a b e f = rw (f, e) refl
 append_twice (Some xs) now later a b e f = rw (f, e) (ap Some (append_assoc xs a b))
 
--- a front of some bytes that were taken, and then more of them
+-- a prefix of some bytes that were taken, and then more of them
 pub append_take : (before now later : Option (List ℕ)) (at k : ℕ) (bytes : List ℕ) → now ≡ append_known before (take at bytes) → later ≡ append_known now (take k (take (length bytes - at) (drop at bytes))) → later ≡ append_known before (take (at + k) bytes)
 append_take before now later at k bytes e f =
     let all : take (length bytes - at) (drop at bytes) ≡ drop at bytes = take_all (length bytes - at) (drop at bytes) (simp length-drop (omega arith)) in
     rw take-add (append_twice before now later (take at bytes) (take k (drop at bytes)) e (rw all at f))
 
--- nothing is a front of each text
-pub front_none : (before now : Option (List ℕ)) (text : List ℕ) → now ≡ before → IsFront before now text
-front_none before now text e = record { said = []; rest = text; all = refl; taken = e ∙ append_none before }
+-- nothing is a prefix of each text
+pub prefix_none : (before now : Option (List ℕ)) (text : List ℕ) → now ≡ before → IsPrefix before now text
+prefix_none before now text e = record { said = []; rest = text; all = refl; taken = e ∙ append_none before }
 
--- the whole is a front of itself
-pub front_all : (before now : Option (List ℕ)) (text : List ℕ) → now ≡ append_known before text → IsFront before now text
-front_all before now text e = record { said = text; rest = []; all = sym (append-nil text); taken = e }
+-- the whole is a prefix of itself
+pub prefix_all : (before now : Option (List ℕ)) (text : List ℕ) → now ≡ append_known before text → IsPrefix before now text
+prefix_all before now text e = record { said = text; rest = []; all = sym (append-nil text); taken = e }
 
--- a part is a front
-pub front_of_part : (before now : Option (List ℕ)) (text : List ℕ) → IsPart before now text → IsFront before now text
-front_of_part before now text p = record { said = p.said; rest = p.rest; all = p.all; taken = p.taken }
+-- a proper prefix is a prefix
+pub prefix_of_proper : (before now : Option (List ℕ)) (text : List ℕ) → IsProperPrefix before now text → IsPrefix before now text
+prefix_of_proper before now text p = record { said = p.said; rest = p.rest; all = p.all; taken = p.taken }
 
--- a front of a is a front of a and b
-pub front_longer : (before now : Option (List ℕ)) (a b : List ℕ) → IsFront before now a → IsFront before now (a ++ b)
-front_longer before now a b f = record {
+-- a prefix of a is a prefix of a and b
+pub prefix_longer : (before now : Option (List ℕ)) (a b : List ℕ) → IsPrefix before now a → IsPrefix before now (a ++ b)
+prefix_longer before now a b f = record {
   said = f.said;
   rest = f.rest ++ b;
   all = ap (λ xs. xs ++ b) f.all ∙ append_assoc f.said f.rest b;
   taken = f.taken;
 }
 
--- all of a, and then a front of b
-pub front_then : (before now later : Option (List ℕ)) (a b : List ℕ) → now ≡ append_known before a → IsFront now later b → IsFront before later (a ++ b)
-front_then before now later a b e f = record {
+-- all of a, and then a prefix of b
+pub prefix_then : (before now later : Option (List ℕ)) (a b : List ℕ) → now ≡ append_known before a → IsPrefix now later b → IsPrefix before later (a ++ b)
+prefix_then before now later a b e f = record {
   said = a ++ f.said;
   rest = f.rest;
   all = ap (λ xs. a ++ xs) f.all ∙ sym (append_assoc a f.said f.rest);
@@ -57,10 +57,10 @@ front_then before now later a b e f = record {
 -- all of a, and then b as far as the result says
 pub appends_then : {T : Type 0} → (before now later : Option (List ℕ)) (a b : List ℕ) (result : Result T SendFault) → now ≡ append_known before a → Appends now later b result → Appends before later (a ++ b) result
 appends_then before now later a b (Ok _) e f = append_twice before now later a b e f
-appends_then before now later a b (Err _) e f = front_then before now later a b e f
+appends_then before now later a b (Err _) e f = prefix_then before now later a b e f
 
 -- one line is a text of its own
 pub appends_send : {T : Type 0} → (before now : Option (List ℕ)) (text : List ℕ) (result : Result T SendFault) → Sends before now text result → Appends before now text result
 appends_send before now text (Ok _) s = s
-appends_send before now text (Err WriteFault) s = front_of_part before now text s
-appends_send before now text (Err (Memory _)) s = front_none before now text s
+appends_send before now text (Err WriteFault) s = prefix_of_proper before now text s
+appends_send before now text (Err (Memory _)) s = prefix_none before now text s

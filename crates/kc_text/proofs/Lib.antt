@@ -1,6 +1,7 @@
 pub mod Digits
 pub mod Ends
 pub mod Giving
+pub mod Holding
 pub mod Known
 pub mod Passing
 pub mod Pieces

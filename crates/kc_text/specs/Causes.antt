@@ -12,3 +12,9 @@ abbrev pub ReadCause : {T : Type 0} → ℕ → ℕ → Result T LineFault → T
 ReadCause before now (Err ReadFault) = Rose before now
 ReadCause before now (Err (Memory _)) = now ≡ before
 ReadCause before now (Ok _) = now ≡ before
+
+-- what holds where a read failed
+abbrev pub OnReadFault : {T : Type 0} → Result T LineFault → Type 0 → Type 0
+OnReadFault (Err ReadFault) P = P
+OnReadFault (Err (Memory _)) P = Unit {0}
+OnReadFault (Ok _) P = Unit {0}

@@ -1,11 +1,13 @@
 pub mod Causes
+pub mod Following
 pub mod Laws
 pub mod Lines
 pub mod Mem
 pub mod Numbers
-pub mod ReaderState
-pub mod ReaderSteps
 pub mod Reading
 pub mod Reasons
+pub mod ScannerState
+pub mod ScannerSteps
+pub mod Scanning
 pub mod Words
 pub mod Writing

@@ -1,29 +1,29 @@
 -- What a sink has taken of a text that was to be written.
-use Rattle.std.specs.Prelude.{ℕ, ◌≡◌, ◌<◌, List, [], ◌++◌, length, Option, Some, None, Result, Ok, Err}
+use Rattle.std.specs.Prelude.{ℕ, ◌≡◌, ◌<◌, List, [], ◌++◌, length, Option, Result, Ok, Err}
 use Rattle.std.specs.Io.KnownBytes.{append_known}
 use Rattle.kc_text.specs.Causes.{Rose}
 use Rattle.kc_text.specs.declared.buf.SendFault.{SendFault}
 use Rattle.kc_text.specs.declared.buf.SendFault.TheVariants.{WriteFault, Memory}
 
--- a front of the text was taken: nothing, some or all of it
-pub record IsFront (before now : Option (List ℕ)) (text : List ℕ) : Type 0 where
+-- a prefix of the text was taken: nothing, some or all of it
+pub record IsPrefix (before now : Option (List ℕ)) (text : List ℕ) : Type 0 where
   pub said : List ℕ
   pub rest : List ℕ
   pub all : text ≡ said ++ rest
   pub taken : now ≡ append_known before said
 
--- a front of the text was taken, and not all of it
-pub record IsPart (before now : Option (List ℕ)) (text : List ℕ) : Type 0 where
+-- a proper prefix of the text was taken: nothing or some, and not all of it
+pub record IsProperPrefix (before now : Option (List ℕ)) (text : List ℕ) : Type 0 where
   pub said : List ℕ
   pub rest : List ℕ
   pub all : text ≡ said ++ rest
   pub more : 0 < length rest
   pub taken : now ≡ append_known before said
 
--- one line: all of it was taken, or after a write fault a part, or without memory nothing
+-- one line: all of it was taken, or after a write fault a proper prefix, or without memory nothing
 abbrev pub Sends : {T : Type 0} → Option (List ℕ) → Option (List ℕ) → List ℕ → Result T SendFault → Type 0
 Sends before now text (Ok _) = now ≡ append_known before text
-Sends before now text (Err WriteFault) = IsPart before now text
+Sends before now text (Err WriteFault) = IsProperPrefix before now text
 Sends before now text (Err (Memory _)) = now ≡ before
 
 -- a line that was to be sent, after a fault: gone after a write fault, and as it was without memory
@@ -31,20 +31,10 @@ abbrev pub KeptAfter : List ℕ → List ℕ → SendFault → Type 0
 KeptAfter old new WriteFault = new ≡ []
 KeptAfter old new (Memory _) = new ≡ old
 
--- several lines: all of the text was taken, or after either fault a front of it
+-- several lines: all of the text was taken, or after either fault a prefix of it
 abbrev pub Appends : {T : Type 0} → Option (List ℕ) → Option (List ℕ) → List ℕ → Result T SendFault → Type 0
 Appends before now text (Ok _) = now ≡ append_known before text
-Appends before now text (Err _) = IsFront before now text
-
--- all of the text was taken, where the text is told
-abbrev pub WritesAll : Option (List ℕ) → Option (List ℕ) → Option (List ℕ) → Type 0
-WritesAll before now None = Unit {0}
-WritesAll before now (Some text) = now ≡ append_known before text
-
--- a front of the text was taken, where the text is told
-abbrev pub WritesSome : Option (List ℕ) → Option (List ℕ) → Option (List ℕ) → Type 0
-WritesSome before now None = Unit {0}
-WritesSome before now (Some text) = IsFront before now text
+Appends before now text (Err _) = IsPrefix before now text
 
 -- a write fault comes only where the sink's count of faults rose, and else the count stays
 abbrev pub WriteCause : {T : Type 0} → ℕ → ℕ → Result T SendFault → Type 0

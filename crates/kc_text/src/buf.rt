@@ -4,13 +4,16 @@ ghost use Rattle.std.specs.Prelude.{◌≡◌, ◌++◌, ◌∷◌, [], OnErr, O
 use crate::{Failed, Sink, put_all};
 use std::alloc::{AllocError, Global};
 use std::marker::Model;
+use thiserror::Error;
 
 /// Why a text wasn't sent whole.
-#[derive(Drop, Debug)]
+#[derive(Drop, Debug, Error)]
 pub enum SendFault {
     /// A write to the sink failed.
+    #[error("a write to the sink failed")]
     WriteFault,
     /// There was no memory for the line.
+    #[error(transparent)]
     Memory(AllocError),
 }
 
@@ -61,8 +64,8 @@ impl LineBuf {
     }
 
     /// Sends the line with a line feed behind it, and empties it. After `WriteFault` the sink took a
-    /// front of the line, and the line is empty too. After `Memory` nothing was sent, and the line
-    /// stays as it was.
+    /// proper prefix of the line, and the line is empty too. After `Memory` nothing was sent, and
+    /// the line stays as it was.
     pub fn send<K: Sink>(&mut self, _alloc: Global, sink: &mut K) -> Result<(), SendFault>
         ensures sent { Sends (K.taken sink.old) (K.taken sink.new) (self.old ++ 10 ∷ []) result }
         ensures ok { OnOk result (self.new ≡ []) }

@@ -1,6 +1,6 @@
-// The byte layer: sources and sinks of bytes, an input's lines, words and numbers, and the lines
-// that are written. Every contract speaks of the bytes that a source has left and a sink has taken,
-// whatever pieces they come and go in, and each fault has a cause that its contract names.
+//! The byte layer: sources and sinks of bytes, an input's lines, words and numbers, and the lines
+//! that are written. Every contract speaks of the bytes that a source has left and a sink has taken,
+//! whatever pieces they come and go in, and each fault has a cause that its contract names.
 #![tactic(auto)]
 
 mod buf;
@@ -11,9 +11,11 @@ pub mod laws;
 mod line;
 mod mem_sink;
 mod mem_source;
+mod null_sink;
 mod number;
 mod reader;
 mod reason;
+mod scanner;
 mod sink;
 mod source;
 mod std_sink;
@@ -29,6 +31,7 @@ pub use command::Words;
 pub use line::{Body, Line, LineFault};
 pub use mem_sink::MemSink;
 pub use mem_source::MemSource;
+pub use null_sink::NullSink;
 pub use number::read_number;
 pub use reader::LineReader;
 pub use reason::Reason;

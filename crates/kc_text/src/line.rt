@@ -1,6 +1,7 @@
 // A line of an input, or how the input ended.
 use crate::Bytes;
 use std::alloc::AllocError;
+use thiserror::Error;
 
 /// What stands at a line's number.
 #[derive(Drop, Debug)]
@@ -23,11 +24,20 @@ pub struct Line {
     pub body: Body,
 }
 
+/// How an input ended, and at which line.
+#[derive(Clone, Copy, Debug, PartialEq, Eq)]
+pub enum LastLine {
+    AtLimit(u32),
+    AtEnd(u32),
+}
+
 /// Why a line wasn't given.
-#[derive(Drop, Debug)]
+#[derive(Drop, Debug, Error)]
 pub enum LineFault {
     /// A read of the source failed.
+    #[error("a read of the source failed")]
     ReadFault,
     /// There was no memory for the line.
+    #[error(transparent)]
     Memory(AllocError),
 }

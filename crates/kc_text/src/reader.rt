@@ -1,36 +1,27 @@
-// A reader of lines, over bytes that come in any pieces.
-ghost use Rattle.std.specs.Prelude.{◌≡◌, ℕ, ◌<◌, ◌≤◌, ◌+◌, ◌^◌, [], ◌∷◌, ◌++◌, List, length, Option, true, false, IfOk, OnOk, OnErr, IfSome, IfNone, IsSome};
-ghost use Rattle.kc_text.specs.Causes.{Rose, ReadCause};
-ghost use Rattle.kc_text.specs.Lines.{body_of, without_cr, lines};
-ghost use Rattle.kc_text.specs.ReaderState.{piece_of};
+// A reader of lines that takes a line back.
+ghost use Rattle.std.specs.Prelude.{◌≡◌, ℕ, ◌≤◌, ◌+◌, ◌^◌, [], ◌∷◌, List, Option, None, true, false, IfOk, OnErr};
+ghost use Rattle.std.specs.Option.{option_map};
+ghost use Rattle.kc_text.specs.Causes.{ReadCause, OnReadFault};
+ghost use Rattle.kc_text.specs.Lines.{lines};
 
-use crate::window::Window;
-use crate::{Body, Bytes, Failed, Line, LineFault, Source};
-use memchr::memchr;
+use crate::line::LastLine;
+use crate::scanner::Scanner;
+use crate::{Body, Line, LineFault, Source};
 use std::alloc::{AllocError, Global};
 use std::marker::Model;
 
-/// Cuts the bytes of a source into lines, whatever pieces they come in.
+/// Cuts the bytes of a source into lines, whatever pieces they come in, and takes a line back.
 ///
-/// A contract sees it as a `Reading` of `specs/Reading`: the limits, and what it has taken from the
-/// source and not yet given. `lines_left` of that, and of the bytes that the source has left, are
-/// the lines that it has still to give.
+/// A contract sees it as a `Reading` of `specs/Reading`: what it has taken from the source and not
+/// yet given, and the line that was put back. `lines_left` of that, and of the bytes that the source
+/// has left, are the lines that it has still to give.
 #[derive(Drop)]
 pub struct LineReader {
-    // the bytes that were read and not yet taken into a line
-    window: Window,
-    // what was taken of the open line, as long as that is at most `limit` bytes; else of no meaning
-    part: Vec<u8>,
-    // how many bytes were taken of the open line, whether or not they were kept
-    taken: u32,
-    // the most bytes of a line: at most 2^30
-    limit: u32,
-    // the number of the open line: with `room` and `taken` at most 2^30 + 1
-    number: u32,
-    // how many bytes may still be taken before the input limit
-    room: u32,
-    // the source has ended; then the window is empty
-    ended: bool,
+    scanner: Scanner,
+    // a last line that was put back and then given; else the scanner's own last line is the last
+    last: Option<LastLine>,
+    // the line that was put back and not yet given
+    held: Option<Line>,
 }
 
 impl Model for LineReader {
@@ -38,163 +29,59 @@ impl Model for LineReader {
 
     ghost Value = { Reading };
 
-    ghost use Rattle.kc_text.specs.ReaderState.{reading_of, IsSound};
-
-    ghost view = { reading_of };
-
-    ghost invariant = { IsSound };
+    ghost view = { λ r. record { scan = r.scanner; last = r.last; held = r.held } };
 }
 
-// What a line says whose bytes are a part and then `last`.
-fn read_body(
-    alloc: Global,
-    limit: u32,
-    taken: u32,
-    part: &[u8],
-    last: &[u8],
-) -> Result<Body, AllocError>
-    requires taken { length (piece_of limit taken part.now) ≡ taken }
-    requires small { taken + length last.now < 2 ^ 32 }
-    ensures { IfOk result (λ body. body ≡ body_of limit (piece_of limit taken part.now ++ last.now)) }
-{
-    if taken + last.len() as u32 > limit {
-        return Ok(Body::TooLong);
-    }
-    let mut text = Vec::with_capacity(alloc, part.len() + last.len())?;
-    text.extend_from_slice(part)?;
-    text.extend_from_slice(last)?;
-    drop_cr(&mut text);
-    Ok(Body::Text(Bytes::from_vec(text)))
-}
+ghost use Rattle.kc_text.specs.Reading.{last_after, line_of_last};
 
-// Takes a carriage return off the end.
-fn drop_cr(text: &mut Vec<u8>)
-    ensures { text.new.items ≡ without_cr text.old.items }
+// The last line that stays once this line, put back before, is given.
+fn last_after(line: &Line, last: Option<LastLine>) -> Option<LastLine>
+    ensures { result ≡ last_after line.now last }
 {
-    if let Some(b'\r') = text.last() {
-        text.pop();
+    match line.body {
+        Body::Limit => Some(LastLine::AtLimit(line.number)),
+        Body::End => Some(LastLine::AtEnd(line.number)),
+        Body::Text(_) | Body::TooLong => last,
     }
 }
 
-// Adds bytes to the part of a line, of which nothing is kept once it is longer than the limit.
-fn keep(part: &mut Vec<u8>, limit: u32, taken: u32, more: &[u8]) -> Result<(), AllocError>
-    requires taken { length (piece_of limit taken part.old.items) ≡ taken }
-    requires small { taken + length more.now < 2 ^ 32 }
-    ensures kept { OnOk result (taken + length more.now ≤ limit → part.new.items ≡ part.old.items ++ more.now) }
-    ensures same { OnErr result (part.new.items ≡ part.old.items) }
+fn line_of_last(last: LastLine) -> Line
+    ensures { result ≡ line_of_last last }
 {
-    if taken + more.len() as u32 > limit {
-        part.clear();
-        return Ok(());
+    match last {
+        LastLine::AtLimit(number) => Line {
+            number,
+            body: Body::Limit,
+        },
+        LastLine::AtEnd(number) => Line {
+            number,
+            body: Body::End,
+        },
     }
-    part.extend_from_slice(more)?;
-    Ok(())
 }
 
 impl LineReader {
     ghost use Rattle.kc_text.specs.Reading.{Reading, lines_of_rest, lines_left, onto, Takes, IsLast, budget, is_decided};
-    ghost use Rattle.kc_text.specs.ReaderSteps.{work, Gives, Absorbs};
-    ghost use Rattle.std.specs.Option.{option_map};
 
     /// A reader that stands before the first line. Lines of more than `line_limit` bytes are too
     /// long, and at most `input_limit` bytes are made into lines; each is at most 1,073,741,824.
     pub fn new(alloc: Global, line_limit: u32, input_limit: u32) -> Result<Self, AllocError>
         requires line { line_limit ≤ 2 ^ 30 }
         requires input { input_limit ≤ 2 ^ 30 }
-        ensures { IfOk result (λ r. (left : Option (List ℕ)) → lines_left r left ≡ option_map (lines line_limit input_limit) left) }
+        ensures lines { IfOk result (λ r. (left : Option (List ℕ)) → lines_left r left ≡ option_map (lines line_limit input_limit) left) }
+        ensures held { IfOk result (λ r. r.held ≡ None) }
+        ensures budget { IfOk result (λ r. budget r ≡ input_limit) }
     {
         Ok(LineReader {
-            window: Window::new(alloc)?,
-            part: Vec::new(alloc),
-            taken: 0,
-            limit: line_limit,
-            number: 1,
-            room: input_limit,
-            ended: false,
+            scanner: Scanner::new(alloc, line_limit, input_limit)?,
+            last: None,
+            held: None,
         })
     }
 
-    // The next line, where the bytes that were read decide it. Else all of them are taken into the
-    // open line.
-    fn look(&mut self, alloc: Global) -> Result<Option<Line>, AllocError>
-        ensures line { IfOk result (λ found. IfSome found (λ line. Gives line self.old self.new)) }
-        ensures none { IfOk result (λ found. IfNone found (Absorbs self.old self.new)) }
-        ensures err { OnErr result (self.new ≡ self.old) }
-    {
-        let ready = self.window.ready();
-        let within = ready.len().min(self.room as usize);
-        if let Some(at) = memchr(b'\n', &ready[..within]) {
-            let body = read_body(alloc, self.limit, self.taken, &self.part, &ready[..at])?;
-            let line = Line {
-                number: self.number,
-                body,
-            };
-            self.window.pass(at + 1);
-            self.part.clear();
-            self.taken = 0;
-            self.number += 1;
-            self.room -= at as u32 + 1;
-            return Ok(Some(line));
-        }
-        if within < ready.len() {
-            return Ok(Some(Line {
-                number: self.number,
-                body: Body::Limit,
-            }));
-        }
-        if self.ended {
-            return self.finish(alloc);
-        }
-        keep(&mut self.part, self.limit, self.taken, ready)?;
-        self.taken += within as u32;
-        self.room -= within as u32;
-        self.window.clear();
-        Ok(None)
-    }
-
-    // Where the source has ended: the line that has no line feed, or the end.
-    fn finish(&mut self, alloc: Global) -> Result<Option<Line>, AllocError>
-        requires ended { self.old.ended ≡ true }
-        ensures line { IfOk result (λ found. IfSome found (λ line. Gives line self.old self.new)) }
-        ensures some { IfOk result (λ found. IsSome found) }
-        ensures err { OnErr result (self.new ≡ self.old) }
-    {
-        if self.taken == 0 {
-            return Ok(Some(Line {
-                number: self.number,
-                body: Body::End,
-            }));
-        }
-        let body = read_body(alloc, self.limit, self.taken, &self.part, &[])?;
-        let line = Line {
-            number: self.number,
-            body,
-        };
-        self.part.clear();
-        self.taken = 0;
-        self.number += 1;
-        Ok(Some(line))
-    }
-
-    // Reads once, where nothing is ready.
-    fn fill<S: Source>(&mut self, src: &mut S) -> Result<(), Failed>
-        requires ready { self.old.ready ≡ [] }
-        requires ended { self.old.ended ≡ false }
-        ensures same { lines_left self.new (S.left src.new) ≡ lines_left self.old (S.left src.old) }
-        ensures work { OnOk result (work self.new < work self.old) }
-        ensures budget { budget self.new ≡ budget self.old }
-        ensures cause { OnErr result (Rose (S.faults src.old) (S.faults src.new)) }
-        ensures quiet { OnOk result (S.faults src.new ≡ S.faults src.old) }
-    {
-        self.window.fill(src)?;
-        if self.window.ready().is_empty() {
-            self.ended = true;
-        }
-        Ok(())
-    }
-
     /// The next of the lines that `lines` in `specs/Lines` makes of the input: its text, or
-    /// `TooLong`, or at last `Limit` or `End`, which each later call gives again.
+    /// `TooLong`, or at last `Limit` or `End`, which each later call gives again. A line that was
+    /// put back comes first.
     ///
     /// The source is read only where the bytes already read don't decide the line. After `ReadFault`
     /// or `Memory` no byte is lost, and the call may be made again. Cost: the bytes of the line, once,
@@ -204,10 +91,16 @@ impl LineReader {
         ensures err { OnErr result (lines_left self.new (S.left src.new) ≡ lines_left self.old (S.left src.old)) }
         ensures cause { ReadCause (S.faults src.old) (S.faults src.new) result }
 
+        // No line is held back behind a call.
+        ensures held { self.new.held ≡ None }
+
         // Where what was read decides the line, nothing is read, and the line is the one that
         // comes whatever the source has left.
         ensures unread { is_decided self.old ≡ true → src.new ≡ src.old }
         ensures decided { is_decided self.old ≡ true → IfOk result (λ line. (bs : List ℕ) → lines_of_rest self.old bs ≡ onto line (lines_of_rest self.new bs)) }
+
+        // A read that fails was needed too: what was read before it doesn't decide the line.
+        ensures open { OnReadFault result (is_decided self.new ≡ false) }
 
         // Behind `Limit` and `End` comes the same line again.
         ensures last { IfOk result (λ line. IsLast line.body → lines_left self.new (S.left src.new) ≡ lines_left self.old (S.left src.old)) }
@@ -218,15 +111,28 @@ impl LineReader {
         ensures takes { IfOk result (λ line. Takes line.body (budget self.old) (budget self.new)) }
         ensures budget { OnErr result (budget self.new ≡ budget self.old) }
     {
-        loop {
-            match self.look(alloc) {
-                Ok(Some(line)) => return Ok(line),
-                Ok(None) => {}
-                Err(e) => return Err(LineFault::Memory(e)),
-            }
-            if self.fill(src).is_err() {
-                return Err(LineFault::ReadFault);
+        if let Some(line) = self.held.take() {
+            self.last = last_after(&line, self.last);
+            return Ok(line);
+        }
+        match self.last {
+            Some(last) => Ok(line_of_last(last)),
+            None => {
+                let line = self.scanner.next_line(alloc, src)?;
+                Ok(line)
             }
         }
+    }
+
+    /// Takes a line back, where none is held back: the next call of `next_line` gives it. Takes no
+    /// memory.
+    pub fn put_back(&mut self, line: Line)
+        requires { self.old.held ≡ None }
+        ensures lines { (bs : List ℕ) → lines_of_rest self.new bs ≡ onto line (lines_of_rest self.old bs) }
+        ensures left { (left : Option (List ℕ)) → lines_left self.new left ≡ option_map (onto line) (lines_left self.old left) }
+        ensures budget { budget self.new ≡ budget self.old + 1 }
+        ensures decided { is_decided self.new ≡ true }
+    {
+        self.held = Some(line);
     }
 }

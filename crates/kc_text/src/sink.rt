@@ -2,7 +2,7 @@
 ghost use Rattle.std.specs.Prelude.{◌≡◌, ℕ, ◌<◌, ◌≤◌, length, take, List, Option, OnErr, OnOk, IfOk};
 ghost use Rattle.std.specs.Io.KnownBytes.{append_known};
 ghost use Rattle.kc_text.specs.Causes.{Rose};
-ghost use Rattle.kc_text.specs.Writing.{IsPart};
+ghost use Rattle.kc_text.specs.Writing.{IsProperPrefix};
 
 use crate::Failed;
 
@@ -28,11 +28,11 @@ pub trait Sink {
         ensures quiet { OnOk result (faults self.new ≡ faults self.old) };
 }
 
-/// Writes all the bytes, in as many calls as the sink needs. After `Failed` the sink took a front
-/// of them, and not all.
+/// Writes all the bytes, in as many calls as the sink needs. After `Failed` the sink took a
+/// proper prefix of them.
 pub fn put_all<K: Sink>(sink: &mut K, bytes: &[u8]) -> Result<(), Failed>
     ensures all { OnOk result (K.taken sink.new ≡ append_known (K.taken sink.old) bytes.now) }
-    ensures part { OnErr result (IsPart (K.taken sink.old) (K.taken sink.new) bytes.now) }
+    ensures part { OnErr result (IsProperPrefix (K.taken sink.old) (K.taken sink.new) bytes.now) }
     ensures cause { OnErr result (Rose (K.faults sink.old) (K.faults sink.new)) }
     ensures quiet { OnOk result (K.faults sink.new ≡ K.faults sink.old) }
 {

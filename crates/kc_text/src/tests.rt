@@ -2,8 +2,9 @@
 ghost use Rattle.std.specs.Prelude.{◌<◌};
 
 use crate::{
-    Body, Failed, LineBuf, LineFault, LineReader, MemSink, MemSource, Reason, SendFault, Sink,
-    Source, StdSink, StdSource, Words, is_skipped, next_word, put_all, read_number,
+    Body, Failed, Line, LineBuf, LineFault, LineReader, MemSink, MemSource, NullSink, Reason,
+    SendFault, Sink, Source, StdSink, StdSource, Words, is_skipped, next_word, put_all,
+    read_number,
 };
 use std::alloc::Global;
 use std::io;
@@ -12,10 +13,10 @@ use std::test::Fail;
 
 // Adds what a reader gives next, a line each: its number and text; `*` for a line that is too
 // long, `!` for the limit, `.` for the end; `?` for a read fault. Returns whether it was the last.
-fn tell(
+fn tell<S: Source>(
     alloc: Global,
     reader: &mut LineReader,
-    source: &mut MemSource,
+    source: &mut S,
     out: &mut Vec<u8>,
 ) -> Result<bool, Fail> {
     let line = match reader.next_line(alloc, source) {
@@ -103,6 +104,71 @@ fn lines_over_faults(rt: HostRuntime) -> Result<(), Fail> {
     Ok(())
 }
 
+// Tells of an end, and gives more bytes when it is read once more.
+#[derive(Drop)]
+struct Resumed {
+    reads: u32,
+}
+
+impl Read for Resumed {
+    fn read(&mut self, buf: &mut [u8]) -> io::Result<usize> {
+        self.reads = self.reads.wrapping_add(1);
+        match buf.first_mut() {
+            Some(first) if self.reads != 2 => {
+                *first = b'a';
+                Ok(1)
+            }
+            _ => Ok(0),
+        }
+    }
+}
+
+#[test]
+fn reads_no_more_at_the_end(rt: HostRuntime) -> Result<(), Fail> {
+    let mut source = StdSource::new(Resumed { reads: 0 });
+    let mut reader = LineReader::new(rt.alloc(), 8, 20)?;
+    let mut out = Vec::new(rt.alloc());
+    for _ in 0..3 {
+        tell(rt.alloc(), &mut reader, &mut source, &mut out)?;
+    }
+    assert_eq!(rt; out.as_slice(), b"1:a\n2.\n2.\n".as_slice());
+    let mut buf = [0u8; 1];
+    assert_eq!(rt; source.read(&mut buf), Ok(1));
+    assert_eq!(rt; buf, [b'a']);
+    Ok(())
+}
+
+#[test]
+fn takes_lines_back(rt: HostRuntime) -> Result<(), Fail> {
+    let alloc = rt.alloc();
+    let mut source = MemSource::new(alloc, b"a\nb\n", 1, &[])?;
+    let mut reader = LineReader::new(alloc, 8, 20)?;
+    let mut out = Vec::new(alloc);
+    reader.put_back(Line {
+        number: 7,
+        body: Body::TooLong,
+    });
+    tell(alloc, &mut reader, &mut source, &mut out)?;
+    tell(alloc, &mut reader, &mut source, &mut out)?;
+    for _ in 0..2 {
+        let line = reader.next_line(alloc, &mut source)?;
+        reader.put_back(line);
+        tell(alloc, &mut reader, &mut source, &mut out)?;
+    }
+    tell(alloc, &mut reader, &mut source, &mut out)?;
+    for body in [Body::Limit, Body::TooLong] {
+        reader.next_line(alloc, &mut source)?;
+        reader.put_back(Line { number: 9, body });
+        tell(alloc, &mut reader, &mut source, &mut out)?;
+        tell(alloc, &mut reader, &mut source, &mut out)?;
+    }
+    assert_eq!(rt;
+        out.as_slice(),
+        b"7*\n1:a\n2:b\n3.\n3.\n9!\n9!\n9*\n9!\n".as_slice()
+    );
+    Ok(())
+}
+
 #[test]
 fn sinks_in_memory(rt: HostRuntime) -> Result<(), Fail> {
     // capacity, piece, failing calls; what five writes of eight bytes answer, and what was taken
@@ -171,6 +237,8 @@ fn ends_of_std(rt: HostRuntime) -> Result<(), Fail> {
     assert_eq!(rt; put_all(&mut sink, b"abc"), Ok(()));
     assert_eq!(rt; sink.flush(), Ok(()));
     assert_eq!(rt; written.as_slice(), b"abc".as_slice());
+
+    assert_eq!(rt; NullSink::new().write(b"abc"), Ok(3));
 
     let mut full = StdSink::new(buf.as_mut_slice());
     assert_eq!(rt; full.write(b"xyz"), Ok(2));

@@ -1,5 +1,6 @@
-use Rattle.kc_text.proofs.Giving.{told_fresh, piece_none}
+use Rattle.std.proofs.Common.{◌∙◌, refl}
+use Rattle.kc_text.proofs.Holding.{told_scan}
 use Rattle.kc_text.proofs.reader.LineReader.new.Goals as goal
 
-pub returns : goal.returns
-returns c = λ left. told_fresh _ _ _ _ left (piece_none _ _ c.new-2.ensures.items) c.in_ok-new.ensures
+pub returns-clause-lines : goal.returns-clause-lines
+returns-clause-lines c = λ left. told_scan _ _ _ left refl refl ∙ c.in_ok-new.ensures.lines left

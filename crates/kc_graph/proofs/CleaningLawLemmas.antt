@@ -1,0 +1,171 @@
+-- Lemmas on what a batch comes to in a graph.
+use Rattle.std.proofs.Common.{ℕ, ◌<◌, ◌≡◌, Bool, true, false, ◌||◌, ◌&&◌, cond, eqb, List, [], ◌∷◌, refl, ap, sym, ◌∙◌, arith, subst}
+use Rattle.std.proofs.lemmas.Bool.{and_parts, not-true}
+use Rattle.std.proofs.lemmas.Bool.Decides.{nat_tests}
+use Rattle.std.proofs.lemmas.List.Elements.{All-nil, All-cons, All-head, All-tail, All-weaker, All-filter, filter_passes}
+use Rattle.std.specs.Prelude.{All, not, Option, Some, None}
+use Rattle.kc_graph.specs.declared.items.Item.{Item}
+use Rattle.kc_graph.specs.declared.items.Item.TheVariants.{Insert, Delete}
+use Rattle.kc_graph.specs.Shape.{GraphShape, Pair, EdgesFrom, IsGraph, same_edge, has_edge, with_edge, without_edge, with_edges, without_edges}
+use Rattle.kc_graph.specs.Changes.{AllAbsent, AllPresent}
+use Rattle.kc_graph.specs.Cleaning.{IsInside, is_loop, proper_items, pair_of, touches, is_touched, deciding_item, is_deletion, is_insertion, inserted_pairs, added_edges, cleaned}
+use Rattle.kc_graph.specs.CleaningLaws.{FitsGraph, after_item, after_items}
+use Rattle.kc_graph.proofs.EdgeLemmas.{has_edge-insert_edge, has_edge-remove_edge, same_graph}
+use Rattle.kc_graph.proofs.ChangeLemmas.{can_add_ascending, can_remove_ascending, vertices-with_edges, vertices-without_edges, has_edge-with_edges, has_edge-without_edges, length-without_edges, is_graph-with_edge, is_graph-without_edge, inside_from_ascending, is_graph-with_edges, is_graph-without_edges}
+use Rattle.kc_graph.proofs.EdgeListLemmas.{has_edge-filter, edges_from_filter}
+use Rattle.kc_graph.proofs.BatchLemmas.{deciding_none, inserted_if_decided, edges_from_inserted}
+
+-- the lists fit the graph
+
+-- each edge of a list is in it, and in a longer one
+all_there : (es fs : List Pair) → ((e : Pair) → has_edge e es ≡ true → has_edge e fs ≡ true) → All (λ e. has_edge e fs ≡ true) es
+all_there [] fs more = All-nil (λ (e : Pair). has_edge e fs ≡ true)
+all_there (e ∷ es) fs more =
+    All-cons (λ (f : Pair). has_edge f fs ≡ true) e es (more e (grind (arith, nat_tests)))
+    (all_there es fs (λ f h. more f (rw h (or_true (same_edge f e)))))
+  where
+    or_true : (b : Bool) → (b || true) ≡ true
+    or_true true = refl
+    or_true false = refl
+
+removed_is_present : (g : GraphShape) (items : List Item) → AllPresent g (cleaned g items).removed
+removed_is_present g items =
+    All-filter (λ e. is_deletion (deciding_item e (proper_items items))) (λ e. has_edge e g.edges ≡ true) g.edges (all_there g.edges g.edges (λ e h. h))
+
+added_is_absent : (g : GraphShape) (items : List Item) → AllAbsent g (cleaned g items).added
+added_is_absent g items =
+    let p : Pair → Bool = λ e. not (has_edge e g.edges) && is_insertion (deciding_item e (proper_items items)) in
+    All-weaker (λ e. p e ≡ true) (λ e. has_edge e g.edges ≡ false) (λ e h. not-true (has_edge e g.edges) (and_parts (not (has_edge e g.edges)) (is_insertion (deciding_item e (proper_items items))) h).0) (added_edges g.edges (proper_items items)) (filter_passes p (inserted_pairs (proper_items items)))
+
+pub cleaned_fits_graph : (g : GraphShape) (items : List Item) → IsGraph g → All (IsInside g.vertices) items → FitsGraph g (cleaned g items)
+cleaned_fits_graph g items graph inside =
+    let c = cleaned g items in
+    let down : EdgesFrom g.vertices 0 0 c.removed = edges_from_filter g.vertices 0 0 (λ e. is_deletion (deciding_item e (proper_items items))) g.edges graph in
+    let up : EdgesFrom g.vertices 0 0 c.added = edges_from_filter g.vertices 0 0 (λ e. not (has_edge e g.edges) && is_insertion (deciding_item e (proper_items items))) (inserted_pairs (proper_items items)) (edges_from_inserted g.vertices items inside) in
+    let present = removed_is_present g items in
+    let absent = added_is_absent g items in
+    let can = can_remove_ascending g 0 0 c.removed down present in
+    let left = length-without_edges g c.removed graph can in
+    record {
+      removed_ascend = down;
+      removed_present = present;
+      removed_fewer = omega (arith, left);
+      added_ascend = up;
+      added_absent = absent;
+      can_remove = can;
+      can_add = λ room. can_add_ascending (without_edges g c.removed) 0 0 c.added
+          (subst (λ (n : ℕ). EdgesFrom n 0 0 c.added) (sym (vertices-without_edges g c.removed)) up)
+          (All-weaker (λ e. has_edge e g.edges ≡ false) (λ e. has_edge e (without_edges g c.removed).edges ≡ false) (λ e h. has_edge-without_edges e g c.removed ∙ rw h (and_false (not (has_edge e c.removed)))) c.added absent)
+          (omega (arith, left, room));
+    }
+  where
+    and_false : (b : Bool) → (b && false) ≡ false
+    and_false true = refl
+    and_false false = refl
+
+-- the lists lead to the graph to which the items lead
+
+-- whether the edge is there after the item that decides on it, if there is one
+abbrev outcome : Option Item → Bool → Bool
+outcome None there = there
+outcome (Some (Insert u v)) there = true
+outcome (Some (Delete u v)) there = false
+
+touched_outcome : (e : Pair) (items : List Item) (a b : Bool) → is_touched e items ≡ true → outcome (deciding_item e items) a ≡ outcome (deciding_item e items) b
+touched_outcome e [] a b h = absurd (cc)
+touched_outcome e (item ∷ items) a b h = go (is_touched e items) refl (touches e item) h (touched_outcome e items a b) item
+  where
+    go : (t : Bool) → is_touched e items ≡ t → (s : Bool) → (s || t) ≡ true → (is_touched e items ≡ true → outcome (deciding_item e items) a ≡ outcome (deciding_item e items) b) → (i : Item) → outcome (cond t (deciding_item e items) (cond s (Some i) None)) a ≡ outcome (cond t (deciding_item e items) (cond s (Some i) None)) b
+    go true is s h later i = later is
+    go false is true h later (Insert u v) = refl
+    go false is true h later (Delete u v) = refl
+    go false is false h later i = absurd (cc)
+
+-- whether the edge is there after an item that is no loop
+after_first : (e : Pair) (item : Item) (items : List Item) (g : GraphShape) → is_loop item ≡ false → outcome (deciding_item e items) (has_edge e (after_item g item).edges) ≡ outcome (deciding_item e (item ∷ items)) (has_edge e g.edges)
+after_first e item items g no_loop = go (is_touched e items) refl
+  where
+    at : (i : Item) → is_loop i ≡ false → has_edge e (after_item g i).edges ≡ outcome (cond (touches e i) (Some i) None) (has_edge e g.edges)
+    at (Insert u v) no_loop = rw (no_loop, has_edge-insert_edge (pair_of u v) e g.edges) (put (same_edge e (pair_of u v)))
+      where
+        put : (s : Bool) → (s || has_edge e g.edges) ≡ outcome (cond s (Some (Insert u v)) None) (has_edge e g.edges)
+        put true = refl
+        put false = refl
+    at (Delete u v) no_loop = rw (no_loop, has_edge-remove_edge (pair_of u v) e g.edges) (out (same_edge e (pair_of u v)))
+      where
+        out : (s : Bool) → (not s && has_edge e g.edges) ≡ outcome (cond s (Some (Delete u v)) None) (has_edge e g.edges)
+        out true = refl
+        out false = refl
+
+    go : (t : Bool) → is_touched e items ≡ t → outcome (deciding_item e items) (has_edge e (after_item g item).edges) ≡ outcome (cond t (deciding_item e items) (cond (touches e item) (Some item) None)) (has_edge e g.edges)
+    go true is = touched_outcome e items (has_edge e (after_item g item).edges) (has_edge e g.edges) is
+    go false is = rw (deciding_none e items is) (at item no_loop)
+
+has_edge-after_items : (e : Pair) (items : List Item) (g : GraphShape) → has_edge e (after_items g items).edges ≡ outcome (deciding_item e (proper_items items)) (has_edge e g.edges)
+has_edge-after_items e [] g = refl
+has_edge-after_items e (item ∷ items) g = has_edge-after_items e items (after_item g item) ∙ go item (is_loop item) refl
+  where
+    go : (i : Item) (b : Bool) → is_loop i ≡ b → outcome (deciding_item e (proper_items items)) (has_edge e (after_item g i).edges) ≡ outcome (deciding_item e (cond (not b) (i ∷ proper_items items) (proper_items items))) (has_edge e g.edges)
+    go (Insert u v) true is = rw is refl
+    go (Delete u v) true is = rw is refl
+    go i false is = after_first e i (proper_items items) g is
+
+after_item_is_graph : (g : GraphShape) (item : Item) → IsGraph g → IsInside g.vertices item → IsGraph (after_item g item)
+after_item_is_graph g (Insert u v) graph inside = go (eqb u v) refl
+  where
+    go : (b : Bool) → eqb u v ≡ b → IsGraph (cond b g (with_edge g (pair_of u v)))
+    go true is = graph
+    go false is = is_graph-with_edge g (pair_of u v) graph (grind (arith, nat_tests, is)) (grind (arith, nat_tests, inside.0, inside.1))
+after_item_is_graph g (Delete u v) graph inside = go (eqb u v)
+  where
+    go : (b : Bool) → IsGraph (cond b g (without_edge g (pair_of u v)))
+    go true = graph
+    go false = is_graph-without_edge g (pair_of u v) graph
+
+vertices-after_item : (g : GraphShape) (item : Item) → (after_item g item).vertices ≡ g.vertices
+vertices-after_item g (Insert u v) = go (eqb u v)
+  where
+    go : (b : Bool) → (cond b g (with_edge g (pair_of u v))).vertices ≡ g.vertices
+    go true = refl
+    go false = refl
+vertices-after_item g (Delete u v) = go (eqb u v)
+  where
+    go : (b : Bool) → (cond b g (without_edge g (pair_of u v))).vertices ≡ g.vertices
+    go true = refl
+    go false = refl
+
+after_items_is_graph : (g : GraphShape) (items : List Item) → IsGraph g → All (IsInside g.vertices) items → IsGraph (after_items g items)
+after_items_is_graph g [] graph inside = graph
+after_items_is_graph g (item ∷ items) graph inside =
+    after_items_is_graph (after_item g item) items (after_item_is_graph g item graph (All-head (IsInside g.vertices) item items inside))
+    (subst (λ (n : ℕ). All (IsInside n) items) (sym (vertices-after_item g item)) (All-tail (IsInside g.vertices) item items inside))
+
+vertices-after_items : (g : GraphShape) (items : List Item) → (after_items g items).vertices ≡ g.vertices
+vertices-after_items g [] = refl
+vertices-after_items g (item ∷ items) = vertices-after_items (after_item g item) items ∙ vertices-after_item g item
+
+pub cleaned_leads_as_items : (g : GraphShape) (items : List Item) → IsGraph g → All (IsInside g.vertices) items → with_edges (without_edges g (cleaned g items).removed) (cleaned g items).added ≡ after_items g items
+cleaned_leads_as_items g items graph inside =
+    let c = cleaned g items in
+    let left = without_edges g c.removed in
+    let fits = cleaned_fits_graph g items graph inside in
+    let size : (with_edges left c.added).vertices ≡ g.vertices = vertices-with_edges left c.added ∙ vertices-without_edges g c.removed in
+    let added = subst (λ (n : ℕ). All (λ (e : Pair). (e.0 < e.1) × (e.1 < n)) c.added) (sym (vertices-without_edges g c.removed)) (inside_from_ascending g.vertices 0 0 c.added fits.added_ascend) in
+    same_graph (with_edges left c.added) (after_items g items)
+    (is_graph-with_edges left c.added (is_graph-without_edges g c.removed graph) added) (after_items_is_graph g items graph inside)
+    (size ∙ sym (vertices-after_items g items))
+    (λ e. has_edge-with_edges e left c.added ∙ ap (λ b. has_edge e c.added || b) (has_edge-without_edges e g c.removed) ∙ at e ∙ sym (has_edge-after_items e items g))
+  where
+    decide : (o : Option Item) (h t : Bool) → (is_insertion o ≡ true → t ≡ true) → (((not h && is_insertion o) && t) || (not (is_deletion o && h) && h)) ≡ outcome o h
+    decide None true t there = refl
+    decide None false t there = refl
+    decide (Some (Insert u v)) true t there = refl
+    decide (Some (Insert u v)) false t there = rw (there refl) refl
+    decide (Some (Delete u v)) true t there = refl
+    decide (Some (Delete u v)) false t there = refl
+
+    at : (e : Pair) → (has_edge e (cleaned g items).added || (not (has_edge e (cleaned g items).removed) && has_edge e g.edges)) ≡ outcome (deciding_item e (proper_items items)) (has_edge e g.edges)
+    at e =
+        let a = has_edge-filter e (λ e. not (has_edge e g.edges) && is_insertion (deciding_item e (proper_items items))) (inserted_pairs (proper_items items)) in
+        let r = has_edge-filter e (λ e. is_deletion (deciding_item e (proper_items items))) g.edges in
+        rw (a, r) (decide (deciding_item e (proper_items items)) (has_edge e g.edges) (has_edge e (inserted_pairs (proper_items items))) (inserted_if_decided e (proper_items items)))

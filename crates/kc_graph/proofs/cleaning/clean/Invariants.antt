@@ -1,0 +1,16 @@
+use Rattle.std.proofs.Common.{◌≡◌, ◌+◌, ◌≤◌, length}
+use Rattle.std.specs.Prelude.{All}
+use Rattle.kc_graph.specs.declared.limits.TheConstants.{MAX_ITEMS}
+use Rattle.kc_graph.proofs.CleaningLemmas.{IsKeyInside, walked}
+use Rattle.kc_graph.proofs.cleaning.clean.Given as goal
+
+abbrev pub invariant-loop-key : goal.invariant-loop-key
+invariant-loop-key g l = record {
+  known : walked l.graph.edges l.rest l.cleaned ≡ walked l.graph.edges l.initial.rest l.initial.cleaned;
+  inside : All (IsKeyInside l.graph.vertices) l.rest;
+  repeats : l.cleaned.repeats + length l.rest ≤ MAX_ITEMS;
+  idle : l.cleaned.idle + length l.rest ≤ MAX_ITEMS;
+}
+
+abbrev pub decreases-loop-key : goal.decreases-loop-key
+decreases-loop-key g l = length l.rest

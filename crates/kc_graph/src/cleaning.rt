@@ -1,0 +1,100 @@
+ghost use Rattle.std.specs.Prelude.{◌≡◌, ◌<◌, ◌≤◌, [], length, All, IfOk, OnOk};
+ghost use Rattle.kc_graph.specs.Cleaning.{IsInside, cleaned};
+ghost use Rattle.kc_graph.specs.Keys.{decided};
+
+use crate::edge_lists::Edges;
+use crate::graphs::Graph;
+use crate::items::Item;
+use crate::keys::{Key, sorted_keys};
+use crate::limits::MAX_ITEMS;
+use std::alloc::{AllocError, Global};
+use std::thread::Threads;
+
+/// What the items of a batch come to in a graph (`cleaned`).
+///
+/// Of several items between the same two vertices the last decides.
+#[derive(Drop)]
+pub struct Cleaned {
+    /// The edges that leave the graph, ascending: each is in it, and a deletion decides on it.
+    pub removed: Edges,
+    /// The edges that come into the graph, ascending: none is in it, and an insertion decides on
+    /// each.
+    pub added: Edges,
+    /// The number of items between a vertex and itself. They ask for nothing.
+    pub loops: u32,
+    /// The number of the other items that don't decide, since a later one is between the same two
+    /// vertices.
+    pub repeats: u32,
+    /// The number of items that decide and change nothing: insertions of edges that are in the
+    /// graph, and deletions of edges that are not.
+    pub idle: u32,
+}
+
+impl Cleaned {
+    // What a batch of loops comes to.
+    fn of_loops(alloc: Global, loops: u32) -> Self
+        ensures { result ≡ record { removed = []; added = []; loops = loops; repeats = 0; idle = 0 } }
+    {
+        Cleaned {
+            removed: Edges::new(alloc),
+            added: Edges::new(alloc),
+            loops,
+            repeats: 0,
+            idle: 0,
+        }
+    }
+
+    // Takes in the key of an item that decides.
+    fn decide(&mut self, graph: &Graph, key: &Key) -> Result<(), AllocError>
+        requires ordered { key.now.a < key.now.b }
+        requires below { key.now.b < graph.now.vertices }
+        requires room { self.old.idle < MAX_ITEMS }
+        ensures { OnOk result (self.new ≡ decided graph.now.edges key.now self.old) }
+    {
+        let edge = key.edge();
+        match (key.insert, graph.has(edge)) {
+            (true, false) => self.added.push(edge),
+            (false, true) => self.removed.push(edge),
+            _ => {
+                self.idle += 1;
+                Ok(())
+            }
+        }
+    }
+}
+
+/// What the items of a batch come to in the graph, which stays as it is (`cleaned`).
+///
+/// The vertices of the items are below n, and they are at most `MAX_ITEMS`. The answer is the same
+/// for any number of threads. The error is want of memory.
+///
+/// Costs a sort of one key an item, of 16 bytes, by as many threads as the runtime has, and one
+/// look-up in the graph for each two vertices. Takes memory for the keys and for the two lists.
+pub fn clean<R: Threads + Sync>(
+    rt: &R,
+    alloc: Global,
+    graph: &Graph,
+    items: &[Item],
+) -> Result<Cleaned, AllocError>
+    requires inside { All (IsInside graph.now.vertices) items.now }
+    requires few { length items.now ≤ MAX_ITEMS }
+    ensures { IfOk result (λ c. c ≡ cleaned graph.now items.now) }
+{
+    // Its contract says that the edges of the graph ascend.
+    let _ = graph.vertices();
+    let keys = sorted_keys(rt, alloc, items)?;
+    let mut cleaned = Cleaned::of_loops(alloc, (items.len() - keys.len()) as u32);
+    let mut rest = keys.as_slice();
+    while let Some((key, later)) = rest.split_first() {
+        if key.is_last_of_pair(later) {
+            cleaned.decide(graph, key)?;
+        } else {
+            cleaned.repeats += 1;
+        }
+        rest = later;
+    }
+    Ok(cleaned)
+}
+
+#[cfg(test)]
+mod tests;

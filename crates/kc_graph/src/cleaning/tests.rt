@@ -1,0 +1,267 @@
+ghost use Rattle.std.specs.Prelude.{◌↔◌, All, IsTrue};
+ghost use Rattle.kc_graph.specs.Cleaning.{IsInside};
+
+mod plain;
+
+use super::*;
+use crate::edges::Edge;
+use crate::items::Item::{Delete, Insert};
+use crate::limits::MAX_EDGES;
+use std::process::Abort;
+use std::test::Fail;
+
+// A batch for a graph on the vertices 0 to 4 by its edges, and what it comes to.
+struct Case {
+    edges: &'static [(u32, u32)],
+    items: &'static [Item],
+    removed: &'static [(u32, u32)],
+    added: &'static [(u32, u32)],
+    loops: u32,
+    repeats: u32,
+    idle: u32,
+}
+
+const CASES: [Case; 5] = [
+    // No items.
+    Case {
+        edges: &[(0, 1)],
+        items: &[],
+        removed: &[],
+        added: &[],
+        loops: 0,
+        repeats: 0,
+        idle: 0,
+    },
+    // Loops alone.
+    Case {
+        edges: &[(0, 1)],
+        items: &[
+            Insert { u: 1, v: 1 },
+            Delete { u: 0, v: 0 },
+            Insert { u: 1, v: 1 },
+        ],
+        removed: &[],
+        added: &[],
+        loops: 3,
+        repeats: 0,
+        idle: 0,
+    },
+    // An insertion that is taken back, and a loop.
+    Case {
+        edges: &[],
+        items: &[
+            Insert { u: 0, v: 1 },
+            Delete { u: 0, v: 1 },
+            Insert { u: 2, v: 2 },
+        ],
+        removed: &[],
+        added: &[],
+        loops: 1,
+        repeats: 1,
+        idle: 1,
+    },
+    // Each edge from both of its ends.
+    Case {
+        edges: &[],
+        items: &[
+            Insert { u: 0, v: 1 },
+            Insert { u: 1, v: 0 },
+            Insert { u: 1, v: 2 },
+            Insert { u: 2, v: 1 },
+        ],
+        removed: &[],
+        added: &[(0, 1), (1, 2)],
+        loops: 0,
+        repeats: 2,
+        idle: 0,
+    },
+    // Both orders of a pair, edges that are there and others, the later edges first.
+    Case {
+        edges: &[(0, 1), (1, 2), (3, 4)],
+        items: &[
+            Delete { u: 4, v: 3 },
+            Insert { u: 4, v: 2 },
+            Delete { u: 4, v: 0 },
+            Insert { u: 2, v: 1 },
+            Insert { u: 0, v: 3 },
+            Insert { u: 3, v: 4 },
+            Delete { u: 1, v: 2 },
+            Delete { u: 1, v: 0 },
+        ],
+        removed: &[(0, 1), (1, 2)],
+        added: &[(0, 3), (2, 4)],
+        loops: 0,
+        repeats: 2,
+        idle: 2,
+    },
+];
+
+fn put_in(
+    rt: &impl Abort,
+    alloc: Global,
+    graph: &mut Graph,
+    a: u32,
+    b: u32,
+) -> Result<(), AllocError> {
+    assert!(rt; a < b && b < graph.vertices());
+    let e = Edge { a, b };
+    assert!(rt; !graph.has(e) && graph.edge_count() < MAX_EDGES);
+    graph.insert(alloc, e)
+}
+
+// The graph on the vertices 0 to 4 with these edges.
+fn graph_of(rt: &impl Abort, alloc: Global, edges: &[(u32, u32)]) -> Result<Graph, AllocError> {
+    let mut graph = Graph::new(alloc, 5)?;
+    for &(a, b) in edges {
+        put_in(rt, alloc, &mut graph, a, b)?;
+    }
+    Ok(graph)
+}
+
+fn is_inside(item: Item, n: u32) -> bool
+    ensures { IsTrue result ↔ IsInside n item }
+{
+    match item {
+        Insert { u, v } | Delete { u, v } => u < n && v < n,
+    }
+}
+
+fn are_inside(items: &[Item], n: u32) -> bool
+    ensures { IsTrue result ↔ All (IsInside n) items.now }
+{
+    items.iter().all(|item| is_inside(*item, n))
+}
+
+fn pairs(alloc: Global, edges: &Edges) -> Result<Vec<(u32, u32)>, AllocError> {
+    edges.as_slice().iter().map(|e| (e.a, e.b)).collect(alloc)
+}
+
+fn clean_checked<R: Abort + Threads + Sync>(
+    rt: &R,
+    alloc: Global,
+    graph: &Graph,
+    items: &[Item],
+) -> Result<Cleaned, AllocError> {
+    assert!(rt; are_inside(items, graph.vertices()));
+    assert!(rt; items.len() <= 100);
+    clean(rt, alloc, graph, items)
+}
+
+#[test]
+fn batches_come_to_this(rt: HostRuntime) -> Result<(), Fail> {
+    for (row, case) in CASES.iter().enumerate() {
+        let graph = graph_of(&rt, rt.alloc(), case.edges)?;
+        let cleaned = clean_checked(&rt, rt.alloc(), &graph, case.items)?;
+        assert_eq!(rt;
+            pairs(rt.alloc(), &cleaned.removed)?.as_slice(),
+            case.removed,
+            "row {row}"
+        );
+        assert_eq!(rt;
+            pairs(rt.alloc(), &cleaned.added)?.as_slice(),
+            case.added,
+            "row {row}"
+        );
+        assert_eq!(rt; cleaned.loops, case.loops, "row {row}");
+        assert_eq!(rt; cleaned.repeats, case.repeats, "row {row}");
+        assert_eq!(rt; cleaned.idle, case.idle, "row {row}");
+    }
+    Ok(())
+}
+
+// One pair is inserted and deleted by turns, a hundred times in all, the last time as told.
+fn by_turns(alloc: Global, ends_inserted: bool) -> Result<Vec<Item>, AllocError> {
+    let mut items = Vec::new(alloc);
+    for turn in 0..100u32 {
+        if (turn % 2 == 1) == ends_inserted {
+            items.push(Insert { u: 3, v: 1 })?;
+        } else {
+            items.push(Delete { u: 1, v: 3 })?;
+        }
+    }
+    Ok(items)
+}
+
+#[test]
+fn last_of_a_hundred_items_decides(rt: HostRuntime) -> Result<(), Fail> {
+    let without: &[(u32, u32)] = &[];
+    let with: &[(u32, u32)] = &[(1, 3)];
+    for ends_inserted in [true, false] {
+        let items = by_turns(rt.alloc(), ends_inserted)?;
+        for edges in [without, with] {
+            let graph = graph_of(&rt, rt.alloc(), edges)?;
+            let cleaned = clean_checked(&rt, rt.alloc(), &graph, items.as_slice())?;
+            let is_there = edges.len() == 1;
+            assert_eq!(rt; cleaned.loops, 0);
+            assert_eq!(rt; cleaned.repeats, 99);
+            assert_eq!(rt; cleaned.idle == 1, is_there == ends_inserted);
+            assert_eq!(rt; cleaned.removed.is_empty(), !is_there || ends_inserted);
+            assert_eq!(rt; cleaned.added.is_empty(), is_there || !ends_inserted);
+        }
+    }
+    Ok(())
+}
+
+// The next of a row of numbers that look random (a linear congruence).
+fn next(x: u64) -> u64 {
+    x.wrapping_mul(6364136223846793005)
+        .wrapping_add(1442695040888963407)
+}
+
+// About half of the pairs of the vertices 0 to 4.
+fn random_graph(rt: &impl Abort, alloc: Global, seed: u64) -> Result<Graph, AllocError> {
+    let mut graph = graph_of(rt, alloc, &[])?;
+    let mut x = seed;
+    for a in 0..graph.vertices() {
+        for b in 0..graph.vertices() {
+            x = next(x);
+            if a < b && x >> 63 == 0 {
+                put_in(rt, alloc, &mut graph, a, b)?;
+            }
+        }
+    }
+    Ok(graph)
+}
+
+fn random_items(alloc: Global, seed: u64) -> Result<Vec<Item>, AllocError> {
+    let mut items = Vec::new(alloc);
+    let mut x = seed;
+    for _ in 0..seed.min(40) {
+        x = next(x);
+        let (u, v) = (((x >> 40) % 5) as u32, ((x >> 20) % 5) as u32);
+        items.push(if x >> 63 == 0 {
+            Insert { u, v }
+        } else {
+            Delete { u, v }
+        })?;
+    }
+    Ok(items)
+}
+
+#[test]
+fn comes_to_what_the_definition_says(rt: HostRuntime) -> Result<(), Fail> {
+    for seed in 0..50u64 {
+        let graph = random_graph(&rt, rt.alloc(), seed)?;
+        let items = random_items(rt.alloc(), seed)?;
+        let cleaned = clean_checked(&rt, rt.alloc(), &graph, items.as_slice())?;
+        let plain = plain::clean(&rt, rt.alloc(), &graph, items.as_slice())?;
+        assert_eq!(rt;
+            pairs(rt.alloc(), &cleaned.removed)?,
+            plain.removed,
+            "seed {seed}"
+        );
+        assert_eq!(rt;
+            pairs(rt.alloc(), &cleaned.added)?,
+            plain.added,
+            "seed {seed}"
+        );
+        assert_eq!(rt; cleaned.loops as usize, plain.loops.len(), "seed {seed}");
+        assert_eq!(rt;
+            cleaned.repeats as usize,
+            plain.repeats.len(),
+            "seed {seed}"
+        );
+        assert_eq!(rt; cleaned.idle as usize, plain.idle.len(), "seed {seed}");
+    }
+    Ok(())
+}

@@ -1,0 +1,82 @@
+ghost use Rattle.std.specs.Prelude.{◌≡◌, ◌↔◌, [], ◌∷◌, ◌++◌, length, IsTrue, OnOk, OnErr};
+ghost use Rattle.kc_graph.specs.EdgeLists.{last_edge};
+
+use crate::edges::Edge;
+use std::alloc::{AllocError, Global};
+use std::marker::Model;
+
+/// Edges one after another. Contracts see them as the list of their pairs.
+#[derive(Drop)]
+pub struct Edges {
+    items: Vec<Edge>,
+}
+
+impl Model for Edges {
+    ghost use Rattle.std.specs.Prelude.{List, ℕ};
+
+    ghost Value = { List (ℕ × ℕ) };
+
+    ghost view = { λ e. e.items.items };
+}
+
+impl Edges {
+    /// No edges. Takes no memory.
+    pub fn new(alloc: Global) -> Self
+        ensures { result ≡ [] }
+    {
+        Edges {
+            items: Vec::new(alloc),
+        }
+    }
+
+    /// The edges of a `Vec`, in its order. Takes no memory.
+    pub fn from_vec(items: Vec<Edge>) -> Self
+        ensures { result ≡ items.items }
+    {
+        Edges { items }
+    }
+
+    /// The `Vec` of the edges. Takes no memory.
+    pub fn into_vec(self) -> Vec<Edge>
+        ensures { result.items ≡ self }
+    {
+        self.items
+    }
+
+    pub fn as_slice(&self) -> &[Edge]
+        ensures { result.now ≡ self.now }
+    {
+        self.items.as_slice()
+    }
+
+    pub fn len(&self) -> usize
+        ensures { result ≡ length self.now }
+    {
+        self.items.len()
+    }
+
+    pub fn is_empty(&self) -> bool
+        ensures { IsTrue result ↔ (self.now ≡ []) }
+    {
+        self.items.is_empty()
+    }
+
+    /// The last edge (`last_edge`).
+    pub fn last(&self) -> Option<Edge>
+        ensures { result ≡ last_edge self.now }
+    {
+        self.items.last().copied()
+    }
+
+    /// Puts an edge at the end. After a refusal the list is unchanged.
+    pub fn push(&mut self, e: Edge) -> Result<(), AllocError>
+        ensures ok { OnOk result (self.new ≡ self.old ++ e ∷ []) }
+        ensures err { OnErr result (self.new ≡ self.old) }
+    {
+        self.items.push(e)?;
+        Ok(())
+    }
+}
+
+#[cfg(test)]
+mod tests;

@@ -1,0 +1,41 @@
+-- What a scanner holds, and the lines that it has still to give.
+use Rattle.std.specs.Prelude.{ℕ, ◌+◌, ◌==◌, nat_lt, Bool, List, [], ◌++◌, length, Option, if◌then◌else◌, ◌||◌}
+use Rattle.std.specs.Option.{option_map}
+use Rattle.std.specs.List.{list_any}
+use Rattle.kc_text.specs.declared.line.Line.{Line}
+use Rattle.kc_text.specs.Lines.{lines_from}
+
+-- what a scanner holds
+pub record Scan : Type 0 where
+  -- the most bytes of a line
+  pub limit : ℕ
+  -- the number of the open line
+  pub number : ℕ
+  -- how many bytes may still join the open line, or later ones, before the input limit
+  pub room : ℕ
+  -- the bytes that joined the open line; where they are more than `limit`, only their number counts
+  pub piece : List ℕ
+  -- the bytes behind those that were read
+  pub ready : List ℕ
+  -- the source has ended
+  pub ended : Bool
+
+-- the bytes behind the open piece, where bs is what the source has left
+abbrev pub to_come : Scan → List ℕ → List ℕ
+to_come r bs = r.ready ++ (if r.ended then [] else bs)
+
+-- the lines still to give, where bs is what the source has left
+unfoldable pub scan_lines : Scan → List ℕ → List Line
+scan_lines r bs = lines_from r.limit r.number r.room r.piece (to_come r bs)
+
+-- the same, where the source tells what it has left
+unfoldable pub scan_lines_left : Scan → Option (List ℕ) → Option (List Line)
+scan_lines_left r left = option_map (scan_lines r) left
+
+-- what was read decides the next line: the source has ended, or a byte stands beyond the input limit, or a line feed was read
+abbrev pub is_scan_decided : Scan → Bool
+is_scan_decided r = r.ended || (nat_lt r.room (length r.ready) || list_any (λ b. b == 10) r.ready)
+
+-- the bytes that lines can still be made of: the measure of a loop over lines
+abbrev pub scan_budget : Scan → ℕ
+scan_budget r = r.room + length r.piece

@@ -1,0 +1,29 @@
+// A sink that forgets.
+ghost use Rattle.std.specs.Prelude.{◌≡◌, ◌<◌, length, None, IsOkAnd};
+
+use crate::{Failed, Sink};
+
+/// A sink that takes all bytes of each write and forgets them. It doesn't tell them, and never
+/// fails.
+#[derive(Clone, Copy, Debug, PartialEq, Eq)]
+pub struct NullSink;
+
+impl NullSink {
+    /// The sink; takes no memory.
+    pub fn new() -> Self {
+        NullSink
+    }
+}
+
+impl Sink for NullSink {
+    ghost taken = { λ _. None };
+
+    ghost faults = { λ _. 0 };
+
+    fn write(&mut self, bytes: &[u8]) -> Result<usize, Failed>
+        requires { 0 < length bytes.now }
+        ensures { IsOkAnd result (λ k. k ≡ length bytes.now) }
+    {
+        Ok(bytes.len())
+    }
+}

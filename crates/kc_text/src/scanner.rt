@@ -1,0 +1,232 @@
+// Lines of bytes that come in any pieces.
+ghost use Rattle.std.specs.Prelude.{◌≡◌, ℕ, ◌<◌, ◌≤◌, ◌+◌, ◌^◌, [], ◌∷◌, ◌++◌, List, length, Option, true, false, IfOk, OnOk, OnErr, IfSome, IfNone, IsSome};
+ghost use Rattle.kc_text.specs.Causes.{Rose, ReadCause, OnReadFault};
+ghost use Rattle.kc_text.specs.Lines.{body_of, without_cr, lines};
+ghost use Rattle.kc_text.specs.ScannerState.{piece_of};
+
+use crate::window::Window;
+use crate::{Body, Bytes, Failed, Line, LineFault, Source};
+use memchr::memchr;
+use std::alloc::{AllocError, Global};
+use std::marker::Model;
+
+/// Cuts the bytes of a source into lines, each of which it gives once.
+///
+/// A contract sees it as a `Scan` of `specs/Scanning`: the limits, and what it has taken from the
+/// source and not yet given. `scan_lines_left` of that, and of the bytes that the source has left,
+/// are the lines that it has still to give.
+#[derive(Drop)]
+pub struct Scanner {
+    // the bytes that were read and not yet taken into a line
+    window: Window,
+    // what was taken of the open line, as long as that is at most `limit` bytes; else of no meaning
+    part: Vec<u8>,
+    // how many bytes were taken of the open line, whether or not they were kept
+    taken: u32,
+    // the most bytes of a line: at most 2^30
+    limit: u32,
+    // the number of the open line: with `room` and `taken` at most 2^30 + 1
+    number: u32,
+    // how many bytes may still be taken before the input limit
+    room: u32,
+    // the source has ended; then the window is empty
+    ended: bool,
+}
+
+impl Model for Scanner {
+    ghost use Rattle.kc_text.specs.Scanning.{Scan};
+
+    ghost Value = { Scan };
+
+    ghost use Rattle.kc_text.specs.ScannerState.{scan_of, IsSound};
+
+    ghost view = { scan_of };
+
+    ghost invariant = { IsSound };
+}
+
+// What a line says whose bytes are a part and then `last`.
+fn read_body(
+    alloc: Global,
+    limit: u32,
+    taken: u32,
+    part: &[u8],
+    last: &[u8],
+) -> Result<Body, AllocError>
+    requires taken { length (piece_of limit taken part.now) ≡ taken }
+    requires small { taken + length last.now < 2 ^ 32 }
+    ensures { IfOk result (λ body. body ≡ body_of limit (piece_of limit taken part.now ++ last.now)) }
+{
+    if taken + last.len() as u32 > limit {
+        return Ok(Body::TooLong);
+    }
+    let mut text = Vec::with_capacity(alloc, part.len() + last.len())?;
+    text.extend_from_slice(part)?;
+    text.extend_from_slice(last)?;
+    drop_cr(&mut text);
+    Ok(Body::Text(Bytes::from_vec(text)))
+}
+
+// Takes a carriage return off the end.
+fn drop_cr(text: &mut Vec<u8>)
+    ensures { text.new.items ≡ without_cr text.old.items }
+{
+    if let Some(b'\r') = text.last() {
+        text.pop();
+    }
+}
+
+// Adds bytes to the part of a line, of which nothing is kept once it is longer than the limit.
+fn keep(part: &mut Vec<u8>, limit: u32, taken: u32, more: &[u8]) -> Result<(), AllocError>
+    requires taken { length (piece_of limit taken part.old.items) ≡ taken }
+    requires small { taken + length more.now < 2 ^ 32 }
+    ensures kept { OnOk result (taken + length more.now ≤ limit → part.new.items ≡ part.old.items ++ more.now) }
+    ensures same { OnErr result (part.new.items ≡ part.old.items) }
+{
+    if taken + more.len() as u32 > limit {
+        part.clear();
+        return Ok(());
+    }
+    part.extend_from_slice(more)?;
+    Ok(())
+}
+
+impl Scanner {
+    ghost use Rattle.kc_text.specs.Following.{onto, Takes, IsLast};
+    ghost use Rattle.kc_text.specs.Scanning.{Scan, scan_lines, scan_lines_left, scan_budget, is_scan_decided};
+    ghost use Rattle.kc_text.specs.ScannerSteps.{work, Gives, Absorbs};
+    ghost use Rattle.std.specs.Option.{option_map};
+
+    /// A scanner that stands before the first line.
+    pub fn new(alloc: Global, line_limit: u32, input_limit: u32) -> Result<Self, AllocError>
+        requires line { line_limit ≤ 2 ^ 30 }
+        requires input { input_limit ≤ 2 ^ 30 }
+        ensures lines { IfOk result (λ r. (left : Option (List ℕ)) → scan_lines_left r left ≡ option_map (lines line_limit input_limit) left) }
+        ensures budget { IfOk result (λ r. scan_budget r ≡ input_limit) }
+    {
+        Ok(Scanner {
+            window: Window::new(alloc)?,
+            part: Vec::new(alloc),
+            taken: 0,
+            limit: line_limit,
+            number: 1,
+            room: input_limit,
+            ended: false,
+        })
+    }
+
+    // The next line, where the bytes that were read decide it. Else all of them are taken into the
+    // open line.
+    fn look(&mut self, alloc: Global) -> Result<Option<Line>, AllocError>
+        ensures line { IfOk result (λ found. IfSome found (λ line. Gives line self.old self.new)) }
+        ensures none { IfOk result (λ found. IfNone found (Absorbs self.old self.new)) }
+        ensures err { OnErr result (self.new ≡ self.old) }
+    {
+        let ready = self.window.ready();
+        let within = ready.len().min(self.room as usize);
+        if let Some(at) = memchr(b'\n', &ready[..within]) {
+            let body = read_body(alloc, self.limit, self.taken, &self.part, &ready[..at])?;
+            let line = Line {
+                number: self.number,
+                body,
+            };
+            self.window.pass(at + 1);
+            self.part.clear();
+            self.taken = 0;
+            self.number += 1;
+            self.room -= at as u32 + 1;
+            return Ok(Some(line));
+        }
+        if within < ready.len() {
+            return Ok(Some(Line {
+                number: self.number,
+                body: Body::Limit,
+            }));
+        }
+        if self.ended {
+            return self.finish(alloc);
+        }
+        keep(&mut self.part, self.limit, self.taken, ready)?;
+        self.taken += within as u32;
+        self.room -= within as u32;
+        self.window.clear();
+        Ok(None)
+    }
+
+    // Where the source has ended: the line that has no line feed, or the end.
+    fn finish(&mut self, alloc: Global) -> Result<Option<Line>, AllocError>
+        requires ended { self.old.ended ≡ true }
+        ensures line { IfOk result (λ found. IfSome found (λ line. Gives line self.old self.new)) }
+        ensures some { IfOk result (λ found. IsSome found) }
+        ensures err { OnErr result (self.new ≡ self.old) }
+    {
+        if self.taken == 0 {
+            return Ok(Some(Line {
+                number: self.number,
+                body: Body::End,
+            }));
+        }
+        let body = read_body(alloc, self.limit, self.taken, &self.part, &[])?;
+        let line = Line {
+            number: self.number,
+            body,
+        };
+        self.part.clear();
+        self.taken = 0;
+        self.number += 1;
+        Ok(Some(line))
+    }
+
+    // Reads once, where nothing is ready.
+    fn fill<S: Source>(&mut self, src: &mut S) -> Result<(), Failed>
+        requires ready { self.old.ready ≡ [] }
+        requires ended { self.old.ended ≡ false }
+        ensures same { scan_lines_left self.new (S.left src.new) ≡ scan_lines_left self.old (S.left src.old) }
+        ensures still { OnErr result (self.new ≡ self.old) }
+        ensures work { OnOk result (work self.new < work self.old) }
+        ensures budget { scan_budget self.new ≡ scan_budget self.old }
+        ensures cause { OnErr result (Rose (S.faults src.old) (S.faults src.new)) }
+        ensures quiet { OnOk result (S.faults src.new ≡ S.faults src.old) }
+    {
+        self.window.fill(src)?;
+        if self.window.ready().is_empty() {
+            self.ended = true;
+        }
+        Ok(())
+    }
+
+    /// The next line. After `ReadFault` or `Memory` no byte is lost.
+    pub fn next_line<S: Source>(&mut self, alloc: Global, src: &mut S) -> Result<Line, LineFault>
+        ensures line { IfOk result (λ line. scan_lines_left self.old (S.left src.old) ≡ option_map (onto line) (scan_lines_left self.new (S.left src.new))) }
+        ensures err { OnErr result (scan_lines_left self.new (S.left src.new) ≡ scan_lines_left self.old (S.left src.old)) }
+        ensures cause { ReadCause (S.faults src.old) (S.faults src.new) result }
+
+        // Where what was read decides the line, nothing is read, and the line is the one that
+        // comes whatever the source has left.
+        ensures unread { is_scan_decided self.old ≡ true → src.new ≡ src.old }
+        ensures decided { is_scan_decided self.old ≡ true → IfOk result (λ line. (bs : List ℕ) → scan_lines self.old bs ≡ onto line (scan_lines self.new bs)) }
+
+        // A read that fails was needed too: what was read before it doesn't decide the line.
+        ensures open { OnReadFault result (is_scan_decided self.new ≡ false) }
+
+        // Behind `Limit` and `End` comes the same line again.
+        ensures last { IfOk result (λ line. IsLast line.body → scan_lines_left self.new (S.left src.new) ≡ scan_lines_left self.old (S.left src.old)) }
+        ensures settled { IfOk result (λ line. IsLast line.body → is_scan_decided self.new ≡ true) }
+        ensures again { IfOk result (λ line. IsLast line.body → (bs : List ℕ) → scan_lines self.new bs ≡ line ∷ []) }
+
+        // A caller's loop over the lines ends.
+        ensures takes { IfOk result (λ line. Takes line.body (scan_budget self.old) (scan_budget self.new)) }
+        ensures budget { OnErr result (scan_budget self.new ≡ scan_budget self.old) }
+    {
+        loop {
+            match self.look(alloc) {
+                Ok(Some(line)) => return Ok(line),
+                Ok(None) => {}
+                Err(e) => return Err(LineFault::Memory(e)),
+            }
+            if self.fill(src).is_err() {
+                return Err(LineFault::ReadFault);
+            }
+        }
+    }
+}

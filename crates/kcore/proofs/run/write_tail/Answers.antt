@@ -1,0 +1,12 @@
+use Rattle.std.proofs.lemmas.Result.{err_from_is_err_and}
+use Rattle.kc_text.proofs.Known.{prefix_longer, appends_then}
+use Rattle.kcore.specs.RunText.{vertex_lines, end_line}
+use Rattle.kcore.proofs.run.write_tail.Goals as goal
+
+pub returns-in_err-write_levels-clause-text : goal.returns-in_err-write_levels-clause-text
+returns-in_err-write_levels-clause-text g c =
+    let p = err_from_is_err_and c.from_residual.result c.from_residual.ensures.1 in
+    rw p.1 (prefix_longer _ _ (vertex_lines c.args.n c.args.levels.now) end_line c.in_err-write_levels.ensures.text)
+
+pub returns-clause-text : goal.returns-clause-text
+returns-clause-text g c = appends_then _ _ _ (vertex_lines c.args.n c.args.levels.now) end_line c.write_end.result c.in_ok-write_levels.ensures.text c.write_end.ensures.text

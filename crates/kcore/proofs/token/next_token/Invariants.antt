@@ -1,0 +1,15 @@
+use Rattle.std.proofs.Common.{◌≡◌, ◌≤◌}
+use Rattle.std.specs.Option.{option_map}
+use Rattle.kc_text.specs.Reading.{lines_left, budget}
+use Rattle.kcore.specs.Tokens.{tokens}
+use Rattle.kcore.proofs.token.next_token.Given as goal
+
+abbrev pub invariant-loop-line : goal.invariant-loop-line
+invariant-loop-line g l = record {
+  tokens : option_map tokens (lines_left l.reader (g.S.Source.left l.src)) ≡ option_map tokens (lines_left l.fn.reader (g.S.Source.left l.fn.src));
+  budget : budget l.reader ≤ budget l.fn.reader;
+  faults : g.S.Source.faults l.src ≡ g.S.Source.faults l.fn.src;
+}
+
+abbrev pub decreases-loop-line : goal.decreases-loop-line
+decreases-loop-line g l = budget l.reader

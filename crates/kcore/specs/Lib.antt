@@ -1,0 +1,9 @@
+pub mod Tokens
+pub mod BatchInput
+pub mod RunText
+pub mod Report
+pub mod Stops
+pub mod Commands
+pub mod Waiting
+pub mod Rising
+pub mod Rows

@@ -1,0 +1,12 @@
+-- Raising with a list of the vertices that are still to be looked at.
+use Rattle.std.specs.Prelude.{ℕ, ◌≡◌, ◌<◌, true, List, ◌⊎◌}
+use Rattle.kc_graph.specs.Numbers.{has_number}
+use Rattle.kc_graph.specs.Shape.{GraphShape}
+use Rattle.kc_levels.specs.declared.profile.Profile.{Profile}
+use Rattle.kc_levels.specs.LevelList.{MeetsUpper, IsRaising}
+
+-- the levels x have come to y, and each vertex that breaks the upper invariant waits
+pub record IsRising (p : Profile) (g : GraphShape) (x y waiting : List ℕ) : Type 0 where
+  pub raising : IsRaising p g x y
+  pub inside : (v : ℕ) → has_number v waiting ≡ true → v < g.vertices
+  pub meets : (v : ℕ) → v < g.vertices → (has_number v waiting ≡ true) ⊎ MeetsUpper p g y v

@@ -1,0 +1,138 @@
+ghost use Rattle.std.specs.Prelude.{◌≡◌, ℕ, ◌+◌, ◌<◌, ◌≤◌, IfOk, length};
+ghost use Rattle.kc_graph.specs.Shape.{EdgesFrom};
+
+use super::insert_rounds;
+use kc_graph::{Edge, Graph, MAX_EDGES, MAX_VERTICES};
+use kc_levels::{Levels, Profile, Thresholds};
+use kc_rounds::OpenGate;
+use std::alloc::{AllocError, Global};
+use std::process::Abort;
+use std::test::Fail;
+use std::thread::Threads;
+
+// One phase into a graph without edges gives these levels, and moves so many vertices.
+fn check<R: Threads + Sync + Abort>(
+    rt: &R,
+    alloc: Global,
+    added: &[Edge],
+    want: &[u16],
+    moves: u32,
+) -> Result<(), AllocError>
+    requires positive { 1 ≤ length want.now }
+    requires small { length want.now ≤ MAX_VERTICES }
+    requires ascending { EdgesFrom (length want.now) 0 0 added.now }
+    requires few { length added.now ≤ MAX_EDGES }
+{
+    let n = want.len() as u32;
+    let th = Thresholds::new(alloc, Profile::One, n)?;
+    let mut graph = Graph::new(alloc, n)?;
+    let mut levels = Levels::zeros(alloc, n)?;
+    let tally = insert_rounds(
+        rt,
+        alloc,
+        &OpenGate::new(),
+        1,
+        &th,
+        &mut graph,
+        &mut levels,
+        added,
+    )?;
+    assert_eq!(rt; levels.as_slice(), want);
+    assert_eq!(rt; tally.moves, moves);
+    Ok(())
+}
+
+#[test]
+fn levels_are_the_least(rt: HostRuntime) -> Result<(), Fail> {
+    let path = [Edge { a: 0, b: 1 }, Edge { a: 1, b: 2 }];
+    check(&rt, rt.alloc(), &path, &[1, 1, 1, 0, 0], 3)?;
+    let star = [
+        Edge { a: 0, b: 1 },
+        Edge { a: 0, b: 2 },
+        Edge { a: 0, b: 3 },
+        Edge { a: 0, b: 4 },
+    ];
+    check(&rt, rt.alloc(), &star, &[2, 1, 1, 1, 1], 5)?;
+    let four = [
+        Edge { a: 0, b: 1 },
+        Edge { a: 0, b: 2 },
+        Edge { a: 0, b: 3 },
+        Edge { a: 1, b: 2 },
+        Edge { a: 1, b: 3 },
+        Edge { a: 2, b: 3 },
+    ];
+    check(&rt, rt.alloc(), &four, &[6, 6, 6, 6, 0], 4)?;
+    let eight = [
+        Edge { a: 0, b: 1 },
+        Edge { a: 0, b: 2 },
+        Edge { a: 0, b: 3 },
+        Edge { a: 0, b: 4 },
+        Edge { a: 0, b: 5 },
+        Edge { a: 0, b: 6 },
+        Edge { a: 0, b: 7 },
+        Edge { a: 1, b: 2 },
+        Edge { a: 1, b: 3 },
+        Edge { a: 1, b: 4 },
+        Edge { a: 1, b: 5 },
+        Edge { a: 1, b: 6 },
+        Edge { a: 1, b: 7 },
+        Edge { a: 2, b: 3 },
+        Edge { a: 2, b: 4 },
+        Edge { a: 2, b: 5 },
+        Edge { a: 2, b: 6 },
+        Edge { a: 2, b: 7 },
+        Edge { a: 3, b: 4 },
+        Edge { a: 3, b: 5 },
+        Edge { a: 3, b: 6 },
+        Edge { a: 3, b: 7 },
+        Edge { a: 4, b: 5 },
+        Edge { a: 4, b: 6 },
+        Edge { a: 4, b: 7 },
+        Edge { a: 5, b: 6 },
+        Edge { a: 5, b: 7 },
+        Edge { a: 6, b: 7 },
+    ];
+    check(
+        &rt,
+        rt.alloc(),
+        &eight,
+        &[19, 19, 19, 19, 19, 19, 19, 19],
+        8,
+    )?;
+    check(&rt, rt.alloc(), &[], &[0, 0], 0)?;
+    Ok(())
+}
+
+#[test]
+fn a_second_phase_raises_further(rt: HostRuntime) -> Result<(), Fail> {
+    let gate = OpenGate::new();
+    let th = Thresholds::new(rt.alloc(), Profile::One, 5)?;
+    let mut graph = Graph::new(rt.alloc(), 5)?;
+    let mut levels = Levels::zeros(rt.alloc(), 5)?;
+    let first = [Edge { a: 0, b: 1 }, Edge { a: 0, b: 2 }];
+    let tally = insert_rounds(
+        &rt,
+        rt.alloc(),
+        &gate,
+        1,
+        &th,
+        &mut graph,
+        &mut levels,
+        &first,
+    )?;
+    assert_eq!(rt; tally.moves, 3);
+    let second = [Edge { a: 0, b: 3 }];
+    let tally = insert_rounds(
+        &rt,
+        rt.alloc(),
+        &gate,
+        2,
+        &th,
+        &mut graph,
+        &mut levels,
+        &second,
+    )?;
+    assert_eq!(rt; levels.as_slice(), [2, 1, 1, 1, 0].as_slice());
+    assert_eq!(rt; tally.moves, 2);
+    Ok(())
+}

@@ -1,0 +1,89 @@
+//! The program `kcore`: an approximate k-core decomposition of a graph, from bytes to bytes.
+//!
+//! [`top::run_command`] is the program; `main` only hands it the words of the command line, the standard input and
+//! output, and ends with its exit number. What a run reads is taken apart in `token` and `input`, its levels come from
+//! `insert_rounds`, and its lines are written in `report`; `run` joins them.
+#![tactic(auto)]
+
+ghost use Rattle.kcore.specs.Commands.{EndsAs};
+
+mod command;
+mod input;
+pub mod insert_rounds;
+pub mod laws;
+mod report;
+mod run;
+mod status;
+#[cfg(test)]
+mod tests;
+mod token;
+pub mod top;
+mod word;
+
+use kc_rounds::OpenGate;
+use kc_text::{StdSink, StdSource, Words};
+use status::Status;
+use std::alloc::Global;
+use std::env;
+use std::io::{BufWriter, ErrorKind, Write};
+use std::process::ExitCode;
+use std::rt::Env;
+use top::run_command;
+
+// The bytes of the output that are kept back at most.
+const BUFFER: usize = 65_536;
+
+// The words of the command line without the program's name. Where one of them isn't text they name no command.
+fn words_of<R: Env + AllocGlobal>(rt: &R) -> Result<Words, Status> {
+    let args = match env::args(rt) {
+        Ok(args) => args,
+        Err(e) => {
+            return Err(match e.kind() {
+                ErrorKind::OutOfMemory => Status::Memory,
+                _ => Status::Usage,
+            });
+        }
+    };
+    let mut words = Words::new(rt.alloc());
+    for word in args.skip(1) {
+        if words.push(rt.alloc(), word.as_str().as_bytes()).is_err() {
+            return Err(Status::Memory);
+        }
+    }
+    Ok(words)
+}
+
+fn main(rt: HostRuntime) -> ExitCode {
+    let words = match words_of(&rt) {
+        Ok(words) => words,
+        Err(status) => return ExitCode::from(status.exit_number()),
+    };
+    let Ok(writer) = BufWriter::with_capacity(rt.alloc(), BUFFER, rt.stdout()) else {
+        return ExitCode::from(Status::Memory.exit_number());
+    };
+    let mut input = StdSource::new(rt.stdin());
+    let mut output = StdSink::new(writer);
+    let status = run_command(
+        &rt,
+        rt.alloc(),
+        &words,
+        &mut input,
+        &mut output,
+        &OpenGate::new(),
+    );
+    ExitCode::from(ended(status, &mut output).exit_number())
+}
+
+// The status of the program. What the writer still holds goes out now; where that fails, a command that came to its
+// end has failed to write.
+fn ended<W: Write + Drop>(status: Status, output: &mut StdSink<W>) -> Status
+    ensures { EndsAs status result output.old output.new }
+{
+    match output.flush() {
+        Ok(()) => status,
+        Err(_) => match status {
+            Status::Done | Status::Refused => Status::WriteFault,
+            _ => status,
+        },
+    }
+}

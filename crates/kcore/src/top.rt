@@ -1,0 +1,56 @@
+//! The top call: a command line, an input and an output.
+ghost use Rattle.std.specs.Prelude.{◌≡◌, ◌↔◌, None, Option};
+ghost use Rattle.kcore.specs.Commands.{command_of, Answers, HasCause};
+ghost use Rattle.kcore.specs.Stops.{status_of};
+
+use crate::command::Command;
+use crate::run::{Stop, run_one};
+use crate::status::Status;
+use kc_rounds::Gate;
+use kc_text::{Sink, Source, Words};
+use std::alloc::Global;
+use std::thread::Threads;
+
+// How a run ended.
+fn status_of(ended: Result<bool, Stop>) -> Status
+    ensures { result ≡ status_of ended }
+{
+    match ended {
+        Ok(false) => Status::Done,
+        Ok(true) => Status::Refused,
+        Err(Stop::ReadFault) => Status::ReadFault,
+        Err(Stop::WriteFault) => Status::WriteFault,
+        Err(Stop::Memory) => Status::Memory,
+    }
+}
+
+/// Carries out the command that the words ask for: reads `input` and writes to `output`.
+///
+/// The answer is `Usage` exactly where the words name no command, and then nothing is read or written. Else, where
+/// `input` tells its bytes:
+///
+/// - with `Done` and `Refused` what `output` took is the whole text of the command for these bytes, and the answer is
+///   `Refused` exactly where the command refuses some of them;
+/// - with `ReadFault`, `WriteFault` and `Memory` it took a prefix of that text.
+///
+/// `ReadFault` and `WriteFault` come only where the count of faults of `input`, of `output` rose in this call, and
+/// every other count is as it was. So with words of a command, bytes told and no count risen the answer is `Done` or
+/// `Refused`, as the bytes decide, or `Memory`, the one answer without a cause.
+pub fn run_command<R: Threads + Sync, S: Source + Send, K: Sink + Send, G: Gate + Sync>(
+    rt: &R,
+    alloc: Global,
+    words: &Words,
+    input: &mut S,
+    output: &mut K,
+    gate: &G,
+) -> Status
+    ensures answer { Answers (command_of words.now) (S.left input.old) (K.taken output.old) (K.taken output.new) result }
+    ensures cause { HasCause (S.faults input.old) (S.faults input.new) (K.faults output.old) (K.faults output.new) result }
+    ensures usage { (result ≡ Status.Usage) ↔ (command_of words.now ≡ None) }
+    ensures untouched { result ≡ Status.Usage → (input.new ≡ input.old) × (output.new ≡ output.old) }
+{
+    match Command::from_words(words) {
+        Some(Command::RunOne) => status_of(run_one(rt, alloc, input, output, gate)),
+        None => Status::Usage,
+    }
+}
