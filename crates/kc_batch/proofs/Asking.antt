@@ -1,0 +1,139 @@
+-- The lines of a header, one after another.
+use Rattle.std.proofs.Common.{ℕ, ◌≡◌, ◌<◌, Bool, true, false, List, [], ◌∷◌, ◌++◌, refl, sym, ap, ◌∙◌, append_assoc, arith}
+use Rattle.std.specs.Prelude.{Option, Some, None, All, nat_lt}
+use Rattle.std.specs.List.{list_all}
+use Rattle.std.specs.Option.{option_map}
+use Rattle.std.proofs.lemmas.List.{append-nil}
+use Rattle.std.proofs.lemmas.List.Elements.{All-nil, All-cons}
+use Rattle.std.proofs.lemmas.Bool.Decides.{nat_tests}
+use Rattle.kc_levels.specs.declared.profile.Profile.TheVariants.{One}
+use Rattle.kc_text.specs.declared.line.Line.{Line}
+use Rattle.kc_text.specs.declared.line.Body.{Body}
+use Rattle.kc_text.specs.declared.line.Body.TheVariants.{Text, TooLong, Limit, End}
+use Rattle.kc_text.specs.Reading.{onto, behind, Takes}
+use Rattle.kc_text.specs.Words.{words, words_from}
+use Rattle.kc_text.specs.Numbers.{number_of}
+use Rattle.kc_batch.specs.declared.ask.Ask.{Ask}
+use Rattle.kc_batch.specs.Kept.{text_of}
+use Rattle.kc_batch.specs.Headers.{Accepted, Refused, is_magic, vertices_in, is_ask, number_before, numbers_of, fits_ask, ask_with, ask_in, next_ask, asks_from, after_magic, header_of, IsAsk}
+
+-- numbers that were read, and those that the words behind them say
+abbrev pub numbers_behind : List ℕ → List (List ℕ) → Option (List ℕ)
+numbers_behind front ws = option_map (λ rest. front ++ rest) (numbers_of ws)
+
+pub numbers_start : (ws : List (List ℕ)) → numbers_of ws ≡ numbers_behind [] ws
+numbers_start ws = same (numbers_of ws)
+  where
+    same : (o : Option (List ℕ)) → o ≡ option_map (λ rest. [] ++ rest) o
+    same None = refl
+    same (Some xs) = refl
+
+more_at : (front : List ℕ) (x : ℕ) (o : Option (List ℕ)) → option_map (λ rest. front ++ rest) (number_before (Some x) o) ≡ option_map (λ rest. (front ++ x ∷ []) ++ rest) o
+more_at front x None = refl
+more_at front x (Some xs) = ap Some (sym (append_assoc front (x ∷ []) xs))
+
+-- one more number
+pub numbers_more : (front w : List ℕ) (ws all : List (List ℕ)) (x : ℕ) → all ≡ w ∷ ws → Some x ≡ number_of w → numbers_behind front all ≡ numbers_behind (front ++ x ∷ []) ws
+numbers_more front w ws all x e h = rw (e, ← h) (more_at front x (numbers_of ws))
+
+-- a word that says none
+pub numbers_none : (front w : List ℕ) (ws all : List (List ℕ)) → all ≡ w ∷ ws → None ≡ number_of w → numbers_behind front all ≡ None
+numbers_none front w ws all e h = rw (e, ← h) refl
+
+-- no further word
+pub numbers_end : (front : List ℕ) (all : List (List ℕ)) → all ≡ [] → numbers_behind front all ≡ Some front
+numbers_end front all e = rw e (ap Some (append-nil front))
+
+-- the ask of a line by its words
+pub ask_is : (n : ℕ) (name times : List ℕ) (all more vertices : List (List ℕ)) → all ≡ name ∷ more → more ≡ times ∷ vertices → ask_in n all ≡ ask_with n (number_of times) (numbers_of vertices)
+unfolding ask_in
+ask_is n name times all more vertices e f = rw (e, f) refl
+
+with_no_times : (n : ℕ) (vertices : Option (List ℕ)) → ask_with n None vertices ≡ None
+with_no_times n None = refl
+with_no_times n (Some vs) = refl
+
+-- an ask line whose second word is no number
+pub ask_no_times : (n : ℕ) (times : Option ℕ) (vertices : Option (List ℕ)) → None ≡ times → ask_with n times vertices ≡ None
+ask_no_times n times vertices e = rw (← e) (with_no_times n vertices)
+
+below : (n : ℕ) (vs : List ℕ) → list_all (λ v. nat_lt v n) vs ≡ true → All (λ v. v < n) vs
+below n [] e = All-nil (λ v. v < n)
+below n (v ∷ vs) e = All-cons (λ v. v < n) v vs (grind (arith, nat_tests, e)) (below n vs (grind (arith, nat_tests, e)))
+
+-- the ranges of an ask that fits
+pub fits : (n times : ℕ) (vertices : List ℕ) → fits_ask n times vertices ≡ true → IsAsk n (record { times = times; vertices = vertices })
+fits n times vertices e = record {
+  times = grind (arith, nat_tests, e);
+  some = grind (arith, nat_tests, e);
+  below = below n vertices (grind (arith, nat_tests, e));
+  few = grind (arith, nat_tests, e);
+}
+
+-- a test that no empty line passes is passed by no end
+going : (p : List (List ℕ) → Bool) → p [] ≡ false → (b : Body) → p (words (text_of b)) ≡ true → (rest : List Line) → behind b rest ≡ rest
+unfolding words_from
+going p h (Text text) e rest = refl
+going p h TooLong e rest = refl
+going p h Limit e rest = let x : true ≡ false = sym e ∙ h in absurd cc
+going p h End e rest = let x : true ≡ false = sym e ∙ h in absurd cc
+
+going_some : {X : Type 0} (f : List (List ℕ) → Option X) (x : X) → f [] ≡ None → (b : Body) → f (words (text_of b)) ≡ Some x → (rest : List Line) → behind b rest ≡ rest
+unfolding words_from
+going_some f x h (Text text) e rest = refl
+going_some f x h TooLong e rest = refl
+going_some f x h Limit e rest = let y : Some x ≡ None = sym e ∙ h in absurd cc
+going_some f x h End e rest = let y : Some x ≡ None = sym e ∙ h in absurd cc
+
+no_magic : is_magic [] ≡ false
+unfolding is_magic
+no_magic = refl
+
+no_vertices : vertices_in [] ≡ None
+unfolding vertices_in
+no_vertices = refl
+
+pub magic_missing : (line : Line) → is_magic (words (text_of line.body)) ≡ false → (rest : List Line) → header_of (onto line rest) ≡ Refused line.number
+unfolding header_of
+magic_missing line e rest = rw e refl
+
+pub magic_there : (line : Line) → is_magic (words (text_of line.body)) ≡ true → (rest : List Line) → header_of (onto line rest) ≡ after_magic rest
+unfolding header_of
+magic_there line e rest = rw (e, going is_magic no_magic line.body e rest) refl
+
+pub vertices_missing : (line : Line) → vertices_in (words (text_of line.body)) ≡ None → (rest : List Line) → after_magic (onto line rest) ≡ Refused line.number
+unfolding after_magic
+vertices_missing line e rest = rw e refl
+
+pub vertices_there : (line : Line) (n : ℕ) → vertices_in (words (text_of line.body)) ≡ Some n → (rest : List Line) → after_magic (onto line rest) ≡ asks_from n [] rest
+unfolding after_magic
+vertices_there line n e rest = rw (e, going_some vertices_in n no_vertices line.body e rest) refl
+
+pub ask_missing : (n : ℕ) (asks : List Ask) (line : Line) → is_ask (words (text_of line.body)) ≡ false
+    → (rest : List Line) → asks_from n asks (onto line rest) ≡ Accepted (record { profile = One; n = n; asks = asks }) (onto line rest)
+unfolding asks_from
+ask_missing n asks line e rest = rw e refl
+
+pub ask_refused : (n : ℕ) (asks : List Ask) (line : Line) → is_ask (words (text_of line.body)) ≡ true → next_ask n asks (words (text_of line.body)) ≡ None
+    → (rest : List Line) → asks_from n asks (onto line rest) ≡ Refused line.number
+unfolding asks_from
+ask_refused n asks line e f rest = rw (e, f) refl
+
+pub ask_there : (n : ℕ) (asks : List Ask) (line : Line) (ask : Ask) → is_ask (words (text_of line.body)) ≡ true → next_ask n asks (words (text_of line.body)) ≡ Some ask
+    → (rest : List Line) → asks_from n asks (onto line rest) ≡ asks_from n (asks ++ ask ∷ []) rest
+unfolding asks_from
+ask_there n asks line ask e f rest = rw (e, f, going is_ask refl line.body e rest) refl
+
+-- where a line is put back
+pub step_back : {X : Type 0} (F G : List Line → X) (line : Line) (old mid new : Option (List Line)) → old ≡ option_map (onto line) mid → new ≡ option_map (onto line) mid
+    → ((rest : List Line) → F (onto line rest) ≡ G (onto line rest)) → option_map F old ≡ option_map G new
+step_back F G line old None new e f h = rw (e, f) refl
+step_back F G line old (Some rest) new e f h = rw (e, f) (ap Some (h rest))
+
+-- an ask line takes some budget
+pub takes_ask : (body : Body) (old new : ℕ) → is_ask (words (text_of body)) ≡ true → Takes body old new → new < old
+unfolding words_from
+takes_ask (Text text) old new e h = h
+takes_ask TooLong old new e h = h
+takes_ask Limit old new e h = absurd cc
+takes_ask End old new e h = absurd cc

@@ -1,0 +1,152 @@
+-- One line, and what a definition says of the lines behind it.
+use Rattle.std.proofs.Common.{ℕ, ◌≡◌, Bool, true, false, List, [], ◌∷◌, ◌++◌, refl, sym, ap, ◌∙◌, nat_le, length, inl, inr}
+use Rattle.std.specs.Prelude.{Option, Some, None, if◌then◌else◌, ◌⊎◌}
+use Rattle.std.specs.Option.{option_map}
+use Rattle.std.proofs.lemmas.Option.{same_Some}
+use Rattle.kc_graph.specs.declared.items.Item.{Item}
+use Rattle.kc_text.specs.declared.reason.Reason.{Reason}
+use Rattle.kc_text.specs.declared.reason.Reason.TheVariants.{LineLong, BadLine, BadVertex, TooMany, Truncated, InputLimit}
+use Rattle.kc_batch.specs.declared.token.Token.{Token}
+use Rattle.kc_batch.specs.declared.token.Kind.{Kind}
+use Rattle.kc_batch.specs.declared.token.Kind.TheVariants as kind
+use Rattle.kc_batch.specs.declared.turn.Turn.TheVariants.{Add, Close, Pass, Stop}
+use Rattle.kc_batch.specs.declared.batch.Next.{Next}
+use Rattle.kc_batch.specs.declared.batch.Next.TheVariants.{Refused, End}
+use Rattle.kc_batch.specs.Tokens.{onto_token, behind_kind, IsLastKind}
+use Rattle.kc_batch.specs.Turns.{is_inside, turn_of}
+use Rattle.kc_batch.specs.Batches.{whole, pass_by, after_end, items_from, batch_of, with_next}
+
+-- what a definition F says of lines with one put before them, G says of the lines behind it
+pub step_on : {A B X : Type 0} (F : B → X) (G : A → X) (put : A → B) (old : Option B) (new : Option A) → old ≡ option_map put new
+    → ((rest : A) → F (put rest) ≡ G rest) → option_map F old ≡ option_map G new
+step_on F G put old None e h = rw e refl
+step_on F G put old (Some rest) e h = rw e (ap Some (h rest))
+
+-- where the line stays
+pub step_last : {X : Type 0} (F G : List Token → X) (t : Token) (old new : Option (List Token)) → old ≡ option_map (onto_token t) new → new ≡ old
+    → ((rest : List Token) → behind_kind t.kind rest ≡ []) → F (t ∷ []) ≡ G (t ∷ []) → option_map F old ≡ option_map G new
+step_last F G t old None e s b h = rw e refl
+step_last F G t old (Some rest) e s b h =
+    let r : rest ≡ t ∷ [] = same_Some _ _ (s ∙ e) ∙ ap (λ x. t ∷ x) (b rest) in
+    rw (e, b rest) (ap Some h ∙ ap (λ x. Some (G x)) (sym r))
+
+pub map_same : {X : Type 0} (o : Option X) → option_map (λ x. x) o ≡ o
+map_same None = refl
+map_same (Some x) = refl
+
+-- a line that is passed over
+pub record PassedBy (k : Kind) : Type 0 where
+  pub behind : (rest : List Token) → behind_kind k rest ≡ rest
+  pub passed : (here rest later : List Token) → pass_by k here rest later ≡ later
+
+pub passed_by : (k : Kind) → (k ≡ kind.BatchEnd → ⊥) → (k ≡ kind.Limit → ⊥) → (k ≡ kind.InputEnd → ⊥) → PassedBy k
+passed_by kind.BatchStart a b d = record { behind = λ _. refl; passed = λ _ _ _. refl }
+passed_by (kind.Item i) a b d = record { behind = λ _. refl; passed = λ _ _ _. refl }
+passed_by kind.BatchEnd a b d = absurd (a refl)
+passed_by kind.Other a b d = record { behind = λ _. refl; passed = λ _ _ _. refl }
+passed_by kind.TooLong a b d = record { behind = λ _. refl; passed = λ _ _ _. refl }
+passed_by kind.Limit a b d = absurd (b refl)
+passed_by kind.InputEnd a b d = absurd (d refl)
+
+pub after_on : (t : Token) → PassedBy t.kind → (rest : List Token) → after_end (onto_token t rest) ≡ after_end rest
+unfolding after_end
+after_on t h rest = rw (h.passed, h.behind) refl
+
+pub after_at_end : (t : Token) → t.kind ≡ kind.BatchEnd → (rest : List Token) → after_end (onto_token t rest) ≡ rest
+unfolding after_end
+after_at_end t e rest = rw e refl
+
+pub after_at_last : (t : Token) → (t.kind ≡ kind.Limit) ⊎ (t.kind ≡ kind.InputEnd) → after_end (t ∷ []) ≡ t ∷ []
+unfolding after_end
+after_at_last t e = elim e [ inl a ↦ rw a refl | inr a ↦ rw a refl ]
+
+-- a line that doesn't stop a batch
+pub going_turn : (n : ℕ) (full : Bool) (k : Kind) → ((r : Reason) → turn_of n full k ≡ Stop r → ⊥) → (rest : List Token) → behind_kind k rest ≡ rest
+going_turn n full kind.BatchStart h rest = refl
+going_turn n full (kind.Item i) h rest = refl
+going_turn n full kind.BatchEnd h rest = refl
+going_turn n full kind.Other h rest = refl
+going_turn n full kind.TooLong h rest = refl
+going_turn n full kind.Limit h rest = absurd (h InputLimit refl)
+going_turn n full kind.InputEnd h rest = absurd (h Truncated refl)
+
+item_goes : (inside full : Bool) (i : Item) (r : Reason) → (if inside then (if full then Pass TooMany else Add i) else Pass BadVertex) ≡ Stop r → ⊥
+item_goes false full i r e = cc
+item_goes true true i r e = cc
+item_goes true false i r e = cc
+
+-- a line that stops it
+pub stopping_turn : (n : ℕ) (full : Bool) (k : Kind) (r : Reason) → turn_of n full k ≡ Stop r → IsLastKind k × ((rest : List Token) → behind_kind k rest ≡ [])
+stopping_turn n full kind.BatchStart r e = absurd cc
+stopping_turn n full (kind.Item i) r e = absurd (item_goes (is_inside n i) full i r e)
+stopping_turn n full kind.BatchEnd r e = absurd cc
+stopping_turn n full kind.Other r e = absurd cc
+stopping_turn n full kind.TooLong r e = absurd cc
+stopping_turn n full kind.Limit r e = (tt, λ _. refl)
+stopping_turn n full kind.InputEnd r e = (tt, λ _. refl)
+
+-- one turn of a batch
+pub items_add : (n limit : ℕ) (items : List Item) (t : Token) (item : Item) (full : Bool) → full ≡ nat_le limit (length items) → turn_of n full t.kind ≡ Add item
+    → (rest : List Token) → items_from n limit items (onto_token t rest) ≡ items_from n limit (items ++ item ∷ []) rest
+unfolding items_from
+items_add n limit items t item full f e rest =
+    let b = going_turn n full t.kind (λ r s. cc) rest in
+    let e' : turn_of n (nat_le limit (length items)) t.kind ≡ Add item = ap (λ x. turn_of n x t.kind) (sym f) ∙ e in
+    rw (e', b) refl
+
+pub items_close : (n limit : ℕ) (items : List Item) (t : Token) (full : Bool) → full ≡ nat_le limit (length items) → turn_of n full t.kind ≡ Close
+    → (rest : List Token) → items_from n limit items (onto_token t rest) ≡ (whole items t.number, rest)
+unfolding items_from
+items_close n limit items t full f e rest =
+    let b = going_turn n full t.kind (λ r s. cc) rest in
+    let e' : turn_of n (nat_le limit (length items)) t.kind ≡ Close = ap (λ x. turn_of n x t.kind) (sym f) ∙ e in
+    rw (e', b) refl
+
+pub items_pass : (n limit : ℕ) (items : List Item) (t : Token) (full : Bool) (r : Reason) → full ≡ nat_le limit (length items) → turn_of n full t.kind ≡ Pass r
+    → (rest : List Token) → items_from n limit items (onto_token t rest) ≡ (Refused t.number r, after_end rest)
+unfolding items_from
+items_pass n limit items t full r f e rest =
+    let b = going_turn n full t.kind (λ s p. cc) rest in
+    let e' : turn_of n (nat_le limit (length items)) t.kind ≡ Pass r = ap (λ x. turn_of n x t.kind) (sym f) ∙ e in
+    rw (e', b) refl
+
+pub items_stop : (n limit : ℕ) (items : List Item) (t : Token) (full : Bool) (r : Reason) → full ≡ nat_le limit (length items) → turn_of n full t.kind ≡ Stop r
+    → items_from n limit items (t ∷ []) ≡ (Refused t.number r, t ∷ [])
+unfolding items_from
+items_stop n limit items t full r f e =
+    let e' : turn_of n (nat_le limit (length items)) t.kind ≡ Stop r = ap (λ x. turn_of n x t.kind) (sym f) ∙ e in
+    rw e' refl
+
+-- a batch that passes over what follows
+pub passed_over : (F : List Token → Next × List Token) (next : Next) (t : Token) (old mid new : Option (List Token)) → old ≡ option_map (onto_token t) mid
+    → ((rest : List Token) → F (onto_token t rest) ≡ (next, after_end rest)) → option_map after_end mid ≡ new → option_map F old ≡ option_map (with_next next) new
+passed_over F next t old None new e h p = rw (e, ← p) refl
+passed_over F next t old (Some rest) new e h p = rw (e, ← p) (ap Some (h rest))
+
+pub batch_start : (n limit : ℕ) (t : Token) → t.kind ≡ kind.BatchStart → (rest : List Token) → batch_of n limit (onto_token t rest) ≡ items_from n limit [] rest
+unfolding batch_of
+batch_start n limit t e rest = rw e refl
+
+pub batch_end : (n limit : ℕ) (t : Token) → t.kind ≡ kind.BatchEnd → (rest : List Token) → batch_of n limit (onto_token t rest) ≡ (Refused t.number BadLine, rest)
+unfolding batch_of
+batch_end n limit t e rest = rw e refl
+
+pub batch_item : (n limit : ℕ) (t : Token) (i : Item) → t.kind ≡ kind.Item i → (rest : List Token) → batch_of n limit (onto_token t rest) ≡ (Refused t.number BadLine, after_end rest)
+unfolding batch_of
+batch_item n limit t i e rest = rw e refl
+
+pub batch_other : (n limit : ℕ) (t : Token) → t.kind ≡ kind.Other → (rest : List Token) → batch_of n limit (onto_token t rest) ≡ (Refused t.number BadLine, after_end rest)
+unfolding batch_of
+batch_other n limit t e rest = rw e refl
+
+pub batch_long : (n limit : ℕ) (t : Token) → t.kind ≡ kind.TooLong → (rest : List Token) → batch_of n limit (onto_token t rest) ≡ (Refused t.number LineLong, after_end rest)
+unfolding batch_of
+batch_long n limit t e rest = rw e refl
+
+pub batch_limit : (n limit : ℕ) (t : Token) → t.kind ≡ kind.Limit → batch_of n limit (t ∷ []) ≡ (Refused t.number InputLimit, t ∷ [])
+unfolding batch_of
+batch_limit n limit t e = rw e refl
+
+pub batch_none : (n limit : ℕ) (t : Token) → t.kind ≡ kind.InputEnd → batch_of n limit (t ∷ []) ≡ (End, t ∷ [])
+unfolding batch_of
+batch_none n limit t e = rw e refl

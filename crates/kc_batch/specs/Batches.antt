@@ -1,0 +1,136 @@
+-- The batches of an input, each with its items or its first fault. All lines are lines that aren't skipped, told as
+-- tokens; `Limit` or `InputEnd` is the last of them, so there is always one, and what stands for no line doesn't matter.
+use Rattle.std.specs.Prelude.{ℕ, ◌<◌, ◌≤◌, nat_le, List, [], ◌∷◌, ◌++◌, length, All, Option}
+use Rattle.std.specs.Option.{option_map}
+use Rattle.kc_graph.specs.declared.items.Item.{Item}
+use Rattle.kc_text.specs.declared.reason.Reason.TheVariants.{LineLong, BadLine, InputLimit}
+use Rattle.kc_text.specs.Reading.{Reading}
+use Rattle.kc_batch.specs.declared.token.Token.{Token}
+use Rattle.kc_batch.specs.declared.token.Kind.{Kind}
+use Rattle.kc_batch.specs.declared.token.Kind.TheVariants as kind
+use Rattle.kc_batch.specs.declared.turn.Turn.{Turn}
+use Rattle.kc_batch.specs.declared.turn.Turn.TheVariants.{Add, Close, Pass, Stop}
+use Rattle.kc_batch.specs.declared.batch.Batch.{Batch}
+use Rattle.kc_batch.specs.declared.batch.Next.{Next}
+use Rattle.kc_batch.specs.declared.batch.Next.TheVariants.{Items, Refused, End}
+use Rattle.kc_batch.specs.Tokens.{tokens_left}
+use Rattle.kc_graph.specs.Cleaning.{IsInside}
+use Rattle.kc_batch.specs.Turns.{turn_of, IsBatchReason}
+
+-- a batch without a fault
+abbrev pub whole : List Item → ℕ → Next
+whole items line = Items (record { items = items; line = line })
+
+abbrev pub pass_by : Kind → List Token → List Token → List Token → List Token
+pass_by kind.BatchEnd here rest later = rest
+pass_by kind.Limit here rest later = here
+pass_by kind.InputEnd here rest later = here
+pass_by _ here rest later = later
+
+-- the lines behind the next `end`; or the end of the input or its limit, if that comes before
+unfoldable pub after_end : List Token → List Token
+after_end [] = []
+after_end (t ∷ rest) = pass_by t.kind (t ∷ []) rest (after_end rest)
+
+abbrev pub take_turn : List Item → Token → Turn → List Token → (Item → Next × List Token) → Next × List Token
+take_turn items t (Add item) rest more = more item
+take_turn items t Close rest more = (whole items t.number, rest)
+take_turn items t (Pass reason) rest more = (Refused t.number reason, after_end rest)
+take_turn items t (Stop reason) rest more = (Refused t.number reason, t ∷ [])
+
+-- the rest of a batch that has these items, and the lines behind it
+unfoldable pub items_from : ℕ → ℕ → List Item → List Token → Next × List Token
+items_from n limit items [] = (End, [])
+items_from n limit items (t ∷ rest) =
+    take_turn items t (turn_of n (nat_le limit (length items)) t.kind) rest (λ item. items_from n limit (items ++ item ∷ []) rest)
+
+abbrev pub begin_batch : ℕ → ℕ → Token → Kind → List Token → Next × List Token
+begin_batch n limit t kind.BatchStart rest = items_from n limit [] rest
+begin_batch n limit t kind.BatchEnd rest = (Refused t.number BadLine, rest)
+begin_batch n limit t (kind.Item item) rest = (Refused t.number BadLine, after_end rest)
+begin_batch n limit t kind.Other rest = (Refused t.number BadLine, after_end rest)
+begin_batch n limit t kind.TooLong rest = (Refused t.number LineLong, after_end rest)
+begin_batch n limit t kind.Limit rest = (Refused t.number InputLimit, t ∷ [])
+begin_batch n limit t kind.InputEnd rest = (End, t ∷ [])
+
+-- the next batch, and the lines behind it
+unfoldable pub batch_of : ℕ → ℕ → List Token → Next × List Token
+batch_of n limit [] = (End, [])
+batch_of n limit (t ∷ rest) = begin_batch n limit t t.kind rest
+
+abbrev pub with_next : Next → List Token → Next × List Token
+with_next next rest = (next, rest)
+
+-- where a line stands: between batches, within a batch that has these items, or behind a fault of one
+pub data Place : Type 0 where
+  Between : Place
+  Within : (items : List Item) → Place
+  Passing : Place
+
+abbrev pub step_between : Token → Kind → List Next → List Next → List Next → List Next
+step_between t kind.BatchStart within between passing = within
+step_between t kind.BatchEnd within between passing = Refused t.number BadLine ∷ between
+step_between t (kind.Item item) within between passing = Refused t.number BadLine ∷ passing
+step_between t kind.Other within between passing = Refused t.number BadLine ∷ passing
+step_between t kind.TooLong within between passing = Refused t.number LineLong ∷ passing
+step_between t kind.Limit within between passing = Refused t.number InputLimit ∷ []
+step_between t kind.InputEnd within between passing = []
+
+abbrev pub step_within : List Item → Token → Turn → (Item → List Next) → List Next → List Next → List Next
+step_within items t (Add item) more between passing = more item
+step_within items t Close more between passing = whole items t.number ∷ between
+step_within items t (Pass reason) more between passing = Refused t.number reason ∷ passing
+step_within items t (Stop reason) more between passing = Refused t.number reason ∷ []
+
+abbrev pub step_passing : Token → Kind → List Next → List Next → List Next
+step_passing t kind.BatchEnd between passing = between
+step_passing t kind.Limit between passing = Refused t.number InputLimit ∷ []
+step_passing t kind.InputEnd between passing = []
+step_passing t _ between passing = passing
+
+-- the batches of lines, of which the first stands there
+unfoldable pub batches_from : ℕ → ℕ → Place → List Token → List Next
+batches_from n limit place [] = []
+batches_from n limit Between (t ∷ rest) =
+    step_between t t.kind (batches_from n limit (Within []) rest) (batches_from n limit Between rest) (batches_from n limit Passing rest)
+batches_from n limit (Within items) (t ∷ rest) =
+    step_within items t (turn_of n (nat_le limit (length items)) t.kind) (λ item. batches_from n limit (Within (items ++ item ∷ [])) rest)
+    (batches_from n limit Between rest) (batches_from n limit Passing rest)
+batches_from n limit Passing (t ∷ rest) = step_passing t t.kind (batches_from n limit Between rest) (batches_from n limit Passing rest)
+
+-- all batches of the lines behind a header with n vertices, of at most `limit` items each
+abbrev pub batches : ℕ → ℕ → List Token → List Next
+batches n limit ts = batches_from n limit Between ts
+
+-- the batches of the lines that a reader has still to give, where its source tells what it has left
+abbrev pub batches_left : ℕ → ℕ → Reading → Option (List ℕ) → Option (List Next)
+batches_left n limit r left = option_map (batches n limit) (tokens_left r left)
+
+-- a batch and those that follow it: none is the end, and none follows one that is refused for the input limit
+abbrev pub behind_batch : Next → List Next → List Next
+behind_batch End rest = []
+behind_batch (Refused line InputLimit) rest = Refused line InputLimit ∷ []
+behind_batch next rest = next ∷ rest
+
+-- there is no further batch
+abbrev pub IsEnd : Next → Type 0
+IsEnd End = Unit {0}
+IsEnd _ = ⊥
+
+-- a batch has at most `limit` items, and their vertices are below n
+pub record IsBatch (n limit : ℕ) (batch : Batch) : Type 0 where
+  pub few : length batch.items ≤ limit
+  pub inside : All (IsInside n) batch.items
+
+-- what is true of each answer
+abbrev pub IsNext : ℕ → ℕ → Next → Type 0
+IsNext n limit (Items batch) = IsBatch n limit batch
+IsNext n limit (Refused line reason) = IsBatchReason reason
+IsNext n limit End = Unit {0}
+
+-- a batch takes some of a reader's budget; the end, and a batch that is refused for the input limit, give none back
+abbrev pub TakesBatch : Next → ℕ → ℕ → Type 0
+TakesBatch (Items batch) old new = new < old
+TakesBatch (Refused line InputLimit) old new = new ≤ old
+TakesBatch (Refused line _) old new = new < old
+TakesBatch End old new = new ≤ old

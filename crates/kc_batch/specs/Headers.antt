@@ -1,0 +1,121 @@
+-- The header of a batch input: `kcore 1`, then `vertices N`, then up to 64 ask lines. All lines are lines that aren't
+-- skipped; `Limit` or `End` is the last of them, so there is always one.
+use Rattle.std.specs.Prelude.{ℕ, ◌≡◌, ◌<◌, ◌≤◌, ◌*◌, nat_le, nat_lt, Bool, false, ◌&&◌, List, [], ◌∷◌, ◌++◌, length, All, Option, Some, None, Result, Ok, Err, if◌then◌else◌, codes}
+use Rattle.std.specs.Option.{option_map}
+use Rattle.std.specs.List.{list_all}
+use Rattle.std.specs.Str.{bytes_eq}
+use Rattle.kc_graph.specs.declared.limits.TheConstants.{MAX_VERTICES}
+use Rattle.kc_levels.specs.declared.profile.Profile.TheVariants.{One}
+use Rattle.kc_text.specs.declared.line.Line.{Line}
+use Rattle.kc_text.specs.Words.{words}
+use Rattle.kc_text.specs.Numbers.{number_of}
+use Rattle.kc_batch.specs.Kept.{text_of}
+use Rattle.kc_batch.specs.declared.ask.Ask.{Ask}
+use Rattle.kc_batch.specs.HeaderShape.{HeaderShape}
+use Rattle.kc_batch.specs.declared.header.HeaderFault.{HeaderFault}
+use Rattle.kc_batch.specs.declared.header.HeaderFault.TheVariants as fault
+
+-- the two words `kcore` and `1`
+unfoldable pub is_magic : List (List ℕ) → Bool
+is_magic (name ∷ version ∷ []) = bytes_eq name (codes "kcore") && bytes_eq version (codes "1")
+is_magic _ = false
+
+-- a number of vertices, from 1 to the most that a graph has
+abbrev pub vertex_count : Option ℕ → Option ℕ
+vertex_count (Some n) = if nat_le 1 n && nat_le n MAX_VERTICES then Some n else None
+vertex_count None = None
+
+-- the number N that the two words `vertices` and N tell
+unfoldable pub vertices_in : List (List ℕ) → Option ℕ
+vertices_in (name ∷ count ∷ []) = if bytes_eq name (codes "vertices") then vertex_count (number_of count) else None
+vertices_in _ = None
+
+-- the first word is `ask`
+abbrev pub is_ask : List (List ℕ) → Bool
+is_ask [] = false
+is_ask (name ∷ more) = bytes_eq name (codes "ask")
+
+-- a number in front of others
+abbrev pub number_before : Option ℕ → Option (List ℕ) → Option (List ℕ)
+number_before (Some x) (Some xs) = Some (x ∷ xs)
+number_before (Some x) None = None
+number_before None rest = None
+
+-- the numbers that words say, if each says one
+abbrev pub numbers_of : List (List ℕ) → Option (List ℕ)
+numbers_of [] = Some []
+numbers_of (w ∷ ws) = number_before (number_of w) (numbers_of ws)
+
+-- `times` is at least 1, there is at least one vertex, each is below n, and there are at most 65,536 questions
+abbrev pub fits_ask : ℕ → ℕ → List ℕ → Bool
+fits_ask n times vertices = (nat_le 1 times && nat_lt 0 (length vertices)) && (list_all (λ v. nat_lt v n) vertices && nat_le (times * length vertices) 65536)
+
+abbrev pub ask_with : ℕ → Option ℕ → Option (List ℕ) → Option Ask
+ask_with n (Some times) (Some vertices) = if fits_ask n times vertices then Some (record { times = times; vertices = vertices }) else None
+ask_with n (Some times) None = None
+ask_with n None vertices = None
+
+-- the ask that the words `ask`, a number and the vertices tell
+unfoldable pub ask_in : ℕ → List (List ℕ) → Option Ask
+ask_in n (name ∷ times ∷ vertices) = ask_with n (number_of times) (numbers_of vertices)
+ask_in n _ = None
+
+-- the ask that follows these; there is no 65th
+abbrev pub next_ask : ℕ → List Ask → List (List ℕ) → Option Ask
+next_ask n asks ws = if nat_lt (length asks) 64 then ask_in n ws else None
+
+-- what lines begin with: a header and the lines behind it, or a header that is refused at a line
+pub data HeaderText : Type 0 where
+  Accepted : (header : HeaderShape) (rest : List Line) → HeaderText
+  Refused : (line : ℕ) → HeaderText
+
+abbrev pub on_ask : ℕ → Option Ask → (Ask → HeaderText) → HeaderText
+on_ask line None next = Refused line
+on_ask line (Some ask) next = next ask
+
+-- behind `vertices N` and these asks: the header ends before the first line that is no ask line
+unfoldable pub asks_from : ℕ → List Ask → List Line → HeaderText
+asks_from n asks [] = Accepted (record { profile = One; n = n; asks = asks }) []
+asks_from n asks (line ∷ rest) =
+    if is_ask (words (text_of line.body)) then on_ask line.number (next_ask n asks (words (text_of line.body))) (λ ask. asks_from n (asks ++ ask ∷ []) rest)
+    else Accepted (record { profile = One; n = n; asks = asks }) (line ∷ rest)
+
+abbrev pub on_vertices : ℕ → Option ℕ → (ℕ → HeaderText) → HeaderText
+on_vertices line None next = Refused line
+on_vertices line (Some n) next = next n
+
+-- behind `kcore 1` the number of vertices is due
+unfoldable pub after_magic : List Line → HeaderText
+after_magic [] = Refused 0
+after_magic (line ∷ rest) = on_vertices line.number (vertices_in (words (text_of line.body))) (λ n. asks_from n [] rest)
+
+-- `kcore 1` is due
+unfoldable pub header_of : List Line → HeaderText
+header_of [] = Refused 0
+header_of (line ∷ rest) = if is_magic (words (text_of line.body)) then after_magic rest else Refused line.number
+
+-- the ranges of an ask of n vertices
+pub record IsAsk (n : ℕ) (ask : Ask) : Type 0 where
+  pub times : 1 ≤ ask.times
+  pub some : 0 < length ask.vertices
+  pub below : All (λ v. v < n) ask.vertices
+  pub few : ask.times * length ask.vertices ≤ 65536
+
+-- the ranges of a header
+pub record IsHeader (header : HeaderShape) : Type 0 where
+  pub some : 1 ≤ header.n
+  pub small : header.n ≤ MAX_VERTICES
+  pub few : length header.asks ≤ 64
+  pub asks : All (IsAsk header.n) header.asks
+
+-- a refusal, whatever lines are behind it
+abbrev pub refused_at : ℕ → List Line → HeaderText
+refused_at line rest = Refused line
+
+-- what an answer says of lines that a rule tells: with Ok the header, and that the lines behind it are left; with
+-- Refused that they are refused at this line
+abbrev pub Answers : (List Line → HeaderText) → Option (List Line) → Option (List Line) → Result HeaderShape HeaderFault → Type 0
+Answers rule before now (Ok header) = option_map rule before ≡ option_map (Accepted header) now
+Answers rule before now (Err (fault.Refused line)) = option_map rule before ≡ option_map (refused_at line) now
+Answers rule before now (Err fault.ReadFault) = Unit {0}
+Answers rule before now (Err (fault.Memory _)) = Unit {0}

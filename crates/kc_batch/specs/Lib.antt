@@ -1,0 +1,11 @@
+pub mod BatchInputs
+pub mod Batches
+pub mod Causes
+pub mod FaultLaw
+pub mod HeaderLaw
+pub mod HeaderShape
+pub mod Headers
+pub mod Kept
+pub mod Laws
+pub mod Tokens
+pub mod Turns

@@ -1,0 +1,83 @@
+-- What the lines of batches say that aren't skipped.
+use Rattle.std.specs.Prelude.{ℕ, ◌<◌, ◌≤◌, List, [], ◌∷◌, Option, Some, None, if◌then◌else◌, codes}
+use Rattle.std.specs.Str.{bytes_eq}
+use Rattle.std.specs.Option.{option_map}
+use Rattle.kc_graph.specs.declared.items.Item.TheVariants.{Insert, Delete}
+use Rattle.kc_text.specs.declared.line.Line.{Line}
+use Rattle.kc_text.specs.declared.line.Body.{Body}
+use Rattle.kc_text.specs.declared.line.Body.TheVariants as body
+use Rattle.kc_text.specs.Reading.{Reading}
+use Rattle.kc_text.specs.Words.{words, is_skip}
+use Rattle.kc_text.specs.Numbers.{number_of}
+use Rattle.kc_batch.specs.Kept.{kept_left}
+use Rattle.kc_batch.specs.declared.token.Token.{Token}
+use Rattle.kc_batch.specs.declared.token.Kind.{Kind}
+use Rattle.kc_batch.specs.declared.token.Kind.TheVariants.{BatchStart, Item, BatchEnd, Other, TooLong, Limit, InputEnd}
+
+-- the insertion of u and v, where both are numbers
+abbrev pub insertion : Option ℕ → Option ℕ → Kind
+insertion (Some u) (Some v) = Item (Insert u v)
+insertion (Some u) None = Other
+insertion None v = Other
+
+-- the deletion of u and v, where both are numbers
+abbrev pub deletion : Option ℕ → Option ℕ → Kind
+deletion (Some u) (Some v) = Item (Delete u v)
+deletion (Some u) None = Other
+deletion None v = Other
+
+-- what a line of these words says
+unfoldable pub kind_of_words : List (List ℕ) → Kind
+kind_of_words [] = Other
+kind_of_words (word ∷ []) =
+    if bytes_eq word (codes "batch") then BatchStart
+    else if bytes_eq word (codes "end") then BatchEnd
+    else Other
+kind_of_words (u ∷ v ∷ []) = insertion (number_of u) (number_of v)
+kind_of_words (sign ∷ u ∷ v ∷ []) =
+    if bytes_eq sign (codes "+") then insertion (number_of u) (number_of v)
+    else if bytes_eq sign (codes "-") then deletion (number_of u) (number_of v)
+    else Other
+kind_of_words (a ∷ b ∷ c ∷ d ∷ more) = Other
+
+-- what a text says, unless it is skipped
+unfoldable pub kind_of_text : List ℕ → Option Kind
+kind_of_text text = if is_skip (words text) then None else Some (kind_of_words (words text))
+
+-- what a line says
+abbrev pub kind_of : Body → Kind
+kind_of (body.Text text) = kind_of_words (words text)
+kind_of body.TooLong = TooLong
+kind_of body.Limit = Limit
+kind_of body.End = InputEnd
+
+-- what each of the lines says, all of them lines that aren't skipped
+abbrev pub tokens : List Line → List Token
+tokens [] = []
+tokens (line ∷ rest) = record { number = line.number; kind = kind_of line.body } ∷ tokens rest
+
+-- what the lines say that a reader has still to give, where its source tells what it has left
+abbrev pub tokens_left : Reading → Option (List ℕ) → Option (List Token)
+tokens_left r left = option_map tokens (kept_left r left)
+
+-- the tokens that follow one of this kind: none behind the end of the input or its limit
+abbrev pub behind_kind : Kind → List Token → List Token
+behind_kind Limit rest = []
+behind_kind InputEnd rest = []
+behind_kind _ rest = rest
+
+-- a token and what follows it
+abbrev pub onto_token : Token → List Token → List Token
+onto_token t rest = t ∷ behind_kind t.kind rest
+
+-- a token that comes again at each later call
+abbrev pub IsLastKind : Kind → Type 0
+IsLastKind Limit = Unit {0}
+IsLastKind InputEnd = Unit {0}
+IsLastKind _ = ⊥
+
+-- a token takes some of a reader's budget, and the last gives none back
+abbrev pub TakesToken : Kind → ℕ → ℕ → Type 0
+TakesToken Limit old new = new ≤ old
+TakesToken InputEnd old new = new ≤ old
+TakesToken _ old new = new < old

@@ -1,0 +1,199 @@
+//! The ask lines of a header.
+ghost use Rattle.std.specs.Prelude.{◌≡◌, ◌<◌, [], ◌∷◌, ◌++◌, length, nat_lt, None, true, if◌then◌else◌, IfOk, IfSome, OnOk, OnErr};
+ghost use Rattle.kc_text.specs.Words.{words};
+
+use crate::text::{all_below, is, read_numbers};
+use kc_text::{next_word, read_number};
+use std::alloc::{AllocError, Global};
+use std::marker::Model;
+
+// The greatest number of ask lines.
+const MAX_ASKS: usize = 64;
+
+// The greatest number of questions of an ask.
+const MAX_QUESTIONS: u64 = 65_536;
+
+/// Vertices that a contract sees as a list.
+#[derive(Drop, Debug)]
+pub struct Vertices {
+    items: Vec<u32>,
+}
+
+impl Model for Vertices {
+    ghost use Rattle.std.specs.Prelude.{List, ℕ};
+
+    ghost Value = { List ℕ };
+
+    ghost view = { λ v. v.items.items };
+}
+
+impl Vertices {
+    /// The vertices of a `Vec`; takes no memory.
+    pub fn from_vec(items: Vec<u32>) -> Self
+        ensures { result ≡ items.items }
+    {
+        Vertices { items }
+    }
+
+    /// The vertices as a `Vec`; takes no memory.
+    pub fn into_vec(self) -> Vec<u32>
+        ensures { result.items ≡ self }
+    {
+        self.items
+    }
+
+    /// The vertices as a slice.
+    pub fn as_slice(&self) -> &[u32]
+        ensures { result.now ≡ self.now }
+    {
+        &self.items
+    }
+
+    // No vertices; takes no memory.
+    pub(crate) fn new(alloc: Global) -> Self
+        ensures { result ≡ [] }
+    {
+        Vertices {
+            items: Vec::new(alloc),
+        }
+    }
+
+    // Puts a vertex at the end.
+    pub(crate) fn push(&mut self, vertex: u32) -> Result<(), AllocError>
+        ensures ok { OnOk result (self.new ≡ self.old ++ vertex ∷ []) }
+        ensures err { OnErr result (self.new ≡ self.old) }
+    {
+        self.items.push(vertex)?;
+        Ok(())
+    }
+}
+
+/// What one reader asks: the levels of these vertices in order, the whole list `times` times over.
+///
+/// In each ask of a header `times` is at least 1, and there is at least one vertex. Each is below the header's n, and
+/// `times` times the number of vertices is at most 65,536: `IsAsk` of `specs/Headers`.
+#[derive(Drop, Debug)]
+pub struct Ask {
+    pub times: u32,
+    pub vertices: Vertices,
+}
+
+/// Asks that a contract sees as a list.
+#[derive(Drop, Debug)]
+pub struct Asks {
+    items: Vec<Ask>,
+}
+
+impl Model for Asks {
+    ghost use Rattle.std.specs.Prelude.{List};
+    ghost use Rattle.kc_batch.specs.declared.ask.Ask.{Ask};
+
+    ghost Value = { List Ask };
+
+    ghost view = { λ a. a.items.items };
+}
+
+impl Asks {
+    /// The asks of a `Vec`; takes no memory.
+    pub fn from_vec(items: Vec<Ask>) -> Self
+        ensures { result ≡ items.items }
+    {
+        Asks { items }
+    }
+
+    /// The asks as a `Vec`; takes no memory.
+    pub fn into_vec(self) -> Vec<Ask>
+        ensures { result.items ≡ self }
+    {
+        self.items
+    }
+
+    /// The asks as a slice.
+    pub fn as_slice(&self) -> &[Ask]
+        ensures { result.now ≡ self.now }
+    {
+        &self.items
+    }
+
+    // No asks; takes no memory.
+    pub(crate) fn new(alloc: Global) -> Self
+        ensures { result ≡ [] }
+    {
+        Asks {
+            items: Vec::new(alloc),
+        }
+    }
+
+    // How many asks there are.
+    pub(crate) fn len(&self) -> usize
+        ensures { result ≡ length self.now }
+    {
+        self.items.len()
+    }
+
+    // Puts an ask at the end.
+    pub(crate) fn push(&mut self, ask: Ask) -> Result<(), AllocError>
+        ensures ok { OnOk result (self.new ≡ self.old ++ ask ∷ []) }
+        ensures err { OnErr result (self.new ≡ self.old) }
+    {
+        self.items.push(ask)?;
+        Ok(())
+    }
+}
+
+ghost use Rattle.kc_batch.specs.Headers.{is_ask, fits_ask, ask_in, IsAsk};
+
+/// Whether the first word is `ask`.
+pub fn is_ask(text: &[u8]) -> bool
+    ensures { result ≡ is_ask (words text.now) }
+{
+    match next_word(text, 0) {
+        Some((start, end)) => is(&text[start..end], b"ask"),
+        None => false,
+    }
+}
+
+fn fits_ask(n: u32, times: u32, vertices: &[u32]) -> bool
+    ensures { result ≡ fits_ask n times vertices.now }
+{
+    (times >= 1 && !vertices.is_empty())
+        && (all_below(vertices, n)
+            && (times as u64).saturating_mul(vertices.len() as u64) <= MAX_QUESTIONS)
+}
+
+// The ask of an ask line, where it has its form.
+#[tactic(auto, unfolding(crate::specs::Headers::ask_in))]
+fn read_ask(alloc: Global, text: &[u8], n: u32) -> Result<Option<Ask>, AllocError>
+    ensures ask { IfOk result (λ found. found ≡ ask_in n (words text.now)) }
+    ensures fits { IfOk result (λ found. IfSome found (IsAsk n)) }
+{
+    let Some((_, end)) = next_word(text, 0) else {
+        return Ok(None);
+    };
+    let Some((start, end)) = next_word(text, end) else {
+        return Ok(None);
+    };
+    let Some(times) = read_number(&text[start..end]) else {
+        return Ok(None);
+    };
+    let Some(vertices) = read_numbers(alloc, text, end)? else {
+        return Ok(None);
+    };
+    if !fits_ask(n, times, vertices.as_slice()) {
+        return Ok(None);
+    }
+    Ok(Some(Ask { times, vertices }))
+}
+
+/// The ask of an ask line that follows `count` others: none where it doesn't have its form, and no 65th.
+pub fn next_ask(alloc: Global, text: &[u8], n: u32, count: usize) -> Result<Option<Ask>, AllocError>
+    ensures ask { IfOk result (λ found. found ≡ (if nat_lt count 64 then ask_in n (words text.now) else None)) }
+    ensures fits { IfOk result (λ found. IfSome found (IsAsk n)) }
+    ensures few { IfOk result (λ found. IfSome found (λ ask. count < 64)) }
+{
+    if count >= MAX_ASKS {
+        return Ok(None);
+    }
+    let found = read_ask(alloc, text, n)?;
+    Ok(found)
+}

@@ -1,0 +1,192 @@
+//! The batches of a batch input.
+ghost use Rattle.std.specs.Prelude.{◌≡◌, ◌≤◌, [], IfOk, OnOk};
+ghost use Rattle.std.specs.Option.{option_map};
+ghost use Rattle.kc_text.specs.Causes.{ReadCause};
+ghost use Rattle.kc_text.specs.Reading.{budget};
+ghost use Rattle.kc_batch.specs.Tokens.{tokens_left};
+
+use crate::Items;
+use crate::token::{Kind, next_token};
+use crate::turn::{Turn, turn_at};
+use kc_text::{LineFault, LineReader, Reason, Source};
+use std::alloc::{AllocError, Global};
+use thiserror::Error;
+
+/// A batch without a fault.
+#[derive(Drop, Debug)]
+pub struct Batch {
+    /// The items in the order of their lines.
+    pub items: Items,
+    /// The number of the line of its `end`.
+    pub line: u32,
+}
+
+/// What comes next of the batches of an input.
+#[derive(Drop, Debug)]
+pub enum Next {
+    /// A batch without a fault.
+    Items(Batch),
+    /// A batch with a fault: the line of its first fault, and which it is: `LineLong`, `BadLine`, `BadVertex`, `TooMany`,
+    /// `Truncated` or `InputLimit`.
+    Refused { line: u32, reason: Reason },
+    /// There is no further batch, and the input has ended.
+    End,
+}
+
+/// Why no batch was read.
+#[derive(Drop, Debug, Error)]
+pub enum BatchFault {
+    /// A read of the source failed.
+    #[error("a read of the source failed")]
+    ReadFault,
+    /// There was no memory for a line or for the items.
+    #[error(transparent)]
+    Memory(AllocError),
+}
+
+impl From<LineFault> for BatchFault {
+    ghost use Rattle.kc_batch.specs.Causes.{batch_fault_of};
+
+    ghost from_gives = { λ f s. s ≡ batch_fault_of f };
+
+    fn from(fault: LineFault) -> BatchFault {
+        match fault {
+            LineFault::ReadFault => BatchFault::ReadFault,
+            LineFault::Memory(e) => BatchFault::Memory(e),
+        }
+    }
+}
+
+ghost use Rattle.kc_batch.specs.Batches.{after_end, items_from, batch_of, with_next, batches_left, behind_batch, IsEnd, IsNext, TakesBatch};
+ghost use Rattle.kc_batch.specs.Causes.{BatchCause};
+
+// Passes over the lines up to the next `end`, or up to the end of the input or its limit.
+fn pass_to_end<S: Source>(
+    alloc: Global,
+    reader: &mut LineReader,
+    src: &mut S,
+) -> Result<(), LineFault>
+    ensures passed { OnOk result (option_map after_end (tokens_left reader.old (S.left src.old)) ≡ tokens_left reader.new (S.left src.new)) }
+    ensures budget { OnOk result (budget reader.new ≤ budget reader.old) }
+    ensures cause { ReadCause (S.faults src.old) (S.faults src.new) result }
+{
+    loop {
+        let token = next_token(alloc, reader, src)?;
+        match token.kind {
+            Kind::BatchEnd | Kind::Limit | Kind::InputEnd => return Ok(()),
+            _ => {}
+        }
+    }
+}
+
+// Reads the rest of a batch whose `batch` was read.
+fn read_items<S: Source>(
+    alloc: Global,
+    reader: &mut LineReader,
+    src: &mut S,
+    n: u32,
+    item_limit: u32,
+) -> Result<Next, LineFault>
+    ensures batch { IfOk result (λ next. option_map (items_from n item_limit []) (tokens_left reader.old (S.left src.old)) ≡ option_map (with_next next) (tokens_left reader.new (S.left src.new))) }
+    ensures sound { IfOk result (IsNext n item_limit) }
+    ensures more { IfOk result (λ next. IsEnd next → ⊥) }
+    ensures budget { OnOk result (budget reader.new ≤ budget reader.old) }
+    ensures cause { ReadCause (S.faults src.old) (S.faults src.new) result }
+{
+    let mut items = Items::new(alloc);
+    loop {
+        let token = next_token(alloc, reader, src)?;
+        let line = token.number;
+        match turn_at(n, items.len() >= item_limit as usize, token.kind) {
+            Turn::Add(item) => match items.push(item) {
+                Ok(()) => {}
+                Err(e) => return Err(LineFault::Memory(e)),
+            },
+            Turn::Close => return Ok(Next::Items(Batch { items, line })),
+            Turn::Stop(reason) => return Ok(Next::Refused { line, reason }),
+            Turn::Pass(reason) => {
+                pass_to_end(alloc, reader, src)?;
+                return Ok(Next::Refused { line, reason });
+            }
+        }
+    }
+}
+
+// Reads the next batch, and what is passed over behind a fault of it.
+fn find_batch<S: Source>(
+    alloc: Global,
+    reader: &mut LineReader,
+    src: &mut S,
+    n: u32,
+    item_limit: u32,
+) -> Result<Next, LineFault>
+    ensures batch { IfOk result (λ next. option_map (batch_of n item_limit) (tokens_left reader.old (S.left src.old)) ≡ option_map (with_next next) (tokens_left reader.new (S.left src.new))) }
+    ensures sound { IfOk result (IsNext n item_limit) }
+    ensures takes { IfOk result (λ next. TakesBatch next (budget reader.old) (budget reader.new)) }
+    ensures again { IfOk result (λ next. IsEnd next → tokens_left reader.new (S.left src.new) ≡ tokens_left reader.old (S.left src.old)) }
+    ensures cause { ReadCause (S.faults src.old) (S.faults src.new) result }
+{
+    let token = next_token(alloc, reader, src)?;
+    let line = token.number;
+    match token.kind {
+        Kind::BatchStart => {
+            let next = read_items(alloc, reader, src, n, item_limit)?;
+            Ok(next)
+        }
+        Kind::BatchEnd => Ok(Next::Refused {
+            line,
+            reason: Reason::BadLine,
+        }),
+        Kind::Item(_) | Kind::Other => {
+            pass_to_end(alloc, reader, src)?;
+            Ok(Next::Refused {
+                line,
+                reason: Reason::BadLine,
+            })
+        }
+        Kind::TooLong => {
+            pass_to_end(alloc, reader, src)?;
+            Ok(Next::Refused {
+                line,
+                reason: Reason::LineLong,
+            })
+        }
+        Kind::Limit => Ok(Next::Refused {
+            line,
+            reason: Reason::InputLimit,
+        }),
+        Kind::InputEnd => Ok(Next::End),
+    }
+}
+
+/// Reads the next batch of a graph of n vertices, as `batch_of` of `specs/Batches` says: its items, at most
+/// `item_limit`, or its first fault. Afterwards the reader stands behind it.
+///
+/// Called again and again it gives the list `batches` of all batches, up to `End`, which each later call gives again,
+/// or up to a batch that is refused for `InputLimit`, which is the last and is refused so again at each later call.
+/// `ReadFault` comes only where the source's count of faults rose, and `Memory` where a line or the items found none.
+/// After either the reader isn't used again, since lines of the batch are gone. Cost: time by the bytes of the lines
+/// that are read or passed over; a `Vec` for the text of each line, one at a time, and one for the items.
+pub fn next_batch<S: Source>(
+    alloc: Global,
+    reader: &mut LineReader,
+    src: &mut S,
+    n: u32,
+    item_limit: u32,
+) -> Result<Next, BatchFault>
+    ensures batch { IfOk result (λ next. option_map (batch_of n item_limit) (tokens_left reader.old (S.left src.old)) ≡ option_map (with_next next) (tokens_left reader.new (S.left src.new))) }
+    ensures batches { IfOk result (λ next. batches_left n item_limit reader.old (S.left src.old) ≡ option_map (behind_batch next) (batches_left n item_limit reader.new (S.left src.new))) }
+
+    // Whatever the source tells.
+    ensures sound { IfOk result (IsNext n item_limit) }
+
+    // Behind the end comes the end again.
+    ensures again { IfOk result (λ next. IsEnd next → tokens_left reader.new (S.left src.new) ≡ tokens_left reader.old (S.left src.old)) }
+
+    // A caller's loop over the batches ends, since each batch takes some of the budget.
+    ensures takes { IfOk result (λ next. TakesBatch next (budget reader.old) (budget reader.new)) }
+    ensures cause { BatchCause (S.faults src.old) (S.faults src.new) result }
+{
+    let next = find_batch(alloc, reader, src, n, item_limit)?;
+    Ok(next)
+}

@@ -1,0 +1,44 @@
+//! What the definitions of `specs/` come to. Each function does nothing; its contract is a law.
+ghost use Rattle.kc_batch.specs.FaultLaw.{FirstFaultDecides};
+ghost use Rattle.kc_batch.specs.HeaderLaw.{FirstOtherLineEnds};
+ghost use Rattle.kc_batch.specs.Laws.{ReadsSnap, ReadsHeaders, RefusesAsks, ReadsBatches, RefusesBatches, PassesOver};
+
+/// The first fault of a batch decides, and what is passed over behind it.
+pub fn first_fault_decides()
+    ensures { FirstFaultDecides }
+{}
+
+/// A header ends before the first line that is no ask line, and is refused at the first that is faulty.
+pub fn first_other_line_ends()
+    ensures { FirstOtherLineEnds }
+{}
+
+/// A SNAP edge file between `batch` and `end`.
+pub fn snap_text_is_a_batch()
+    ensures { ReadsSnap }
+{}
+
+/// Headers, and the first line at which one is refused.
+pub fn headers_read()
+    ensures { ReadsHeaders }
+{}
+
+/// Each fault of an ask line.
+pub fn asks_refused()
+    ensures { RefusesAsks }
+{}
+
+/// A refused batch between two others.
+pub fn batches_read()
+    ensures { ReadsBatches }
+{}
+
+/// Each fault of a batch, and which goes first.
+pub fn batches_refused()
+    ensures { RefusesBatches }
+{}
+
+/// What is passed over behind a fault.
+pub fn lines_passed_over()
+    ensures { PassesOver }
+{}

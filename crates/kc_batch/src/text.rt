@@ -1,0 +1,41 @@
+//! The words that lines are made of.
+ghost use Rattle.std.specs.Prelude.{◌≡◌, ◌≤◌, length, drop, false, nat_lt, IfOk};
+ghost use Rattle.std.specs.List.{list_all};
+ghost use Rattle.std.specs.Str.{bytes_eq};
+ghost use Rattle.kc_text.specs.Words.{words};
+ghost use Rattle.kc_batch.specs.Headers.{numbers_of};
+
+use crate::Vertices;
+use kc_text::{next_word, read_number};
+use std::alloc::{AllocError, Global};
+
+/// Whether a word is this name.
+pub fn is(word: &[u8], name: &[u8]) -> bool
+    ensures { result ≡ bytes_eq word.now name.now }
+{
+    word == name
+}
+
+/// The numbers that the words at or after `from` say; None where a word says none.
+pub fn read_numbers(alloc: Global, text: &[u8], from: usize) -> Result<Option<Vertices>, AllocError>
+    requires { from ≤ length text.now }
+    ensures { IfOk result (λ numbers. numbers ≡ numbers_of (words (drop from text.now))) }
+{
+    let mut numbers = Vertices::new(alloc);
+    let mut at = from;
+    while let Some((start, end)) = next_word(text, at) {
+        let Some(number) = read_number(&text[start..end]) else {
+            return Ok(None);
+        };
+        numbers.push(number)?;
+        at = end;
+    }
+    Ok(Some(numbers))
+}
+
+/// Whether all numbers are below n.
+pub fn all_below(numbers: &[u32], n: u32) -> bool
+    ensures { result ≡ list_all (λ v. nat_lt v n) numbers.now }
+{
+    numbers.iter().all(|v| *v < n)
+}

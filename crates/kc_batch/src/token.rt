@@ -1,0 +1,149 @@
+//! What the lines of batches say.
+ghost use Rattle.std.specs.Prelude.{◌≡◌, ℕ, ◌<◌, ◌≤◌, [], ◌∷◌, Option, IfOk};
+ghost use Rattle.std.specs.Option.{option_map};
+ghost use Rattle.kc_text.specs.Causes.{ReadCause};
+ghost use Rattle.kc_text.specs.Reading.{budget};
+ghost use Rattle.kc_text.specs.Words.{words, WordAt};
+ghost use Rattle.kc_batch.specs.Tokens.{insertion, deletion, kind_of_words, kind_of_text, tokens_left, onto_token, TakesToken, IsLastKind};
+
+use crate::text::is;
+use kc_graph::Item;
+use kc_text::{Body, LineFault, LineReader, Source, next_word, read_number};
+use std::alloc::Global;
+
+/// What a line of batches says by itself, wherever it stands.
+#[derive(Clone, Copy, Debug, PartialEq, Eq)]
+pub enum Kind {
+    /// `batch`
+    BatchStart,
+    /// `+ u v` or `u v` for an insertion, `- u v` for a deletion; u and v are any numbers.
+    Item(Item),
+    /// `end`
+    BatchEnd,
+    /// A line of another form.
+    Other,
+    /// A line that is too long.
+    TooLong,
+    /// The input goes on past its limit.
+    Limit,
+    /// The input has ended.
+    InputEnd,
+}
+
+/// A line that isn't skipped: its number, counted from 1 over all lines, and what it says.
+#[derive(Clone, Copy, Debug, PartialEq, Eq)]
+pub struct Token {
+    pub number: u32,
+    pub kind: Kind,
+}
+
+fn insertion(u: Option<u32>, v: Option<u32>) -> Kind
+    ensures { result ≡ insertion u v }
+{
+    match (u, v) {
+        (Some(u), Some(v)) => Kind::Item(Item::Insert { u, v }),
+        _ => Kind::Other,
+    }
+}
+
+fn deletion(u: Option<u32>, v: Option<u32>) -> Kind
+    ensures { result ≡ deletion u v }
+{
+    match (u, v) {
+        (Some(u), Some(v)) => Kind::Item(Item::Delete { u, v }),
+        _ => Kind::Other,
+    }
+}
+
+#[tactic(auto, unfolding(crate::specs::Tokens::kind_of_words))]
+fn kind_of_one(word: &[u8]) -> Kind
+    ensures { result ≡ kind_of_words (word.now ∷ []) }
+{
+    if is(word, b"batch") {
+        Kind::BatchStart
+    } else if is(word, b"end") {
+        Kind::BatchEnd
+    } else {
+        Kind::Other
+    }
+}
+
+#[tactic(auto, unfolding(crate::specs::Tokens::kind_of_words))]
+fn kind_of_two(first: &[u8], second: &[u8]) -> Kind
+    ensures { result ≡ kind_of_words (first.now ∷ second.now ∷ []) }
+{
+    insertion(read_number(first), read_number(second))
+}
+
+#[tactic(auto, unfolding(crate::specs::Tokens::kind_of_words))]
+fn kind_of_three(first: &[u8], second: &[u8], third: &[u8]) -> Kind
+    ensures { result ≡ kind_of_words (first.now ∷ second.now ∷ third.now ∷ []) }
+{
+    if is(first, b"+") {
+        insertion(read_number(second), read_number(third))
+    } else if is(first, b"-") {
+        deletion(read_number(second), read_number(third))
+    } else {
+        Kind::Other
+    }
+}
+
+// What the line says whose first word lies there.
+#[tactic(auto, unfolding(crate::specs::Tokens::kind_of_words))]
+fn kind_of_line(text: &[u8], start: usize, end: usize) -> Kind
+    requires { WordAt text.now 0 start end }
+    ensures { result ≡ kind_of_words (words text.now) }
+{
+    let first = &text[start..end];
+    let Some((start, end)) = next_word(text, end) else {
+        return kind_of_one(first);
+    };
+    let second = &text[start..end];
+    let Some((start, end)) = next_word(text, end) else {
+        return kind_of_two(first, second);
+    };
+    let third = &text[start..end];
+    if next_word(text, end).is_some() {
+        return Kind::Other;
+    }
+    kind_of_three(first, second, third)
+}
+
+// What a line says, unless it is skipped.
+#[tactic(auto, unfolding(crate::specs::Tokens::kind_of_text))]
+fn classify(text: &[u8]) -> Option<Kind>
+    ensures { result ≡ kind_of_text text.now }
+{
+    let (start, end) = next_word(text, 0)?;
+    if text[start] == b'#' {
+        return None;
+    }
+    Some(kind_of_line(text, start, end))
+}
+
+/// The next line that isn't skipped. After a fault skipped lines may be gone.
+pub fn next_token<S: Source>(
+    alloc: Global,
+    reader: &mut LineReader,
+    src: &mut S,
+) -> Result<Token, LineFault>
+    ensures token { IfOk result (λ t. tokens_left reader.old (S.left src.old) ≡ option_map (onto_token t) (tokens_left reader.new (S.left src.new))) }
+    ensures last { IfOk result (λ t. IsLastKind t.kind → tokens_left reader.new (S.left src.new) ≡ tokens_left reader.old (S.left src.old)) }
+    ensures takes { IfOk result (λ t. TakesToken t.kind (budget reader.old) (budget reader.new)) }
+    ensures cause { ReadCause (S.faults src.old) (S.faults src.new) result }
+{
+    loop {
+        let line = reader.next_line(alloc, src)?;
+        let number = line.number;
+        let kind = match line.body {
+            Body::Text(text) => match classify(text.as_slice()) {
+                Some(kind) => kind,
+                None => continue,
+            },
+            Body::TooLong => Kind::TooLong,
+            Body::Limit => Kind::Limit,
+            Body::End => Kind::InputEnd,
+        };
+        return Ok(Token { number, kind });
+    }
+}

@@ -1,0 +1,52 @@
+//! What a line does within a batch.
+ghost use Rattle.std.specs.Prelude.{◌≡◌};
+ghost use Rattle.kc_batch.specs.Turns.{is_inside, turn_of, IsTurn};
+
+use crate::token::Kind;
+use kc_graph::Item;
+use kc_text::Reason;
+
+/// What a line does within a batch.
+#[derive(Clone, Copy, Debug, PartialEq, Eq)]
+pub enum Turn {
+    /// It adds an item.
+    Add(Item),
+    /// It ends the batch.
+    Close,
+    /// It is a fault; what follows is passed over.
+    Pass(Reason),
+    /// The input ends, or its limit is met.
+    Stop(Reason),
+}
+
+fn is_inside(n: u32, item: Item) -> bool
+    ensures { result ≡ is_inside n item }
+{
+    match item {
+        Item::Insert { u, v } | Item::Delete { u, v } => u < n && v < n,
+    }
+}
+
+/// What a line of this kind does within a batch of a graph of n vertices. `full` says that the batch has as many items
+/// as are allowed.
+pub fn turn_at(n: u32, full: bool, kind: Kind) -> Turn
+    ensures turn { result ≡ turn_of n full kind }
+    ensures sound { IsTurn n full result }
+{
+    match kind {
+        Kind::Item(item) => {
+            if !is_inside(n, item) {
+                return Turn::Pass(Reason::BadVertex);
+            }
+            if full {
+                return Turn::Pass(Reason::TooMany);
+            }
+            Turn::Add(item)
+        }
+        Kind::BatchEnd => Turn::Close,
+        Kind::BatchStart | Kind::Other => Turn::Pass(Reason::BadLine),
+        Kind::TooLong => Turn::Pass(Reason::LineLong),
+        Kind::Limit => Turn::Stop(Reason::InputLimit),
+        Kind::InputEnd => Turn::Stop(Reason::Truncated),
+    }
+}
