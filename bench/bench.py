@@ -15,6 +15,7 @@ Inputs, each one batch of insertions:
             stay 0. The time of an empty batch between as many vertices is taken off, so that reading alone is left.
 """
 import argparse
+import multiprocessing
 import os
 import random
 import subprocess
@@ -59,6 +60,18 @@ def write_input(path, n, edges, last="end"):
     return path
 
 
+def make_inputs(folder):
+    uniform = uniform_edges(100_000, 1_000_000, 7)
+    write_input(input_path(folder, "uniform"), 100_000, uniform)
+    write_input(input_path(folder, "power"), 1 << 16, power_edges(16, 1 << 20, 7))
+    write_input(input_path(folder, "refused"), 100_000, uniform, last="stop")
+    write_input(input_path(folder, "empty"), 100_000, [])
+
+
+def input_path(folder, name):
+    return os.path.join(folder, f"{name}.kc")
+
+
 def run_once(program, path):
     """Seconds of processor time and KiB of peak memory of one run."""
     with open(path, "rb") as source, open(os.devnull, "wb") as sink:
@@ -88,15 +101,13 @@ def main():
         folder = options.keep or scratch
         os.makedirs(folder, exist_ok=True)
 
-        def path(name):
-            return os.path.join(folder, f"{name}.kc")
-
         print("making the inputs ..", flush=True)
-        uniform = uniform_edges(100_000, 1_000_000, 7)
-        write_input(path("uniform"), 100_000, uniform)
-        write_input(path("power"), 1 << 16, power_edges(16, 1 << 20, 7))
-        write_input(path("refused"), 100_000, uniform, last="stop")
-        write_input(path("empty"), 100_000, [])
+        # In a process of its own: the memory of this one would count as that of the programs that it starts.
+        maker = multiprocessing.Process(target=make_inputs, args=(folder,))
+        maker.start()
+        maker.join()
+        if maker.exitcode != 0:
+            sys.exit("the inputs couldn't be made")
 
         programs = [os.path.abspath(options.program)]
         if options.other:
@@ -104,7 +115,7 @@ def main():
         table = {}
         for program in programs:
             for name in ("empty", "refused", "uniform", "power"):
-                table[program, name] = best(program, path(name), options.runs)
+                table[program, name] = best(program, input_path(folder, name), options.runs)
             read = table[program, "refused"][0] - table[program, "empty"][0]
             table[program, "read"] = read, table[program, "refused"][1]
 
