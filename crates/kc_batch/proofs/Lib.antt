@@ -4,5 +4,6 @@ pub mod Following
 pub mod HeaderEnds
 pub mod InputLemmas
 pub mod KeptLemmas
+pub mod NumberLines
 pub mod Saying
 pub mod Stepping

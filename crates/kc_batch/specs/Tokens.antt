@@ -1,5 +1,5 @@
 -- What the lines of batches say that aren't skipped.
-use Rattle.std.specs.Prelude.{ℕ, ◌<◌, ◌≤◌, List, [], ◌∷◌, Option, Some, None, if◌then◌else◌, codes}
+use Rattle.std.specs.Prelude.{ℕ, ◌≡◌, ◌<◌, ◌≤◌, List, [], ◌∷◌, Option, Some, None, if◌then◌else◌, codes}
 use Rattle.std.specs.Str.{bytes_eq}
 use Rattle.std.specs.Option.{option_map}
 use Rattle.kc_graph.specs.declared.items.Item.TheVariants.{Insert, Delete}
@@ -26,6 +26,13 @@ deletion (Some u) (Some v) = Item (Delete u v)
 deletion (Some u) None = Other
 deletion None v = Other
 
+-- the item that a sign, u and v tell, where u and v are numbers
+abbrev pub signed : List ℕ → Option ℕ → Option ℕ → Kind
+signed sign u v =
+    if bytes_eq sign (codes "+") then insertion u v
+    else if bytes_eq sign (codes "-") then deletion u v
+    else Other
+
 -- what a line of these words says
 unfoldable pub kind_of_words : List (List ℕ) → Kind
 kind_of_words [] = Other
@@ -34,11 +41,16 @@ kind_of_words (word ∷ []) =
     else if bytes_eq word (codes "end") then BatchEnd
     else Other
 kind_of_words (u ∷ v ∷ []) = insertion (number_of u) (number_of v)
-kind_of_words (sign ∷ u ∷ v ∷ []) =
-    if bytes_eq sign (codes "+") then insertion (number_of u) (number_of v)
-    else if bytes_eq sign (codes "-") then deletion (number_of u) (number_of v)
-    else Other
+kind_of_words (sign ∷ u ∷ v ∷ []) = signed sign (number_of u) (number_of v)
 kind_of_words (a ∷ b ∷ c ∷ d ∷ more) = Other
+
+-- these are two words that say u and v
+pub record AreNumbers (ws : List (List ℕ)) (u v : ℕ) : Type 0 where
+  pub first : List ℕ
+  pub second : List ℕ
+  pub words_are : ws ≡ first ∷ second ∷ []
+  pub first_is : number_of first ≡ Some u
+  pub second_is : number_of second ≡ Some v
 
 -- what a text says, unless it is skipped
 unfoldable pub kind_of_text : List ℕ → Option Kind

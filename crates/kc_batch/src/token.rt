@@ -1,14 +1,14 @@
 //! What the lines of batches say.
-ghost use Rattle.std.specs.Prelude.{◌≡◌, ℕ, ◌<◌, ◌≤◌, [], ◌∷◌, Option, IfOk};
+ghost use Rattle.std.specs.Prelude.{◌≡◌, ℕ, ◌<◌, ◌≤◌, [], ◌∷◌, length, drop, Option, IfOk, IfSome};
 ghost use Rattle.std.specs.Option.{option_map};
 ghost use Rattle.kc_text.specs.Causes.{ReadCause};
 ghost use Rattle.kc_text.specs.Reading.{budget};
 ghost use Rattle.kc_text.specs.Words.{words, WordAt};
-ghost use Rattle.kc_batch.specs.Tokens.{insertion, deletion, kind_of_words, kind_of_text, tokens_left, onto_token, TakesToken, IsLastKind};
+ghost use Rattle.kc_batch.specs.Tokens.{insertion, deletion, signed, AreNumbers, kind_of_words, kind_of_text, tokens_left, onto_token, TakesToken, IsLastKind};
 
 use crate::text::is;
 use kc_graph::Item;
-use kc_text::{Body, LineFault, LineReader, Source, next_word, read_number};
+use kc_text::{Body, LineFault, LineReader, Source, next_number, next_word, read_number};
 use std::alloc::Global;
 
 /// What a line of batches says by itself, wherever it stands.
@@ -75,26 +75,49 @@ fn kind_of_two(first: &[u8], second: &[u8]) -> Kind
     insertion(read_number(first), read_number(second))
 }
 
-#[tactic(auto, unfolding(crate::specs::Tokens::kind_of_words))]
-fn kind_of_three(first: &[u8], second: &[u8], third: &[u8]) -> Kind
-    ensures { result ≡ kind_of_words (first.now ∷ second.now ∷ third.now ∷ []) }
+fn signed(sign: &[u8], u: Option<u32>, v: Option<u32>) -> Kind
+    ensures { result ≡ signed sign.now u v }
 {
-    if is(first, b"+") {
-        insertion(read_number(second), read_number(third))
-    } else if is(first, b"-") {
-        deletion(read_number(second), read_number(third))
+    if is(sign, b"+") {
+        insertion(u, v)
+    } else if is(sign, b"-") {
+        deletion(u, v)
     } else {
         Kind::Other
     }
 }
 
-// What the line says whose first word lies there.
 #[tactic(auto, unfolding(crate::specs::Tokens::kind_of_words))]
+fn kind_of_three(first: &[u8], second: &[u8], third: &[u8]) -> Kind
+    ensures { result ≡ kind_of_words (first.now ∷ second.now ∷ third.now ∷ []) }
+{
+    signed(first, read_number(second), read_number(third))
+}
+
+// The two numbers that the words at or after `from` say, if they are two numbers. One pass over their bytes.
+#[tactic(auto, using(crate::proofs::NumberLines::two_numbers_at))]
+fn two_numbers(text: &[u8], from: usize) -> Option<(u32, u32)>
+    requires { from ≤ length text.now }
+    ensures { IfSome result (λ p. AreNumbers (words (drop from text.now)) p.0 p.1) }
+{
+    let (u, end) = next_number(text, from)?;
+    let (v, end) = next_number(text, end)?;
+    if next_word(text, end).is_some() {
+        return None;
+    }
+    Some((u, v))
+}
+
+// What the line says whose first word lies there.
+#[tactic(auto, using(crate::proofs::NumberLines::signed_line), unfolding(crate::specs::Tokens::kind_of_words))]
 fn kind_of_line(text: &[u8], start: usize, end: usize) -> Kind
     requires { WordAt text.now 0 start end }
     ensures { result ≡ kind_of_words (words text.now) }
 {
     let first = &text[start..end];
+    if let Some((u, v)) = two_numbers(text, end) {
+        return signed(first, Some(u), Some(v));
+    }
     let Some((start, end)) = next_word(text, end) else {
         return kind_of_one(first);
     };
@@ -109,11 +132,14 @@ fn kind_of_line(text: &[u8], start: usize, end: usize) -> Kind
     kind_of_three(first, second, third)
 }
 
-// What a line says, unless it is skipped.
-#[tactic(auto, unfolding(crate::specs::Tokens::kind_of_text))]
+// What a line says, unless it is skipped. Items come first, since most lines are items.
+#[tactic(auto, using(crate::proofs::NumberLines::number_line), unfolding(crate::specs::Tokens::kind_of_text))]
 fn classify(text: &[u8]) -> Option<Kind>
     ensures { result ≡ kind_of_text text.now }
 {
+    if let Some((u, v)) = two_numbers(text, 0) {
+        return Some(insertion(Some(u), Some(v)));
+    }
     let (start, end) = next_word(text, 0)?;
     if text[start] == b'#' {
         return None;
@@ -136,10 +162,14 @@ pub fn next_token<S: Source>(
         let line = reader.next_line(alloc, src)?;
         let number = line.number;
         let kind = match line.body {
-            Body::Text(text) => match classify(text.as_slice()) {
-                Some(kind) => kind,
-                None => continue,
-            },
+            Body::Text(text) => {
+                let said = classify(text.as_slice());
+                reader.reuse(text);
+                match said {
+                    Some(kind) => kind,
+                    None => continue,
+                }
+            }
             Body::TooLong => Kind::TooLong,
             Body::Limit => Kind::Limit,
             Body::End => Kind::InputEnd,

@@ -46,16 +46,19 @@ cleaned_fits_graph g items graph inside =
     let absent = added_is_absent g items in
     let can = can_remove_ascending g 0 0 c.removed down present in
     let left = length-without_edges g c.removed graph can in
+    let later = All-weaker (λ e. has_edge e g.edges ≡ false) (λ e. has_edge e (without_edges g c.removed).edges ≡ false) (λ e h. has_edge-without_edges e g c.removed ∙ rw h (and_false (not (has_edge e c.removed)))) c.added absent in
     record {
       removed_ascend = down;
       removed_present = present;
       removed_fewer = omega (arith, left);
       added_ascend = up;
       added_absent = absent;
+      added_absent_later = later;
+      fewer_later = left;
       can_remove = can;
       can_add = λ room. can_add_ascending (without_edges g c.removed) 0 0 c.added
           (subst (λ (n : ℕ). EdgesFrom n 0 0 c.added) (sym (vertices-without_edges g c.removed)) up)
-          (All-weaker (λ e. has_edge e g.edges ≡ false) (λ e. has_edge e (without_edges g c.removed).edges ≡ false) (λ e h. has_edge-without_edges e g c.removed ∙ rw h (and_false (not (has_edge e c.removed)))) c.added absent)
+          later
           (omega (arith, left, room));
     }
   where

@@ -16,6 +16,8 @@ pub record FitsGraph (g : GraphShape) (c : Cleaned) : Type 0 where
   pub added_ascend : EdgesFrom g.vertices 0 0 c.added
   pub added_absent : AllAbsent g c.added
   pub can_remove : CanRemove g c.removed
+  pub added_absent_later : AllAbsent (without_edges g c.removed) c.added
+  pub fewer_later : length (without_edges g c.removed).edges + length c.removed ≡ length g.edges
   pub can_add : length g.edges - length c.removed + length c.added ≤ MAX_EDGES → CanAdd (without_edges g c.removed) c.added
 
 -- what a batch comes to fits the graph

@@ -31,7 +31,7 @@ pub struct Cleaned {
 }
 
 impl Cleaned {
-    // What a batch of loops comes to.
+    // What the loops of a batch come to; the other items are taken in one by one.
     fn of_loops(alloc: Global, loops: u32) -> Self
         ensures { result ≡ record { removed = []; added = []; loops = loops; repeats = 0; idle = 0 } }
     {
@@ -69,7 +69,7 @@ impl Cleaned {
 /// for any number of threads. The error is want of memory.
 ///
 /// Costs a sort of one key an item, of 16 bytes, by as many threads as the runtime has, and one
-/// look-up in the graph for each two vertices. Takes memory for the keys and for the two lists.
+/// look-up in the graph for each pair that the items name. Takes memory for the keys and for the two lists.
 pub fn clean<R: Threads + Sync>(
     rt: &R,
     alloc: Global,

@@ -43,18 +43,21 @@ impl Edges {
         self.items
     }
 
+    /// The edges as a slice.
     pub fn as_slice(&self) -> &[Edge]
         ensures { result.now ≡ self.now }
     {
         self.items.as_slice()
     }
 
+    /// How many edges there are.
     pub fn len(&self) -> usize
         ensures { result ≡ length self.now }
     {
         self.items.len()
     }
 
+    /// Whether there are none.
     pub fn is_empty(&self) -> bool
         ensures { IsTrue result ↔ (self.now ≡ []) }
     {

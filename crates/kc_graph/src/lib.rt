@@ -1,7 +1,7 @@
-// Undirected graphs whose vertices are the numbers below n.
-// A `Graph` keeps the neighbours of each vertex in order; contracts see it as n and the ascending
-// list of its edges. An `Item` asks for one change of a graph, and `clean` says what a batch of
-// items comes to.
+//! Undirected graphs whose vertices are the numbers below n.
+//! A `Graph` keeps the neighbours of each vertex in order; contracts see it as n and the ascending
+//! list of its edges. An `Item` asks for one change of a graph, and `clean` says what a batch of
+//! items comes to.
 #![tactic(auto)]
 
 mod cleaning;

@@ -3,6 +3,7 @@ pub mod Ends
 pub mod Giving
 pub mod Holding
 pub mod Known
+pub mod Numbering
 pub mod Passing
 pub mod Pieces
 pub mod Ranges

@@ -32,7 +32,7 @@ pub use line::{Body, Line, LineFault};
 pub use mem_sink::MemSink;
 pub use mem_source::MemSource;
 pub use null_sink::NullSink;
-pub use number::read_number;
+pub use number::{next_number, read_number};
 pub use reader::LineReader;
 pub use reason::Reason;
 pub use sink::{Sink, put_all};

@@ -1,6 +1,9 @@
 // Numbers of a text.
-ghost use Rattle.std.specs.Prelude.{◌≡◌};
-ghost use Rattle.kc_text.specs.Numbers.{number_of};
+ghost use Rattle.std.specs.Prelude.{◌≡◌, ◌<◌, ◌≤◌, length, drop, slice_index, true, IfSome, IfNone};
+ghost use Rattle.kc_text.specs.Numbers.{number_of, is_digit, DigitsAt, NumberAt, IsNoNumber};
+ghost use Rattle.kc_text.specs.Words.{words};
+
+use crate::word::{next_word, parts_words, pass_blanks};
 
 /// The number that 1 to 10 ASCII digits say, where it is at most 4,294,967,295; leading zeros are
 /// accepted. None for all other bytes.
@@ -22,4 +25,63 @@ pub fn read_number(bytes: &[u8]) -> Option<u32>
         }
     }
     Some(value as u32)
+}
+
+fn is_digit(byte: u8) -> bool
+    ensures { result ≡ is_digit byte }
+{
+    byte >= b'0' && byte <= b'9'
+}
+
+// The value of the digits from `start` on, and where they end. None where the value is too large.
+#[tactic(auto, using(crate::proofs::Numbering::digit_steps))]
+fn pass_digits(line: &[u8], start: usize) -> Option<(u32, usize)>
+    requires { start ≤ length line.now }
+    ensures { IfSome result (λ r. DigitsAt line.now start r.0 r.1) }
+{
+    let mut value: u64 = 0;
+    let mut at = start;
+    while at < line.len() {
+        if !is_digit(line[at]) {
+            return Some((value as u32, at));
+        }
+        value = 10 * value + (line[at] - b'0') as u64;
+        if value >= 1 << 32 {
+            return None;
+        }
+        at += 1;
+    }
+    Some((value as u32, at))
+}
+
+// The number of a word of digits that begins at `start`, and where the word ends.
+#[tactic(auto, using(crate::proofs::Numbering::number_steps))]
+fn number_from(line: &[u8], start: usize) -> Option<(u32, usize)>
+    requires { start ≤ length line.now }
+    ensures { IfSome result (λ r. NumberAt line.now start r.0 r.1) }
+{
+    let (value, end) = pass_digits(line, start)?;
+    if end == start || end - start > 10 {
+        return None;
+    }
+    if end < line.len() && !parts_words(line[end]) {
+        return None;
+    }
+    Some((value, end))
+}
+
+/// The number that the first word at or after `from` says, and where that word ends. None where the
+/// word says none, or where there is no word. Cost: one pass over the word's bytes, where it says one.
+pub fn next_number(line: &[u8], from: usize) -> Option<(u32, usize)>
+    requires { from ≤ length line.now }
+    ensures number { IfSome result (λ r. NumberAt line.now from r.0 r.1) }
+    ensures none { IfNone result (IsNoNumber (words (drop from line.now))) }
+{
+    let start = pass_blanks(line, from);
+    if let Some(found) = number_from(line, start) {
+        return Some(found);
+    }
+    let (start, end) = next_word(line, from)?;
+    let value = read_number(&line[start..end])?;
+    Some((value, end))
 }

@@ -6,7 +6,7 @@ ghost use Rattle.kc_text.specs.Lines.{lines};
 
 use crate::line::LastLine;
 use crate::scanner::Scanner;
-use crate::{Body, Line, LineFault, Source};
+use crate::{Body, Bytes, Line, LineFault, Source};
 use std::alloc::{AllocError, Global};
 use std::marker::Model;
 
@@ -85,7 +85,7 @@ impl LineReader {
     ///
     /// The source is read only where the bytes already read don't decide the line. After `ReadFault`
     /// or `Memory` no byte is lost, and the call may be made again. Cost: the bytes of the line, once,
-    /// and one `Vec` for its text.
+    /// and one `Vec` for its text, unless `reuse` gave one back.
     pub fn next_line<S: Source>(&mut self, alloc: Global, src: &mut S) -> Result<Line, LineFault>
         ensures line { IfOk result (λ line. lines_left self.old (S.left src.old) ≡ option_map (onto line) (lines_left self.new (S.left src.new))) }
         ensures err { OnErr result (lines_left self.new (S.left src.new) ≡ lines_left self.old (S.left src.old)) }
@@ -134,5 +134,13 @@ impl LineReader {
         ensures decided { is_decided self.new ≡ true }
     {
         self.held = Some(line);
+    }
+
+    /// Takes the memory of a line that is done with: the next text is put there, and takes no memory
+    /// of its own where it fits. Nothing else changes.
+    pub fn reuse(&mut self, text: Bytes)
+        ensures { self.new ≡ self.old }
+    {
+        self.scanner.reuse(text.into_vec());
     }
 }

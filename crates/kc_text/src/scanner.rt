@@ -31,6 +31,8 @@ pub struct Scanner {
     room: u32,
     // the source has ended; then the window is empty
     ended: bool,
+    // the memory of a line that was given back, whose bytes mean nothing
+    spare: Option<Vec<u8>>,
 }
 
 impl Model for Scanner {
@@ -45,9 +47,23 @@ impl Model for Scanner {
     ghost invariant = { IsSound };
 }
 
+// An empty text in the spare memory, or else with room for so many bytes.
+fn new_text(alloc: Global, spare: &mut Option<Vec<u8>>, room: usize) -> Result<Vec<u8>, AllocError>
+    ensures { IfOk result (λ text. text.items ≡ []) }
+{
+    match spare.take() {
+        Some(mut text) => {
+            text.clear();
+            Ok(text)
+        }
+        None => Vec::with_capacity(alloc, room),
+    }
+}
+
 // What a line says whose bytes are a part and then `last`.
 fn read_body(
     alloc: Global,
+    spare: &mut Option<Vec<u8>>,
     limit: u32,
     taken: u32,
     part: &[u8],
@@ -60,7 +76,7 @@ fn read_body(
     if taken + last.len() as u32 > limit {
         return Ok(Body::TooLong);
     }
-    let mut text = Vec::with_capacity(alloc, part.len() + last.len())?;
+    let mut text = new_text(alloc, spare, part.len() + last.len())?;
     text.extend_from_slice(part)?;
     text.extend_from_slice(last)?;
     drop_cr(&mut text);
@@ -112,6 +128,7 @@ impl Scanner {
             number: 1,
             room: input_limit,
             ended: false,
+            spare: None,
         })
     }
 
@@ -125,7 +142,14 @@ impl Scanner {
         let ready = self.window.ready();
         let within = ready.len().min(self.room as usize);
         if let Some(at) = memchr(b'\n', &ready[..within]) {
-            let body = read_body(alloc, self.limit, self.taken, &self.part, &ready[..at])?;
+            let body = read_body(
+                alloc,
+                &mut self.spare,
+                self.limit,
+                self.taken,
+                &self.part,
+                &ready[..at],
+            )?;
             let line = Line {
                 number: self.number,
                 body,
@@ -166,7 +190,14 @@ impl Scanner {
                 body: Body::End,
             }));
         }
-        let body = read_body(alloc, self.limit, self.taken, &self.part, &[])?;
+        let body = read_body(
+            alloc,
+            &mut self.spare,
+            self.limit,
+            self.taken,
+            &self.part,
+            &[],
+        )?;
         let line = Line {
             number: self.number,
             body,
@@ -175,6 +206,13 @@ impl Scanner {
         self.taken = 0;
         self.number += 1;
         Ok(Some(line))
+    }
+
+    /// Keeps memory for a later line.
+    pub fn reuse(&mut self, text: Vec<u8>)
+        ensures { self.new ≡ self.old }
+    {
+        self.spare = Some(text);
     }
 
     // Reads once, where nothing is ready.

@@ -3,8 +3,8 @@ ghost use Rattle.std.specs.Prelude.{◌<◌};
 
 use crate::{
     Body, Failed, Line, LineBuf, LineFault, LineReader, MemSink, MemSource, NullSink, Reason,
-    SendFault, Sink, Source, StdSink, StdSource, Words, is_skipped, next_word, put_all,
-    read_number,
+    SendFault, Sink, Source, StdSink, StdSource, Words, is_skipped, next_number, next_word,
+    put_all, read_number,
 };
 use std::alloc::Global;
 use std::io;
@@ -13,6 +13,7 @@ use std::test::Fail;
 
 // Adds what a reader gives next, a line each: its number and text; `*` for a line that is too
 // long, `!` for the limit, `.` for the end; `?` for a read fault. Returns whether it was the last.
+// The memory of every second line is given back.
 fn tell<S: Source>(
     alloc: Global,
     reader: &mut LineReader,
@@ -27,11 +28,15 @@ fn tell<S: Source>(
         }
         Err(LineFault::Memory(e)) => return Err(Fail::from(e)),
     };
-    out.push(b'0' + (line.number % 10) as u8)?;
+    let number = line.number;
+    out.push(b'0' + (number % 10) as u8)?;
     let (mark, last): (&[u8], bool) = match line.body {
         Body::Text(bytes) => {
             out.push(b':')?;
-            out.extend_from_slice(&bytes.into_vec())?;
+            out.extend_from_slice(bytes.as_slice())?;
+            if number % 2 == 1 {
+                reader.reuse(bytes);
+            }
             (b"\n", false)
         }
         Body::TooLong => (b"*\n", false),
@@ -315,6 +320,17 @@ fn words_and_numbers(rt: HostRuntime) {
     ];
     for (digits, want) in numbers {
         assert_eq!(rt; read_number(digits), want, "at {digits:?}");
+        assert_eq!(rt; next_number(digits, 0).map(|n| n.0), want, "at {digits:?}");
+    }
+    let first: [(usize, Option<(u32, usize)>); 4] = [
+        (0, None),
+        (2, Some((10, 6))),
+        (5, Some((0, 6))),
+        (9, None),
+    ];
+    for (from, want) in first {
+        assert!(rt; from <= 9);
+        assert_eq!(rt; next_number(line, from), want, "from {from}");
     }
 }
 

@@ -4,7 +4,7 @@ ghost use Rattle.std.specs.List.{slice_range};
 ghost use Rattle.kc_text.specs.Words.{words, is_blank, is_skip, WordAt, closed};
 
 // Whether the byte parts words.
-fn parts_words(byte: u8) -> bool
+pub(crate) fn parts_words(byte: u8) -> bool
     ensures { result ≡ is_blank byte }
 {
     byte == b' ' || byte == b'\t'
@@ -12,7 +12,7 @@ fn parts_words(byte: u8) -> bool
 
 // The first place at or after `from` that isn't blank, or the line's length.
 #[tactic(auto, using(crate::proofs::Wording::word_steps))]
-fn pass_blanks(line: &[u8], from: usize) -> usize
+pub(crate) fn pass_blanks(line: &[u8], from: usize) -> usize
     requires { from ≤ length line.now }
     ensures after { from ≤ result }
     ensures within { result ≤ length line.now }

@@ -2,6 +2,7 @@ pub mod Saying
 pub mod Stepping
 pub mod EdgeOrder
 pub mod LineLemmas
+pub mod NumberLines
 pub mod WordLists
 pub mod Texts
 pub mod WaitingLemmas

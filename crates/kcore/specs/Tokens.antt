@@ -1,5 +1,5 @@
 -- The tokens of a batch input: its lines that aren't skipped, each with its number and what it says.
-use Rattle.std.specs.Prelude.{ℕ, ◌<◌, ◌≤◌, ◌&&◌, List, [], ◌∷◌, Option, Some, None, if◌then◌else◌, codes}
+use Rattle.std.specs.Prelude.{ℕ, ◌≡◌, ◌<◌, ◌≤◌, ◌&&◌, List, [], ◌∷◌, Option, Some, None, if◌then◌else◌, codes}
 use Rattle.std.specs.Str.{bytes_eq}
 use Rattle.std.specs.Option.{option_map}
 use Rattle.kc_text.specs.declared.line.Line.{Line}
@@ -37,6 +37,14 @@ kind_of_words (w ∷ a ∷ []) =
     else Other
 kind_of_words (w ∷ a ∷ b ∷ []) = if bytes_eq w (codes "+") then insert_or_other (number_of a) (number_of b) else Other
 kind_of_words (w ∷ a ∷ b ∷ c ∷ more) = Other
+
+-- these are two words that say a and b
+pub record AreNumbers (ws : List (List ℕ)) (a b : ℕ) : Type 0 where
+  pub first : List ℕ
+  pub second : List ℕ
+  pub words_are : ws ≡ first ∷ second ∷ []
+  pub first_is : number_of first ≡ Some a
+  pub second_is : number_of second ≡ Some b
 
 -- what a text says, unless it is skipped
 unfoldable pub kind_of_text : List ℕ → Option Kind

@@ -1,13 +1,13 @@
 //! The lines of a batch input that aren't skipped, and what each of them says.
-ghost use Rattle.std.specs.Prelude.{◌≡◌, ◌<◌, ◌≤◌, ℕ, List, [], ◌∷◌, Option, Some, IfOk, OnErr};
+ghost use Rattle.std.specs.Prelude.{◌≡◌, ◌<◌, ◌≤◌, ℕ, List, [], ◌∷◌, length, drop, Option, Some, IfOk, IfSome, OnErr};
 ghost use Rattle.std.specs.Option.{option_map};
 ghost use Rattle.kc_text.specs.Reading.{budget};
 ghost use Rattle.kc_text.specs.Causes.{ReadCause};
 ghost use Rattle.kc_text.specs.Words.{words, WordAt};
-ghost use Rattle.kcore.specs.Tokens.{kind_of_words, kind_of_text, tokens_left, onto_token, TakesToken};
+ghost use Rattle.kcore.specs.Tokens.{kind_of_words, kind_of_text, tokens_left, onto_token, AreNumbers, TakesToken};
 
 use crate::word::is_word;
-use kc_text::{Body, LineFault, LineReader, Source, next_word, read_number};
+use kc_text::{Body, LineFault, LineReader, Source, next_number, next_word, read_number};
 use std::alloc::Global;
 
 /// What a line says by itself, wherever it stands.
@@ -80,13 +80,32 @@ fn kind_of_three(first: &[u8], second: &[u8], third: &[u8]) -> Kind
     }
 }
 
+// The two numbers that the words at or after `from` say, if they are two numbers. One pass over their bytes.
+#[tactic(auto, using(crate::proofs::NumberLines::two_numbers_at))]
+fn two_numbers(text: &[u8], from: usize) -> Option<(u32, u32)>
+    requires { from ≤ length text.now }
+    ensures { IfSome result (λ p. AreNumbers (words (drop from text.now)) p.0 p.1) }
+{
+    let (a, end) = next_number(text, from)?;
+    let (b, end) = next_number(text, end)?;
+    if next_word(text, end).is_some() {
+        return None;
+    }
+    Some((a, b))
+}
+
 // What the line says whose first word lies there.
-#[tactic(auto, unfolding(crate::specs::Tokens::kind_of_words))]
+#[tactic(auto, using(crate::proofs::NumberLines::plus_line), unfolding(crate::specs::Tokens::kind_of_words))]
 fn kind_of_line(text: &[u8], start: usize, end: usize) -> Kind
     requires { WordAt text.now 0 start end }
     ensures { result ≡ kind_of_words (words text.now) }
 {
     let first = &text[start..end];
+    if is_word(first, b"+") {
+        if let Some((a, b)) = two_numbers(text, end) {
+            return Kind::Insert(a, b);
+        }
+    }
     let Some((start, end)) = next_word(text, end) else {
         return kind_of_one(first);
     };
@@ -128,10 +147,14 @@ pub fn next_token<S: Source>(
         let line = reader.next_line(alloc, src)?;
         let number = line.number;
         let kind = match line.body {
-            Body::Text(text) => match classify(text.as_slice()) {
-                Some(kind) => kind,
-                None => continue,
-            },
+            Body::Text(text) => {
+                let said = classify(text.as_slice());
+                reader.reuse(text);
+                match said {
+                    Some(kind) => kind,
+                    None => continue,
+                }
+            }
             Body::TooLong => Kind::Other,
             Body::Limit => Kind::Limit,
             Body::End => Kind::InputEnd,

@@ -143,7 +143,7 @@ fn clean_checked<R: Abort + Threads + Sync>(
     items: &[Item],
 ) -> Result<Cleaned, AllocError> {
     assert!(rt; are_inside(items, graph.vertices()));
-    assert!(rt; items.len() <= 100);
+    assert!(rt; items.len() <= 200);
     clean(rt, alloc, graph, items)
 }
 
@@ -169,10 +169,10 @@ fn batches_come_to_this(rt: HostRuntime) -> Result<(), Fail> {
     Ok(())
 }
 
-// One pair is inserted and deleted by turns, a hundred times in all, the last time as told.
+// One pair is inserted a hundred times and deleted a hundred times by turns, the last time as told.
 fn by_turns(alloc: Global, ends_inserted: bool) -> Result<Vec<Item>, AllocError> {
     let mut items = Vec::new(alloc);
-    for turn in 0..100u32 {
+    for turn in 0..200u32 {
         if (turn % 2 == 1) == ends_inserted {
             items.push(Insert { u: 3, v: 1 })?;
         } else {
@@ -183,21 +183,25 @@ fn by_turns(alloc: Global, ends_inserted: bool) -> Result<Vec<Item>, AllocError>
 }
 
 #[test]
-fn last_of_a_hundred_items_decides(rt: HostRuntime) -> Result<(), Fail> {
-    let without: &[(u32, u32)] = &[];
-    let with: &[(u32, u32)] = &[(1, 3)];
-    for ends_inserted in [true, false] {
+fn last_of_many_items_decides(rt: HostRuntime) -> Result<(), Fail> {
+    let none: &[(u32, u32)] = &[];
+    let one: &[(u32, u32)] = &[(1, 3)];
+    // whether the last item inserts, the edges before; those removed and added, and the idle items
+    let rows = [
+        (true, none, none, one, 0),
+        (true, one, none, none, 1),
+        (false, none, none, none, 1),
+        (false, one, one, none, 0),
+    ];
+    for (ends_inserted, edges, removed, added, idle) in rows {
         let items = by_turns(rt.alloc(), ends_inserted)?;
-        for edges in [without, with] {
-            let graph = graph_of(&rt, rt.alloc(), edges)?;
-            let cleaned = clean_checked(&rt, rt.alloc(), &graph, items.as_slice())?;
-            let is_there = edges.len() == 1;
-            assert_eq!(rt; cleaned.loops, 0);
-            assert_eq!(rt; cleaned.repeats, 99);
-            assert_eq!(rt; cleaned.idle == 1, is_there == ends_inserted);
-            assert_eq!(rt; cleaned.removed.is_empty(), !is_there || ends_inserted);
-            assert_eq!(rt; cleaned.added.is_empty(), is_there || !ends_inserted);
-        }
+        let graph = graph_of(&rt, rt.alloc(), edges)?;
+        let cleaned = clean_checked(&rt, rt.alloc(), &graph, items.as_slice())?;
+        assert_eq!(rt; pairs(rt.alloc(), &cleaned.removed)?.as_slice(), removed);
+        assert_eq!(rt; pairs(rt.alloc(), &cleaned.added)?.as_slice(), added);
+        assert_eq!(rt; cleaned.loops, 0);
+        assert_eq!(rt; cleaned.repeats, 199);
+        assert_eq!(rt; cleaned.idle, idle);
     }
     Ok(())
 }

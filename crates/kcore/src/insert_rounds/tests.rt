@@ -42,6 +42,36 @@ fn check<R: Threads + Sync + Abort>(
     Ok(())
 }
 
+// Three edges of one vertex among n vertices, one of them to the last vertex.
+fn check_star_to_last<R: Threads + Sync + Abort>(
+    rt: &R,
+    alloc: Global,
+    n: u32,
+) -> Result<(), AllocError>
+    requires many { 4 ≤ n }
+    requires small { n ≤ MAX_VERTICES }
+{
+    let star = [
+        Edge { a: 0, b: 1 },
+        Edge { a: 0, b: 2 },
+        Edge { a: 0, b: n - 1 },
+    ];
+    let mut want = vec![in alloc; 0u16; n as usize]?;
+    want[0] = 2;
+    want[1] = 1;
+    want[2] = 1;
+    want[n as usize - 1] = 1;
+    check(rt, alloc, &star, &want, 4)
+}
+
+#[test]
+fn levels_among_many(rt: HostRuntime) -> Result<(), Fail> {
+    for n in [4, 5, 1000, MAX_VERTICES] {
+        check_star_to_last(&rt, rt.alloc(), n)?;
+    }
+    Ok(())
+}
+
 #[test]
 fn levels_are_the_least(rt: HostRuntime) -> Result<(), Fail> {
     let path = [Edge { a: 0, b: 1 }, Edge { a: 1, b: 2 }];
@@ -99,7 +129,26 @@ fn levels_are_the_least(rt: HostRuntime) -> Result<(), Fail> {
         &[19, 19, 19, 19, 19, 19, 19, 19],
         8,
     )?;
+    // A complete graph on four vertices, an edge beside it, and two vertices without neighbours.
+    let apart = [
+        Edge { a: 0, b: 1 },
+        Edge { a: 0, b: 2 },
+        Edge { a: 0, b: 3 },
+        Edge { a: 1, b: 2 },
+        Edge { a: 1, b: 3 },
+        Edge { a: 2, b: 3 },
+        Edge { a: 5, b: 6 },
+    ];
+    check(&rt, rt.alloc(), &apart, &[7, 7, 7, 7, 0, 1, 1, 0], 6)?;
+    check(&rt, rt.alloc(), &[], &[0], 0)?;
     check(&rt, rt.alloc(), &[], &[0, 0], 0)?;
+    check(&rt, rt.alloc(), &[Edge { a: 0, b: 1 }], &[1, 1], 2)?;
+    let three = [
+        Edge { a: 0, b: 1 },
+        Edge { a: 0, b: 2 },
+        Edge { a: 1, b: 2 },
+    ];
+    check(&rt, rt.alloc(), &three, &[1, 1, 1], 3)?;
     Ok(())
 }
 

@@ -1,0 +1,76 @@
+-- Steps of a number that is read where it stands in a line.
+use Rattle.std.proofs.Common.{ℕ, ◌+◌, ◌-◌, ◌*◌, ◌^◌, ◌<◌, ◌≤◌, ◌≡◌, true, false, List, [], ◌∷◌, ◌++◌, length, drop, refl, ◌∙◌, arith, get_or}
+use Rattle.std.specs.Prelude.{Some, nat_lt, nat_le}
+use Rattle.std.specs.List.{list_all, slice_range}
+use Rattle.std.proofs.lemmas.Bool.Decides.{nat_tests}
+use Rattle.std.proofs.lemmas.List.{length-take, length-drop}
+use Rattle.std.proofs.lemmas.List.Folds.{list_all-append}
+use Rattle.kc_text.specs.Numbers.{is_digit, value_from, number_of, DigitsAt, NumberAt}
+use Rattle.kc_text.specs.Words.{words, words_from, is_blank, closed}
+use Rattle.kc_text.proofs.Wording.{range_more, word_goes_on, word_stop, word_end, closed_some}
+
+value_last : (v : ℕ) (bs : List ℕ) (d : ℕ) → value_from v (bs ++ d ∷ []) ≡ 10 * value_from v bs + (d - 48)
+unfolding value_from
+value_last v [] d = refl
+value_last v (b ∷ bs) d = value_last (10 * v + (b - 48)) bs d
+
+digit_no_blank : (d : ℕ) → is_digit d ≡ true → is_blank d ≡ false
+digit_no_blank d e = grind (arith, nat_tests, e)
+
+empty_range : (line : List ℕ) (start : ℕ) → slice_range line start start ≡ []
+empty_range line start = let z : start - start ≡ 0 = omega arith in rw z refl
+
+-- no digits yet
+pub no_digits : (line : List ℕ) (start : ℕ) → start ≤ length line → DigitsAt line start 0 start
+unfolding value_from
+no_digits line start h = record {
+  after = omega arith;
+  within = h;
+  digits = rw (empty_range line start) refl;
+  value_is = rw (empty_range line start) refl;
+  words_are = rw (empty_range line start) refl;
+}
+
+-- one more digit
+pub more_digits : (line : List ℕ) (start value at more : ℕ) → DigitsAt line start value at → at < length line → is_digit (get_or line at 0) ≡ true → more ≡ 10 * value + (get_or line at 0 - 48)
+    → DigitsAt line start more (at + 1)
+more_digits line start value at more d l e m = record {
+  after = omega (arith, d.after);
+  within = omega arith;
+  digits = rw (range_more line start at d.after l, list_all-append is_digit (slice_range line start at) (get_or line at 0 ∷ []), d.digits, e) refl;
+  value_is = rw (range_more line start at d.after l, value_last 0 (slice_range line start at) (get_or line at 0), d.value_is, m) refl;
+  words_are = d.words_are ∙ word_goes_on line start at d.after l (digit_no_blank (get_or line at 0) e);
+}
+
+number_is : (bs : List ℕ) (value : ℕ) → 0 < length bs → length bs ≤ 10 → list_all is_digit bs ≡ true → value_from 0 bs ≡ value → value < 2 ^ 32 → number_of bs ≡ Some value
+number_is bs value a b d e s =
+    let x : nat_lt 0 (length bs) ≡ true = grind (arith, nat_tests) in
+    let y : nat_le (length bs) 10 ≡ true = grind (arith, nat_tests) in
+    let z : nat_lt value (2 ^ 32) ≡ true = grind (arith, nat_tests) in
+    rw (x, y, d, e, z) refl
+
+range_length : (line : List ℕ) (start end : ℕ) → start ≤ end → end ≤ length line → length (slice_range line start end) ≡ end - start
+range_length line start end h l = simp (length-take, length-drop) (omega arith)
+
+-- the digits are a word
+number_at : (line : List ℕ) (start value end : ℕ) → DigitsAt line start value end → start < end → end - start ≤ 10 → value < 2 ^ 32
+    → words_from (slice_range line start end) (drop end line) ≡ closed (slice_range line start end) (words (drop end line)) → NumberAt line start value end
+number_at line start value end d h l s e =
+    let n = range_length line start end d.after d.within in
+    record {
+      word = slice_range line start end;
+      within = d.within;
+      words_are = d.words_are ∙ e ∙ closed_some (slice_range line start end) _ (omega (arith, n));
+      number = number_is (slice_range line start end) value (omega (arith, n)) (omega (arith, n)) d.digits d.value_is s;
+    }
+
+pub number_before_blank : (line : List ℕ) (start value end : ℕ) → DigitsAt line start value end → start < end → end - start ≤ 10 → value < 2 ^ 32 → end < length line → is_blank (get_or line end 0) ≡ true
+    → NumberAt line start value end
+number_before_blank line start value end d h l s b e = number_at line start value end d h l s (word_stop (slice_range line start end) line end b e)
+
+pub number_at_end : (line : List ℕ) (start value end : ℕ) → DigitsAt line start value end → start < end → end - start ≤ 10 → value < 2 ^ 32 → length line ≤ end → NumberAt line start value end
+number_at_end line start value end d h l s b = number_at line start value end d h l s (word_end (slice_range line start end) line end b)
+
+pub ruleset digit_steps = (no_digits, more_digits, nat_tests)
+
+pub ruleset number_steps = (number_before_blank, number_at_end, nat_tests)

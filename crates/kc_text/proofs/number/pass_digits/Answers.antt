@@ -1,0 +1,12 @@
+use Rattle.std.proofs.Common.{◌∙◌, sym, refl, lit<, arith}
+use Rattle.kc_text.proofs.Numbering.{no_digits, more_digits}
+use Rattle.kc_text.proofs.number.pass_digits.Goals as goal
+
+pub loop-at-init : goal.loop-at-init
+loop-at-init c = record { digits = no_digits c.args.line.now c.args.start c.requires; small = lit< tt }
+
+pub loop-at-preserved : goal.loop-at-preserved
+loop-at-preserved c = record {
+  digits = more_digits c.args.line.now c.args.start c.loop-at.value c.loop-at.at _ c.loop-at.invariant.digits c.loop-at-test.true (sym c.is_digit.ensures ∙ c.if-not-is_digit.false) refl;
+  small = omega (arith, c.if-value.false);
+}
