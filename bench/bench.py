@@ -1,18 +1,28 @@
 #!/usr/bin/env python3
 """Time and memory of `kcore run 1`, beside another program with the same command line.
 
-    bench/bench.py [--program PATH] [--other PATH] [--runs N] [--keep DIR]
+    bench/bench.py [--program PATH] [--other PATH] [--runs N] [--keep DIR] [--only NAME,NAME]
 
 It makes its own inputs from fixed seeds, runs each program on each of them N times (5) with one worker, takes the best
 run, and prints seconds of processor time, peak memory, and the ratio of the two programs. It judges nothing: times on a
 shared machine are ratios at best.
 
-Inputs, each one batch of insertions:
+Whole runs, each with all its edges inserted:
 
-- uniform   1,000,000 edges between 100,000 vertices, each pair as likely as another
-- power     1,048,576 edges between 65,536 vertices, degrees by a power law (R-MAT)
-- read      the edges of uniform, with a last line that doesn't fit: the batch is refused, so they are read and all levels
-            stay 0. The time of an empty batch between as many vertices is taken off, so that reading alone is left.
+- uniform     1,000,000 edges between 100,000 vertices, each pair as likely as another, in one batch
+- snap1000    the same edges as SNAP text (two numbers and a tab, in any order), in batches of 1,000 items
+- snap10000   the same in batches of 10,000
+- snap100000  the same in batches of 100,000
+- power       1,048,576 edges between 65,536 vertices, degrees by a power law (R-MAT), in one batch
+- grid        998,284 edges of a grid of 707 times 707 vertices, as SNAP text in one batch
+
+Parts of a run, each the difference of two runs that differ in nothing else:
+
+- read        the lines of grid: a batch of them that is refused at its last line, less no batch
+- clean       the items of grid where all edges are there: a second batch of them, less one that is refused at its last line
+- print       the vertex lines of grid: no batch, less no batch for one vertex
+- three       these three together
+- link+raise  the rest of grid: its edges come into the graph, and the levels rise
 """
 import argparse
 import multiprocessing
@@ -21,6 +31,10 @@ import random
 import subprocess
 import sys
 import tempfile
+
+WHOLE = ("uniform", "snap1000", "snap10000", "snap100000", "power", "grid")
+PARTS = ("read", "clean", "print", "three", "link+raise")
+SIDE = 707
 
 
 def uniform_edges(n, m, seed):
@@ -52,20 +66,51 @@ def power_edges(scale, m, seed):
     return sorted(edges)
 
 
-def write_input(path, n, edges, last="end"):
-    with open(path, "w") as file:
-        file.write(f"kcore 1\nvertices {n}\nbatch\n")
-        file.writelines(f"+ {a} {b}\n" for a, b in edges)
-        file.write(f"{last}\n")
-    return path
+def grid_edges(side):
+    for x in range(side):
+        for y in range(side):
+            v = x * side + y
+            if y + 1 < side:
+                yield v, v + 1
+            if x + 1 < side:
+                yield v, v + side
+
+
+def signed(edges):
+    return "".join(f"+ {a} {b}\n" for a, b in edges)
+
+
+def snap(edges):
+    return "".join(f"{a}\t{b}\n" for a, b in edges)
+
+
+def in_batches(edges, size):
+    return [snap(edges[i:i + size]) for i in range(0, len(edges), size)]
+
+
+def write_input(folder, name, n, batches, last="end"):
+    """Each batch is the text of its lines; the last ends with this line."""
+    ends = ["end"] * (len(batches) - 1) + [last]
+    with open(input_path(folder, name), "w") as file:
+        file.write(f"kcore 1\nvertices {n}\n")
+        for lines, end in zip(batches, ends):
+            file.write(f"batch\n{lines}{end}\n")
 
 
 def make_inputs(folder):
     uniform = uniform_edges(100_000, 1_000_000, 7)
-    write_input(input_path(folder, "uniform"), 100_000, uniform)
-    write_input(input_path(folder, "power"), 1 << 16, power_edges(16, 1 << 20, 7))
-    write_input(input_path(folder, "refused"), 100_000, uniform, last="stop")
-    write_input(input_path(folder, "empty"), 100_000, [])
+    write_input(folder, "uniform", 100_000, [signed(uniform)])
+    random.Random(11).shuffle(uniform)
+    for size in (1_000, 10_000, 100_000):
+        write_input(folder, f"snap{size}", 100_000, in_batches(uniform, size))
+    write_input(folder, "power", 1 << 16, [signed(power_edges(16, 1 << 20, 7))])
+    n, grid = SIDE * SIDE, snap(grid_edges(SIDE))
+    write_input(folder, "grid", n, [grid])
+    write_input(folder, "grid-refused", n, [grid], last="stop")
+    write_input(folder, "grid-twice", n, [grid, grid])
+    write_input(folder, "grid-twice-refused", n, [grid, grid], last="stop")
+    write_input(folder, "none", n, [])
+    write_input(folder, "one", 1, [])
 
 
 def input_path(folder, name):
@@ -88,43 +133,62 @@ def best(program, path, runs):
     return min(seconds for seconds, _ in results), max(memory for _, memory in results)
 
 
+def measure(program, folder, runs, names):
+    """Seconds and KiB of each row."""
+    runs_of = {name: best(program, input_path(folder, name), runs) for name in names if name in WHOLE}
+    if any(name in PARTS for name in names):
+        for name in ("grid", "grid-refused", "grid-twice", "grid-twice-refused", "none", "one"):
+            if name not in runs_of:
+                runs_of[name] = best(program, input_path(folder, name), runs)
+        less = {
+            "read": ("grid-refused", "none"),
+            "clean": ("grid-twice", "grid-twice-refused"),
+            "print": ("none", "one"),
+        }
+        for part, (more, base) in less.items():
+            runs_of[part] = runs_of[more][0] - runs_of[base][0], runs_of[more][1]
+        three = sum(runs_of[part][0] for part in less)
+        runs_of["three"] = three, runs_of["grid-twice"][1]
+        runs_of["link+raise"] = runs_of["grid"][0] - three - runs_of["one"][0], runs_of["grid"][1]
+    return {name: runs_of[name] for name in names}
+
+
 def main():
     here = os.path.dirname(os.path.abspath(__file__))
     parser = argparse.ArgumentParser(description=__doc__, formatter_class=argparse.RawDescriptionHelpFormatter)
     parser.add_argument("--program", default=os.path.join(here, "..", "crates", "kcore", "out", "kcore"))
     parser.add_argument("--other", help="a program with the same command line to compare with")
     parser.add_argument("--runs", type=int, default=5)
-    parser.add_argument("--keep", help="a folder for the inputs; else they are made anew and removed")
+    parser.add_argument("--keep", help="a folder for the inputs; those that are there are used again")
+    parser.add_argument("--only", help="these rows alone, parted by commas")
     options = parser.parse_args()
+    names = options.only.split(",") if options.only else list(WHOLE + PARTS)
+    if unknown := [name for name in names if name not in WHOLE + PARTS]:
+        sys.exit(f"no row is called {unknown[0]}; rows are {', '.join(WHOLE + PARTS)}")
 
     with tempfile.TemporaryDirectory() as scratch:
         folder = options.keep or scratch
         os.makedirs(folder, exist_ok=True)
+        # The last input that is made.
+        if not os.path.exists(input_path(folder, "one")):
+            print("making the inputs ..", flush=True)
+            # In a process of its own: the memory of this one would count as that of the programs that it starts.
+            maker = multiprocessing.Process(target=make_inputs, args=(folder,))
+            maker.start()
+            maker.join()
+            if maker.exitcode != 0:
+                sys.exit("the inputs couldn't be made")
 
-        print("making the inputs ..", flush=True)
-        # In a process of its own: the memory of this one would count as that of the programs that it starts.
-        maker = multiprocessing.Process(target=make_inputs, args=(folder,))
-        maker.start()
-        maker.join()
-        if maker.exitcode != 0:
-            sys.exit("the inputs couldn't be made")
+        programs = [os.path.abspath(path) for path in (options.program, options.other) if path]
+        tables = [measure(program, folder, options.runs, names) for program in programs]
 
-        programs = [os.path.abspath(options.program)]
-        if options.other:
-            programs.append(os.path.abspath(options.other))
-        table = {}
-        for program in programs:
-            for name in ("empty", "refused", "uniform", "power"):
-                table[program, name] = best(program, input_path(folder, name), options.runs)
-            read = table[program, "refused"][0] - table[program, "empty"][0]
-            table[program, "read"] = read, table[program, "refused"][1]
-
-        print(f"{'input':<10}{'program':>12}{'MiB':>8}" + (f"{'other':>12}{'MiB':>8}{'ratio':>9}" if options.other else ""))
-        for name in ("read", "uniform", "power"):
-            seconds, memory = table[programs[0], name]
-            row = f"{name:<10}{seconds:>10.3f} s{memory / 1024:>8.1f}"
+        header = f"{'row':<12}{'program':>12}{'MiB':>8}"
+        print(header + (f"{'other':>12}{'MiB':>8}{'ratio':>9}" if options.other else ""))
+        for name in names:
+            seconds, memory = tables[0][name]
+            row = f"{name:<12}{seconds:>10.3f} s{memory / 1024:>8.1f}"
             if options.other:
-                other, other_memory = table[programs[1], name]
+                other, other_memory = tables[1][name]
                 row += f"{other:>10.3f} s{other_memory / 1024:>8.1f}{seconds / max(other, 1e-9):>9.2f}"
             print(row, flush=True)
 

@@ -1,11 +1,49 @@
 #!/usr/bin/env bash
-# Runs the program on each example and compares what it writes with the text beside it. Silent where all is well.
+# Runs the program on each example: it has to write the text beside it, and to exit with 1 where it refuses something.
+# Then tries `snap_to_kcore.py`, where there is a python3. Silent where all is well.
 #     examples/check.sh PROGRAM
 set -u
 program=$(realpath "$1") || exit 1
 cd "$(dirname "$0")" || exit 1
+out=$(mktemp) && err=$(mktemp) || exit 1
+trap 'rm -f "$out" "$err"' EXIT
 failed=0
+wrong() { echo "examples/$1"; failed=1; }
+
 for input in *.kc; do
-  "$program" run 1 <"$input" | cmp -s - "${input%.kc}.txt" || { echo "examples/$input: another text than in ${input%.kc}.txt"; failed=1; }
+  text=${input%.kc}.txt
+  "$program" run 1 <"$input" >"$out"
+  exited=$?
+  cmp -s "$out" "$text" || wrong "$input: another text than in $text"
+  if grep -q refused "$text"; then wanted=1; else wanted=0; fi
+  [ $exited = $wanted ] || wrong "$input: exit number $exited"
 done
+
+if ! command -v python3 >/dev/null; then
+  echo "examples/snap_to_kcore.py isn't tried: there is no python3" >&2
+  exit $failed
+fi
+
+# converts INPUT TEXT WORDS..: the script makes this text of this input.
+converts() {
+  printf -- "$1" | python3 snap_to_kcore.py "${@:3}" >"$out"
+  [ $? = 0 ] && printf -- "$2" | cmp -s - "$out" || wrong "snap_to_kcore.py: '$1' ${*:3}"
+}
+# refuses NUMBER MESSAGE INPUT WORDS..: the script exits with this number, and writes nothing but such a message.
+refuses() {
+  printf -- "$3" | python3 snap_to_kcore.py "${@:4}" >"$out" 2>"$err"
+  [ $? = "$1" ] && [ ! -s "$out" ] && grep -q -e "$2" "$err" || wrong "snap_to_kcore.py: '$3' ${*:4}"
+}
+
+python3 snap_to_kcore.py --batch 20 <karate.snap | cmp -s - karate_batches.kc || wrong "karate_batches.kc: another text"
+converts '# x\n7\t0\r\n\n %% y\n0 7\n3 3' 'kcore 1\nvertices 8\nbatch\n7 0\n0 7\nend\nbatch\n3 3\nend\n' --batch 2
+converts '0 1048575 -1\n' 'kcore 1\nvertices 1048576\nbatch\n0 1048575\nend\n' --two-columns
+note='# renumbered in ascending order: the 3 ids 9 to 1048576 are the vertices 0 to 2'
+converts '1048576 9\n10 9\n' "$note\nkcore 1\nvertices 3\nbatch\n2 0\n1 0\nend\n"
+refuses 1 "line 3: 'x' isn't" '0 1\n# x\n2 x\n'
+refuses 1 "line 1: '-1' isn't" '-1 2\n'
+refuses 1 'line 2: one id' '0 1\n2\n'
+refuses 1 'line 1: 3 columns' '0 1 5\n'
+refuses 2 'from 1 to 1048576' '0 1\n' --batch 0
+refuses 2 'from 1 to 1048576' '0 1\n' --batch 1048577
 exit $failed

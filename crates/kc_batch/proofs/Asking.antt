@@ -1,5 +1,5 @@
 -- The lines of a header, one after another.
-use Rattle.std.proofs.Common.{ℕ, ◌≡◌, ◌<◌, Bool, true, false, List, [], ◌∷◌, ◌++◌, refl, sym, ap, ◌∙◌, append_assoc, arith}
+use Rattle.std.proofs.Common.{ℕ, ◌≡◌, ◌≤◌, ◌<◌, Bool, true, false, List, [], ◌∷◌, ◌++◌, refl, sym, ap, ◌∙◌, append_assoc, arith}
 use Rattle.std.specs.Prelude.{Option, Some, None, All, nat_lt}
 use Rattle.std.specs.List.{list_all}
 use Rattle.std.specs.Option.{option_map}
@@ -129,6 +129,13 @@ pub step_back : {X : Type 0} (F G : List Line → X) (line : Line) (old mid new 
     → ((rest : List Line) → F (onto line rest) ≡ G (onto line rest)) → option_map F old ≡ option_map G new
 step_back F G line old None new e f h = rw (e, f) refl
 step_back F G line old (Some rest) new e f h = rw (e, f) (ap Some (h rest))
+
+-- no line gives budget back
+pub takes_no_less : (body : Body) (old new : ℕ) → Takes body old new → new ≤ old
+takes_no_less (Text text) old new h = omega arith
+takes_no_less TooLong old new h = omega arith
+takes_no_less Limit old new h = h
+takes_no_less End old new h = h
 
 -- an ask line takes some budget
 pub takes_ask : (body : Body) (old new : ℕ) → is_ask (words (text_of body)) ≡ true → Takes body old new → new < old

@@ -1,4 +1,5 @@
 pub mod Asking
+pub mod BatchRanges
 pub mod FaultDecides
 pub mod Following
 pub mod HeaderEnds

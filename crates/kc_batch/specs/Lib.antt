@@ -7,5 +7,6 @@ pub mod HeaderShape
 pub mod Headers
 pub mod Kept
 pub mod Laws
+pub mod RangeLaw
 pub mod Tokens
 pub mod Turns

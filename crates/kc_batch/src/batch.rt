@@ -166,7 +166,7 @@ fn find_batch<S: Source>(
 /// or up to a batch that is refused for `InputLimit`, which is the last and is refused so again at each later call.
 /// `ReadFault` comes only where the source's count of faults rose, and `Memory` where a line or the items found none.
 /// After either the reader isn't used again, since lines of the batch are gone. Cost: time by the bytes of the lines
-/// that are read or passed over; a `Vec` for the text of each line, one at a time, and one for the items.
+/// that are read or passed over; memory for a line, which is used again, and for the items.
 pub fn next_batch<S: Source>(
     alloc: Global,
     reader: &mut LineReader,

@@ -1,5 +1,6 @@
 //! The header of a batch input.
-ghost use Rattle.std.specs.Prelude.{◌≡◌, ◌<◌, ◌≤◌, [], true, IfOk, IfSome};
+ghost use Rattle.std.specs.Prelude.{◌≡◌, ◌+◌, ◌<◌, ◌≤◌, [], true, IfOk, OnOk, IfSome};
+ghost use Rattle.kc_text.specs.Reading.{budget};
 ghost use Rattle.kc_text.specs.Words.{words};
 ghost use Rattle.kc_batch.specs.Kept.{kept_left};
 
@@ -129,6 +130,7 @@ fn read_asks<S: Source>(
     requires small { n ≤ MAX_VERTICES }
     ensures header { Answers (asks_from n []) (kept_left reader.old (S.left src.old)) (kept_left reader.new (S.left src.new)) result }
     ensures range { IfOk result IsHeader }
+    ensures budget { OnOk result (budget reader.new ≤ budget reader.old + 1) }
     ensures cause { HeaderCause (S.faults src.old) (S.faults src.new) result }
 {
     let mut asks = Asks::new(alloc);
@@ -165,6 +167,9 @@ impl Header {
     ) -> Result<Header, HeaderFault>
         ensures header { Answers header_of (kept_left reader.old (S.left src.old)) (kept_left reader.new (S.left src.new)) result }
         ensures range { IfOk result IsHeader }
+
+        // The reader's budget bounds the number of batches behind the header.
+        ensures budget { OnOk result (budget reader.new ≤ budget reader.old + 1) }
         ensures cause { HeaderCause (S.faults src.old) (S.faults src.new) result }
     {
         let first = next_kept(alloc, reader, src)?;

@@ -1,6 +1,7 @@
 //! What the definitions of `specs/` come to. Each function does nothing; its contract is a law.
 ghost use Rattle.kc_batch.specs.FaultLaw.{FirstFaultDecides};
 ghost use Rattle.kc_batch.specs.HeaderLaw.{FirstOtherLineEnds};
+ghost use Rattle.kc_batch.specs.RangeLaw.{BatchesKeepRanges};
 ghost use Rattle.kc_batch.specs.Laws.{ReadsSnap, ReadsHeaders, RefusesAsks, ReadsBatches, RefusesBatches, PassesOver};
 
 /// The first fault of a batch decides, and what is passed over behind it.
@@ -41,4 +42,9 @@ pub fn batches_refused()
 /// What is passed over behind a fault.
 pub fn lines_passed_over()
     ensures { PassesOver }
+{}
+
+/// Each batch of any lines keeps its ranges: its items are at most the limit, and their vertices below n.
+pub fn batches_keep_ranges()
+    ensures { BatchesKeepRanges }
 {}

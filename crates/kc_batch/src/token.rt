@@ -132,13 +132,20 @@ fn kind_of_line(text: &[u8], start: usize, end: usize) -> Kind
     kind_of_three(first, second, third)
 }
 
+// Whether it isn't worth looking for two numbers at the beginning.
+fn begins_with_sign(text: &[u8]) -> bool {
+    matches!(text.first(), Some(b'+' | b'-'))
+}
+
 // What a line says, unless it is skipped. Items come first, since most lines are items.
 #[tactic(auto, using(crate::proofs::NumberLines::number_line), unfolding(crate::specs::Tokens::kind_of_text))]
 fn classify(text: &[u8]) -> Option<Kind>
     ensures { result ≡ kind_of_text text.now }
 {
-    if let Some((u, v)) = two_numbers(text, 0) {
-        return Some(insertion(Some(u), Some(v)));
+    if !begins_with_sign(text) {
+        if let Some((u, v)) = two_numbers(text, 0) {
+            return Some(insertion(Some(u), Some(v)));
+        }
     }
     let (start, end) = next_word(text, 0)?;
     if text[start] == b'#' {
@@ -148,6 +155,7 @@ fn classify(text: &[u8]) -> Option<Kind>
 }
 
 /// The next line that isn't skipped. After a fault skipped lines may be gone.
+#[inline(always)]
 pub fn next_token<S: Source>(
     alloc: Global,
     reader: &mut LineReader,

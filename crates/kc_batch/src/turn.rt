@@ -29,6 +29,7 @@ fn is_inside(n: u32, item: Item) -> bool
 
 /// What a line of this kind does within a batch of a graph of n vertices. `full` says that the batch has as many items
 /// as are allowed.
+#[inline(always)]
 pub fn turn_at(n: u32, full: bool, kind: Kind) -> Turn
     ensures turn { result ≡ turn_of n full kind }
     ensures sound { IsTurn n full result }

@@ -86,6 +86,7 @@ impl LineReader {
     /// The source is read only where the bytes already read don't decide the line. After `ReadFault`
     /// or `Memory` no byte is lost, and the call may be made again. Cost: the bytes of the line, once,
     /// and one `Vec` for its text, unless `reuse` gave one back.
+    #[inline(always)]
     pub fn next_line<S: Source>(&mut self, alloc: Global, src: &mut S) -> Result<Line, LineFault>
         ensures line { IfOk result (λ line. lines_left self.old (S.left src.old) ≡ option_map (onto line) (lines_left self.new (S.left src.new))) }
         ensures err { OnErr result (lines_left self.new (S.left src.new) ≡ lines_left self.old (S.left src.old)) }

@@ -9,6 +9,7 @@ use crate::{Body, Bytes, Failed, Line, LineFault, Source};
 use memchr::memchr;
 use std::alloc::{AllocError, Global};
 use std::marker::Model;
+use std::mem;
 
 /// Cuts the bytes of a source into lines, each of which it gives once.
 ///
@@ -32,7 +33,7 @@ pub struct Scanner {
     // the source has ended; then the window is empty
     ended: bool,
     // the memory of a line that was given back, whose bytes mean nothing
-    spare: Option<Vec<u8>>,
+    spare: Vec<u8>,
 }
 
 impl Model for Scanner {
@@ -47,23 +48,33 @@ impl Model for Scanner {
     ghost invariant = { IsSound };
 }
 
-// An empty text in the spare memory, or else with room for so many bytes.
-fn new_text(alloc: Global, spare: &mut Option<Vec<u8>>, room: usize) -> Result<Vec<u8>, AllocError>
-    ensures { IfOk result (λ text. text.items ≡ []) }
+// The spare memory, without its bytes.
+#[inline(always)]
+fn take_spare(alloc: Global, spare: &mut Vec<u8>) -> Vec<u8>
+    ensures { result.items ≡ [] }
 {
-    match spare.take() {
-        Some(mut text) => {
-            text.clear();
-            Ok(text)
-        }
-        None => Vec::with_capacity(alloc, room),
+    let mut text = mem::replace(spare, Vec::new(alloc));
+    text.clear();
+    text
+}
+
+// Adds the part of a line that was kept. Most lines lie whole in the window, and have none.
+#[inline(always)]
+fn add_part(text: &mut Vec<u8>, part: &[u8]) -> Result<(), AllocError>
+    ensures { OnOk result (text.new.items ≡ text.old.items ++ part.now) }
+{
+    if part.is_empty() {
+        return Ok(());
     }
+    text.extend_from_slice(part)?;
+    Ok(())
 }
 
 // What a line says whose bytes are a part and then `last`.
+#[inline(always)]
 fn read_body(
     alloc: Global,
-    spare: &mut Option<Vec<u8>>,
+    spare: &mut Vec<u8>,
     limit: u32,
     taken: u32,
     part: &[u8],
@@ -76,8 +87,8 @@ fn read_body(
     if taken + last.len() as u32 > limit {
         return Ok(Body::TooLong);
     }
-    let mut text = new_text(alloc, spare, part.len() + last.len())?;
-    text.extend_from_slice(part)?;
+    let mut text = take_spare(alloc, spare);
+    add_part(&mut text, part)?;
     text.extend_from_slice(last)?;
     drop_cr(&mut text);
     Ok(Body::Text(Bytes::from_vec(text)))
@@ -128,7 +139,7 @@ impl Scanner {
             number: 1,
             room: input_limit,
             ended: false,
-            spare: None,
+            spare: Vec::new(alloc),
         })
     }
 
@@ -212,7 +223,7 @@ impl Scanner {
     pub fn reuse(&mut self, text: Vec<u8>)
         ensures { self.new ≡ self.old }
     {
-        self.spare = Some(text);
+        self.spare = text;
     }
 
     // Reads once, where nothing is ready.

@@ -1,9 +1,8 @@
-pub mod Saying
-pub mod Stepping
-pub mod EdgeOrder
-pub mod LineLemmas
-pub mod NumberLines
-pub mod WordLists
+pub mod Steps
+pub mod BatchSteps
+pub mod Runs
 pub mod Texts
+pub mod Tails
+pub mod WordLists
 pub mod WaitingLemmas
 pub mod RisingLemmas

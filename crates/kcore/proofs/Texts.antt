@@ -1,225 +1,155 @@
--- Each input has a text, and how a run comes to it.
-use Rattle.std.proofs.Common.{ℕ, ◌≡◌, Bool, true, false, List, [], ◌∷◌, ◌++◌, replicate, refl, arith}
-use Rattle.std.specs.Prelude.{Option, Some, None, Result, Ok, Err, if◌then◌else◌}
+-- The whole text of a run, from its parts.
+use Rattle.std.proofs.Common.{ℕ, ◌≡◌, Bool, true, List, ◌++◌, refl, sym, ap, ◌∙◌}
+use Rattle.std.specs.Prelude.{Option, Some, None, Result, Ok, Err}
 use Rattle.std.specs.Option.{option_map}
 use Rattle.std.specs.Io.KnownBytes.{append_known}
-use Rattle.std.proofs.lemmas.List.{length-replicate, get_or-replicate}
-use Rattle.kc_graph.specs.Shape.{Pair, EdgesFrom}
-use Rattle.kc_levels.specs.declared.profile.Profile.TheVariants.{One}
-use Rattle.kc_levels.specs.LevelList.{IsCapped, IsRaised}
-use Rattle.kc_levels.proofs.RaisedLaw.{raised_is_one_list}
-use Rattle.std.proofs.lemmas.Option.{same_Some}
-use Rattle.kc_text.specs.declared.line.Line.{Line}
+use Rattle.kc_text.specs.Writing.{IsPrefix}
+use Rattle.kc_text.proofs.Known.{append_twice, prefix_none, prefix_all, prefix_longer, prefix_then}
+use Rattle.kc_batch.specs.declared.token.Token.{Token}
+use Rattle.kc_batch.specs.declared.batch.Next.{Next}
+use Rattle.kc_batch.specs.HeaderShape.{HeaderShape}
+use Rattle.kc_batch.specs.Headers.{HeaderText, Accepted, Refused, header_of}
+use Rattle.kc_batch.specs.Kept.{kept}
 use Rattle.kc_text.specs.Lines.{lines}
-use Rattle.kc_text.specs.declared.buf.SendFault.{SendFault}
-use Rattle.kc_text.specs.declared.reason.Reason.TheVariants.{BadLine}
-use Rattle.kc_text.specs.Writing.{IsPrefix, Appends}
-use Rattle.kc_text.proofs.Known.{prefix_none, prefix_all, prefix_longer, prefix_then, append_twice}
-use Rattle.kcore.specs.declared.token.Token.{Token}
+use Rattle.kc_batch.specs.Tokens.{tokens}
+use Rattle.kc_batch.specs.Batches.{batches}
+use Rattle.kc_batch.specs.BatchInputs.{BatchInput, WithBatches, HeaderRefused, behind_header, input_of}
+use Rattle.kc_batch.proofs.BatchRanges.{batches_keep_ranges}
+use Rattle.kc_report.specs.Lines.{head_text, header_refused_line}
+use Rattle.kcore.specs.declared.state.State.{State}
 use Rattle.kcore.specs.declared.run.Stop.{Stop}
-use Rattle.kcore.specs.Tokens.{tokens}
-use Rattle.kcore.specs.BatchInput.{BatchInput, HeaderRefused, BatchRefused, Accepted, is_batch_end, is_batch_start, is_input_end, is_magic, vertices_in, edge_in, on_edge, on_vertices, after_batch, in_batch, after_header, in_header, input_of, input_of_bytes}
-use Rattle.kcore.specs.RunText.{LevelsAfter, IsRunText, text_of, body_text, head_text, header_refused_line, batch_refused_line, vertex_lines, end_line, is_refused}
-use Rattle.kcore.specs.Stops.{Writes, WritesBody, WritesBodyPrefix, SendsBody}
-use Rattle.kcore.proofs.EdgeOrder.{edge_in_fits, rise_fits}
+use Rattle.kcore.specs.States.{start, AreStates, last_state}
+use Rattle.kcore.specs.RunText.{batch_lines, some_refused, tail_text, IsRun, IsRunText}
+use Rattle.kcore.specs.Stops.{RunsBatches, WritesRun, Writes}
+use Rattle.kcore.specs.declared.command.Command.{Command}
+use Rattle.kcore.specs.declared.command.Command.TheVariants.{RunOne}
+use Rattle.kcore.specs.Commands.{KeepsBoth}
+use Rattle.kcore.specs.Laws.{BothHold, InputHasOneText, BothHoldInEachState}
+use Rattle.kcore.proofs.Steps.{sound_start}
+use Rattle.std.proofs.lemmas.List.Elements.{All-cons}
+use Rattle.kcore.proofs.Runs.{InBoth, some_states, one_run, all_both}
 
--- an input in whose graph the edges rise
-abbrev pub IsInput : BatchInput → Type 0
-IsInput (HeaderRefused line) = Unit {0}
-IsInput (BatchRefused n line) = Unit {0}
-IsInput (Accepted n edges) = EdgesFrom n 0 0 edges
+-- the text for these states
+abbrev run_text : (header : HeaderShape) (bs : List Next) (ts : List State) → List ℕ
+run_text header bs ts = head_text header.n ++ (batch_lines 1 (start header.profile header.n) bs ts ++ tail_text header.n (last_state (start header.profile header.n) ts))
 
-if_input : (b : Bool) (x y : BatchInput) → IsInput x → IsInput y → IsInput (if b then x else y)
-if_input true x y p q = p
-if_input false x y p q = q
+is_run : (header : HeaderShape) (bs : List Next) (ts : List State) → AreStates (start header.profile header.n) bs ts → IsRun header bs (run_text header bs ts) (some_refused (start header.profile header.n) bs ts)
+is_run header bs ts a = record { states = ts; are_states = a; text_is = refl; refusal = refl }
 
-after_batch_input : (n : ℕ) (es : List Pair) (ts : List Token) → EdgesFrom n 0 0 es → IsInput (after_batch n es ts)
-unfolding after_batch
-after_batch_input n es [] up = tt
-after_batch_input n es (t ∷ rest) up = if_input (is_input_end t.kind) (Accepted n es) (BatchRefused n t.number) up tt
+start_states : (header : HeaderShape) (limit : ℕ) (ls : List Token) → (ts : List State) × AreStates (start header.profile header.n) (batches header.n limit ls) ts
+start_states header limit ls =
+    some_states header.n limit (start header.profile header.n) (batches header.n limit ls) (sound_start header.profile header.n) refl (batches_keep_ranges header.n limit ls)
 
-on_edge_input : (n line : ℕ) (found : Option Pair) (more : Pair → BatchInput) → ((e : Pair) → found ≡ Some e → IsInput (more e)) → IsInput (on_edge n line found more)
-on_edge_input n line None more h = tt
-on_edge_input n line (Some e) more h = h e refl
-
-in_batch_input : (n : ℕ) (es : List Pair) (ts : List Token) → EdgesFrom n 0 0 es → IsInput (in_batch n es ts)
-unfolding in_batch
-in_batch_input n es [] up = tt
-in_batch_input n es (t ∷ rest) up =
-    if_input (is_batch_end t.kind) (after_batch n es rest) (on_edge n t.number (edge_in n es t.kind) (λ e. in_batch n (es ++ e ∷ []) rest))
-    (after_batch_input n es rest up)
-    (on_edge_input n t.number (edge_in n es t.kind) (λ e. in_batch n (es ++ e ∷ []) rest) (λ e found. in_batch_input n (es ++ e ∷ []) rest (rise_fits n es e up (edge_in_fits n es t.kind e found))))
-
-pub after_header_input : (n : ℕ) (ts : List Token) → IsInput (after_header n ts)
-unfolding after_header
-after_header_input n [] = tt
-after_header_input n (t ∷ rest) = if_input (is_batch_start t.kind) (in_batch n [] rest) (BatchRefused n t.number) (in_batch_input n [] rest tt) tt
-
-on_vertices_input : (line : ℕ) (found : Option ℕ) (next : ℕ → BatchInput) → ((n : ℕ) → IsInput (next n)) → IsInput (on_vertices line found next)
-on_vertices_input line None next h = tt
-on_vertices_input line (Some n) next h = h n
-
-in_header_input : (ts : List Token) → IsInput (in_header ts)
-unfolding in_header
-in_header_input [] = tt
-in_header_input (t ∷ rest) = on_vertices_input t.number (vertices_in t.kind) (λ n. after_header n rest) (λ n. after_header_input n rest)
-
-input_of_input : (ts : List Token) → IsInput (input_of ts)
-unfolding input_of
-input_of_input [] = tt
-input_of_input (t ∷ rest) = if_input (is_magic t.kind) (in_header rest) (HeaderRefused t.number) (in_header_input rest) tt
-
-zeros_capped : (n : ℕ) → IsCapped One n (replicate n 0)
-zeros_capped n v h = rw (get_or-replicate {A = ℕ} n v 0 0 h) (omega arith)
-
--- each input ends with some levels
-some_levels : (input : BatchInput) → IsInput input → (levels : List ℕ) × LevelsAfter input levels
-some_levels (HeaderRefused line) h = ([], refl)
-some_levels (BatchRefused n line) h = (replicate n 0, refl)
-some_levels (Accepted n edges) h =
-    let there = raised_is_one_list One (record { vertices = n; edges = edges }) (replicate n 0) h (length-replicate {A = ℕ} n 0) (zeros_capped n) in
-    (there.0, there.1.0)
-
-some_text : (input : BatchInput) → IsInput input → (text : List ℕ) × IsRunText input text
-some_text input h = let there = some_levels input h in (text_of input there.0, record { levels = there.0; levels_are = there.1; text_is = refl })
-
--- where nothing is written yet
-pub writes_nothing : (left before now : Option (List ℕ)) (stop : Stop) → now ≡ before → Writes (option_map input_of_bytes left) before now (Err stop)
-writes_nothing None before now stop e = tt
-writes_nothing (Some bytes) before now stop e =
-    let there = some_text (input_of_bytes bytes) (input_of_input (tokens (lines 65536 1073741824 bytes))) in
-    record { text = there.0; is_text = there.1; prefix = prefix_none before now there.0 e }
-
--- an input with n vertices, whose header isn't refused
-abbrev pub HasHead : ℕ → BatchInput → Type 0
-HasHead n (HeaderRefused line) = ⊥
-HasHead n (BatchRefused m line) = m ≡ n
-HasHead n (Accepted m edges) = m ≡ n
-
-if_headed : (n : ℕ) (b : Bool) (x y : BatchInput) → HasHead n x → HasHead n y → HasHead n (if b then x else y)
-if_headed n true x y p q = p
-if_headed n false x y p q = q
-
-after_batch_headed : (n : ℕ) (es : List Pair) (ts : List Token) → HasHead n (after_batch n es ts)
-unfolding after_batch
-after_batch_headed n es [] = refl
-after_batch_headed n es (t ∷ rest) = if_headed n (is_input_end t.kind) (Accepted n es) (BatchRefused n t.number) refl refl
-
-on_edge_headed : (n line : ℕ) (found : Option Pair) (more : Pair → BatchInput) → ((e : Pair) → HasHead n (more e)) → HasHead n (on_edge n line found more)
-on_edge_headed n line None more h = refl
-on_edge_headed n line (Some e) more h = h e
-
-in_batch_headed : (n : ℕ) (es : List Pair) (ts : List Token) → HasHead n (in_batch n es ts)
-unfolding in_batch
-in_batch_headed n es [] = refl
-in_batch_headed n es (t ∷ rest) =
-    if_headed n (is_batch_end t.kind) (after_batch n es rest) (on_edge n t.number (edge_in n es t.kind) (λ e. in_batch n (es ++ e ∷ []) rest))
-    (after_batch_headed n es rest)
-    (on_edge_headed n t.number (edge_in n es t.kind) (λ e. in_batch n (es ++ e ∷ []) rest) (λ e. in_batch_headed n (es ++ e ∷ []) rest))
-
-after_header_headed : (n : ℕ) (ts : List Token) → HasHead n (after_header n ts)
-unfolding after_header
-after_header_headed n [] = refl
-after_header_headed n (t ∷ rest) = if_headed n (is_batch_start t.kind) (in_batch n [] rest) (BatchRefused n t.number) (in_batch_headed n [] rest) refl
-
--- the head stands in front of what is behind it
-abbrev pub IsHeaded : ℕ → BatchInput → Type 0
-IsHeaded n input = (levels : List ℕ) → text_of input levels ≡ head_text n ++ body_text input levels
-
--- an input with a header has its head in front
-head_first : (n : ℕ) (ts : List Token) (levels : List ℕ) → text_of (after_header n ts) levels ≡ head_text n ++ body_text (after_header n ts) levels
-head_first n ts levels = headed (after_header n ts) (after_header_headed n ts)
-  where
-    headed : (input : BatchInput) → HasHead n input → text_of input levels ≡ head_text n ++ body_text input levels
-    headed (HeaderRefused line) h = absurd h
-    headed (BatchRefused m line) h = rw h refl
-    headed (Accepted m edges) h = rw h refl
-
--- where a prefix of the head is written
-pub writes_head_prefix : (n : ℕ) (toks : Option (List Token)) (before now : Option (List ℕ)) (stop : Stop) → IsPrefix before now (head_text n) → Writes (option_map (after_header n) toks) before now (Err stop)
-writes_head_prefix n None before now stop f = tt
-writes_head_prefix n (Some ts) before now stop f =
-    let there = some_levels (after_header n ts) (after_header_input n ts) in
+-- a prefix of the head was written, or all of it
+pub head_prefix : (header : HeaderShape) (limit : ℕ) (toks : Option (List Token)) (before now : Option (List ℕ)) (stop : Stop) → IsPrefix before now (head_text header.n)
+    → WritesRun header (option_map (batches header.n limit) toks) before now (Err stop)
+head_prefix header limit None before now stop p = tt
+head_prefix header limit (Some ls) before now stop p =
+    let there = start_states header limit ls in
     record {
-      text = text_of (after_header n ts) there.0;
-      is_text = record { levels = there.0; levels_are = there.1; text_is = refl };
-      prefix = rw (head_first n ts there.0) (prefix_longer before now (head_text n) (body_text (after_header n ts) there.0) f);
+      text = run_text header (batches header.n limit ls) there.0;
+      refused = some_refused (start header.profile header.n) (batches header.n limit ls) there.0;
+      is_text = is_run header (batches header.n limit ls) there.0 there.1;
+      prefix = prefix_longer before now (head_text header.n) _ p;
     }
 
--- a batch that was read
-abbrev pub IsDecided : Option BatchInput → BatchInput → Type 0
-IsDecided None input = Unit {0}
-IsDecided (Some told) input = told ≡ input
+pub head_written : (header : HeaderShape) (limit : ℕ) (toks : Option (List Token)) (before now : Option (List ℕ)) (stop : Stop) → now ≡ append_known before (head_text header.n)
+    → WritesRun header (option_map (batches header.n limit) toks) before now (Err stop)
+head_written header limit toks before now stop e = head_prefix header limit toks before now stop (prefix_all before now (head_text header.n) e)
 
-pub told_decided : (told : Option BatchInput) (toks : Option (List Token)) (input : BatchInput) → told ≡ option_map (λ _. input) toks → IsDecided told input
-told_decided None toks input e = tt
-told_decided (Some x) None input e = absurd cc
-told_decided (Some x) (Some ts) input e = same_Some _ _ e
+-- the head, and a prefix of the lines of the batches
+pub batches_prefix : (header : HeaderShape) (told : Option (List Next)) (t : State) (before now later : Option (List ℕ)) (stop other : Stop) → now ≡ append_known before (head_text header.n)
+    → RunsBatches (start header.profile header.n) t told now later (Err other) → WritesRun header told before later (Err stop)
+batches_prefix header None t before now later stop other e w = tt
+batches_prefix header (Some bs) t before now later stop other e w =
+    record {
+      text = run_text header bs w.states;
+      refused = some_refused (start header.profile header.n) bs w.states;
+      is_text = is_run header bs w.states w.are_states;
+      prefix = prefix_then before now later (head_text header.n) _ e (prefix_longer now later (batch_lines 1 (start header.profile header.n) bs w.states) _ w.prefix);
+    }
 
--- the head and then what is behind it
-pub writes_body : (n : ℕ) (told : Option BatchInput) (input : BatchInput) (refused : Bool) (before now later : Option (List ℕ)) → IsDecided told input → IsHeaded n input → is_refused input ≡ refused
-    → now ≡ append_known before (head_text n) → WritesBody input now later → Writes told before later (Ok refused)
-writes_body n None input refused before now later d h r e b = tt
-writes_body n (Some told) input refused before now later d h r e b =
-    rw d (
-      record {
-        text = text_of input b.levels;
-        is_text = record { levels = b.levels; levels_are = b.levels_are; text_is = refl };
-        taken = rw (h b.levels) (append_twice before now later (head_text n) (body_text input b.levels) e b.taken);
-      },
-      r,
+-- the head, the lines of the batches, and a prefix of what is behind them
+pub tail_prefix : (header : HeaderShape) (told : Option (List Next)) (t : State) (before now later last : Option (List ℕ)) (refused : Bool) (stop : Stop) → now ≡ append_known before (head_text header.n)
+    → RunsBatches (start header.profile header.n) t told now later (Ok refused) → IsPrefix later last (tail_text header.n t) → WritesRun header told before last (Err stop)
+tail_prefix header None t before now later last refused stop e w p = tt
+tail_prefix header (Some bs) t before now later last refused stop e w p =
+    record {
+      text = run_text header bs w.states;
+      refused = some_refused (start header.profile header.n) bs w.states;
+      is_text = is_run header bs w.states w.are_states;
+      prefix = prefix_then before now last (head_text header.n) _ e (prefix_then now later last (batch_lines 1 (start header.profile header.n) bs w.states) _ w.taken (rw w.last p));
+    }
+
+-- all of it
+pub tail_written : (header : HeaderShape) (told : Option (List Next)) (t : State) (before now later last : Option (List ℕ)) (refused : Bool) → now ≡ append_known before (head_text header.n)
+    → RunsBatches (start header.profile header.n) t told now later (Ok refused) → last ≡ append_known later (tail_text header.n t) → WritesRun header told before last (Ok refused)
+tail_written header None t before now later last refused e w f = tt
+tail_written header (Some bs) t before now later last refused e w f =
+    record {
+      text = run_text header bs w.states;
+      is_text = record { states = w.states; are_states = w.are_states; text_is = refl; refusal = w.refusal };
+      taken = append_twice before now last (head_text header.n) _ e (append_twice now later last (batch_lines 1 (start header.profile header.n) bs w.states) _ w.taken (rw w.last f));
+    }
+
+-- an input with a header
+pub run_of_header : (header : HeaderShape) (input : Option BatchInput) (told : Option (List Next)) (before now : Option (List ℕ)) (result : Result Bool Stop) → input ≡ option_map (WithBatches header) told
+    → WritesRun header told before now result → Writes input before now result
+run_of_header header input None before now result e w = rw e tt
+run_of_header header input (Some bs) before now (Ok refused) e w = rw e w
+run_of_header header input (Some bs) before now (Err stop) e w = rw e w
+
+-- an input whose header is refused
+pub header_refused : {X : Type 0} → (line : ℕ) (input : Option BatchInput) (there : Option X) (before now : Option (List ℕ)) → input ≡ option_map (λ _. HeaderRefused line) there
+    → now ≡ append_known before (header_refused_line line) → Writes input before now (Ok true)
+header_refused line input None before now e f = rw e tt
+header_refused line input (Some x) before now e f = rw e (record { text = header_refused_line line; is_text = (refl, refl); taken = f })
+
+pub header_refused_prefix : {X : Type 0} → (line : ℕ) (input : Option BatchInput) (there : Option X) (before now : Option (List ℕ)) (stop : Stop) → input ≡ option_map (λ _. HeaderRefused line) there
+    → IsPrefix before now (header_refused_line line) → Writes input before now (Err stop)
+header_refused_prefix line input None before now stop e p = rw e tt
+header_refused_prefix line input (Some x) before now stop e p = rw e (record { text = header_refused_line line; refused = true; is_text = (refl, refl); prefix = p })
+
+-- each input has a text
+some_text : (limit : ℕ) (text : HeaderText) → (said : List ℕ) × ((refused : Bool) × IsRunText (behind_header limit text) said refused)
+some_text limit (Accepted header rest) =
+    let there = start_states header limit (tokens rest) in
+    (run_text header (batches header.n limit (tokens rest)) there.0, (some_refused (start header.profile header.n) (batches header.n limit (tokens rest)) there.0, is_run header (batches header.n limit (tokens rest)) there.0 there.1))
+some_text limit (Refused line) = (header_refused_line line, (true, (refl, refl)))
+
+-- nothing was written
+pub writes_nothing : (line_limit input_limit limit : ℕ) (left before now : Option (List ℕ)) (stop : Stop) → now ≡ before → Writes (option_map (input_of line_limit input_limit limit) left) before now (Err stop)
+writes_nothing line_limit input_limit limit None before now stop e = tt
+writes_nothing line_limit input_limit limit (Some bytes) before now stop e =
+    let there = some_text limit (header_of (kept (lines line_limit input_limit bytes))) in
+    record { text = there.0; refused = there.1.0; is_text = there.1.1; prefix = prefix_none before now there.0 e }
+
+-- the text is one
+one_of_header : (limit : ℕ) (text : HeaderText) (a b : List ℕ) (x y : Bool) → IsRunText (behind_header limit text) a x → IsRunText (behind_header limit text) b y → (a ≡ b) × (x ≡ y)
+one_of_header limit (Refused line) a b x y p q = (p.0 ∙ sym q.0, p.1 ∙ sym q.1)
+one_of_header limit (Accepted header rest) a b x y p q =
+    let bs = batches header.n limit (tokens rest) in
+    let same : p.states ≡ q.states = one_run header.n limit (start header.profile header.n) bs p.states q.states (sound_start header.profile header.n) refl (batches_keep_ranges header.n limit (tokens rest)) p.are_states q.are_states in (
+      p.text_is ∙ ap (λ (ts : List State). run_text header bs ts) same ∙ sym q.text_is,
+      sym p.refusal ∙ ap (λ (ts : List State). some_refused (start header.profile header.n) bs ts) same ∙ q.refusal,
     )
 
-pub writes_body_prefix : (n : ℕ) (told : Option BatchInput) (input : BatchInput) (stop : Stop) (before now later : Option (List ℕ)) → IsDecided told input → IsHeaded n input
-    → now ≡ append_known before (head_text n) → WritesBodyPrefix input now later → Writes told before later (Err stop)
-writes_body_prefix n None input stop before now later d h e b = tt
-writes_body_prefix n (Some told) input stop before now later d h e b =
-    rw d (record {
-      text = text_of input b.levels;
-      is_text = record { levels = b.levels; levels_are = b.levels_are; text_is = refl };
-      prefix = rw (h b.levels) (prefix_then before now later (head_text n) (body_text input b.levels) e b.prefix);
-    })
+pub input_has_one_text : InputHasOneText
+input_has_one_text bytes =
+    let text = header_of (kept (lines 65536 1073741824 bytes)) in
+    let there = some_text 1048576 text in
+    (there.0, (there.1.0, (there.1.1, λ a x p. one_of_header 1048576 text a there.0 x there.1.0 p there.1.1)))
 
--- the one line of a refused header
-pub writes_header_refused : (told : Option BatchInput) (line : ℕ) (before now : Option (List ℕ)) → IsDecided told (HeaderRefused line) → now ≡ append_known before (header_refused_line line) → Writes told before now (Ok true)
-writes_header_refused None line before now d e = tt
-writes_header_refused (Some told) line before now d e =
-    rw d (record { text = header_refused_line line; is_text = record { levels = []; levels_are = refl; text_is = refl }; taken = e }, refl)
+both_behind : (limit : ℕ) (text : HeaderText) → BothHold (behind_header limit text)
+both_behind limit (Refused line) = tt
+both_behind limit (Accepted header rest) = λ ts a.
+    All-cons InBoth (start header.profile header.n) ts (sound_start header.profile header.n).both
+    (all_both header.n limit (start header.profile header.n) (batches header.n limit (tokens rest)) ts (sound_start header.profile header.n) refl (batches_keep_ranges header.n limit (tokens rest)) a)
 
-pub writes_header_refused_prefix : (told : Option BatchInput) (line : ℕ) (stop : Stop) (before now : Option (List ℕ)) → IsDecided told (HeaderRefused line) → IsPrefix before now (header_refused_line line) → Writes told before now (Err stop)
-writes_header_refused_prefix None line stop before now d f = tt
-writes_header_refused_prefix (Some told) line stop before now d f =
-    rw d (record { text = header_refused_line line; is_text = record { levels = []; levels_are = refl; text_is = refl }; prefix = f })
+pub both_hold_in_each_state : BothHoldInEachState
+both_hold_in_each_state bytes = both_behind 1048576 (header_of (kept (lines 65536 1073741824 bytes)))
 
--- the lines of an input, as its reader has them
-pub input_told : (lines_now : Option (List Line)) (left : Option (List ℕ)) → lines_now ≡ option_map (lines 65536 1073741824) left → option_map input_of (option_map tokens lines_now) ≡ option_map input_of_bytes left
-input_told lines_now None e = rw e refl
-input_told lines_now (Some bytes) e = rw e refl
-
--- behind the head, where nothing is written yet
-pub body_nothing : (input : BatchInput) (before : Option (List ℕ)) → IsInput input → WritesBodyPrefix input before before
-body_nothing input before h =
-    let there = some_levels input h in
-    record { levels = there.0; levels_are = there.1; prefix = prefix_none before before (body_text input there.0) refl }
-
--- the lines behind an accepted batch
-pub sends_accepted : {T : Type 0} → (n : ℕ) (edges : List Pair) (levels : List ℕ) (before now : Option (List ℕ)) (result : Result T SendFault)
-    → IsRaised One (record { vertices = n; edges = edges }) (replicate n 0) levels → Appends before now (vertex_lines n levels ++ end_line) result → SendsBody (Accepted n edges) before now result
-sends_accepted n edges levels before now (Ok _) r a = record { levels = levels; levels_are = r; taken = a }
-sends_accepted n edges levels before now (Err _) r a = record { levels = levels; levels_are = r; prefix = a }
-
--- the lines of a refused batch
-pub sends_refused : {T : Type 0} → (n line : ℕ) (levels : List ℕ) (before now later : Option (List ℕ)) (result : Result T SendFault)
-    → levels ≡ replicate n 0 → now ≡ append_known before (batch_refused_line 1 line BadLine) → Appends now later (vertex_lines n levels ++ end_line) result → SendsBody (BatchRefused n line) before later result
-sends_refused n line levels before now later (Ok _) z e a = record { levels = levels; levels_are = z; taken = append_twice before now later (batch_refused_line 1 line BadLine) (vertex_lines n levels ++ end_line) e a }
-sends_refused n line levels before now later (Err _) z e a = record { levels = levels; levels_are = z; prefix = prefix_then before now later (batch_refused_line 1 line BadLine) (vertex_lines n levels ++ end_line) e a }
-
-pub refused_prefix : (n line : ℕ) (before now : Option (List ℕ)) → IsPrefix before now (batch_refused_line 1 line BadLine) → WritesBodyPrefix (BatchRefused n line) before now
-refused_prefix n line before now f = record {
-  levels = replicate n 0;
-  levels_are = refl;
-  prefix = prefix_longer before now (batch_refused_line 1 line BadLine) (vertex_lines n (replicate n 0) ++ end_line) f;
-}
-
-pub refused_nothing : (n line : ℕ) (before now : Option (List ℕ)) → now ≡ append_known before (batch_refused_line 1 line BadLine) → WritesBodyPrefix (BatchRefused n line) before now
-refused_nothing n line before now e = refused_prefix n line before now (prefix_all before now (batch_refused_line 1 line BadLine) e)
+pub keeps_both : (command : Option Command) (left : Option (List ℕ)) → KeepsBoth command left
+keeps_both None left = tt
+keeps_both (Some command) None = tt
+keeps_both (Some RunOne) (Some bytes) = both_hold_in_each_state bytes

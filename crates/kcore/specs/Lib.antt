@@ -1,9 +1,9 @@
-pub mod Tokens
-pub mod BatchInput
+pub mod States
+pub mod Outcomes
 pub mod RunText
-pub mod Report
+pub mod Texts
 pub mod Stops
 pub mod Commands
+pub mod Laws
 pub mod Waiting
 pub mod Rising
-pub mod Rows

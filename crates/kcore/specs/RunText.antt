@@ -1,83 +1,77 @@
--- The text of `run`.
-use Rattle.std.specs.Prelude.{ℕ, zero, suc, ◌≡◌, Bool, true, false, List, [], ◌∷◌, ◌++◌, Option, decimal, codes, slice_index, replicate}
-use Rattle.std.specs.List.{join_with_byte}
-use Rattle.std.specs.Io.KnownBytes.{append_known}
+-- The text of `run`: what is written for an input.
+use Rattle.std.specs.Prelude.{ℕ, zero, suc, ◌≡◌, ◌+◌, ◌-◌, Bool, true, false, ◌||◌, List, [], ◌∷◌, ◌++◌, Option, Some, None, get_or}
+use Rattle.kc_graph.specs.declared.cleaning.Cleaned.{Cleaned}
+use Rattle.kc_graph.specs.Cleaning.{cleaned}
+use Rattle.kc_levels.specs.declared.profile.Profile.{Profile}
+use Rattle.kc_levels.specs.declared.thresholds.Estimate.{Estimate}
+use Rattle.kc_levels.specs.Thresholds.{est, lo, high, group_of}
+use Rattle.kc_levels.specs.LevelList.{at_least}
 use Rattle.kc_text.specs.declared.reason.Reason.{Reason}
-use Rattle.kc_text.specs.declared.reason.Reason.TheVariants.{BadLine}
-use Rattle.kc_text.specs.Reasons.{reason_word}
-use Rattle.kc_text.specs.Writing.{IsPrefix}
-use Rattle.kc_levels.specs.declared.profile.Profile.TheVariants.{One}
-use Rattle.kc_levels.specs.LevelList.{IsRaised}
-use Rattle.kcore.specs.BatchInput.{BatchInput, HeaderRefused, BatchRefused, Accepted}
+use Rattle.kc_batch.specs.declared.batch.Next.{Next}
+use Rattle.kc_batch.specs.declared.batch.Next.TheVariants.{Items, Refused, End}
+use Rattle.kc_batch.specs.HeaderShape.{HeaderShape}
+use Rattle.kc_batch.specs.BatchInputs.{BatchInput, WithBatches, HeaderRefused, input_of}
+use Rattle.kc_report.specs.Lines.{head_text, header_refused_line, batch_line, refused_line, vertex_line, end_line}
+use Rattle.kcore.specs.declared.state.State.{State}
+use Rattle.kcore.specs.States.{start, refusal_of, AreStates, last_state, is_refused}
 
--- a line of words: one blank between two of them, and a line feed behind the last
-abbrev pub line_of : List (List ℕ) → List ℕ
-line_of words = join_with_byte 32 words ++ 10 ∷ []
+abbrev pub cleaned_line : ℕ → ℕ → Cleaned → Option Reason → List ℕ
+cleaned_line number line c None = batch_line number c
+cleaned_line number line c (Some reason) = refused_line number line reason
 
-abbrev pub magic_line : List ℕ
-magic_line = line_of (codes "kcore-run" ∷ codes "1" ∷ [])
+-- the line of the batch with this number in this state; one that is refused after its cleaning is refused at its `end`
+abbrev pub step_text : ℕ → State → Next → List ℕ
+step_text number s (Items batch) = let c = cleaned s.graph batch.items in cleaned_line number batch.line c (refusal_of s c)
+step_text number s (Refused line reason) = refused_line number line reason
+step_text number s End = []
 
-abbrev pub vertices_line : ℕ → List ℕ
-vertices_line n = line_of (codes "vertices" ∷ decimal n ∷ [])
+-- the lines of batches, of which the first has this number, with the states behind each of them
+abbrev pub batch_lines : ℕ → State → List Next → List State → List ℕ
+batch_lines number s [] ts = []
+batch_lines number s (b ∷ bs) [] = []
+batch_lines number s (b ∷ bs) (t ∷ ts) = step_text number s b ++ batch_lines (number + 1) t bs ts
 
-abbrev pub head_text : ℕ → List ℕ
-head_text n = magic_line ++ vertices_line n
+-- whether one of the batches is refused
+abbrev pub some_refused : State → List Next → List State → Bool
+some_refused s [] ts = false
+some_refused s (b ∷ bs) [] = false
+some_refused s (b ∷ bs) (t ∷ ts) = is_refused s b || some_refused t bs ts
 
-abbrev pub header_refused_line : ℕ → List ℕ
-header_refused_line line = line_of (codes "refused" ∷ codes "line" ∷ decimal line ∷ codes "header" ∷ [])
+-- what a level of n vertices says of the coreness
+abbrev pub estimate_of : Profile → ℕ → ℕ → Estimate
+estimate_of p n level = let j = group_of p n level in record { est = est p j; lo = lo p j; hi = high p j }
 
-abbrev pub batch_refused_line : ℕ → ℕ → Reason → List ℕ
-batch_refused_line number line reason = line_of (codes "batch" ∷ decimal number ∷ codes "refused" ∷ codes "line" ∷ decimal line ∷ reason_word reason ∷ [])
-
-abbrev pub vertex_line : ℕ → ℕ → List ℕ
-vertex_line v level = line_of (codes "vertex" ∷ decimal v ∷ codes "level" ∷ decimal level ∷ [])
+-- the line of vertex v: its level, the estimate and the bounds of its coreness, and how many of its neighbours stand on its
+-- level or above, and on the level below or above (on level 0 all of them)
+abbrev pub vertex_text : State → ℕ → List ℕ
+vertex_text s v =
+    let level = get_or s.levels v 0 in
+    vertex_line v level (estimate_of s.thresholds.profile s.thresholds.vertices level) (at_least s.graph s.levels v level) (at_least s.graph s.levels v (level - 1))
 
 -- the lines of the vertices below k
-unfoldable pub vertex_lines : ℕ → List ℕ → List ℕ
-vertex_lines zero levels = []
-vertex_lines (suc k) levels = vertex_lines k levels ++ vertex_line k (slice_index levels k)
+unfoldable pub vertex_lines : State → ℕ → List ℕ
+vertex_lines s zero = []
+vertex_lines s (suc k) = vertex_lines s k ++ vertex_text s k
 
-abbrev pub end_line : List ℕ
-end_line = line_of (codes "end" ∷ [])
+-- what is written behind all batches of n vertices
+abbrev pub tail_text : ℕ → State → List ℕ
+tail_text n s = vertex_lines s n ++ end_line
 
--- the levels behind an input: all 0 where its batch is refused, and else the least that the batch's edges allow
-abbrev pub LevelsAfter : BatchInput → List ℕ → Type 0
-LevelsAfter (HeaderRefused line) levels = levels ≡ []
-LevelsAfter (BatchRefused n line) levels = levels ≡ replicate n 0
-LevelsAfter (Accepted n edges) levels = IsRaised One (record { vertices = n; edges = edges }) (replicate n 0) levels
+-- a whole text of a header with these batches, and whether some of them are refused
+pub record IsRun (header : HeaderShape) (batches : List Next) (text : List ℕ) (refused : Bool) : Type 0 where
+  pub states : List State
+  pub are_states : AreStates (start header.profile header.n) batches states
+  pub text_is :
+      text ≡ head_text header.n ++ (batch_lines 1 (start header.profile header.n) batches states
+      ++ tail_text header.n (last_state (start header.profile header.n) states))
+  pub refusal : some_refused (start header.profile header.n) batches states ≡ refused
 
--- what is written behind the head
-abbrev pub body_text : BatchInput → List ℕ → List ℕ
-body_text (HeaderRefused line) levels = []
-body_text (BatchRefused n line) levels = batch_refused_line 1 line BadLine ++ (vertex_lines n levels ++ end_line)
-body_text (Accepted n edges) levels = vertex_lines n levels ++ end_line
+-- what bytes say to the program: lines have at most 65,536 bytes, the input at most 1,073,741,824, and a batch at most
+-- 1,048,576 items
+abbrev pub input_said : List ℕ → BatchInput
+input_said bytes = input_of 65536 1073741824 1048576 bytes
 
--- what is written for an input whose levels end so
-abbrev pub text_of : BatchInput → List ℕ → List ℕ
-text_of (HeaderRefused line) levels = header_refused_line line
-text_of (BatchRefused n line) levels = head_text n ++ body_text (BatchRefused n line) levels
-text_of (Accepted n edges) levels = head_text n ++ body_text (Accepted n edges) levels
-
--- whether something of an input is refused
-abbrev pub is_refused : BatchInput → Bool
-is_refused (HeaderRefused line) = true
-is_refused (BatchRefused n line) = true
-is_refused (Accepted n edges) = false
-
--- the text of an input
-pub record IsRunText (input : BatchInput) (text : List ℕ) : Type 0 where
-  pub levels : List ℕ
-  pub levels_are : LevelsAfter input levels
-  pub text_is : text ≡ text_of input levels
-
--- the whole text of an input was written
-pub record WritesWhole (input : BatchInput) (before now : Option (List ℕ)) : Type 0 where
-  pub text : List ℕ
-  pub is_text : IsRunText input text
-  pub taken : now ≡ append_known before text
-
--- a prefix of a text of an input was written
-pub record WritesPrefix (input : BatchInput) (before now : Option (List ℕ)) : Type 0 where
-  pub text : List ℕ
-  pub is_text : IsRunText input text
-  pub prefix : IsPrefix before now text
+-- the text of an input, and whether the input, or a part of it, is refused
+abbrev pub IsRunText : BatchInput → List ℕ → Bool → Type 0
+IsRunText (HeaderRefused line) text refused = (text ≡ header_refused_line line) × (refused ≡ true)
+IsRunText (WithBatches header batches) text refused = IsRun header batches text refused

@@ -1,48 +1,78 @@
 -- Why a run stops before its end, and what has been written by then.
 use Rattle.std.specs.Prelude.{ℕ, ◌≡◌, Bool, true, false, List, Option, Some, None, Result, Ok, Err}
-use Rattle.kc_text.specs.declared.line.LineFault.{LineFault}
-use Rattle.kc_text.specs.declared.line.LineFault.TheVariants as line
 use Rattle.kc_text.specs.declared.buf.SendFault.{SendFault}
 use Rattle.kc_text.specs.declared.buf.SendFault.TheVariants as send
 use Rattle.kc_text.specs.Causes.{Rose}
 use Rattle.kc_text.specs.Writing.{IsPrefix}
 use Rattle.std.specs.Io.KnownBytes.{append_known}
-use Rattle.kcore.specs.BatchInput.{BatchInput}
-use Rattle.kcore.specs.RunText.{LevelsAfter, body_text, is_refused, WritesWhole, WritesPrefix}
+use Rattle.kc_batch.specs.declared.batch.Next.{Next}
+use Rattle.kc_batch.specs.declared.batch.BatchFault.{BatchFault}
+use Rattle.kc_batch.specs.declared.batch.BatchFault.TheVariants as batch
+use Rattle.kc_batch.specs.HeaderShape.{HeaderShape}
+use Rattle.kc_batch.specs.BatchInputs.{BatchInput}
+use Rattle.kc_batch.specs.declared.batch.Next.TheVariants.{Refused}
+use Rattle.kc_text.specs.declared.reason.Reason.TheVariants.{InputLimit}
+use Rattle.kcore.specs.Texts.{WritesWhole, WritesPrefix}
+use Rattle.kcore.specs.RunText.{IsRun, IsRunText, step_text, batch_lines, some_refused}
+use Rattle.kcore.specs.States.{IsStep, AreStates, last_state, is_refused}
+use Rattle.kcore.specs.declared.state.State.{State}
 use Rattle.kcore.specs.declared.status.Status.{Status}
 use Rattle.kcore.specs.declared.status.Status.TheVariants as status
 use Rattle.kcore.specs.declared.run.Stop.{Stop}
 use Rattle.kcore.specs.declared.run.Stop.TheVariants.{ReadFault, WriteFault, Memory}
 
-abbrev pub stop_of_line : LineFault → Stop
-stop_of_line line.ReadFault = ReadFault
-stop_of_line (line.Memory _) = Memory
+abbrev pub stop_of_batch : BatchFault → Stop
+stop_of_batch batch.ReadFault = ReadFault
+stop_of_batch (batch.Memory _) = Memory
 
 abbrev pub stop_of_send : SendFault → Stop
 stop_of_send send.WriteFault = WriteFault
 stop_of_send (send.Memory _) = Memory
 
--- a run for an input, where the input is told: with Ok a whole text, and whether something is refused; else a prefix of one
+-- with Ok a whole text was written, and the answer says whether something is refused; else a prefix of a text
+abbrev pub WritesText : (List ℕ → Bool → Type 0) → Option (List ℕ) → Option (List ℕ) → Result Bool Stop → Type 0
+WritesText IsText before now (Ok refused) = WritesWhole IsText before now refused
+WritesText IsText before now (Err _) = WritesPrefix IsText before now
+
+-- a run for an input, where that is told
 abbrev pub Writes : Option BatchInput → Option (List ℕ) → Option (List ℕ) → Result Bool Stop → Type 0
 Writes None before now result = Unit {0}
-Writes (Some input) before now (Ok refused) = WritesWhole input before now × (is_refused input ≡ refused)
-Writes (Some input) before now (Err _) = WritesPrefix input before now
+Writes (Some input) before now result = WritesText (IsRunText input) before now result
 
--- the text behind the head was written, for levels that the input ends with
-pub record WritesBody (input : BatchInput) (before now : Option (List ℕ)) : Type 0 where
-  pub levels : List ℕ
-  pub levels_are : LevelsAfter input levels
-  pub taken : now ≡ append_known before (body_text input levels)
+-- the same behind a header, for its batches
+abbrev pub WritesRun : HeaderShape → Option (List Next) → Option (List ℕ) → Option (List ℕ) → Result Bool Stop → Type 0
+WritesRun header None before now result = Unit {0}
+WritesRun header (Some batches) before now result = WritesText (IsRun header batches) before now result
 
--- a prefix of it was written
-pub record WritesBodyPrefix (input : BatchInput) (before now : Option (List ℕ)) : Type 0 where
-  pub levels : List ℕ
-  pub levels_are : LevelsAfter input levels
-  pub prefix : IsPrefix before now (body_text input levels)
+-- a batch was applied and its line written, and the answer says whether it is refused; or a prefix of its line was written
+abbrev pub WritesStep : ℕ → Next → State → State → Option (List ℕ) → Option (List ℕ) → Result Bool Stop → Type 0
+WritesStep number b s t before now (Ok refused) = IsStep s b t × (now ≡ append_known before (step_text number s b)) × (refused ≡ is_refused s b)
+WritesStep number b s t before now (Err _) = IsPrefix before now (step_text number s b)
 
-abbrev pub SendsBody : {T : Type 0} → BatchInput → Option (List ℕ) → Option (List ℕ) → Result T SendFault → Type 0
-SendsBody input before now (Ok _) = WritesBody input before now
-SendsBody input before now (Err _) = WritesBodyPrefix input before now
+-- no batch follows one that is refused for the input limit
+abbrev pub is_last_batch : Next → Bool
+is_last_batch (Refused line InputLimit) = true
+is_last_batch _ = false
+
+-- batches were applied to the state s, which became t, and their lines were written
+pub record WritesBatches (s t : State) (batches : List Next) (before now : Option (List ℕ)) (refused : Bool) : Type 0 where
+  pub states : List State
+  pub are_states : AreStates s batches states
+  pub last : last_state s states ≡ t
+  pub taken : now ≡ append_known before (batch_lines 1 s batches states)
+  pub refusal : some_refused s batches states ≡ refused
+
+-- a prefix of their lines was written
+pub record WritesSomeBatches (s : State) (batches : List Next) (before now : Option (List ℕ)) : Type 0 where
+  pub states : List State
+  pub are_states : AreStates s batches states
+  pub prefix : IsPrefix before now (batch_lines 1 s batches states)
+
+-- the same, where the batches are told
+abbrev pub RunsBatches : State → State → Option (List Next) → Option (List ℕ) → Option (List ℕ) → Result Bool Stop → Type 0
+RunsBatches s t None before now result = Unit {0}
+RunsBatches s t (Some batches) before now (Ok refused) = WritesBatches s t batches before now refused
+RunsBatches s t (Some batches) before now (Err _) = WritesSomeBatches s batches before now
 
 -- the counts of faults of the source, r, and of the sink, w: a fault stops a run only where the count of its object
 -- rose, and every other count is as it was
@@ -51,6 +81,13 @@ StopCause r0 r1 w0 w1 (Ok _) = (r1 ≡ r0) × (w1 ≡ w0)
 StopCause r0 r1 w0 w1 (Err ReadFault) = Rose r0 r1 × (w1 ≡ w0)
 StopCause r0 r1 w0 w1 (Err WriteFault) = (r1 ≡ r0) × Rose w0 w1
 StopCause r0 r1 w0 w1 (Err Memory) = (r1 ≡ r0) × (w1 ≡ w0)
+
+-- the same where only a write or the memory can stop it
+abbrev pub WriteStop : {T : Type 0} → ℕ → ℕ → Result T Stop → Type 0
+WriteStop w0 w1 (Ok _) = w1 ≡ w0
+WriteStop w0 w1 (Err ReadFault) = ⊥
+WriteStop w0 w1 (Err WriteFault) = Rose w0 w1
+WriteStop w0 w1 (Err Memory) = w1 ≡ w0
 
 -- the status of a run that ended so
 abbrev pub status_of : Result Bool Stop → Status

@@ -8,7 +8,7 @@ use kc_text::Words;
 /// What the words of a command line ask for.
 #[derive(Clone, Copy, Debug, PartialEq, Eq)]
 pub enum Command {
-    /// `run 1`: apply one batch of insertions and print the level of each vertex.
+    /// `run 1`: apply the batches of an input in turn, and print each batch and then each vertex.
     RunOne,
 }
 

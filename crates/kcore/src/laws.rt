@@ -1,7 +1,12 @@
-//! What the definitions of an input come to on inputs that were read by hand.
-ghost use Rattle.kcore.specs.Rows.{RowsAreRead};
+//! What the definition of the text comes to. Each function does nothing; its contract is a law.
+ghost use Rattle.kcore.specs.Laws.{InputHasOneText, BothHoldInEachState};
 
-/// A path, a batch refused at each kind of misfit, refused headers, and skipped lines.
-pub fn rows_are_read()
-    ensures { RowsAreRead }
+/// For each input there is exactly one text.
+pub fn input_has_one_text()
+    ensures { InputHasOneText }
+{}
+
+/// Both invariants hold in each state of each input: the first, and the one behind each batch.
+pub fn both_hold_in_each_state()
+    ensures { BothHoldInEachState }
 {}

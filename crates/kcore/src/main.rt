@@ -1,23 +1,22 @@
 //! The program `kcore`: an approximate k-core decomposition of a graph, from bytes to bytes.
 //!
 //! [`top::run_command`] is the program; `main` only hands it the words of the command line, the standard input and
-//! output, and ends with its exit number. What a run reads is taken apart in `token` and `input`, its levels come from
-//! `insert_rounds`, and its lines are written in `report`; `run` joins them.
+//! output, and ends with its exit number. `run` reads the batches of an input in turn and writes their lines, `state` says
+//! what each of them does, its levels come from `insert_rounds`, and the lines of the vertices are written in `vertices`.
 #![tactic(auto)]
 
 ghost use Rattle.kcore.specs.Commands.{EndsAs};
 
 mod command;
-mod input;
 pub mod insert_rounds;
 pub mod laws;
-mod report;
 mod run;
+mod state;
 mod status;
 #[cfg(test)]
 mod tests;
-mod token;
 pub mod top;
+mod vertices;
 mod word;
 
 use kc_rounds::OpenGate;

@@ -1,22 +1,20 @@
-//! The command `run 1`: one batch of insertions, from bytes to bytes.
-ghost use Rattle.std.specs.Prelude.{◌≡◌, ◌≤◌, ◌++◌, [], length, replicate, Option, IfOk, OnOk};
+//! The command `run`: the batches of an input, from bytes to bytes.
+ghost use Rattle.std.specs.Prelude.{◌≡◌, ◌≤◌, ◌^◌, ◌+◌, [], Option, OnOk};
 ghost use Rattle.std.specs.Option.{option_map};
-ghost use Rattle.kc_graph.specs.Shape.{EdgesFrom};
-ghost use Rattle.kc_levels.specs.declared.profile.Profile.TheVariants.{One};
-ghost use Rattle.kc_levels.specs.LevelList.{IsRaised};
-ghost use Rattle.kc_text.specs.Writing.{Appends, WriteCause};
-ghost use Rattle.kcore.specs.Tokens.{tokens_left};
-ghost use Rattle.kcore.specs.BatchInput.{BatchRefused, Accepted, after_header, input_of_bytes};
-ghost use Rattle.kcore.specs.RunText.{vertex_lines, end_line};
-ghost use Rattle.kcore.specs.Stops.{SendsBody, Writes, StopCause};
+ghost use Rattle.kc_text.specs.Reading.{budget};
+ghost use Rattle.kc_batch.specs.Batches.{batches_left, IsNext, IsEnd};
+ghost use Rattle.kc_batch.specs.Headers.{IsHeader};
+ghost use Rattle.kcore.specs.States.{IsSound};
+ghost use Rattle.kcore.specs.RunText.{input_said};
+ghost use Rattle.kcore.specs.Stops.{is_last_batch, RunsBatches, Writes, WritesRun, WritesStep, StopCause, WriteStop};
 
-use crate::input::{Batch, Header, read_batch, read_header};
-use crate::insert_rounds::insert_rounds;
-use crate::report::{write_end, write_head, write_header_refused, write_levels, write_refused};
-use kc_graph::{Edges, Graph, MAX_VERTICES};
-use kc_levels::{Levels, Profile, Thresholds};
+use crate::state::{Outcome, State, apply, start};
+use crate::vertices::write_tail;
+use kc_batch::{BatchFault, Header, HeaderFault, Next, next_batch};
+use kc_graph::MAX_ITEMS;
+use kc_report::{write_batch, write_head, write_header_refused, write_refused};
 use kc_rounds::Gate;
-use kc_text::{LineBuf, LineFault, LineReader, Reason, SendFault, Sink, Source};
+use kc_text::{LineBuf, LineReader, Reason, SendFault, Sink, Source};
 use std::alloc::{AllocError, Global};
 use std::thread::Threads;
 
@@ -43,15 +41,15 @@ impl From<AllocError> for Stop {
     }
 }
 
-impl From<LineFault> for Stop {
-    ghost use Rattle.kcore.specs.Stops.{stop_of_line};
+impl From<BatchFault> for Stop {
+    ghost use Rattle.kcore.specs.Stops.{stop_of_batch};
 
-    ghost from_gives = { λ f s. s ≡ stop_of_line f };
+    ghost from_gives = { λ f s. s ≡ stop_of_batch f };
 
-    fn from(fault: LineFault) -> Stop {
+    fn from(fault: BatchFault) -> Stop {
         match fault {
-            LineFault::ReadFault => Stop::ReadFault,
-            LineFault::Memory(_) => Stop::Memory,
+            BatchFault::ReadFault => Stop::ReadFault,
+            BatchFault::Memory(_) => Stop::Memory,
         }
     }
 }
@@ -69,127 +67,121 @@ impl From<SendFault> for Stop {
     }
 }
 
-// The least levels that the edges of a batch allow.
-fn raised_levels<R: Threads + Sync, G: Gate + Sync>(
+// Applies the batch with this number and writes its line. Says whether it is refused.
+fn run_batch<R: Threads + Sync, K: Sink, G: Gate + Sync>(
     rt: &R,
     alloc: Global,
     gate: &G,
-    n: u32,
-    edges: &Edges,
-) -> Result<Levels, AllocError>
-    requires some { 1 ≤ n }
-    requires small { n ≤ MAX_VERTICES }
-    requires rise { EdgesFrom n 0 0 edges.now }
-    requires few { length edges.now ≤ 1048576 }
-    ensures { IfOk result (λ y. IsRaised One (record { vertices = n; edges = edges.now }) (replicate n 0) y) }
-{
-    let th = Thresholds::new(alloc, Profile::One, n)?;
-    let mut graph = Graph::new(alloc, n)?;
-    let mut levels = Levels::zeros(alloc, n)?;
-    insert_rounds(
-        rt,
-        alloc,
-        gate,
-        1,
-        &th,
-        &mut graph,
-        &mut levels,
-        edges.as_slice(),
-    )?;
-    Ok(levels)
-}
-
-// Writes the lines behind the batch of a run.
-fn write_tail<K: Sink>(
-    alloc: Global,
+    state: &mut State,
     buf: &mut LineBuf,
     sink: &mut K,
-    n: u32,
-    levels: &Levels,
-) -> Result<(), SendFault>
+    number: u32,
+    next: Next,
+) -> Result<bool, Stop>
+    requires sound { IsSound state.old }
+    requires batch { IsNext state.old.graph.vertices 1048576 next }
     requires empty { buf.old ≡ [] }
-    requires sized { length levels.now ≡ n }
-    ensures text { Appends (K.taken sink.old) (K.taken sink.new) (vertex_lines n levels.now ++ end_line) result }
-    ensures cause { WriteCause (K.faults sink.old) (K.faults sink.new) result }
+    ensures step { WritesStep number next state.old state.new (K.taken sink.old) (K.taken sink.new) result }
+    ensures empty { OnOk result (buf.new ≡ []) }
+    ensures cause { WriteStop (K.faults sink.old) (K.faults sink.new) result }
 {
-    write_levels(alloc, buf, sink, n, levels)?;
-    write_end(alloc, buf, sink)
-}
-
-// Writes what is behind the head where the batch is refused at this line.
-fn write_refused_batch<K: Sink>(
-    alloc: Global,
-    buf: &mut LineBuf,
-    sink: &mut K,
-    n: u32,
-    line: u32,
-) -> Result<(), SendFault>
-    requires { buf.old ≡ [] }
-    ensures body { SendsBody (BatchRefused n line) (K.taken sink.old) (K.taken sink.new) result }
-    ensures cause { WriteCause (K.faults sink.old) (K.faults sink.new) result }
-{
-    write_refused(alloc, buf, sink, 1, line, Reason::BadLine)?;
-    match Levels::zeros(alloc, n) {
-        Ok(levels) => write_tail(alloc, buf, sink, n, &levels),
-        Err(fault) => Err(SendFault::Memory(fault)),
+    match next {
+        Next::Items(batch) => match apply(rt, alloc, gate, state, batch.items.as_slice())? {
+            Outcome::Accepted(cleaned) => {
+                write_batch(alloc, buf, sink, number, &cleaned)?;
+                Ok(false)
+            }
+            Outcome::Refused(reason) => {
+                write_refused(alloc, buf, sink, number, batch.line, reason)?;
+                Ok(true)
+            }
+        },
+        Next::Refused { line, reason } => {
+            write_refused(alloc, buf, sink, number, line, reason)?;
+            Ok(true)
+        }
+        Next::End => Ok(false),
     }
 }
 
-// Writes what is behind the head where the batch is accepted.
-fn write_accepted<R: Threads + Sync, K: Sink, G: Gate + Sync>(
-    rt: &R,
-    alloc: Global,
-    gate: &G,
-    buf: &mut LineBuf,
-    sink: &mut K,
-    n: u32,
-    edges: &Edges,
-) -> Result<(), SendFault>
-    requires some { 1 ≤ n }
-    requires small { n ≤ MAX_VERTICES }
-    requires rise { EdgesFrom n 0 0 edges.now }
-    requires few { length edges.now ≤ 1048576 }
-    requires empty { buf.old ≡ [] }
-    ensures body { SendsBody (Accepted n edges.now) (K.taken sink.old) (K.taken sink.new) result }
-    ensures cause { WriteCause (K.faults sink.old) (K.faults sink.new) result }
+// Whether the batches end with this one.
+fn is_last(next: &Next) -> bool
+    ensures { result ≡ is_last_batch next.now }
 {
-    match raised_levels(rt, alloc, gate, n, edges) {
-        Ok(levels) => write_tail(alloc, buf, sink, n, &levels),
-        Err(fault) => Err(SendFault::Memory(fault)),
-    }
+    matches!(
+        next,
+        Next::Refused {
+            reason: Reason::InputLimit,
+            ..
+        }
+    )
 }
 
-// Runs what is behind a header with n vertices. Says whether the batch was refused.
-fn run_batch<R: Threads + Sync, S: Source, K: Sink, G: Gate + Sync>(
+// Runs the batches of a graph of n vertices, and leaves the state behind them. Says whether one was refused.
+fn run_batches<R: Threads + Sync, S: Source, K: Sink, G: Gate + Sync>(
     rt: &R,
     alloc: Global,
     gate: &G,
     n: u32,
+    state: &mut State,
+    buf: &mut LineBuf,
     reader: &mut LineReader,
     src: &mut S,
     sink: &mut K,
 ) -> Result<bool, Stop>
-    requires some { 1 ≤ n }
-    requires small { n ≤ MAX_VERTICES }
-    ensures text { Writes (option_map (after_header n) (tokens_left reader.old (S.left src.old))) (K.taken sink.old) (K.taken sink.new) result }
+    requires sound { IsSound state.old }
+    requires vertices { state.old.graph.vertices ≡ n }
+    requires empty { buf.old ≡ [] }
+    requires budget { budget reader.old ≤ 2 ^ 30 + 1 }
+    ensures text { RunsBatches state.old state.new (batches_left n 1048576 reader.old (S.left src.old)) (K.taken sink.old) (K.taken sink.new) result }
+    ensures sound { OnOk result (IsSound state.new) }
+    ensures vertices { OnOk result (state.new.graph.vertices ≡ n) }
+    ensures empty { OnOk result (buf.new ≡ []) }
     ensures cause { StopCause (S.faults src.old) (S.faults src.new) (K.faults sink.old) (K.faults sink.new) result }
 {
-    let mut buf = LineBuf::new(alloc);
-    write_head(alloc, &mut buf, sink, n)?;
-    let batch = read_batch(alloc, reader, src, n)?;
-    match batch {
-        Batch::Refused(line) => {
-            write_refused_batch(alloc, &mut buf, sink, n, line)?;
-            Ok(true)
+    let mut number = 0;
+    let mut refused = false;
+    loop {
+        let next = next_batch(alloc, reader, src, n, MAX_ITEMS)?;
+        if let Next::End = next {
+            return Ok(refused);
         }
-        Batch::Edges(edges) => {
-            write_accepted(rt, alloc, gate, &mut buf, sink, n, &edges)?;
-            Ok(false)
+        let last = is_last(&next);
+        number += 1;
+        if run_batch(rt, alloc, gate, state, buf, sink, number, next)? {
+            refused = true;
+        }
+        if last {
+            return Ok(refused);
         }
     }
 }
 
-/// Reads a batch input, applies its batch and writes the text of the run. Says whether something was refused.
+// Runs what is behind a header. Says whether a batch was refused.
+fn run_header<R: Threads + Sync, S: Source, K: Sink, G: Gate + Sync>(
+    rt: &R,
+    alloc: Global,
+    gate: &G,
+    header: &Header,
+    reader: &mut LineReader,
+    src: &mut S,
+    sink: &mut K,
+) -> Result<bool, Stop>
+    requires header { IsHeader header.now }
+    requires budget { budget reader.old ≤ 2 ^ 30 + 1 }
+    ensures text { WritesRun header.now (batches_left header.now.n 1048576 reader.old (S.left src.old)) (K.taken sink.old) (K.taken sink.new) result }
+    ensures cause { StopCause (S.faults src.old) (S.faults src.new) (K.faults sink.old) (K.faults sink.new) result }
+{
+    let mut buf = LineBuf::new(alloc);
+    write_head(alloc, &mut buf, sink, header.n)?;
+    let mut state = start(alloc, header.profile, header.n)?;
+    let n = header.n;
+    let refused = run_batches(rt, alloc, gate, n, &mut state, &mut buf, reader, src, sink)?;
+    write_tail(alloc, &mut buf, sink, n, &state)?;
+    Ok(refused)
+}
+
+/// Reads a batch input, applies its batches in turn and writes the text of the run. Says whether something was refused.
 pub fn run_one<R: Threads + Sync, S: Source, K: Sink, G: Gate + Sync>(
     rt: &R,
     alloc: Global,
@@ -197,16 +189,17 @@ pub fn run_one<R: Threads + Sync, S: Source, K: Sink, G: Gate + Sync>(
     sink: &mut K,
     gate: &G,
 ) -> Result<bool, Stop>
-    ensures text { Writes (option_map input_of_bytes (S.left src.old)) (K.taken sink.old) (K.taken sink.new) result }
+    ensures text { Writes (option_map input_said (S.left src.old)) (K.taken sink.old) (K.taken sink.new) result }
     ensures cause { StopCause (S.faults src.old) (S.faults src.new) (K.faults sink.old) (K.faults sink.new) result }
 {
     let mut reader = LineReader::new(alloc, LINE_LIMIT, INPUT_LIMIT)?;
-    let header = read_header(alloc, &mut reader, src)?;
-    match header {
-        Header::Refused(line) => {
+    match Header::read(alloc, &mut reader, src) {
+        Ok(header) => run_header(rt, alloc, gate, &header, &mut reader, src, sink),
+        Err(HeaderFault::Refused { line }) => {
             write_header_refused(alloc, &mut LineBuf::new(alloc), sink, line)?;
             Ok(true)
         }
-        Header::Vertices(n) => run_batch(rt, alloc, gate, n, &mut reader, src, sink),
+        Err(HeaderFault::ReadFault) => Err(Stop::ReadFault),
+        Err(HeaderFault::Memory(_)) => Err(Stop::Memory),
     }
 }

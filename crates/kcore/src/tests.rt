@@ -33,48 +33,71 @@ fn answer<R: Threads + Sync>(
 
 #[test]
 fn runs_in_any_pieces(rt: HostRuntime) -> Result<(), Fail> {
-    let path: &[u8] = b"kcore 1\nvertices 5\nbatch\n+ 0 1\n+ 1 2\nend\n";
-    let rows: [(&[u8], &[u8], Status); 11] = [
+    let rows: [(&[u8], &[u8], Status); 18] = [
+        // A path.
         (
-            path,
-            b"kcore-run 1\nvertices 5\nvertex 0 level 1\nvertex 1 level 1\nvertex 2 level 1\nvertex 3 level 0\nvertex 4 level 0\nend\n",
+            b"kcore 1\nvertices 5\nbatch\n+ 0 1\n1 2\nend\n",
+            b"kcore-run 1\nvertices 5\nbatch 1 loops 0 repeats 0 idle 0 removed 0 added 2\nvertex 0 level 1 est 2 low 1 high 2 up 1 down 1\nvertex 1 level 1 est 2 low 1 high 2 up 2 down 2\nvertex 2 level 1 est 2 low 1 high 2 up 1 down 1\nvertex 3 level 0 est 0 low 0 high 0 up 0 down 0\nvertex 4 level 0 est 0 low 0 high 0 up 0 down 0\nend\n",
             Status::Done,
         ),
-        // The complete graph on four vertices, with comments, tabs, CR LF and no last line feed.
+        // The complete graph on four vertices, and then an edge to the fifth.
         (
-            b"# a graph\r\nkcore 1\r\n\r\nvertices 05\nbatch\n+\t0 1\n + 0 2 \n+ 0 3\n#+ 0 4\n+ 1 2\n+ 1 3\n+ 2 3\nend",
-            b"kcore-run 1\nvertices 5\nvertex 0 level 6\nvertex 1 level 6\nvertex 2 level 6\nvertex 3 level 6\nvertex 4 level 0\nend\n",
+            b"kcore 1\nvertices 5\nbatch\n0 1\n0 2\n0 3\n1 2\n1 3\n2 3\nend\nbatch\n+ 3 4\nend\n",
+            b"kcore-run 1\nvertices 5\nbatch 1 loops 0 repeats 0 idle 0 removed 0 added 6\nbatch 2 loops 0 repeats 0 idle 0 removed 0 added 1\nvertex 0 level 6 est 2 low 1 high 4 up 3 down 3\nvertex 1 level 6 est 2 low 1 high 4 up 3 down 3\nvertex 2 level 6 est 2 low 1 high 4 up 3 down 3\nvertex 3 level 6 est 2 low 1 high 4 up 3 down 3\nvertex 4 level 1 est 2 low 1 high 2 up 1 down 1\nend\n",
             Status::Done,
         ),
+        // A star.
         (
-            b"kcore 1\nvertices 1\nbatch\nend\n",
-            b"kcore-run 1\nvertices 1\nvertex 0 level 0\nend\n",
+            b"kcore 1\nvertices 5\nbatch\n0 1\n0 2\n0 3\n0 4\nend\n",
+            b"kcore-run 1\nvertices 5\nbatch 1 loops 0 repeats 0 idle 0 removed 0 added 4\nvertex 0 level 2 est 2 low 1 high 2 up 0 down 4\nvertex 1 level 1 est 2 low 1 high 2 up 1 down 1\nvertex 2 level 1 est 2 low 1 high 2 up 1 down 1\nvertex 3 level 1 est 2 low 1 high 2 up 1 down 1\nvertex 4 level 1 est 2 low 1 high 2 up 1 down 1\nend\n",
             Status::Done,
         ),
+        // A second batch lifts the vertex in the middle.
         (
-            b"kcore 1\nvertices 2\nbatch\n- 0 1\nend\n",
-            b"kcore-run 1\nvertices 2\nbatch 1 refused line 4 bad-line\nvertex 0 level 0\nvertex 1 level 0\nend\n",
+            b"kcore 1\nvertices 5\nbatch\n0 1\n0 2\nend\nbatch\n+ 0 3\nend\n",
+            b"kcore-run 1\nvertices 5\nbatch 1 loops 0 repeats 0 idle 0 removed 0 added 2\nbatch 2 loops 0 repeats 0 idle 0 removed 0 added 1\nvertex 0 level 2 est 2 low 1 high 2 up 0 down 3\nvertex 1 level 1 est 2 low 1 high 2 up 1 down 1\nvertex 2 level 1 est 2 low 1 high 2 up 1 down 1\nvertex 3 level 1 est 2 low 1 high 2 up 1 down 1\nvertex 4 level 0 est 0 low 0 high 0 up 0 down 0\nend\n",
+            Status::Done,
+        ),
+        // The complete graph on eight vertices.
+        (
+            b"kcore 1\nvertices 8\nbatch\n0 1\n0 2\n0 3\n0 4\n0 5\n0 6\n0 7\n1 2\n1 3\n1 4\n1 5\n1 6\n1 7\n2 3\n2 4\n2 5\n2 6\n2 7\n3 4\n3 5\n3 6\n3 7\n4 5\n4 6\n4 7\n5 6\n5 7\n6 7\nend\n",
+            b"kcore-run 1\nvertices 8\nbatch 1 loops 0 repeats 0 idle 0 removed 0 added 28\nvertex 0 level 19 est 4 low 2 high 8 up 7 down 7\nvertex 1 level 19 est 4 low 2 high 8 up 7 down 7\nvertex 2 level 19 est 4 low 2 high 8 up 7 down 7\nvertex 3 level 19 est 4 low 2 high 8 up 7 down 7\nvertex 4 level 19 est 4 low 2 high 8 up 7 down 7\nvertex 5 level 19 est 4 low 2 high 8 up 7 down 7\nvertex 6 level 19 est 4 low 2 high 8 up 7 down 7\nvertex 7 level 19 est 4 low 2 high 8 up 7 down 7\nend\n",
+            Status::Done,
+        ),
+        // A loop, a repeat and an idle item; an empty batch.
+        (
+            b"kcore 1\nvertices 5\nbatch\n+ 0 1\n- 0 1\n+ 2 2\nend\nbatch\nend\n",
+            b"kcore-run 1\nvertices 5\nbatch 1 loops 1 repeats 1 idle 1 removed 0 added 0\nbatch 2 loops 0 repeats 0 idle 0 removed 0 added 0\nvertex 0 level 0 est 0 low 0 high 0 up 0 down 0\nvertex 1 level 0 est 0 low 0 high 0 up 0 down 0\nvertex 2 level 0 est 0 low 0 high 0 up 0 down 0\nvertex 3 level 0 est 0 low 0 high 0 up 0 down 0\nvertex 4 level 0 est 0 low 0 high 0 up 0 down 0\nend\n",
+            Status::Done,
+        ),
+        // SNAP text: comments, tabs, both directions, CR LF.
+        (
+            b"kcore 1\r\nvertices 3\r\nbatch\r\n# Undirected graph\r\n# FromNodeId\tToNodeId\r\n0\t1\r\n1\t0\r\n1\t2\r\n2\t1\r\nend\r\n",
+            b"kcore-run 1\nvertices 3\nbatch 1 loops 0 repeats 2 idle 0 removed 0 added 2\nvertex 0 level 1 est 2 low 1 high 2 up 1 down 1\nvertex 1 level 1 est 2 low 1 high 2 up 2 down 2\nvertex 2 level 1 est 2 low 1 high 2 up 1 down 1\nend\n",
+            Status::Done,
+        ),
+        // A refused batch between two others.
+        (
+            b"kcore 1\nvertices 3\nbatch\n0 1\nend\nbatch\n1 2\n0 2\n1 3\nend\nbatch\n1 2\nend\n",
+            b"kcore-run 1\nvertices 3\nbatch 1 loops 0 repeats 0 idle 0 removed 0 added 1\nbatch 2 refused line 9 bad-vertex\nbatch 3 loops 0 repeats 0 idle 0 removed 0 added 1\nvertex 0 level 1 est 2 low 1 high 2 up 1 down 1\nvertex 1 level 1 est 2 low 1 high 2 up 2 down 2\nvertex 2 level 1 est 2 low 1 high 2 up 1 down 1\nend\n",
             Status::Refused,
         ),
-        // An edge that doesn't come after the one before it.
+        // A batch that would remove an edge is refused at its end.
         (
-            b"kcore 1\nvertices 2\nbatch\n+ 0 1\n\n+ 0 1\nend\n",
-            b"kcore-run 1\nvertices 2\nbatch 1 refused line 6 bad-line\nvertex 0 level 0\nvertex 1 level 0\nend\n",
+            b"kcore 1\nvertices 5\nbatch\n0 1\nend\nbatch\n- 0 1\n+ 0 2\nend\n",
+            b"kcore-run 1\nvertices 5\nbatch 1 loops 0 repeats 0 idle 0 removed 0 added 1\nbatch 2 refused line 9 bad-line\nvertex 0 level 1 est 2 low 1 high 2 up 1 down 1\nvertex 1 level 1 est 2 low 1 high 2 up 1 down 1\nvertex 2 level 0 est 0 low 0 high 0 up 0 down 0\nvertex 3 level 0 est 0 low 0 high 0 up 0 down 0\nvertex 4 level 0 est 0 low 0 high 0 up 0 down 0\nend\n",
             Status::Refused,
         ),
-        // A second batch, and an input that ends within the first.
+        // The input ends within a batch.
         (
-            b"kcore 1\nvertices 1\nbatch\nend\nbatch\nend\n",
-            b"kcore-run 1\nvertices 1\nbatch 1 refused line 5 bad-line\nvertex 0 level 0\nend\n",
+            b"kcore 1\nvertices 2\nbatch\n0 1",
+            b"kcore-run 1\nvertices 2\nbatch 1 refused line 5 truncated\nvertex 0 level 0 est 0 low 0 high 0 up 0 down 0\nvertex 1 level 0 est 0 low 0 high 0 up 0 down 0\nend\n",
             Status::Refused,
         ),
+        // Nothing, no vertices, too many vertices, another version.
+        (b"", b"refused line 1 header\n", Status::Refused),
         (
-            b"kcore 1\nvertices 1\nbatch\n",
-            b"kcore-run 1\nvertices 1\nbatch 1 refused line 4 bad-line\nvertex 0 level 0\nend\n",
-            Status::Refused,
-        ),
-        (
-            b"kcore 1\nvertices 0\n",
+            b"kcore 1\nvertices 0",
             b"refused line 2 header\n",
             Status::Refused,
         ),
@@ -83,8 +106,30 @@ fn runs_in_any_pieces(rt: HostRuntime) -> Result<(), Fail> {
             b"refused line 2 header\n",
             Status::Refused,
         ),
-        (b"", b"refused line 1 header\n", Status::Refused),
         (b"kcore 2\n", b"refused line 1 header\n", Status::Refused),
+        // No batch, and no last line feed.
+        (
+            b"kcore 1\nvertices 1",
+            b"kcore-run 1\nvertices 1\nvertex 0 level 0 est 0 low 0 high 0 up 0 down 0\nend\n",
+            Status::Done,
+        ),
+        // An ask is read and checked.
+        (
+            b"kcore 1\nvertices 2\nask 2 0 1\nbatch\n1 0\nend\n",
+            b"kcore-run 1\nvertices 2\nbatch 1 loops 0 repeats 0 idle 0 removed 0 added 1\nvertex 0 level 1 est 2 low 1 high 2 up 1 down 1\nvertex 1 level 1 est 2 low 1 high 2 up 1 down 1\nend\n",
+            Status::Done,
+        ),
+        // An ask behind a batch, and one that isn't whole.
+        (
+            b"kcore 1\nvertices 1\nbatch\nend\nask 1 0\nend\nbatch\nend\n",
+            b"kcore-run 1\nvertices 1\nbatch 1 loops 0 repeats 0 idle 0 removed 0 added 0\nbatch 2 refused line 5 bad-line\nbatch 3 loops 0 repeats 0 idle 0 removed 0 added 0\nvertex 0 level 0 est 0 low 0 high 0 up 0 down 0\nend\n",
+            Status::Refused,
+        ),
+        (
+            b"kcore 1\nvertices 1\nask 1 1\n",
+            b"refused line 3 header\n",
+            Status::Refused,
+        ),
     ];
     for (input, text, status) in rows {
         for piece in [1, 2, 7, 1_000_000] {
@@ -93,6 +138,20 @@ fn runs_in_any_pieces(rt: HostRuntime) -> Result<(), Fail> {
             assert_eq!(rt; written.as_slice(), text);
         }
     }
+    Ok(())
+}
+
+#[test]
+fn long_lines_fit_nowhere(rt: HostRuntime) -> Result<(), Fail> {
+    let mut input = Vec::from_slice(rt.alloc(), b"kcore 1\nvertices 2\nbatch\n0 1\n")?;
+    for _ in 0..65_537 {
+        input.push(b'1')?;
+    }
+    let (status, written) = answer(&rt, rt.alloc(), "run 1", &input, 1000, (&[], &[]))?;
+    let text: &[u8] =
+        b"kcore-run 1\nvertices 2\nbatch 1 refused line 5 line-long\nvertex 0 level 0 est 0 low 0 high 0 up 0 down 0\nvertex 1 level 0 est 0 low 0 high 0 up 0 down 0\nend\n";
+    assert_eq!(rt; status, Status::Refused);
+    assert_eq!(rt; written.as_slice(), text);
     Ok(())
 }
 
@@ -123,14 +182,43 @@ fn other_words_name_no_command(rt: HostRuntime) -> Result<(), Fail> {
     Ok(())
 }
 
+const PATH: &[u8] = b"kcore 1\nvertices 5\nbatch\n+ 0 1\n1 2\nend\n";
+
 #[test]
-fn faults_leave_a_prefix(rt: HostRuntime) -> Result<(), Fail> {
-    let path: &[u8] = b"kcore 1\nvertices 5\nbatch\n+ 0 1\n+ 1 2\nend\n";
-    let (status, written) = answer(&rt, rt.alloc(), "run 1", path, 16, (&[2], &[]))?;
+fn faults_end_the_run(rt: HostRuntime) -> Result<(), Fail> {
+    let (status, written) = answer(&rt, rt.alloc(), "run 1", PATH, 16, (&[2], &[]))?;
     assert_eq!(rt; status, Status::ReadFault);
     assert_eq!(rt; written.len(), 0);
-    let (status, written) = answer(&rt, rt.alloc(), "run 1", path, 65_536, (&[], &[3]))?;
+    let (status, written) = answer(&rt, rt.alloc(), "run 1", PATH, 65_536, (&[], &[3]))?;
     assert_eq!(rt; status, Status::WriteFault);
     assert_eq!(rt; written.as_slice(), b"kcore-run 1\nvertices 5\n".as_slice());
+    Ok(())
+}
+
+// Whether the one is a prefix of the other, and not all of it.
+fn is_proper_prefix(some: &[u8], all: &[u8]) -> bool {
+    some.len() < all.len() && some == &all[..some.len()]
+}
+
+// Each read and each write fails in turn: the run makes 11 reads and 66 writes.
+#[test]
+fn each_fault_leaves_a_prefix(rt: HostRuntime) -> Result<(), Fail> {
+    let input: &[u8] =
+        b"kcore 1\nvertices 3\nbatch\n0 1\nend\nbatch\n1 2\n0 2\n1 3\nend\nbatch\n1 2\nend\n";
+    let (status, whole) = answer(&rt, rt.alloc(), "run 1", input, 7, (&[12], &[]))?;
+    assert_eq!(rt; status, Status::Refused);
+    for call in 1..12 {
+        let (status, written) = answer(&rt, rt.alloc(), "run 1", input, 7, (&[call], &[]))?;
+        assert_eq!(rt; status, Status::ReadFault, "at read {call}");
+        assert!(rt; is_proper_prefix(&written, &whole), "at read {call}");
+    }
+    let (status, written) = answer(&rt, rt.alloc(), "run 1", input, 5, (&[], &[67]))?;
+    assert_eq!(rt; status, Status::Refused);
+    assert_eq!(rt; written.as_slice(), whole.as_slice());
+    for call in 1..67 {
+        let (status, written) = answer(&rt, rt.alloc(), "run 1", input, 5, (&[], &[call]))?;
+        assert_eq!(rt; status, Status::WriteFault, "at write {call}");
+        assert!(rt; is_proper_prefix(&written, &whole), "at write {call}");
+    }
     Ok(())
 }

@@ -5,7 +5,7 @@ use Rattle.kc_text.specs.Reading.{onto}
 use Rattle.kc_batch.specs.Headers.{asks_from, Accepted, refused_at, IsAsk}
 use Rattle.kc_batch.proofs.KeptLemmas.{told_goes}
 use Rattle.kc_batch.proofs.Stepping.{step_on}
-use Rattle.kc_batch.proofs.Asking.{step_back, ask_missing, ask_refused, ask_there, takes_ask}
+use Rattle.kc_batch.proofs.Asking.{step_back, ask_missing, ask_refused, ask_there, takes_ask, takes_no_less}
 use Rattle.kc_batch.proofs.header.read_asks.Goals as goal
 
 pub returns-then-not-is_ask-clause-header : goal.returns-then-not-is_ask-clause-header
@@ -14,6 +14,10 @@ returns-then-not-is_ask-clause-header g c =
     let missing = rw c.text_of-text.ensures at (sym c.is_ask.ensures ∙ c.if-not-is_ask.true) in
     c.loop-asks.invariant.same ∙ step_back (asks_from c.args.n c.loop-asks.asks) (Accepted (record { profile = One; n = c.args.n; asks = c.loop-asks.asks })) line _ _ _
     c.in_ok-line.ensures.line (told_goes line _ _ c.in_ok-line.ensures.kept (c.put_back.ensures.left (g.S.Source.left c.next_kept.new.src))) (ask_missing c.args.n c.loop-asks.asks line missing)
+
+pub returns-then-not-is_ask-clause-budget : goal.returns-then-not-is_ask-clause-budget
+returns-then-not-is_ask-clause-budget g c =
+    omega (arith, c.put_back.ensures.budget, takes_no_less c.in_ok-line.line.body _ _ c.in_ok-line.ensures.takes, c.loop-asks.invariant.budget)
 
 pub returns-in-None-clause-header : goal.returns-in-None-clause-header
 returns-in-None-clause-header g c =
@@ -36,6 +40,7 @@ loop-asks-preserved-in_ok-push-in-Some g c =
           (λ rest. rw now (ask_there c.args.n c.loop-asks.asks line ask there (sym found) rest));
       few = rw (now, length-append c.loop-asks.asks (ask ∷ [])) (omega (arith, few));
       asks = rw now (All-push (IsAsk c.args.n) c.loop-asks.asks ask c.loop-asks.invariant.asks fits);
+      budget = omega (arith, takes_no_less line.body _ _ c.in_ok-line.ensures.takes, c.loop-asks.invariant.budget);
       faults = c.in_ok-line.ensures.cause ∙ c.loop-asks.invariant.faults;
     }
 
@@ -53,6 +58,7 @@ loop-asks-preserved g c =
           (λ rest. rw now (ask_there c.args.n c.loop-asks.asks line ask there (sym found) rest));
       few = rw (now, length-append c.loop-asks.asks (ask ∷ [])) (omega (arith, few));
       asks = rw now (All-push (IsAsk c.args.n) c.loop-asks.asks ask c.loop-asks.invariant.asks fits);
+      budget = omega (arith, takes_no_less line.body _ _ c.in_ok-line.ensures.takes, c.loop-asks.invariant.budget);
       faults = c.in_ok-line.ensures.cause ∙ c.loop-asks.invariant.faults;
     }
 

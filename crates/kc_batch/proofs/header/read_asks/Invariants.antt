@@ -11,6 +11,7 @@ invariant-loop-asks g l = record {
   same : option_map (asks_from l.n []) (kept_left l.fn.reader (g.S.Source.left l.fn.src)) ≡ option_map (asks_from l.n l.asks) (kept_left l.reader (g.S.Source.left l.src));
   few : length l.asks ≤ 64;
   asks : All (IsAsk l.n) l.asks;
+  budget : budget l.reader ≤ budget l.fn.reader;
   faults : g.S.Source.faults l.src ≡ g.S.Source.faults l.fn.src;
 }
 

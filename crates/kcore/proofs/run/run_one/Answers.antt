@@ -1,34 +1,43 @@
-use Rattle.std.proofs.Common.{◌∙◌, sym, refl}
+use Rattle.std.proofs.Common.{◌∙◌, sym, refl, arith}
 use Rattle.std.proofs.lemmas.Result.{err_from_is_err_and}
-use Rattle.kcore.specs.BatchInput.{HeaderRefused}
-use Rattle.kcore.proofs.Texts.{input_told, told_decided, writes_nothing, writes_header_refused, writes_header_refused_prefix}
+use Rattle.kc_batch.specs.Kept.{kept_left}
+use Rattle.kc_batch.proofs.InputLemmas.{told_input, told_accepted, told_refused}
+use Rattle.kcore.proofs.Texts.{run_of_header, header_refused, header_refused_prefix, writes_nothing}
+use Rattle.kcore.specs.declared.run.Stop.TheVariants.{ReadFault, Memory}
 use Rattle.kcore.proofs.run.run_one.Goals as goal
 
 pub returns-in_err-reader-clause-text : goal.returns-in_err-reader-clause-text
 returns-in_err-reader-clause-text g c =
     let p = err_from_is_err_and c.from_residual.result c.from_residual.ensures.1 in
-    rw p.1 (writes_nothing _ _ _ p.0 refl)
+    rw p.1 (writes_nothing 65536 1073741824 1048576 _ _ _ p.0 refl)
 
-pub returns-in_err-header-clause-text : goal.returns-in_err-header-clause-text
-returns-in_err-header-clause-text g c =
-    let p = err_from_is_err_and c.from_residual-in_err-header.result c.from_residual-in_err-header.ensures.1 in
-    rw p.1 (writes_nothing _ _ _ p.0 refl)
+pub run_header-requires-clause-budget : goal.run_header-requires-clause-budget
+run_header-requires-clause-budget g c κs within = omega (arith, c.in-Ok.ensures.budget, c.in_ok-reader.ensures.budget)
 
-pub returns-in_err-write_header_refused-in-Refused-clause-text : goal.returns-in_err-write_header_refused-in-Refused-clause-text
-returns-in_err-write_header_refused-in-Refused-clause-text g c =
+pub returns-in_err-write_header_refused-in-Err-Refused-clause-text : goal.returns-in_err-write_header_refused-in-Err-Refused-clause-text
+returns-in_err-write_header_refused-in-Err-Refused-clause-text g c =
     let left = g.S.Source.left c.args.src.now in
-    let told = told_decided _ _ (HeaderRefused c.in-Refused.line) (sym (input_told _ left (c.in_ok-reader.ensures.lines left)) ∙ rw c.in-Refused.is at c.in_ok-header.ensures.header) in
-    let p = err_from_is_err_and c.from_residual-in_err-write_header_refused-in-Refused.result c.from_residual-in_err-write_header_refused-in-Refused.ensures.1 in
-    rw p.1 (writes_header_refused_prefix _ c.in-Refused.line p.0 _ _ told c.in_err-write_header_refused-in-Refused.ensures.text)
+    let told = told_input 65536 1073741824 1048576 c.in_ok-reader.reader left (c.in_ok-reader.ensures.lines left) in
+    let p = err_from_is_err_and c.from_residual-in_err-write_header_refused-in-Err-Refused.result c.from_residual-in_err-write_header_refused-in-Err-Refused.ensures.1 in
+    rw p.1
+    (header_refused_prefix c.in-Err-Refused.line _ (kept_left c.read.new.reader (g.S.Source.left c.read.new.src)) _ _ p.0 (sym told ∙ told_refused 1048576 c.in-Err-Refused.line _ _ (rw c.in-Err-Refused.field-0-is at c.in-Err-Refused.ensures.header))
+    (rw c.in-Err-Refused.field-0-is at c.in_err-write_header_refused-in-Err-Refused.ensures.text))
 
-pub returns-in-Refused-clause-text : goal.returns-in-Refused-clause-text
-returns-in-Refused-clause-text g c =
+pub returns-in-Err-Refused-clause-text : goal.returns-in-Err-Refused-clause-text
+returns-in-Err-Refused-clause-text g c =
     let left = g.S.Source.left c.args.src.now in
-    let told = told_decided _ _ (HeaderRefused c.in-Refused.line) (sym (input_told _ left (c.in_ok-reader.ensures.lines left)) ∙ rw c.in-Refused.is at c.in_ok-header.ensures.header) in
-    writes_header_refused _ c.in-Refused.line _ _ told c.in_ok-write_header_refused-in-Refused.ensures.text
+    let told = told_input 65536 1073741824 1048576 c.in_ok-reader.reader left (c.in_ok-reader.ensures.lines left) in
+    header_refused c.in-Err-Refused.line _ (kept_left c.read.new.reader (g.S.Source.left c.read.new.src)) _ _ (sym told ∙ told_refused 1048576 c.in-Err-Refused.line _ _ (rw c.in-Err-Refused.field-0-is at c.in-Err-Refused.ensures.header))
+    (rw c.in-Err-Refused.field-0-is at c.in_ok-write_header_refused-in-Err-Refused.ensures.text)
+
+pub returns-in-Err-ReadFault-clause-text : goal.returns-in-Err-ReadFault-clause-text
+returns-in-Err-ReadFault-clause-text g c = writes_nothing 65536 1073741824 1048576 _ _ _ ReadFault refl
 
 pub returns-clause-text : goal.returns-clause-text
-returns-clause-text g c =
+returns-clause-text g c = writes_nothing 65536 1073741824 1048576 _ _ _ Memory refl
+
+pub returns-in-Ok-clause-text : goal.returns-in-Ok-clause-text
+returns-in-Ok-clause-text g c =
     let left = g.S.Source.left c.args.src.now in
-    let told = sym (input_told _ left (c.in_ok-reader.ensures.lines left)) ∙ rw c.in-Vertices.is at c.in_ok-header.ensures.header in
-    rw told c.run_batch.ensures.text
+    let told = told_input 65536 1073741824 1048576 c.in_ok-reader.reader left (c.in_ok-reader.ensures.lines left) in
+    run_of_header c.in-Ok.header _ _ _ _ c.run_header.result (sym told ∙ told_accepted 1048576 c.in-Ok.header _ _ c.in-Ok.ensures.header) c.run_header.ensures.text

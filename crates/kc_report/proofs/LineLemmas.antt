@@ -1,0 +1,51 @@
+-- Lines as they are put together, and as their definitions have them.
+use Rattle.std.proofs.Common.{ℕ, ◌≡◌, List, [], ◌∷◌, ◌++◌, length, sym, ◌∙◌, append_assoc, subst}
+use Rattle.std.specs.Prelude.{Option, Result, decimal, codes}
+use Rattle.kc_text.specs.declared.buf.SendFault.{SendFault}
+use Rattle.kc_text.specs.declared.reason.Reason.{Reason}
+use Rattle.kc_text.specs.Reasons.{reason_word}
+use Rattle.kc_text.specs.Writing.{Sends, Appends}
+use Rattle.kc_text.proofs.Known.{appends_send}
+use Rattle.kc_graph.specs.declared.cleaning.Cleaned.{Cleaned}
+use Rattle.kc_levels.specs.declared.thresholds.Estimate.{Estimate}
+use Rattle.kc_report.specs.Lines.{vertices_line, header_refused_line, batch_line, refused_line, vertex_line}
+
+-- a buffer that was sent as a line
+pub sent_as : {T : Type 0} → (before now : Option (List ℕ)) (buffer line : List ℕ) (result : Result T SendFault) → buffer ++ 10 ∷ [] ≡ line → Sends before now (buffer ++ 10 ∷ []) result → Appends before now line result
+sent_as before now buffer line result e s = subst (λ text. Appends before now text result) e (appends_send before now (buffer ++ 10 ∷ []) result s)
+
+pub vertices_filled : (n : ℕ) (buffer old : List ℕ) → old ≡ [] → buffer ≡ (old ++ codes "vertices ") ++ decimal n → buffer ++ 10 ∷ [] ≡ vertices_line n
+vertices_filled n buffer old e f = rw (f, e) (simp append_assoc)
+
+pub header_refused_filled : (line : ℕ) (buffer old : List ℕ) → old ≡ [] → buffer ≡ ((old ++ codes "refused line ") ++ decimal line) ++ codes " header" → buffer ++ 10 ∷ [] ≡ header_refused_line line
+header_refused_filled line buffer old e f = rw (f, e) (simp append_assoc)
+
+pub vertex_filled : (v level up down : ℕ) (e : Estimate) (old a b c d : List ℕ) → old ≡ [] → a ≡ (old ++ codes "vertex ") ++ decimal v
+    → b ≡ (((((((a ++ codes " level ") ++ decimal level) ++ codes " est ") ++ decimal e.est) ++ codes " low ") ++ decimal e.lo) ++ codes " high ") ++ decimal e.hi
+    → c ≡ (b ++ codes " up ") ++ decimal up → d ≡ (c ++ codes " down ") ++ decimal down → d ++ 10 ∷ [] ≡ vertex_line v level e up down
+vertex_filled v level up down e old a b c d z ea eb ec ed = rw (ed, ec, eb, ea, z) (simp append_assoc)
+
+counts_filled : (number : ℕ) (c : Cleaned) (old a tail : List ℕ) → old ≡ []
+    → a ≡ (((((((old ++ codes "batch ") ++ decimal number) ++ codes " loops ") ++ decimal c.loops) ++ codes " repeats ") ++ decimal c.repeats) ++ codes " idle ") ++ decimal c.idle
+    → a ++ tail ≡ codes "batch " ++ (decimal number ++ (codes " loops " ++ (decimal c.loops ++ (codes " repeats " ++ (decimal c.repeats ++ (codes " idle " ++ (decimal c.idle ++ tail)))))))
+counts_filled number c old a tail z e = rw (e, z) (simp append_assoc)
+
+changes_filled : (removed added : ℕ) (a b d : List ℕ) → b ≡ (a ++ codes " removed ") ++ decimal removed → d ≡ (b ++ codes " added ") ++ decimal added
+    → d ++ 10 ∷ [] ≡ a ++ (codes " removed " ++ (decimal removed ++ (codes " added " ++ (decimal added ++ 10 ∷ []))))
+changes_filled removed added a b d eb ed = rw (ed, eb) (simp append_assoc)
+
+line_in_order : (number : ℕ) (c : Cleaned) → batch_line number c ≡ codes "batch " ++ (decimal number ++ (codes " loops " ++ (decimal c.loops ++ (codes " repeats " ++ (decimal c.repeats ++ (codes " idle " ++ (decimal c.idle
+    ++ (codes " removed " ++ (decimal (length c.removed) ++ (codes " added " ++ (decimal (length c.added) ++ 10 ∷ [])))))))))))
+line_in_order number c = simp append_assoc
+
+pub batch_filled : (number removed added : ℕ) (c : Cleaned) (old a b d : List ℕ) → old ≡ []
+    → a ≡ (((((((old ++ codes "batch ") ++ decimal number) ++ codes " loops ") ++ decimal c.loops) ++ codes " repeats ") ++ decimal c.repeats) ++ codes " idle ") ++ decimal c.idle
+    → removed ≡ length c.removed → added ≡ length c.added → b ≡ (a ++ codes " removed ") ++ decimal removed → d ≡ (b ++ codes " added ") ++ decimal added → d ++ 10 ∷ [] ≡ batch_line number c
+batch_filled number removed added c old a b d z ea er eg eb ed =
+    changes_filled removed added a b d eb ed
+    ∙ counts_filled number c old a (codes " removed " ++ (decimal removed ++ (codes " added " ++ (decimal added ++ 10 ∷ [])))) z ea
+    ∙ rw (er, eg) (sym (line_in_order number c))
+
+pub refused_filled : (number line : ℕ) (reason : Reason) (old a b d e : List ℕ) → old ≡ [] → a ≡ (old ++ codes "batch ") ++ decimal number → b ≡ (a ++ codes " refused line ") ++ decimal line
+    → d ≡ b ++ codes " " → e ≡ d ++ reason_word reason → e ++ 10 ∷ [] ≡ refused_line number line reason
+refused_filled number line reason old a b d e z ea eb ed ee = rw (ee, ed, eb, ea, z) (simp append_assoc)

@@ -1,0 +1,108 @@
+ghost use Rattle.std.specs.Prelude.{◌≡◌, ◌<◌, ◌^◌, [], ◌∷◌, ◌++◌, length, OnOk, decimal, codes};
+ghost use Rattle.kc_text.specs.Writing.{Appends, WriteCause};
+ghost use Rattle.kc_text.specs.Reasons.{reason_word};
+ghost use Rattle.kc_report.specs.Buffer.{IsCleared};
+ghost use Rattle.kc_report.specs.Lines.{batch_line, refused_line};
+
+use crate::fill::fill_named;
+use kc_graph::Cleaned;
+use kc_text::{LineBuf, Reason, SendFault, Sink};
+use std::alloc::{AllocError, Global};
+
+// The number of a batch and what its cleaning counted.
+fn fill_counts(
+    alloc: Global,
+    buf: &mut LineBuf,
+    number: u32,
+    cleaned: &Cleaned,
+) -> Result<(), AllocError>
+    ensures { OnOk result (buf.new ≡ (((((((buf.old ++ codes "batch ") ++ decimal number)
+        ++ codes " loops ") ++ decimal cleaned.now.loops)
+        ++ codes " repeats ") ++ decimal cleaned.now.repeats)
+        ++ codes " idle ") ++ decimal cleaned.now.idle) }
+{
+    fill_named(alloc, buf, b"batch ", number)?;
+    fill_named(alloc, buf, b" loops ", cleaned.loops)?;
+    fill_named(alloc, buf, b" repeats ", cleaned.repeats)?;
+    fill_named(alloc, buf, b" idle ", cleaned.idle)
+}
+
+fn fill_batch(
+    alloc: Global,
+    buf: &mut LineBuf,
+    number: u32,
+    cleaned: &Cleaned,
+) -> Result<(), AllocError>
+    requires empty { buf.old ≡ [] }
+    requires few_removed { length cleaned.now.removed < 2 ^ 32 }
+    requires few_added { length cleaned.now.added < 2 ^ 32 }
+    ensures { OnOk result (buf.new ++ 10 ∷ [] ≡ batch_line number cleaned.now) }
+{
+    fill_counts(alloc, buf, number, cleaned)?;
+    fill_named(alloc, buf, b" removed ", cleaned.removed.len() as u32)?;
+    fill_named(alloc, buf, b" added ", cleaned.added.len() as u32)
+}
+
+/// Writes the line of an accepted batch (`batch_line`): its number, what its cleaning counted, and how many edges are
+/// removed and added, fewer than 2^32 of each.
+///
+/// Batches are numbered from 1, refused ones included; any number is written. After `WriteFault`, which only a failed
+/// write gives, and after `Memory` the sink took a prefix of the line.
+pub fn write_batch<K: Sink>(
+    alloc: Global,
+    buf: &mut LineBuf,
+    sink: &mut K,
+    number: u32,
+    cleaned: &Cleaned,
+) -> Result<(), SendFault>
+    requires empty { buf.old ≡ [] }
+    requires few_removed { length cleaned.now.removed < 2 ^ 32 }
+    requires few_added { length cleaned.now.added < 2 ^ 32 }
+    ensures text { Appends (K.taken sink.old) (K.taken sink.new) (batch_line number cleaned.now) result }
+    ensures buffer { IsCleared buf.new result }
+    ensures cause { WriteCause (K.faults sink.old) (K.faults sink.new) result }
+{
+    match fill_batch(alloc, buf, number, cleaned) {
+        Ok(()) => buf.send(alloc, sink),
+        Err(fault) => Err(SendFault::Memory(fault)),
+    }
+}
+
+fn fill_refused(
+    alloc: Global,
+    buf: &mut LineBuf,
+    number: u32,
+    line: u32,
+    reason: Reason,
+) -> Result<(), AllocError>
+    requires { buf.old ≡ [] }
+    ensures { OnOk result (buf.new ++ 10 ∷ [] ≡ refused_line number line reason) }
+{
+    fill_named(alloc, buf, b"batch ", number)?;
+    fill_named(alloc, buf, b" refused line ", line)?;
+    buf.text(alloc, b" ")?;
+    buf.text(alloc, reason.word())
+}
+
+/// Writes the line of a refused batch (`refused_line`): its number, and the line and the reason of its first fault.
+///
+/// Batches and lines are numbered from 1; any numbers are written. After `WriteFault`, which only a failed write gives,
+/// and after `Memory` the sink took a prefix of the line.
+pub fn write_refused<K: Sink>(
+    alloc: Global,
+    buf: &mut LineBuf,
+    sink: &mut K,
+    number: u32,
+    line: u32,
+    reason: Reason,
+) -> Result<(), SendFault>
+    requires { buf.old ≡ [] }
+    ensures text { Appends (K.taken sink.old) (K.taken sink.new) (refused_line number line reason) result }
+    ensures buffer { IsCleared buf.new result }
+    ensures cause { WriteCause (K.faults sink.old) (K.faults sink.new) result }
+{
+    match fill_refused(alloc, buf, number, line, reason) {
+        Ok(()) => buf.send(alloc, sink),
+        Err(fault) => Err(SendFault::Memory(fault)),
+    }
+}

@@ -1,0 +1,101 @@
+ghost use Rattle.std.specs.Prelude.{◌≡◌, [], ◌++◌, OnOk, decimal, codes};
+ghost use Rattle.kc_text.specs.Writing.{Appends, WriteCause};
+ghost use Rattle.kc_report.specs.Buffer.{IsCleared};
+ghost use Rattle.kc_report.specs.Lines.{magic_line, vertices_line, head_text, header_refused_line, end_line};
+
+use crate::fill::fill_named;
+use kc_text::{LineBuf, SendFault, Sink};
+use std::alloc::{AllocError, Global};
+
+// Writes the first line.
+fn write_magic<K: Sink>(alloc: Global, buf: &mut LineBuf, sink: &mut K) -> Result<(), SendFault>
+    requires { buf.old ≡ [] }
+    ensures text { Appends (K.taken sink.old) (K.taken sink.new) magic_line result }
+    ensures buffer { IsCleared buf.new result }
+    ensures cause { WriteCause (K.faults sink.old) (K.faults sink.new) result }
+{
+    match buf.text(alloc, b"kcore-run 1") {
+        Ok(()) => buf.send(alloc, sink),
+        Err(fault) => Err(SendFault::Memory(fault)),
+    }
+}
+
+// Writes the second line.
+fn write_vertices<K: Sink>(
+    alloc: Global,
+    buf: &mut LineBuf,
+    sink: &mut K,
+    n: u32,
+) -> Result<(), SendFault>
+    requires { buf.old ≡ [] }
+    ensures text { Appends (K.taken sink.old) (K.taken sink.new) (vertices_line n) result }
+    ensures buffer { IsCleared buf.new result }
+    ensures cause { WriteCause (K.faults sink.old) (K.faults sink.new) result }
+{
+    match fill_named(alloc, buf, b"vertices ", n) {
+        Ok(()) => buf.send(alloc, sink),
+        Err(fault) => Err(SendFault::Memory(fault)),
+    }
+}
+
+/// Writes the two lines ahead of a run with `n` vertices (`head_text`), one after the other; any number is written.
+///
+/// After `WriteFault`, which only a failed write gives, and after `Memory` the sink took a prefix of the two lines. The
+/// second isn't tried where the first fails.
+pub fn write_head<K: Sink>(
+    alloc: Global,
+    buf: &mut LineBuf,
+    sink: &mut K,
+    n: u32,
+) -> Result<(), SendFault>
+    requires { buf.old ≡ [] }
+    ensures text { Appends (K.taken sink.old) (K.taken sink.new) (head_text n) result }
+    ensures buffer { IsCleared buf.new result }
+    ensures cause { WriteCause (K.faults sink.old) (K.faults sink.new) result }
+{
+    write_magic(alloc, buf, sink)?;
+    write_vertices(alloc, buf, sink, n)
+}
+
+fn fill_header_refused(alloc: Global, buf: &mut LineBuf, line: u32) -> Result<(), AllocError>
+    ensures { OnOk result (buf.new ≡ ((buf.old ++ codes "refused line ") ++ decimal line) ++ codes " header") }
+{
+    fill_named(alloc, buf, b"refused line ", line)?;
+    buf.text(alloc, b" header")
+}
+
+/// Writes the one line of a run whose header is refused (`header_refused_line`), in place of all others.
+///
+/// `line` is the refused line of the input, counted from 1; any number is written. After `WriteFault`, which only a
+/// failed write gives, and after `Memory` the sink took a prefix of the line.
+pub fn write_header_refused<K: Sink>(
+    alloc: Global,
+    buf: &mut LineBuf,
+    sink: &mut K,
+    line: u32,
+) -> Result<(), SendFault>
+    requires { buf.old ≡ [] }
+    ensures text { Appends (K.taken sink.old) (K.taken sink.new) (header_refused_line line) result }
+    ensures buffer { IsCleared buf.new result }
+    ensures cause { WriteCause (K.faults sink.old) (K.faults sink.new) result }
+{
+    match fill_header_refused(alloc, buf, line) {
+        Ok(()) => buf.send(alloc, sink),
+        Err(fault) => Err(SendFault::Memory(fault)),
+    }
+}
+
+/// Writes the last line of a run (`end_line`).
+///
+/// After `WriteFault`, which only a failed write gives, and after `Memory` the sink took a prefix of the line.
+pub fn write_end<K: Sink>(alloc: Global, buf: &mut LineBuf, sink: &mut K) -> Result<(), SendFault>
+    requires { buf.old ≡ [] }
+    ensures text { Appends (K.taken sink.old) (K.taken sink.new) end_line result }
+    ensures buffer { IsCleared buf.new result }
+    ensures cause { WriteCause (K.faults sink.old) (K.faults sink.new) result }
+{
+    match buf.text(alloc, b"end") {
+        Ok(()) => buf.send(alloc, sink),
+        Err(fault) => Err(SendFault::Memory(fault)),
+    }
+}

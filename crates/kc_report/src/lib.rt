@@ -1,0 +1,20 @@
+//! The lines that a run writes.
+//!
+//! Each call asks for an empty line buffer, puts a line together in it and sends it whole. The sink takes the lines of
+//! the definition that the call names. A line has at most 106 bytes; the buffer keeps their memory for the next one.
+//!
+//! After either fault the sink took a prefix of the lines. `WriteFault` comes only where a write to the sink failed in
+//! this call; the buffer is empty then, as after success. `Memory` says that there was none for a line; the buffer may
+//! hold a part of it then, and isn't used again.
+#![tactic(auto)]
+
+mod batches;
+mod fill;
+mod head;
+#[cfg(test)]
+mod tests;
+mod vertices;
+
+pub use batches::{write_batch, write_refused};
+pub use head::{write_end, write_head, write_header_refused};
+pub use vertices::write_vertex;

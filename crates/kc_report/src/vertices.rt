@@ -1,0 +1,71 @@
+ghost use Rattle.std.specs.Prelude.{◌≡◌, [], ◌∷◌, ◌++◌, OnOk, decimal, codes};
+ghost use Rattle.kc_text.specs.Writing.{Appends, WriteCause};
+ghost use Rattle.kc_report.specs.Buffer.{IsCleared};
+ghost use Rattle.kc_report.specs.Lines.{vertex_line};
+
+use crate::fill::fill_named;
+use kc_levels::Estimate;
+use kc_text::{LineBuf, SendFault, Sink};
+use std::alloc::{AllocError, Global};
+
+// What a vertex line says of the level.
+fn fill_bounds(
+    alloc: Global,
+    buf: &mut LineBuf,
+    level: u16,
+    estimate: Estimate,
+) -> Result<(), AllocError>
+    ensures { OnOk result (buf.new ≡ (((((((buf.old ++ codes " level ") ++ decimal level)
+        ++ codes " est ") ++ decimal estimate.est)
+        ++ codes " low ") ++ decimal estimate.lo)
+        ++ codes " high ") ++ decimal estimate.hi) }
+{
+    fill_named(alloc, buf, b" level ", u32::from(level))?;
+    fill_named(alloc, buf, b" est ", estimate.est)?;
+    fill_named(alloc, buf, b" low ", estimate.lo)?;
+    fill_named(alloc, buf, b" high ", estimate.hi)
+}
+
+fn fill_vertex(
+    alloc: Global,
+    buf: &mut LineBuf,
+    v: u32,
+    level: u16,
+    estimate: Estimate,
+    up: u32,
+    down: u32,
+) -> Result<(), AllocError>
+    requires { buf.old ≡ [] }
+    ensures { OnOk result (buf.new ++ 10 ∷ [] ≡ vertex_line v level estimate up down) }
+{
+    fill_named(alloc, buf, b"vertex ", v)?;
+    fill_bounds(alloc, buf, level, estimate)?;
+    fill_named(alloc, buf, b" up ", up)?;
+    fill_named(alloc, buf, b" down ", down)
+}
+
+/// Writes the line of vertex `v` (`vertex_line`): its level, the estimate and the bounds of its coreness, and how many
+/// of its neighbours stand on its level or above (`up`) and on the level below or above (`down`; at level 0 the same).
+///
+/// Any numbers are written: that they are those of `v` is the caller's part. After `WriteFault`, which only a failed
+/// write gives, and after `Memory` the sink took a prefix of the line.
+pub fn write_vertex<K: Sink>(
+    alloc: Global,
+    buf: &mut LineBuf,
+    sink: &mut K,
+    v: u32,
+    level: u16,
+    estimate: Estimate,
+    up: u32,
+    down: u32,
+) -> Result<(), SendFault>
+    requires { buf.old ≡ [] }
+    ensures text { Appends (K.taken sink.old) (K.taken sink.new) (vertex_line v level estimate up down) result }
+    ensures buffer { IsCleared buf.new result }
+    ensures cause { WriteCause (K.faults sink.old) (K.faults sink.new) result }
+{
+    match fill_vertex(alloc, buf, v, level, estimate, up, down) {
+        Ok(()) => buf.send(alloc, sink),
+        Err(fault) => Err(SendFault::Memory(fault)),
+    }
+}
