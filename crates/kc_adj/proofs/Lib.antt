@@ -1,0 +1,5 @@
+pub mod Counted
+pub mod Moving
+pub mod Crossing
+pub mod Linking
+pub mod CrossingLaw

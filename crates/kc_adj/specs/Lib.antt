@@ -1,0 +1,5 @@
+pub mod LeveledGraph
+pub mod Crossing
+pub mod Moving
+pub mod Linking
+pub mod Laws

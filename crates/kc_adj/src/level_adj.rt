@@ -1,0 +1,271 @@
+ghost use Rattle.std.specs.Prelude.{◌≡◌, ◌+◌, ◌-◌, ◌<◌, ◌≤◌, ◌++◌, ◌↔◌, [], IsTrue, OnOk, OnErr, IfOk, true, false, length, replicate, slice_index, slice_set};
+ghost use Rattle.kc_graph.specs.Shape.{IsGraph, neighbours_of, has_edge, with_edge, without_edge};
+ghost use Rattle.kc_levels.specs.Thresholds.{top_level};
+ghost use Rattle.kc_levels.specs.LevelList.{at_least, MeetsLower, IsDesired};
+ghost use Rattle.kc_adj.specs.LeveledGraph.{LeveledGraph};
+ghost use Rattle.kc_adj.specs.Crossing.{crossed};
+
+use crate::counts::Counts;
+use crate::steps::Steps;
+use crate::{crossings, desired, links, moves};
+use kc_graph::{Edge, Graph, MAX_EDGES, MAX_VERTICES};
+use kc_levels::{Levels, Thresholds};
+use std::alloc::{AllocError, Global};
+use std::marker::Model;
+use std::sync::ledger::Ledger;
+
+/// A graph with a level for each vertex, where for each vertex the number of neighbours on its level or above, and on the
+/// level below or above, is at hand.
+///
+/// Contracts see it as a `LeveledGraph`: the graph and the list of the levels. A level is 0 to 65,535.
+///
+/// Besides the graph it takes 10 bytes a vertex. `link`, `unlink`, `rise`, `rise_crossing`, `lift` and `fall` count one step
+/// for themselves, and one for each half-edge that they visit: a neighbour of the vertex that moves, or an end of the edge.
+#[derive(Drop)]
+pub struct LevelAdj {
+    graph: Graph,
+    levels: Levels,
+    // What `at_least` gives for each vertex from its level on, and from the level below on.
+    counts: Counts,
+}
+
+impl Model for LevelAdj {
+    ghost use Rattle.kc_adj.specs.LeveledGraph.{LeveledGraph, IsAdjacency};
+
+    ghost Value = { LeveledGraph };
+
+    ghost view = { λ a. record { graph = a.graph; levels = a.levels } };
+
+    ghost invariant = { λ a. IsAdjacency a.graph a.levels a.counts.own.items a.counts.below.items };
+}
+
+impl LevelAdj {
+    /// The graph on n vertices without edges, all on level 0; n is 1 to `MAX_VERTICES`.
+    ///
+    /// Takes memory and time for n vertices. The error is want of memory.
+    pub fn new(alloc: Global, n: u32) -> Result<LevelAdj, AllocError>
+        requires positive { 1 ≤ n }
+        requires small { n ≤ MAX_VERTICES }
+        ensures { IfOk result (λ a. a ≡ record { graph = record { vertices = n; edges = [] }; levels = replicate n 0 }) }
+    {
+        let graph = Graph::new(alloc, n)?;
+        let levels = Levels::zeros(alloc, n)?;
+        let own = vec![in alloc; 0u32; n as usize]?;
+        let below = vec![in alloc; 0u32; n as usize]?;
+        Ok(LevelAdj {
+            graph,
+            levels,
+            counts: Counts { own, below },
+        })
+    }
+
+    /// The graph.
+    pub fn graph(&self) -> &Graph
+        ensures { result.now ≡ self.now.graph }
+    {
+        &self.graph
+    }
+
+    /// The levels, one for each vertex of the graph.
+    pub fn levels(&self) -> &Levels
+        ensures value { result.now ≡ self.now.levels }
+        ensures sized { length self.now.levels ≡ self.now.graph.vertices }
+    {
+        &self.levels
+    }
+
+    /// The level of `v`, a vertex of the graph.
+    pub fn level(&self, v: u32) -> u16
+        requires { v < self.now.graph.vertices }
+        ensures { result ≡ slice_index self.now.levels v }
+    {
+        self.levels.get(v)
+    }
+
+    /// How many neighbours of `v` are on its level or above (`at_least`). Costs O(1).
+    pub fn at_least_own(&self, v: u32) -> u32
+        requires { v < self.now.graph.vertices }
+        ensures value { result ≡ at_least self.now.graph self.now.levels v (slice_index self.now.levels v) }
+        ensures few { result < self.now.graph.vertices }
+    {
+        let _n = self.graph.vertices();
+        self.counts.own[v as usize]
+    }
+
+    /// How many neighbours of `v` are on the level below its own or above (`at_least`); on level 0 all are counted, so this
+    /// is the degree. Costs O(1).
+    pub fn at_least_below(&self, v: u32) -> u32
+        requires { v < self.now.graph.vertices }
+        ensures value { result ≡ at_least self.now.graph self.now.levels v (slice_index self.now.levels v - 1) }
+        ensures degree { slice_index self.now.levels v ≡ 0 → result ≡ length (neighbours_of v self.now.graph.edges) }
+        ensures few { result < self.now.graph.vertices }
+    {
+        let _n = self.graph.vertices();
+        self.counts.below[v as usize]
+    }
+
+    // Whether v is held on its own level, by its kept count.
+    fn meets_lower(&self, th: &Thresholds, v: u32) -> bool
+        requires vertex { v < self.now.graph.vertices }
+        requires scale { th.now.vertices ≡ self.now.graph.vertices }
+        requires capped { slice_index self.now.levels v ≤ top_level th.now.profile th.now.vertices }
+        ensures { IsTrue result ↔ MeetsLower th.now.profile self.now.graph self.now.levels v }
+    {
+        let level = self.level(v);
+        level == 0 || th.low(th.group(level - 1)) <= self.at_least_below(v)
+    }
+
+    /// The greatest level, from 0 up to its own, on which `v` has enough neighbours to stand: 0, or one with as many
+    /// neighbours from the level below on as that level's group asks (`IsDesired`).
+    ///
+    /// The thresholds are for this number of vertices, and the level of `v` is at most their top. Takes no memory.
+    ///
+    /// Costs O(1) where `v` can stay on its level. Else one pass over its neighbours for each halving of the levels up to
+    /// its own, so at most 12.
+    pub fn desired(&self, th: &Thresholds, v: u32) -> u16
+        requires vertex { v < self.now.graph.vertices }
+        requires scale { th.now.vertices ≡ self.now.graph.vertices }
+        requires capped { slice_index self.now.levels v ≤ top_level th.now.profile th.now.vertices }
+        ensures { IsDesired th.now.profile self.now.graph self.now.levels v result }
+    {
+        if self.meets_lower(th, v) {
+            return self.level(v);
+        }
+        desired::desired(&self.graph, &self.levels, th, v)
+    }
+
+    /// Puts in an edge that is not there (`with_edge`); fewer than `MAX_EDGES` edges may be there. Levels stay.
+    ///
+    /// Counts 3 steps. The error is want of memory, and all is then unchanged, the steps too.
+    ///
+    /// Costs what `Graph::insert` costs.
+    pub fn link<L: Ledger>(
+        &mut self,
+        alloc: Global,
+        e: Edge,
+        steps: &mut Steps<L>,
+    ) -> Result<(), AllocError>
+        requires below { e.1 < self.old.graph.vertices }
+        requires absent { has_edge e self.old.graph.edges ≡ false }
+        requires room { length self.old.graph.edges < MAX_EDGES }
+        ensures ok { OnOk result (self.new ≡ record self.old { graph = with_edge self.old.graph e }) }
+        ensures cost { OnOk result (steps.new ≡ steps.old + 3) }
+        ensures err { OnErr result (self.new ≡ self.old) }
+        ensures steps_kept { OnErr result (steps.new ≡ steps.old) }
+    {
+        let _n = self.graph.vertices();
+        self.graph.insert(alloc, e)?;
+        links::link(&self.levels, &mut self.counts.own, 0, e.a, e.b);
+        links::link(&self.levels, &mut self.counts.below, 1, e.a, e.b);
+        steps.tick();
+        steps.tick();
+        steps.tick();
+        Ok(())
+    }
+
+    /// Takes out an edge that is there (`without_edge`). Levels stay. Counts 3 steps. Takes no memory.
+    ///
+    /// Costs what `Graph::remove` costs.
+    pub fn unlink<L: Ledger>(&mut self, e: Edge, steps: &mut Steps<L>)
+        requires below { e.1 < self.old.graph.vertices }
+        requires present { has_edge e self.old.graph.edges ≡ true }
+        ensures value { self.new ≡ record self.old { graph = without_edge self.old.graph e } }
+        ensures cost { steps.new ≡ steps.old + 3 }
+    {
+        let _n = self.graph.vertices();
+        self.graph.remove(e);
+        links::unlink(&self.levels, &mut self.counts.own, 0, e.a, e.b);
+        links::unlink(&self.levels, &mut self.counts.below, 1, e.a, e.b);
+        steps.tick();
+        steps.tick();
+        steps.tick();
+    }
+
+    /// Puts `v` one level up; its level is below 65,535. Takes no memory.
+    ///
+    /// One pass over its neighbours. Counts a step for each of them, and one more.
+    pub fn rise<L: Ledger>(&mut self, v: u32, steps: &mut Steps<L>)
+        requires vertex { v < self.old.graph.vertices }
+        requires room { slice_index self.old.levels v < 65535 }
+        ensures value { self.new ≡ record self.old { levels = slice_set self.old.levels v (slice_index self.old.levels v + 1) } }
+        ensures cost { steps.new ≡ steps.old + (length (neighbours_of v self.old.graph.edges) + 1) }
+    {
+        let to = self.level(v) + 1;
+        self.lift(v, to, steps);
+    }
+
+    /// Puts `v` one level up, as `rise` does, and appends to `crossing` the neighbours that this takes over a bound, in
+    /// ascending order: those on v's new level that now have exactly `most + 1` neighbours there or above (`crossed`).
+    ///
+    /// Where `most` is what the new level's group allows, these are all the vertices besides `v` that begin to break the upper
+    /// invariant by it (`laws::rise_breaks_crossed`).
+    ///
+    /// One pass over its neighbours. Counts a step for each of them, and one more. Makes room in `crossing` for as many more
+    /// numbers as `v` has neighbours, so one list should serve for many rises. That comes before anything else: the error is
+    /// want of memory, and all is then unchanged.
+    pub fn rise_crossing<L: Ledger>(
+        &mut self,
+        _alloc: Global,
+        v: u32,
+        most: u32,
+        crossing: &mut Vec<u32>,
+        steps: &mut Steps<L>,
+    ) -> Result<(), AllocError>
+        requires vertex { v < self.old.graph.vertices }
+        requires room { slice_index self.old.levels v < 65535 }
+        ensures ok { OnOk result (self.new ≡ record self.old { levels = slice_set self.old.levels v (slice_index self.old.levels v + 1) }) }
+        ensures crossing { OnOk result (crossing.new.items ≡ crossing.old.items ++ crossed self.new.graph self.new.levels v most) }
+        ensures cost { OnOk result (steps.new ≡ steps.old + (length (neighbours_of v self.old.graph.edges) + 1)) }
+        ensures err { OnErr result (self.new ≡ self.old) }
+        ensures crossing_kept { OnErr result (crossing.new.items ≡ crossing.old.items) }
+        ensures steps_kept { OnErr result (steps.new ≡ steps.old) }
+    {
+        crossings::rise_crossing(
+            &self.graph,
+            &mut self.levels,
+            &mut self.counts,
+            v,
+            most,
+            crossing,
+            steps,
+        )
+    }
+
+    /// Puts `v` up to the level `to`, which is at least its own. Takes no memory.
+    ///
+    /// One pass over its neighbours, however far it rises. Counts a step for each of them, and one more.
+    pub fn lift<L: Ledger>(&mut self, v: u32, to: u16, steps: &mut Steps<L>)
+        requires vertex { v < self.old.graph.vertices }
+        requires over { slice_index self.old.levels v ≤ to }
+        ensures value { self.new ≡ record self.old { levels = slice_set self.old.levels v to } }
+        ensures cost { steps.new ≡ steps.old + (length (neighbours_of v self.old.graph.edges) + 1) }
+    {
+        moves::lift(
+            &self.graph,
+            &mut self.levels,
+            &mut self.counts,
+            v,
+            to,
+            steps,
+        );
+    }
+
+    /// Puts `v` down to the level `to`, which is at most its own. Takes no memory.
+    ///
+    /// One pass over its neighbours, however far it falls. Counts a step for each of them, and one more.
+    pub fn fall<L: Ledger>(&mut self, v: u32, to: u16, steps: &mut Steps<L>)
+        requires vertex { v < self.old.graph.vertices }
+        requires under { to ≤ slice_index self.old.levels v }
+        ensures value { self.new ≡ record self.old { levels = slice_set self.old.levels v to } }
+        ensures cost { steps.new ≡ steps.old + (length (neighbours_of v self.old.graph.edges) + 1) }
+    {
+        moves::fall(
+            &self.graph,
+            &mut self.levels,
+            &mut self.counts,
+            v,
+            to,
+            steps,
+        );
+    }
+}

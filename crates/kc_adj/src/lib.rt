@@ -1,0 +1,21 @@
+//! Level adjacency: a graph with a level for each vertex, which keeps for each vertex how many of its neighbours are on its
+//! level or above, and how many on the level below or above. So nothing is counted anew when levels change.
+//!
+//! [`LevelAdj`] is the graph with its levels. Its changing calls count their steps in a [`Steps`], which costs nothing when
+//! the program runs. `specs/` has the definitions: read `LeveledGraph` first.
+#![tactic(auto)]
+
+mod counts;
+mod crossings;
+mod desired;
+pub mod laws;
+mod level_adj;
+mod links;
+mod moves;
+mod steps;
+
+pub use level_adj::LevelAdj;
+pub use steps::Steps;
+
+#[cfg(test)]
+mod tests;

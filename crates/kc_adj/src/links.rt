@@ -1,0 +1,50 @@
+// How the counts change when an edge comes in or leaves.
+
+ghost use Rattle.std.specs.Prelude.{◌≡◌, ◌<◌, ◌≤◌, ◌^◌, length, slice_index};
+ghost use Rattle.kc_adj.specs.Linking.{share, linked, unlinked};
+
+use kc_levels::Levels;
+
+// 1 where w counts at v, which counts from `less` levels below its own on.
+fn share(levels: &Levels, less: u16, v: u32, w: u32) -> u32
+    requires first { v < length levels.now }
+    requires second { w < length levels.now }
+    ensures value { result ≡ share levels.now less v w }
+    ensures small { result ≤ 1 }
+{
+    if levels.get(v).saturating_sub(less) <= levels.get(w) {
+        1
+    } else {
+        0
+    }
+}
+
+/// Counts an edge between a and b that came in.
+pub fn link(levels: &Levels, counts: &mut Vec<u32>, less: u16, a: u32, b: u32)
+    requires order { a < b }
+    requires below { b < length levels.now }
+    requires sized { length counts.old.items ≡ length levels.now }
+    requires low { slice_index counts.old.items a < 2 ^ 31 }
+    requires high { slice_index counts.old.items b < 2 ^ 31 }
+    ensures { counts.new.items ≡ linked levels.now less a b counts.old.items }
+{
+    let low = counts[a as usize] + share(levels, less, a, b);
+    let high = counts[b as usize] + share(levels, less, b, a);
+    counts[a as usize] = low;
+    counts[b as usize] = high;
+}
+
+/// Counts an edge between a and b no more.
+pub fn unlink(levels: &Levels, counts: &mut Vec<u32>, less: u16, a: u32, b: u32)
+    requires order { a < b }
+    requires below { b < length levels.now }
+    requires sized { length counts.old.items ≡ length levels.now }
+    requires low { share levels.now less a b ≤ slice_index counts.old.items a }
+    requires high { share levels.now less b a ≤ slice_index counts.old.items b }
+    ensures { counts.new.items ≡ unlinked levels.now less a b counts.old.items }
+{
+    let low = counts[a as usize] - share(levels, less, a, b);
+    let high = counts[b as usize] - share(levels, less, b, a);
+    counts[a as usize] = low;
+    counts[b as usize] = high;
+}

@@ -1,0 +1,310 @@
+ghost use Rattle.std.specs.Prelude.{◌≡◌, ◌<◌, true};
+
+use crate::{LevelAdj, Steps};
+use kc_graph::{Edge, MAX_EDGES};
+use kc_levels::{Profile, Thresholds, at_least};
+use std::alloc::Global;
+use std::marker::Brand;
+use std::process::Abort;
+use std::sync::ledger::{Blank, Ledger};
+use std::test::Fail;
+
+// One change.
+#[derive(Clone, Copy, Debug)]
+enum Change {
+    Link(u32, u32),
+    Unlink(u32, u32),
+    Rise(u32),
+    Lift(u32, u16),
+    Fall(u32, u16),
+}
+
+use Change::{Fall, Lift, Link, Rise, Unlink};
+
+// Changes to the graph on 5 vertices without edges, all on level 0; then for each vertex its level, both counts, and the
+// desired level. The top level is 6. A vertex stays on a level from 1 to 6 if it has a neighbour on the level below or above.
+struct Case {
+    changes: &'static [Change],
+    kept: [(u16, u32, u32, u16); 5],
+}
+
+const CASES: [Case; 6] = [
+    Case {
+        changes: &[],
+        kept: [
+            (0, 0, 0, 0),
+            (0, 0, 0, 0),
+            (0, 0, 0, 0),
+            (0, 0, 0, 0),
+            (0, 0, 0, 0),
+        ],
+    },
+    // One edge, of which one end has risen; then without the edge.
+    Case {
+        changes: &[Link(0, 1), Rise(0)],
+        kept: [
+            (1, 0, 1, 1),
+            (0, 1, 1, 0),
+            (0, 0, 0, 0),
+            (0, 0, 0, 0),
+            (0, 0, 0, 0),
+        ],
+    },
+    Case {
+        changes: &[Link(0, 1), Rise(0), Unlink(0, 1)],
+        kept: [
+            (1, 0, 0, 0),
+            (0, 0, 0, 0),
+            (0, 0, 0, 0),
+            (0, 0, 0, 0),
+            (0, 0, 0, 0),
+        ],
+    },
+    // A triangle with one more vertex at 0.
+    Case {
+        changes: &[
+            Link(0, 1),
+            Lift(0, 3),
+            Link(1, 2),
+            Rise(1),
+            Link(0, 3),
+            Lift(3, 6),
+            Rise(1),
+            Link(0, 2),
+            Fall(3, 1),
+        ],
+        kept: [
+            (3, 0, 1, 3),
+            (2, 1, 1, 2),
+            (0, 2, 2, 0),
+            (1, 1, 1, 1),
+            (0, 0, 0, 0),
+        ],
+    },
+    // A star whose centre is on the top level; then without the edge to its highest leaf.
+    Case {
+        changes: &[
+            Lift(1, 4),
+            Link(0, 1),
+            Link(0, 2),
+            Link(0, 3),
+            Lift(0, 6),
+            Lift(2, 2),
+        ],
+        kept: [
+            (6, 0, 0, 5),
+            (4, 1, 1, 4),
+            (2, 1, 1, 2),
+            (0, 1, 1, 0),
+            (0, 0, 0, 0),
+        ],
+    },
+    Case {
+        changes: &[
+            Link(0, 1),
+            Link(0, 2),
+            Link(0, 3),
+            Lift(0, 6),
+            Lift(1, 4),
+            Lift(2, 2),
+            Unlink(0, 1),
+        ],
+        kept: [
+            (6, 0, 0, 3),
+            (4, 0, 0, 0),
+            (2, 1, 1, 2),
+            (0, 1, 1, 0),
+            (0, 0, 0, 0),
+        ],
+    },
+];
+
+// An edge between two vertices of the graph.
+fn edge(rt: &impl Abort, adj: &LevelAdj, a: u32, b: u32) -> Edge
+    ensures { result.1 < adj.now.graph.vertices }
+{
+    assert!(rt; a < b && b < adj.graph().vertices());
+    Edge { a, b }
+}
+
+fn apply<L: Ledger>(
+    rt: &impl Abort,
+    alloc: Global,
+    adj: &mut LevelAdj,
+    change: Change,
+    steps: &mut Steps<L>,
+) -> Result<(), Fail> {
+    match change {
+        Link(a, b) => {
+            let e = edge(rt, adj, a, b);
+            assert!(rt; !adj.graph().has(e) && adj.graph().edge_count() < MAX_EDGES);
+            adj.link(alloc, e, steps)?;
+            assert!(rt; adj.graph().has(e), "{e:?}");
+        }
+        Unlink(a, b) => {
+            let e = edge(rt, adj, a, b);
+            assert!(rt; adj.graph().has(e));
+            adj.unlink(e, steps);
+            assert!(rt; !adj.graph().has(e), "{e:?}");
+        }
+        Rise(v) => {
+            assert!(rt; v < adj.graph().vertices());
+            assert!(rt; adj.level(v) < 65535);
+            adj.rise(v, steps);
+        }
+        Lift(v, to) => {
+            assert!(rt; v < adj.graph().vertices());
+            assert!(rt; adj.level(v) <= to);
+            adj.lift(v, to, steps);
+        }
+        Fall(v, to) => {
+            assert!(rt; v < adj.graph().vertices());
+            assert!(rt; to <= adj.level(v));
+            adj.fall(v, to, steps);
+        }
+    }
+    Ok(())
+}
+
+fn check_vertex(
+    rt: &impl Abort,
+    adj: &LevelAdj,
+    th: &Thresholds,
+    v: u32,
+    kept: (u16, u32, u32, u16),
+)
+    requires scale { th.now.vertices ≡ 5 }
+    requires graph { adj.now.graph.vertices ≡ 5 }
+    requires vertex { v < 5 }
+{
+    let (level, own, below, desired) = kept;
+    assert_eq!(rt; adj.level(v), level, "level of {v}");
+    assert_eq!(rt; adj.levels().get(v), level, "level of {v}");
+    assert_eq!(rt; adj.at_least_own(v), own, "at {v}");
+    assert_eq!(rt;
+        at_least(adj.graph(), adj.levels(), v, level),
+        own,
+        "at {v}"
+    );
+    assert_eq!(rt; adj.at_least_below(v), below, "below {v}");
+    assert!(rt; th.top() == 6 && level <= 6);
+    assert_eq!(rt; adj.desired(th, v), desired, "desired of {v}");
+}
+
+fn check<L: Ledger>(rt: &impl Abort, alloc: Global, case: &Case, blank: Blank) -> Result<(), Fail>
+    requires name { blank.name ≡ L.name }
+    requires parts { blank.parts ≡ L.parts }
+    requires positive { 0 < blank.parts }
+{
+    let mut steps = Steps::<L>::new(blank);
+    let th = Thresholds::new(alloc, Profile::One, 5)?;
+    let mut adj = LevelAdj::new(alloc, 5)?;
+    for &one in case.changes {
+        apply(rt, alloc, &mut adj, one, &mut steps)?;
+    }
+    assert!(rt; adj.graph().vertices() == 5);
+    for v in 0..5 {
+        check_vertex(rt, &adj, &th, v, case.kept[v as usize]);
+    }
+    Ok(())
+}
+
+#[test]
+fn counts_and_desired_levels(rt: HostRuntime) -> Result<(), Fail> {
+    for case in &CASES {
+        check::<Brand>(&rt, rt.alloc(), case, Blank::new(1))?;
+    }
+    Ok(())
+}
+
+// Three leaves of 0 on level 1, of which 1 and 2 are neighbours too. Then 0 rises to level 1, where `most` are allowed.
+fn check_crossing<L: Ledger>(
+    rt: &impl Abort,
+    alloc: Global,
+    most: u32,
+    want: &[u32],
+    blank: Blank,
+) -> Result<(), Fail>
+    requires name { blank.name ≡ L.name }
+    requires parts { blank.parts ≡ L.parts }
+    requires positive { 0 < blank.parts }
+{
+    let mut steps = Steps::<L>::new(blank);
+    let mut adj = LevelAdj::new(alloc, 5)?;
+    for one in [
+        Link(0, 1),
+        Link(0, 2),
+        Link(0, 3),
+        Link(1, 2),
+        Rise(1),
+        Rise(2),
+        Rise(3),
+    ] {
+        apply(rt, alloc, &mut adj, one, &mut steps)?;
+    }
+    let mut crossing = vec![in alloc; 4]?;
+    assert!(rt; 0 < adj.graph().vertices());
+    assert!(rt; adj.level(0) < 65535);
+    let risen = adj.rise_crossing(alloc, 0, most, &mut crossing, &mut steps);
+    assert!(rt; 0 < adj.graph().vertices());
+    match risen {
+        Ok(()) => {
+            assert_eq!(rt; adj.level(0), 1);
+            assert_eq!(rt; adj.at_least_own(0), 3);
+            assert_eq!(rt; crossing.as_slice(), want, "over {most}");
+        }
+        Err(_) => {
+            assert_eq!(rt; adj.level(0), 0);
+            assert_eq!(rt; adj.at_least_own(0), 3);
+            assert_eq!(rt; crossing.as_slice(), [4].as_slice());
+        }
+    }
+    Ok(())
+}
+
+#[test]
+fn neighbours_over_a_bound(rt: HostRuntime) -> Result<(), Fail> {
+    check_crossing::<Brand>(&rt, rt.alloc(), 0, &[4, 3], Blank::new(1))?;
+    check_crossing::<Brand>(&rt, rt.alloc(), 1, &[4, 1, 2], Blank::new(1))?;
+    check_crossing::<Brand>(&rt, rt.alloc(), 2, &[4], Blank::new(1))
+}
+
+// The graph is as before where memory for an edge is refused, which a run with few allocations shows.
+fn check_link<L: Ledger>(rt: &impl Abort, alloc: Global, blank: Blank) -> Result<(), Fail>
+    requires name { blank.name ≡ L.name }
+    requires parts { blank.parts ≡ L.parts }
+    requires positive { 0 < blank.parts }
+{
+    let mut steps = Steps::<L>::new(blank);
+    let mut adj = LevelAdj::new(alloc, 5)?;
+    let e = edge(rt, &adj, 1, 3);
+    assert!(rt; !adj.graph().has(e) && adj.graph().edge_count() < MAX_EDGES);
+    let linked = adj.link(alloc, e, &mut steps).is_ok();
+    for v in [1, 3] {
+        assert!(rt; v < adj.graph().vertices());
+        assert_eq!(rt; adj.at_least_own(v), linked as u32);
+        assert_eq!(rt; adj.at_least_below(v), linked as u32);
+        assert_eq!(rt; adj.graph().neighbours(v).len(), linked as usize);
+    }
+    assert_eq!(rt; adj.graph().edge_count(), linked as u32);
+    Ok(())
+}
+
+#[test]
+fn an_edge_comes_in_whole_or_not_at_all(rt: HostRuntime) -> Result<(), Fail> {
+    check_link::<Brand>(&rt, rt.alloc(), Blank::new(1))
+}
+
+// A thread may be given it, and several threads may read it at once.
+fn may_cross_threads<T: Send + Sync>(_value: &T) -> bool
+    ensures { result ≡ true }
+{
+    true
+}
+
+#[test]
+fn level_adjacency_crosses_threads(rt: HostRuntime) -> Result<(), Fail> {
+    let adj = LevelAdj::new(rt.alloc(), 1)?;
+    assert!(rt; may_cross_threads(&adj));
+    Ok(())
+}

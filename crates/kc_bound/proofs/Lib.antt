@@ -1,0 +1,11 @@
+pub mod Counts
+pub mod HighBound
+pub mod Removals
+pub mod LoBound
+pub mod Growth
+pub mod LevelBounds
+pub mod Ordered
+pub mod Peels
+pub mod Sorting
+pub mod Existence
+pub mod Members

@@ -1,0 +1,39 @@
+-- What the levels of a graph say of coreness, each the contract of a function of `laws`.
+use Rattle.std.specs.Prelude.{ℕ, ◌*◌, ◌≤◌, ◌<◌, ◌≡◌, Bool, List, get_or}
+use Rattle.kc_graph.specs.Numbers.{has_number}
+use Rattle.kc_graph.specs.Shape.{GraphShape, IsGraph}
+use Rattle.kc_levels.specs.declared.profile.Profile.{Profile}
+use Rattle.kc_levels.specs.Thresholds.{high, lo, est, group_of}
+use Rattle.kc_levels.specs.LevelList.{MeetsUpper, MeetsLower, MeetsBoth}
+use Rattle.kc_bound.specs.Cores.{IsCore, IsCoreness}
+
+-- each core is the members of a list of vertices
+abbrev pub CoresAreLists : Type 0
+CoresAreLists = (g : GraphShape) (k : ℕ) (s : ℕ → Bool) → IsCore g k s → (xs : List ℕ) × ((u : ℕ) → has_number u xs ≡ s u)
+
+-- each vertex of a graph has a coreness
+abbrev pub EachHasCoreness : Type 0
+EachHasCoreness = (g : GraphShape) (v : ℕ) → IsGraph g → v < g.vertices → (c : ℕ) × IsCoreness g v c
+
+-- a vertex has no two corenesses
+abbrev pub CorenessIsOne : Type 0
+CorenessIsOne = (g : GraphShape) (v a b : ℕ) → IsCoreness g v a → IsCoreness g v b → a ≡ b
+
+-- where each vertex meets the upper invariant, no coreness is above the high of the group of its vertex's level
+abbrev pub HighBoundsCoreness : Type 0
+HighBoundsCoreness =
+    (p : Profile) (g : GraphShape) (x : List ℕ) → ((u : ℕ) → u < g.vertices → MeetsUpper p g x u) →
+    (v c : ℕ) → IsCoreness g v c → c ≤ high p (group_of p g.vertices (get_or x v 0))
+
+-- where each vertex meets the lower invariant, no coreness is below the lo of the group of its vertex's level
+abbrev pub LoBoundsCoreness : Type 0
+LoBoundsCoreness =
+    (p : Profile) (g : GraphShape) (x : List ℕ) → IsGraph g → ((u : ℕ) → u < g.vertices → MeetsLower p g x u) →
+    (v c : ℕ) → IsCoreness g v c → lo p (group_of p g.vertices (get_or x v 0)) ≤ c
+
+-- where both invariants hold, the estimate is at most twice the coreness, and the coreness at most three times the estimate
+pub record EstimateIsNearCoreness : Type 0 where
+  pub estimate : (p : Profile) (g : GraphShape) (x : List ℕ) → IsGraph g → MeetsBoth p g x →
+      (v c : ℕ) → IsCoreness g v c → est p (group_of p g.vertices (get_or x v 0)) ≤ 2 * c
+  pub coreness : (p : Profile) (g : GraphShape) (x : List ℕ) → IsGraph g → MeetsBoth p g x →
+      (v c : ℕ) → IsCoreness g v c → c ≤ 3 * est p (group_of p g.vertices (get_or x v 0))

@@ -1,0 +1,3 @@
+pub mod Cores
+pub mod Laws
+pub mod Peeling
