@@ -6,7 +6,8 @@ use Rattle.std.specs.Io.KnownBytes.{append_known}
 use Rattle.std.proofs.lemmas.Option.{same_Some}
 use Rattle.std.proofs.lemmas.List.{append-nil}
 use Rattle.std.proofs.lemmas.List.Elements.{All-nil, All-cons, All-head, All-tail}
-use Rattle.kc_levels.specs.LevelList.{MeetsBoth}
+use Rattle.kc_bound.proofs.LevelBounds.{lo_bounds_coreness, high_bounds_coreness, estimate_is_near_coreness}
+use Rattle.kcore.specs.Laws.{HoldsIn}
 use Rattle.kc_text.specs.declared.reason.Reason.TheVariants.{Header, LineLong, BadLine, BadVertex, TooMany, Truncated, InputLimit, EdgeLimit, PhaseLimit}
 use Rattle.kc_text.specs.Writing.{IsPrefix}
 use Rattle.kc_text.proofs.Known.{append_none, append_twice, prefix_none, prefix_longer, prefix_then}
@@ -46,16 +47,21 @@ one_run n limit s (b ∷ bs) (t ∷ ts) (u ∷ us) k e all x y =
     let rest : ts ≡ us = one_run n limit t bs ts us z.0 z.1 (All-tail (IsNext n limit) b bs all) x.1 (subst (λ (w : State). AreStates w bs us) (sym same) y.1) in
     rw (same, rest) refl
 
--- both invariants hold in a state
-abbrev pub InBoth : State → Type 0
-InBoth s = MeetsBoth s.thresholds.profile s.graph s.levels
+pub holds_in : (s : State) → IsSound s → HoldsIn s
+holds_in s k = record {
+  both = k.both;
+  low = λ v c i. rw k.scale (lo_bounds_coreness s.thresholds.profile s.graph s.levels k.graph k.both.lower v c i);
+  high = λ v c i. rw k.scale (high_bounds_coreness s.thresholds.profile s.graph s.levels k.both.upper v c i);
+  estimate = λ v c i. rw k.scale (estimate_is_near_coreness.estimate s.thresholds.profile s.graph s.levels k.graph k.both v c i);
+  near = λ v c i. rw k.scale (estimate_is_near_coreness.coreness s.thresholds.profile s.graph s.levels k.graph k.both v c i);
+}
 
-pub all_both : (n limit : ℕ) (s : State) (bs : List Next) (ts : List State) → IsSound s → s.graph.vertices ≡ n → All (IsNext n limit) bs → AreStates s bs ts → All InBoth ts
-all_both n limit s bs [] k e all a = All-nil InBoth
-all_both n limit s [] (t ∷ ts) k e all a = absurd a
-all_both n limit s (b ∷ bs) (t ∷ ts) k e all a =
+pub all_hold : (n limit : ℕ) (s : State) (bs : List Next) (ts : List State) → IsSound s → s.graph.vertices ≡ n → All (IsNext n limit) bs → AreStates s bs ts → All HoldsIn ts
+all_hold n limit s bs [] k e all a = All-nil HoldsIn
+all_hold n limit s [] (t ∷ ts) k e all a = absurd a
+all_hold n limit s (b ∷ bs) (t ∷ ts) k e all a =
     let z = sound_step s n limit b t k e (All-head (IsNext n limit) b bs all) a.0 in
-    All-cons InBoth t ts z.0.both (all_both n limit t bs ts z.0 z.1 (All-tail (IsNext n limit) b bs all) a.1)
+    All-cons HoldsIn t ts (holds_in t z.0) (all_hold n limit t bs ts z.0 z.1 (All-tail (IsNext n limit) b bs all) a.1)
 
 -- what more batches come to, seen from the first of all
 pub record IsLed (s0 : State) (bs0 : List Next) (k : ℕ) (s : State) (bs : List Next) (ts : List State) (said : List ℕ) (refused : Bool) : Type 0 where

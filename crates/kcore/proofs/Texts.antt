@@ -23,11 +23,11 @@ use Rattle.kcore.specs.RunText.{batch_lines, some_refused, tail_text, IsRun, IsR
 use Rattle.kcore.specs.Stops.{RunsBatches, WritesRun, Writes}
 use Rattle.kcore.specs.declared.command.Command.{Command}
 use Rattle.kcore.specs.declared.command.Command.TheVariants.{RunOne}
-use Rattle.kcore.specs.Commands.{KeepsBoth}
-use Rattle.kcore.specs.Laws.{BothHold, InputHasOneText, BothHoldInEachState}
+use Rattle.kcore.specs.Commands.{Holds}
+use Rattle.kcore.specs.Laws.{HoldsIn, HoldsThroughout, InputHasOneText, EachStateHolds}
 use Rattle.kcore.proofs.Steps.{sound_start}
 use Rattle.std.proofs.lemmas.List.Elements.{All-cons}
-use Rattle.kcore.proofs.Runs.{InBoth, some_states, one_run, all_both}
+use Rattle.kcore.proofs.Runs.{holds_in, some_states, one_run, all_hold}
 
 -- the text for these states
 abbrev run_text : (header : HeaderShape) (bs : List Next) (ts : List State) → List ℕ
@@ -140,16 +140,16 @@ input_has_one_text bytes =
     let there = some_text 1048576 text in
     (there.0, (there.1.0, (there.1.1, λ a x p. one_of_header 1048576 text a there.0 x there.1.0 p there.1.1)))
 
-both_behind : (limit : ℕ) (text : HeaderText) → BothHold (behind_header limit text)
-both_behind limit (Refused line) = tt
-both_behind limit (Accepted header rest) = λ ts a.
-    All-cons InBoth (start header.profile header.n) ts (sound_start header.profile header.n).both
-    (all_both header.n limit (start header.profile header.n) (batches header.n limit (tokens rest)) ts (sound_start header.profile header.n) refl (batches_keep_ranges header.n limit (tokens rest)) a)
+holds_behind : (limit : ℕ) (text : HeaderText) → HoldsThroughout (behind_header limit text)
+holds_behind limit (Refused line) = tt
+holds_behind limit (Accepted header rest) = λ ts a.
+    All-cons HoldsIn (start header.profile header.n) ts (holds_in (start header.profile header.n) (sound_start header.profile header.n))
+    (all_hold header.n limit (start header.profile header.n) (batches header.n limit (tokens rest)) ts (sound_start header.profile header.n) refl (batches_keep_ranges header.n limit (tokens rest)) a)
 
-pub both_hold_in_each_state : BothHoldInEachState
-both_hold_in_each_state bytes = both_behind 1048576 (header_of (kept (lines 65536 1073741824 bytes)))
+pub each_state_holds : EachStateHolds
+each_state_holds bytes = holds_behind 1048576 (header_of (kept (lines 65536 1073741824 bytes)))
 
-pub keeps_both : (command : Option Command) (left : Option (List ℕ)) → KeepsBoth command left
-keeps_both None left = tt
-keeps_both (Some command) None = tt
-keeps_both (Some RunOne) (Some bytes) = both_hold_in_each_state bytes
+pub holds : (command : Option Command) (left : Option (List ℕ)) → Holds command left
+holds None left = tt
+holds (Some command) None = tt
+holds (Some RunOne) (Some bytes) = each_state_holds bytes

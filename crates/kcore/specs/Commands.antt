@@ -8,7 +8,7 @@ use Rattle.kcore.specs.declared.status.Status.{Status}
 use Rattle.kcore.specs.declared.status.Status.TheVariants.{Done, Refused, Usage, ReadFault, WriteFault, Memory}
 use Rattle.kcore.specs.RunText.{input_said, IsRunText}
 use Rattle.kcore.specs.Texts.{WritesWhole, WritesPrefix}
-use Rattle.kcore.specs.Laws.{BothHold}
+use Rattle.kcore.specs.Laws.{HoldsThroughout}
 
 -- the command of a command line without the program's name
 unfoldable pub command_of : List (List ℕ) → Option Command
@@ -37,11 +37,11 @@ Answers None left before now status = Unit {0}
 Answers (Some command) None before now status = Unit {0}
 Answers (Some command) (Some bytes) before now status = Wrote command bytes before now status
 
--- where the source tells its bytes, both invariants hold in each state of the command
-abbrev pub KeepsBoth : Option Command → Option (List ℕ) → Type 0
-KeepsBoth None left = Unit {0}
-KeepsBoth (Some command) None = Unit {0}
-KeepsBoth (Some RunOne) (Some bytes) = BothHold (input_said bytes)
+-- where the source tells its bytes, in each state of the command both invariants hold, and what is printed bounds the coreness
+abbrev pub Holds : Option Command → Option (List ℕ) → Type 0
+Holds None left = Unit {0}
+Holds (Some command) None = Unit {0}
+Holds (Some RunOne) (Some bytes) = HoldsThroughout (input_said bytes)
 
 -- the counts of faults of the source, r, and of the sink, w: a fault is answered only where the count of its object
 -- rose, and every other count is as it was

@@ -41,12 +41,16 @@ some_refused s (b ∷ bs) (t ∷ ts) = is_refused s b || some_refused t bs ts
 abbrev pub estimate_of : Profile → ℕ → ℕ → Estimate
 estimate_of p n level = let j = group_of p n level in record { est = est p j; lo = lo p j; hi = high p j }
 
+-- what is printed of vertex v
+abbrev pub printed_of : State → ℕ → Estimate
+printed_of s v = estimate_of s.thresholds.profile s.thresholds.vertices (get_or s.levels v 0)
+
 -- the line of vertex v: its level, the estimate and the bounds of its coreness, and how many of its neighbours stand on its
 -- level or above, and on the level below or above (on level 0 all of them)
 abbrev pub vertex_text : State → ℕ → List ℕ
 vertex_text s v =
     let level = get_or s.levels v 0 in
-    vertex_line v level (estimate_of s.thresholds.profile s.thresholds.vertices level) (at_least s.graph s.levels v level) (at_least s.graph s.levels v (level - 1))
+    vertex_line v level (printed_of s v) (at_least s.graph s.levels v level) (at_least s.graph s.levels v (level - 1))
 
 -- the lines of the vertices below k
 unfoldable pub vertex_lines : State → ℕ → List ℕ

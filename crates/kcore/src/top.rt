@@ -1,6 +1,6 @@
 //! The top call: a command line, an input and an output.
 ghost use Rattle.std.specs.Prelude.{◌≡◌, ◌↔◌, None, Option};
-ghost use Rattle.kcore.specs.Commands.{command_of, Answers, KeepsBoth, HasCause};
+ghost use Rattle.kcore.specs.Commands.{command_of, Answers, Holds, HasCause};
 ghost use Rattle.kcore.specs.Stops.{status_of};
 
 use crate::command::Command;
@@ -33,7 +33,8 @@ fn status_of(ended: Result<bool, Stop>) -> Status
 ///   `Refused` exactly where the command refuses some of them;
 /// - with `ReadFault`, `WriteFault` and `Memory` it took a prefix of that text.
 ///
-/// By the way, both invariants hold in each state that the input leads to.
+/// In each state that the input leads to both invariants hold, and what is printed of a vertex bounds its coreness:
+/// `low <= coreness <= high`, `est <= 2 * coreness` and `coreness <= 3 * est`.
 ///
 /// `ReadFault` and `WriteFault` come only where the count of faults of `input`, of `output` rose in this call, and
 /// every other count is as it was. So with words of a command, bytes told and no count risen the answer is `Done` or
@@ -47,7 +48,7 @@ pub fn run_command<R: Threads + Sync, S: Source + Send, K: Sink + Send, G: Gate 
     gate: &G,
 ) -> Status
     ensures answer { Answers (command_of words.now) (S.left input.old) (K.taken output.old) (K.taken output.new) result }
-    ensures both { KeepsBoth (command_of words.now) (S.left input.old) }
+    ensures holds { Holds (command_of words.now) (S.left input.old) }
     ensures cause { HasCause (S.faults input.old) (S.faults input.new) (K.faults output.old) (K.faults output.new) result }
     ensures usage { (result ≡ Status.Usage) ↔ (command_of words.now ≡ None) }
     ensures untouched { result ≡ Status.Usage → (input.new ≡ input.old) × (output.new ≡ output.old) }

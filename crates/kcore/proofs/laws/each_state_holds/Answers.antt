@@ -1,0 +1,5 @@
+use Rattle.kcore.proofs.Texts as law
+use Rattle.kcore.proofs.laws.each_state_holds.Goals as goal
+
+pub returns : goal.returns
+returns c = law.each_state_holds
