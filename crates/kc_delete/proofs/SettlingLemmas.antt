@@ -1,0 +1,212 @@
+-- Lowering with marks at the vertices that are still to be looked at.
+use Rattle.std.proofs.Common.{ℕ, suc, zero, ◌+◌, ◌*◌, ◌≤◌, ◌<◌, ◌≡◌, ◌≢◌, ◌⊎◌, inl, inr, Bool, true, false, cond, List, [], ◌∷◌, length, get_or, set, refl, ap, sym, ◌∙◌, arith, subst, sum}
+use Rattle.std.specs.Prelude.{count_by}
+use Rattle.std.proofs.lemmas.Bool.{cases_eq, cases_Bool, true≢false}
+use Rattle.std.proofs.lemmas.Bool.Decides.{nat_tests}
+use Rattle.std.proofs.lemmas.List.{length-set, get_or-set_same, get_or-set_other}
+use Rattle.std.proofs.lemmas.List.Sums.{sum_by-set, count_by-le-length}
+use Rattle.std.proofs.Math.Nat.{mul-le-mul_right}
+use Rattle.kc_graph.specs.Numbers.{has_number}
+use Rattle.kc_graph.specs.Shape.{GraphShape, Pair, IsGraph, EdgesFrom, neighbours_of, without_edge, without_edges}
+use Rattle.kc_graph.proofs.NumberLemmas.{has_number_index}
+use Rattle.kc_graph.proofs.NeighbourLemmas.{neighbours_both, neighbours_of_remove_other, no_own_neighbour}
+use Rattle.kc_graph.proofs.ChangeLemmas.{vertices-without_edges}
+use Rattle.kc_levels.specs.declared.profile.Profile.{Profile}
+use Rattle.kc_levels.specs.Thresholds.{low}
+use Rattle.kc_levels.specs.LevelList.{at_least, IsHeld, MeetsLower, IsDesired, IsCapped, IsLowering, IsLowered}
+use Rattle.kc_levels.proofs.Places.{changed}
+use Rattle.kc_levels.proofs.AtLeast.{at_least-set, at_least-kept}
+use Rattle.kc_levels.proofs.Lowering.{lowering_first, lowering_more, lowering_done}
+use Rattle.kc_adj.specs.LeveledGraph.{LeveledGraph}
+use Rattle.kc_delete.specs.Settling.{WaitsOrMeets, IsSettling, StillWait, IsUntouched, IsLookedAt, ends_of}
+
+-- a mark more
+pub still_set : (waits : List Bool) (v : ℕ) → v < length waits → StillWait waits (set waits v true)
+still_set waits v inside u marked = elim (cases_eq u v) [
+  | inl e ↦ rw e (get_or-set_same waits v true false inside)
+  | inr ne ↦ get_or-set_other waits v u true false ne ∙ marked
+]
+
+pub waits_or_meets_still : (p : Profile) (g : GraphShape) (y : List ℕ) (before after : List Bool) (v : ℕ) → StillWait before after → WaitsOrMeets p g y before v → WaitsOrMeets p g y after v
+waits_or_meets_still p g y before after v still (inl waits) = inl (still v waits)
+waits_or_meets_still p g y before after v still (inr meets) = inr meets
+
+pub looked_at_still : (p : Profile) (g : GraphShape) (from to : ℕ) (y : List ℕ) (before after : List Bool) (v : ℕ) → StillWait before after → IsLookedAt p g from to y before v → IsLookedAt p g from to y after v
+looked_at_still p g from to y before after v still (inl untouched) = inl untouched
+looked_at_still p g from to y before after v still (inr looked) = inr (waits_or_meets_still p g y before after v still looked)
+
+-- lower levels are within the top too
+pub capped_after : (p : Profile) (g : GraphShape) (x y : List ℕ) → IsLowering p g x y → IsCapped p g.vertices x → IsCapped p g.vertices y
+capped_after p g x y r capped v h = omega (arith, r.under v h, capped v h)
+
+-- where the count from the level below on is the same, v is held as before
+held_same : (p : Profile) (g : GraphShape) (y z : List ℕ) (v k : ℕ) → ((l : ℕ) → k ≡ suc l → at_least g z v l ≡ at_least g y v l) → IsHeld p g y v k → IsHeld p g z v k
+held_same p g y z v zero same held = tt
+held_same p g y z v (suc l) same held = omega (arith, held, same l refl)
+
+-- the marks after v was taken
+other_mark : (waits : List Bool) (u v : ℕ) → u ≢ v → get_or waits u false ≡ true → get_or (set waits v false) u false ≡ true
+other_mark waits u v ne marked = get_or-set_other waits v u false false ne ∙ marked
+
+-- the vertex that is taken stays
+pub settling_kept : (p : Profile) (g : GraphShape) (x y : List ℕ) (waits : List Bool) (v : ℕ) → IsSettling p g x y waits → MeetsLower p g y v → IsSettling p g x y (set waits v false)
+settling_kept p g x y waits v s meets = record {
+  lowering = s.lowering;
+  sized = length-set waits v false ∙ s.sized;
+  meets = λ u h. elim (cases_eq u v) [
+    | inl e ↦ inr (subst (MeetsLower p g y) (sym e) meets)
+    | inr ne ↦ elim (s.meets u h) [
+      | inl marked ↦ inl (other_mark waits u v ne marked)
+      | inr held ↦ inr held
+    ]
+  ];
+}
+
+-- the vertex that is taken falls to its desired level, and its neighbours are looked at
+pub settling_fall : (p : Profile) (g : GraphShape) (x y : List ℕ) (waits after : List Bool) (v to : ℕ) → IsGraph g → IsSettling p g x y waits → v < g.vertices → IsDesired p g y v to → length after ≡ g.vertices → StillWait (set waits v false) after → ((k : ℕ) → k < length (neighbours_of v g.edges) → IsLookedAt p g (get_or y v 0) to (set y v to) after (get_or (neighbours_of v g.edges) k 0)) → IsSettling p g x (set y v to) after
+settling_fall p g x y waits after v to graph s vertex d sized still looked = record {
+  lowering = lowering_more p g x y v to s.lowering vertex d;
+  sized = sized;
+  meets = λ u h. changed y v to inside (λ t k. (get_or after t false ≡ true) ⊎ IsHeld p g (set y v to) t k) u
+      (inr (held_same p g y (set y v to) v to (λ l e. at_least-set g y v v to l (no_own_neighbour g.vertices 0 0 v g.edges graph)) d.held))
+      (λ ne. others u h ne);
+}
+  where
+    inside : v < length y
+    inside = omega (arith, vertex, s.lowering.sized)
+
+    as_before : (u : ℕ) → u < g.vertices → u ≢ v → ((l : ℕ) → get_or y u 0 ≡ suc l → at_least g (set y v to) u l ≡ at_least g y u l) → (get_or after u false ≡ true) ⊎ IsHeld p g (set y v to) u (get_or y u 0)
+    as_before u h ne same = elim (s.meets u h) [
+      | inl marked ↦ inl (still u (other_mark waits u v ne marked))
+      | inr held ↦ inr (held_same p g y (set y v to) u (get_or y u 0) same held)
+    ]
+
+    near_kept : (u : ℕ) → u ≢ v → has_number u (neighbours_of v g.edges) ≡ true → IsUntouched (get_or y v 0) to (get_or (set y v to) u 0) → (l : ℕ) → get_or y u 0 ≡ suc l → at_least g (set y v to) u l ≡ at_least g y u l
+    near_kept u ne near untouched l e = at_least-kept g y u v to l graph inside near (side (get_or y v 0) to (get_or (set y v to) u 0) l d.under (get_or-set_other y v u to 0 ne ∙ e) untouched)
+      where
+        side : (from into level l : ℕ) → into ≤ from → level ≡ suc l → IsUntouched from into level → (l ≤ from) × (l ≤ into) ⊎ (from < l) × (into < l)
+        side from into level l le is (inl low) = inl (omega arith, omega arith)
+        side from into level l le is (inr high) = inr (omega arith, omega arith)
+
+    near_looked : (u : ℕ) → u < g.vertices → u ≢ v → has_number u (neighbours_of v g.edges) ≡ true → IsLookedAt p g (get_or y v 0) to (set y v to) after u → (get_or after u false ≡ true) ⊎ IsHeld p g (set y v to) u (get_or y u 0)
+    near_looked u h ne near (inl untouched) = as_before u h ne (near_kept u ne near untouched)
+    near_looked u h ne near (inr (inl marked)) = inl marked
+    near_looked u h ne near (inr (inr held)) = inr (subst (IsHeld p g (set y v to) u) (get_or-set_other y v u to 0 ne) held)
+
+    others : (u : ℕ) → u < g.vertices → u ≢ v → (get_or after u false ≡ true) ⊎ IsHeld p g (set y v to) u (get_or y u 0)
+    others u h ne = elim (cases_Bool (has_number u (neighbours_of v g.edges))) [
+      | inl near ↦
+          let at = has_number_index u (neighbours_of v g.edges) near in
+          near_looked u h ne near (subst (λ w. IsLookedAt p g (get_or y v 0) to (set y v to) after w) at.2 (looked at.0 at.1))
+      | inr far ↦ as_before u h ne (λ l e. at_least-set g y u v to l (neighbours_both u v g.edges ∙ far))
+    ]
+
+-- nobody waits
+pub settling_done : (p : Profile) (g : GraphShape) (x y : List ℕ) (waits : List Bool) → IsSettling p g x y waits → ((v : ℕ) → get_or waits v false ≡ false) → IsLowered p g x y
+settling_done p g x y waits s none = lowering_done p g x y s.lowering (λ v h. elim (s.meets v h) [
+  | inl marked ↦ absurd (true≢false (sym marked ∙ none v))
+  | inr held ↦ held
+])
+
+-- how much there is still to be done: each level that a vertex falls may let all vertices wait
+abbrev pub work_left : GraphShape → List ℕ → List Bool → ℕ
+work_left g y waits = sum y * (g.vertices + 1) + count_by (λ b. b) waits
+
+pub work_kept : (g : GraphShape) (y : List ℕ) (waits : List Bool) (v : ℕ) → v < length waits → get_or waits v false ≡ true → work_left g y (set waits v false) < work_left g y waits
+work_kept g y waits v inside marked =
+    let total = sum_by-set (λ b. cond b 1 0) waits v false false inside in
+    omega (arith, total, one (get_or waits v false) marked)
+  where
+    one : (b : Bool) → b ≡ true → 1 ≤ cond b 1 0
+    one false h = absurd (true≢false (sym h))
+    one true h = omega arith
+
+pub work_falls : (g : GraphShape) (y : List ℕ) (waits after : List Bool) (v to : ℕ) → v < length y → to < get_or y v 0 → length after ≡ g.vertices → work_left g (set y v to) after < work_left g y waits
+work_falls g y waits after v to inside less sized =
+    let total : sum (set y v to) + get_or y v 0 ≡ sum y + to = sum_by-set (λ l. l) y v to 0 inside in
+    fewer (sum (set y v to)) (sum y) g.vertices (count_by (λ b. b) after) (count_by (λ b. b) waits) (omega arith) (omega (arith, count_by-le-length (λ b. b) after))
+  where
+    fewer : (a b n new old : ℕ) → a + 1 ≤ b → new ≤ n → a * (n + 1) + new < b * (n + 1) + old
+    fewer a zero n new old falls few = absurd (omega arith)
+    fewer a (suc b) n new old falls few =
+        let most : a * (n + 1) ≤ b * (n + 1) = mul-le-mul_right (n + 1) (omega arith) in
+        omega arith
+
+-- an end of an edge of the list stands in it at some place
+pub end_index : (v : ℕ) (es : List Pair) (d : Pair) → has_number v (ends_of es) ≡ true → (k : ℕ) × (k < length es) × ((v ≡ (get_or es k d).0) ⊎ (v ≡ (get_or es k d).1))
+end_index v [] d there = absurd (true≢false (sym there))
+end_index v (e ∷ es) d there = elim (cases_eq e.0 v) [
+  | inl low ↦ (0, omega arith, inl (sym low))
+  | inr ne ↦ elim (cases_eq e.1 v) [
+    | inl high ↦ (0, omega arith, inr (sym high))
+    | inr no_end ↦
+        let later = end_index v es d (grind (arith, nat_tests, there, ne, no_end)) in
+        (suc later.0, omega (arith, later.1), later.2)
+  ]
+]
+
+pub edge_inside : (n a b : ℕ) (es : List Pair) (d : Pair) (k : ℕ) → EdgesFrom n a b es → k < length es → ((get_or es k d).0 < n) × ((get_or es k d).1 < n)
+edge_inside n a b [] d k up h = absurd (omega arith)
+edge_inside n a b (e ∷ es) d zero up h = (omega (arith, up.1, up.2), up.2)
+edge_inside n a b (e ∷ es) d (suc k) up h = edge_inside n e.0 (suc e.1) es d k up.3 (omega arith)
+
+-- the edge that stands at a place
+pub item_inside : (n k : ℕ) (es : List Pair) (item : Pair) → EdgesFrom n 0 0 es → k < length es → item ≡ get_or es k item → (item.0 < n) × (item.1 < n)
+item_inside n k es item up h is = subst (λ (e : Pair). (e.0 < n) × (e.1 < n)) (sym is) (edge_inside n 0 0 es item k up h)
+
+pub ends_at : (n a b k : ℕ) (es : List Pair) (item : Pair) → EdgesFrom n 0 0 es → k < length es → item ≡ get_or es k item → (a, b) ≡ item → (a < n) × (b < n)
+ends_at n a b k es item up h is view = subst (λ (e : Pair). (e.0 < n) × (e.1 < n)) (sym view) (item_inside n k es item up h is)
+
+-- the neighbours of a vertex that no edge leaves stay
+neighbours_of-without_edges : (v : ℕ) (g : GraphShape) (es : List Pair) → has_number v (ends_of es) ≡ false → neighbours_of v (without_edges g es).edges ≡ neighbours_of v g.edges
+neighbours_of-without_edges v g [] other = refl
+neighbours_of-without_edges v g (e ∷ es) other =
+    let low : v ≢ e.0 = λ is. true≢false (sym (grind (arith, nat_tests, is)) ∙ other) in
+    let high : v ≢ e.1 = λ is. true≢false (sym (grind (arith, nat_tests, is)) ∙ other) in
+    let rest : has_number v (ends_of es) ≡ false = grind (arith, nat_tests, other) in
+    neighbours_of-without_edges v (without_edge g e) es rest ∙ neighbours_of_remove_other v e.0 e.1 g.edges low high
+
+held_in_both : (p : Profile) (g h : GraphShape) (x : List ℕ) (v k : ℕ) → h.vertices ≡ g.vertices → neighbours_of v h.edges ≡ neighbours_of v g.edges → IsHeld p g x v k → IsHeld p h x v k
+unfolding at_least
+held_in_both p g h x v zero same_n same held = tt
+held_in_both p g h x v (suc l) same_n same held = rw (same, same_n) held
+
+-- where edges left, only their ends can break anything
+pub settling_first : (p : Profile) (g : GraphShape) (x : List ℕ) (waits : List Bool) (es : List Pair) → length x ≡ g.vertices → length waits ≡ g.vertices → ((v : ℕ) → v < g.vertices → MeetsLower p g x v) → ((v : ℕ) → has_number v (ends_of es) ≡ true → WaitsOrMeets p (without_edges g es) x waits v) → IsSettling p (without_edges g es) x x waits
+settling_first p g x waits es long sized lower looked = record {
+  lowering = lowering_first p (without_edges g es) x (long ∙ sym same);
+  sized = sized ∙ sym same;
+  meets = λ v h. elim (cases_Bool (has_number v (ends_of es))) [
+    | inl end ↦ looked v end
+    | inr other ↦ inr (held_in_both p g (without_edges g es) x v (get_or x v 0) same (neighbours_of-without_edges v g es other) (lower v (omega (arith, same))))
+  ];
+}
+  where
+    same : (without_edges g es).vertices ≡ g.vertices
+    same = vertices-without_edges g es
+
+-- one turn in which the vertex that is taken falls
+pub after_fall : (p : Profile) (g : GraphShape) (x : List ℕ) (adj fallen : LeveledGraph) (waits taken after : List Bool) (v from to : ℕ) → IsGraph g → adj.graph ≡ g → IsSettling p g x adj.levels waits → v < length waits → taken ≡ set waits v false → from ≡ get_or adj.levels v 0 → IsDesired p adj.graph adj.levels v to → fallen ≡ record adj { levels = set adj.levels v to } → length after ≡ fallen.graph.vertices → StillWait taken after → ((k : ℕ) → k < length (neighbours_of v fallen.graph.edges) → IsLookedAt p fallen.graph from (get_or fallen.levels v 0) fallen.levels after (get_or (neighbours_of v fallen.graph.edges) k 0)) → (fallen.graph ≡ g) × IsSettling p g x fallen.levels after
+after_fall p g x adj fallen waits taken after v from to graph same s vertex is_taken is_from d is_fallen sized still looked =
+    (graph_is ∙ same, subst (λ (y : List ℕ). IsSettling p g x y after) (sym levels_are) (settling_fall p g x adj.levels waits after v to graph s inside d' sized' (subst (λ (b : List Bool). StillWait b after) is_taken still) looked'))
+  where
+    graph_is : fallen.graph ≡ adj.graph
+    graph_is = ap (λ (a : LeveledGraph). a.graph) is_fallen
+
+    levels_are : fallen.levels ≡ set adj.levels v to
+    levels_are = ap (λ (a : LeveledGraph). a.levels) is_fallen
+
+    inside : v < g.vertices
+    inside = omega (arith, vertex, s.sized)
+
+    d' : IsDesired p g adj.levels v to
+    d' = subst (λ (h : GraphShape). IsDesired p h adj.levels v to) same d
+
+    sized' : length after ≡ g.vertices
+    sized' = sized ∙ ap (λ (h : GraphShape). h.vertices) (graph_is ∙ same)
+
+    reached : get_or fallen.levels v 0 ≡ to
+    reached = ap (λ (y : List ℕ). get_or y v 0) levels_are ∙ get_or-set_same adj.levels v to 0 (omega (arith, inside, s.lowering.sized))
+
+    looked' : (k : ℕ) → k < length (neighbours_of v g.edges) → IsLookedAt p g (get_or adj.levels v 0) to (set adj.levels v to) after (get_or (neighbours_of v g.edges) k 0)
+    looked' = rw (graph_is ∙ same, reached, levels_are, is_from) at looked

@@ -1,0 +1,106 @@
+ghost use Rattle.std.specs.Prelude.{◌≡◌, ℕ, ◌<◌, ◌≤◌, OnOk, IfOk, length, true};
+ghost use Rattle.kc_graph.specs.Numbers.{has_number};
+ghost use Rattle.kc_graph.specs.Shape.{EdgesFrom, without_edges};
+ghost use Rattle.kc_graph.specs.Changes.{AllPresent, CanRemove};
+ghost use Rattle.kc_levels.specs.LevelList.{MeetsLower, IsCapped, IsLowered};
+ghost use Rattle.kc_levels.specs.Moved.{moved_count};
+ghost use Rattle.kc_delete.specs.Settling.{WaitsOrMeets, ends_of};
+
+use crate::settling::{add_if_short, settle};
+use crate::waiting::Waiting;
+use kc_adj::{LevelAdj, Steps};
+use kc_graph::Edge;
+use kc_levels::{Thresholds, moved_count};
+use kc_rounds::Gate;
+use std::alloc::{AllocError, Global};
+use std::sync::ledger::Ledger;
+use std::thread::Threads;
+
+/// What a phase did.
+#[derive(Clone, Copy, Debug, PartialEq, Eq)]
+pub struct Tally {
+    /// The number of vertices whose level is another one than before.
+    pub moves: u32,
+}
+
+// Takes the edges out, in order. Levels stay.
+fn unlink_edges<L: Ledger>(adj: &mut LevelAdj, removed: &[Edge], steps: &mut Steps<L>)
+    requires removable { CanRemove adj.old.graph removed.now }
+    ensures { adj.new ≡ record adj.old { graph = without_edges adj.old.graph removed.now } }
+{
+    for e in removed {
+        adj.unlink(*e, steps);
+    }
+}
+
+// Lets the ends of the edges wait that have too few neighbours to stand on their levels.
+fn add_short_ends(
+    adj: &LevelAdj,
+    th: &Thresholds,
+    removed: &[Edge],
+    waiting: &mut Waiting,
+) -> Result<(), AllocError>
+    requires scale { th.now.vertices ≡ adj.now.graph.vertices }
+    requires capped { IsCapped th.now.profile adj.now.graph.vertices adj.now.levels }
+    requires sized { length waiting.old ≡ adj.now.graph.vertices }
+    requires ascending { EdgesFrom adj.now.graph.vertices 0 0 removed.now }
+    ensures sized { OnOk result (length waiting.new ≡ adj.now.graph.vertices) }
+    ensures looked { OnOk result ((v : ℕ) → has_number v (ends_of removed.now) ≡ true → WaitsOrMeets th.now.profile adj.now.graph adj.now.levels waiting.new v) }
+{
+    for e in removed {
+        add_if_short(adj, th, e.a, waiting)?;
+        add_if_short(adj, th, e.b, waiting)?;
+    }
+    Ok(())
+}
+
+/// Takes the edges out and lowers the levels: afterwards they are the lowered list (`IsLowered`), the greatest levels that
+/// are at most the old ones and meet the lower invariant in the new graph. The graph is the old one without the edges
+/// (`without_edges`).
+///
+/// The thresholds are for this number of vertices, and no level is above their top. The lower invariant holds before the
+/// call. `removed` is ascending, and each of its edges is in the graph. `workers` is 1 to 64; whatever it is, all is done
+/// on the calling thread and `gate` is told nothing, so the answer doesn't depend on either.
+///
+/// The error is want of memory; graph, levels and steps are then unspecified.
+///
+/// A vertex that has too few neighbours to stand on its level waits, never twice at a time, under the level that it desired
+/// when it began to wait. The one under the lowest level is taken next, and falls to its desired level at once. A vertex is
+/// looked at only where an edge left it, or where a neighbour fell that it counted before and doesn't count now; a look is
+/// O(1). A vertex that begins to wait and one that is taken cost a call of `LevelAdj::desired` each, at most 12 passes over
+/// the neighbours; a fall costs two passes more. That a vertex seldom falls twice isn't proved, and no bound on the steps is
+/// promised. Besides there are three passes over all vertices, without their neighbours: to copy the levels, to make a
+/// mark for each vertex, and to count the moves.
+///
+/// Memory is taken for the copy, for the marks, and for the vertices that wait, in a list for each level up to the greatest
+/// one that a vertex waited under.
+pub fn delete_rounds<R: Threads + Sync, G: Gate + Sync, L: Ledger>(
+    _rt: &R,
+    alloc: Global,
+    _gate: &G,
+    workers: u32,
+    th: &Thresholds,
+    adj: &mut LevelAdj,
+    removed: &[Edge],
+    steps: &mut Steps<L>,
+) -> Result<Tally, AllocError>
+    requires few_workers { (1 ≤ workers) × (workers ≤ 64) }
+    requires scale { th.now.vertices ≡ adj.old.graph.vertices }
+    requires capped { IsCapped th.now.profile adj.old.graph.vertices adj.old.levels }
+    requires lower { (v : ℕ) → v < adj.old.graph.vertices → MeetsLower th.now.profile adj.old.graph adj.old.levels v }
+    requires ascending { EdgesFrom adj.old.graph.vertices 0 0 removed.now }
+    requires present { AllPresent adj.old.graph removed.now }
+    ensures graph { OnOk result (adj.new.graph ≡ without_edges adj.old.graph removed.now) }
+    ensures lowered { OnOk result (IsLowered th.now.profile adj.new.graph adj.old.levels adj.new.levels) }
+    ensures moves { IfOk result (λ tally. tally.moves ≡ moved_count adj.new.graph.vertices adj.old.levels adj.new.levels) }
+{
+    let n = adj.graph().vertices();
+    let before = adj.levels().copy(alloc)?;
+    let mut waiting = Waiting::new(alloc, n)?;
+    unlink_edges(adj, removed, steps);
+    add_short_ends(adj, th, removed, &mut waiting)?;
+    settle(adj, th, &mut waiting, steps)?;
+    Ok(Tally {
+        moves: moved_count(&before, adj.levels()),
+    })
+}

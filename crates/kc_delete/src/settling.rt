@@ -1,0 +1,112 @@
+// Falls of vertices that have too few neighbours to stand on their level.
+
+ghost use Rattle.std.specs.Prelude.{◌≡◌, ℕ, ◌<◌, ◌≤◌, ◌↔◌, ◌-◌, OnOk, IsTrue, length, slice_index};
+ghost use Rattle.std.specs.Bool.{OnTrue, OnFalse};
+ghost use Rattle.kc_graph.specs.Shape.{IsGraph, neighbours_of};
+ghost use Rattle.kc_levels.specs.Thresholds.{top_level};
+ghost use Rattle.kc_levels.specs.LevelList.{MeetsLower, IsCapped, IsLowered};
+ghost use Rattle.kc_delete.specs.Settling.{IsSettling, WaitsOrMeets, StillWait, IsUntouched, IsLookedAt};
+
+use crate::waiting::Waiting;
+use kc_adj::{LevelAdj, Steps};
+use kc_levels::Thresholds;
+use std::alloc::AllocError;
+use std::sync::ledger::Ledger;
+
+// Whether v has enough neighbours to stand on its level, by its kept count.
+fn meets_lower(adj: &LevelAdj, th: &Thresholds, v: u32) -> bool
+    requires vertex { v < adj.now.graph.vertices }
+    requires scale { th.now.vertices ≡ adj.now.graph.vertices }
+    requires capped { slice_index adj.now.levels v ≤ top_level th.now.profile th.now.vertices }
+    ensures { IsTrue result ↔ MeetsLower th.now.profile adj.now.graph adj.now.levels v }
+{
+    let level = adj.level(v);
+    level == 0 || th.low(th.group(level - 1)) <= adj.at_least_below(v)
+}
+
+/// Lets v wait under its desired level, where it has too few neighbours to stand on its level and doesn't wait yet.
+///
+/// The error is want of memory.
+pub fn add_if_short(
+    adj: &LevelAdj,
+    th: &Thresholds,
+    v: u32,
+    waiting: &mut Waiting,
+) -> Result<(), AllocError>
+    requires vertex { v < adj.now.graph.vertices }
+    requires scale { th.now.vertices ≡ adj.now.graph.vertices }
+    requires capped { slice_index adj.now.levels v ≤ top_level th.now.profile th.now.vertices }
+    requires sized { length waiting.old ≡ adj.now.graph.vertices }
+    ensures sized { OnOk result (length waiting.new ≡ adj.now.graph.vertices) }
+    ensures still { OnOk result (StillWait waiting.old waiting.new) }
+    ensures looked { OnOk result (WaitsOrMeets th.now.profile adj.now.graph adj.now.levels waiting.new v) }
+{
+    if !meets_lower(adj, th, v) && !waiting.has(v) {
+        waiting.add(v, adj.desired(th, v))?;
+    }
+    Ok(())
+}
+
+// Whether a neighbour on this level counts a vertex on the level `from` from the level below its own on, and doesn't when
+// that vertex has gone down to `to`.
+fn is_touched(from: u16, to: u16, level: u16) -> bool
+    ensures touched { OnTrue result ((to < level - 1) × (level - 1 ≤ from)) }
+    ensures untouched { OnFalse result (IsUntouched from to level) }
+{
+    let reach = level.saturating_sub(1);
+    to < reach && reach <= from
+}
+
+// Lets those neighbours of v wait that have too few neighbours now that v fell from this level to its own.
+fn add_short_neighbours(
+    adj: &LevelAdj,
+    th: &Thresholds,
+    v: u32,
+    from: u16,
+    waiting: &mut Waiting,
+) -> Result<(), AllocError>
+    requires vertex { v < adj.now.graph.vertices }
+    requires scale { th.now.vertices ≡ adj.now.graph.vertices }
+    requires capped { IsCapped th.now.profile adj.now.graph.vertices adj.now.levels }
+    requires sized { length waiting.old ≡ adj.now.graph.vertices }
+    ensures sized { OnOk result (length waiting.new ≡ adj.now.graph.vertices) }
+    ensures still { OnOk result (StillWait waiting.old waiting.new) }
+    ensures looked { let to = slice_index adj.now.levels v in let near = neighbours_of v adj.now.graph.edges in
+        OnOk result ((k : ℕ) → k < length near → IsLookedAt th.now.profile adj.now.graph from to adj.now.levels waiting.new (slice_index near k)) }
+{
+    let to = adj.level(v);
+    for w in adj.graph().neighbours(v) {
+        if is_touched(from, to, adj.level(*w)) {
+            add_if_short(adj, th, *w, waiting)?;
+        }
+    }
+    Ok(())
+}
+
+/// Lets the vertices that wait fall to their desired levels, and their neighbours wait where they need to, until nobody
+/// waits.
+///
+/// The error is want of memory; levels and queue are then unspecified.
+pub fn settle<L: Ledger>(
+    adj: &mut LevelAdj,
+    th: &Thresholds,
+    waiting: &mut Waiting,
+    steps: &mut Steps<L>,
+) -> Result<(), AllocError>
+    requires graph { IsGraph adj.old.graph }
+    requires scale { th.now.vertices ≡ adj.old.graph.vertices }
+    requires capped { IsCapped th.now.profile adj.old.graph.vertices adj.old.levels }
+    requires settling { IsSettling th.now.profile adj.old.graph adj.old.levels adj.old.levels waiting.old }
+    ensures graph { OnOk result (adj.new.graph ≡ adj.old.graph) }
+    ensures lowered { OnOk result (IsLowered th.now.profile adj.old.graph adj.old.levels adj.new.levels) }
+{
+    while let Some(v) = waiting.take() {
+        let from = adj.level(v);
+        let to = adj.desired(th, v);
+        if to < from {
+            adj.fall(v, to, steps);
+            add_short_neighbours(adj, th, v, from, waiting)?;
+        }
+    }
+    Ok(())
+}

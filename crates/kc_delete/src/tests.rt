@@ -1,0 +1,223 @@
+ghost use Rattle.std.specs.Prelude.{◌≡◌, ℕ, ◌<◌, ◌≤◌, IfOk, length};
+ghost use Rattle.std.specs.Bool.{OnTrue};
+ghost use Rattle.kc_graph.specs.Shape.{EdgesFrom};
+ghost use Rattle.kc_graph.specs.Changes.{AllPresent};
+ghost use Rattle.kc_levels.specs.LevelList.{MeetsLower, IsCapped};
+
+mod recounting;
+
+use crate::delete_rounds;
+use kc_adj::{LevelAdj, Steps};
+use kc_graph::{Edge, Graph, MAX_EDGES, MAX_VERTICES};
+use kc_levels::{Profile, Thresholds, check_lower};
+use kc_rounds::OpenGate;
+use std::alloc::{AllocError, Global};
+use std::marker::Brand;
+use std::process::Abort;
+use std::sync::ledger::{Blank, Ledger};
+use std::test::Fail;
+use std::thread::Threads;
+
+// The graph with these edges, each vertex on its level.
+fn state<R: Abort, L: Ledger>(
+    rt: &R,
+    alloc: Global,
+    edges: &[Edge],
+    levels: &[u16],
+    steps: &mut Steps<L>,
+) -> Result<LevelAdj, AllocError>
+    requires positive { 1 ≤ length levels.now }
+    requires small { length levels.now ≤ MAX_VERTICES }
+    ensures { IfOk result (λ a. a.graph.vertices ≡ length levels.now) }
+{
+    let n = levels.len() as u32;
+    let mut adj = LevelAdj::new(alloc, n)?;
+    for e in edges {
+        assert!(rt; e.b < n);
+        assert!(rt; !adj.graph().has(*e));
+        assert!(rt; adj.graph().edge_count() < MAX_EDGES);
+        adj.link(alloc, *e, steps)?;
+    }
+    for v in 0..n {
+        assert!(rt; adj.level(v) <= levels[v as usize]);
+        adj.lift(v, levels[v as usize], steps);
+    }
+    Ok(adj)
+}
+
+// Whether no level is above the top.
+fn are_capped(adj: &LevelAdj, th: &Thresholds) -> bool
+    ensures { OnTrue result (IsCapped th.now.profile th.now.vertices adj.now.levels) }
+{
+    for level in adj.levels().as_slice() {
+        if *level > th.top() {
+            return false;
+        }
+    }
+    true
+}
+
+// Whether each vertex meets the lower invariant, by counting its neighbours.
+fn meet_lower(adj: &LevelAdj, th: &Thresholds) -> bool
+    requires scale { th.now.vertices ≡ adj.now.graph.vertices }
+    requires capped { IsCapped th.now.profile th.now.vertices adj.now.levels }
+    ensures { OnTrue result ((v : ℕ) → v < adj.now.graph.vertices → MeetsLower th.now.profile adj.now.graph adj.now.levels v) }
+{
+    for v in 0..adj.graph().vertices() {
+        if !check_lower(adj.graph(), adj.levels(), th, v) {
+            return false;
+        }
+    }
+    true
+}
+
+// Whether each of the edges is in the graph.
+fn are_present(graph: &Graph, edges: &[Edge]) -> bool
+    requires { EdgesFrom graph.now.vertices 0 0 edges.now }
+    ensures { OnTrue result (AllPresent graph.now edges.now) }
+{
+    for e in edges {
+        if !graph.has(*e) {
+            return false;
+        }
+    }
+    true
+}
+
+// What `check` says, with a counter of its own.
+fn check_counting<R: Threads + Sync + Abort, L: Ledger>(
+    rt: &R,
+    alloc: Global,
+    blank: Blank,
+    edges: &[Edge],
+    levels: &[u16],
+    removed: &[Edge],
+    want: &[u16],
+    moves: u32,
+) -> Result<(), AllocError>
+    requires name { blank.name ≡ L.name }
+    requires parts { blank.parts ≡ L.parts }
+    requires some { 0 < L.parts }
+    requires positive { 1 ≤ length levels.now }
+    requires small { length levels.now ≤ MAX_VERTICES }
+    requires ascending { EdgesFrom (length levels.now) 0 0 removed.now }
+{
+    let mut steps = Steps::<L>::new(blank);
+    let th = Thresholds::new(alloc, Profile::One, levels.len() as u32)?;
+    let mut adj = state(rt, alloc, edges, levels, &mut steps)?;
+    assert!(rt; are_capped(&adj, &th));
+    assert!(rt; meet_lower(&adj, &th));
+    assert!(rt; are_present(adj.graph(), removed));
+    let tally = delete_rounds(
+        rt,
+        alloc,
+        &OpenGate::new(),
+        2,
+        &th,
+        &mut adj,
+        removed,
+        &mut steps,
+    )?;
+    assert_eq!(rt; adj.levels().as_slice(), want);
+    assert_eq!(rt; tally.moves, moves);
+    Ok(())
+}
+
+// One phase from these edges and levels, in which some edges leave, gives these levels, and moves so many vertices.
+fn check<R: Threads + Sync + Abort>(
+    rt: &R,
+    alloc: Global,
+    edges: &[Edge],
+    levels: &[u16],
+    removed: &[Edge],
+    want: &[u16],
+    moves: u32,
+) -> Result<(), AllocError>
+    requires positive { 1 ≤ length levels.now }
+    requires small { length levels.now ≤ MAX_VERTICES }
+    requires ascending { EdgesFrom (length levels.now) 0 0 removed.now }
+{
+    check_counting::<R, Brand>(
+        rt,
+        alloc,
+        Blank::new(1),
+        edges,
+        levels,
+        removed,
+        want,
+        moves,
+    )
+}
+
+// The complete graph on eight vertices: vertex 0 keeps two neighbours.
+#[test]
+fn a_vertex_falls_part_of_the_way(rt: HostRuntime) -> Result<(), Fail> {
+    let mut edges = Vec::new(rt.alloc());
+    for a in 0..7 {
+        for b in a + 1..8 {
+            edges.push(Edge { a, b })?;
+        }
+    }
+    let removed = [
+        Edge { a: 0, b: 1 },
+        Edge { a: 0, b: 2 },
+        Edge { a: 0, b: 3 },
+        Edge { a: 0, b: 4 },
+        Edge { a: 0, b: 5 },
+    ];
+    check(
+        &rt,
+        rt.alloc(),
+        &edges,
+        &[19, 19, 19, 19, 19, 19, 19, 19],
+        &removed,
+        &[13, 19, 19, 19, 19, 19, 19, 19],
+        1,
+    )?;
+    Ok(())
+}
+
+#[test]
+fn a_star_falls_to_the_ground(rt: HostRuntime) -> Result<(), Fail> {
+    let star = [
+        Edge { a: 0, b: 1 },
+        Edge { a: 0, b: 2 },
+        Edge { a: 0, b: 3 },
+        Edge { a: 0, b: 4 },
+    ];
+    check(
+        &rt,
+        rt.alloc(),
+        &star,
+        &[2, 1, 1, 1, 1],
+        &star,
+        &[0, 0, 0, 0, 0],
+        5,
+    )?;
+    Ok(())
+}
+
+// Four vertices that are joined each with each, and one alone. All but vertex 4 have enough neighbours left.
+#[test]
+fn nobody_falls_without_need(rt: HostRuntime) -> Result<(), Fail> {
+    let four = [
+        Edge { a: 0, b: 1 },
+        Edge { a: 0, b: 2 },
+        Edge { a: 0, b: 3 },
+        Edge { a: 1, b: 2 },
+        Edge { a: 1, b: 3 },
+        Edge { a: 2, b: 3 },
+    ];
+    let levels = [6, 6, 6, 6, 0];
+    check(
+        &rt,
+        rt.alloc(),
+        &four,
+        &levels,
+        &[Edge { a: 0, b: 1 }],
+        &levels,
+        0,
+    )?;
+    check(&rt, rt.alloc(), &four, &levels, &[], &levels, 0)?;
+    Ok(())
+}

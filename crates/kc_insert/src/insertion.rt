@@ -1,0 +1,70 @@
+ghost use Rattle.std.specs.Prelude.{◌≡◌, ℕ, ◌+◌, ◌*◌, ◌<◌, ◌≤◌, OnOk, IfOk, length};
+ghost use Rattle.kc_graph.specs.Shape.{EdgesFrom, with_edges};
+ghost use Rattle.kc_graph.specs.Changes.{AllAbsent};
+ghost use Rattle.kc_levels.specs.LevelList.{MeetsUpper, IsCapped, IsRaised};
+ghost use Rattle.kc_levels.specs.Moved.{moved_count};
+ghost use Rattle.kc_insert.specs.Effort.{effort};
+
+use crate::filling::link_edges;
+use crate::raising::raise_queued;
+use kc_adj::{LevelAdj, Steps};
+use kc_graph::{Edge, MAX_EDGES};
+use kc_levels::{Thresholds, moved_count};
+use kc_rounds::Gate;
+use std::alloc::{AllocError, Global};
+use std::sync::ledger::Ledger;
+use std::thread::Threads;
+
+/// What a phase did.
+#[derive(Clone, Copy, Debug, PartialEq, Eq)]
+pub struct Tally {
+    /// The number of vertices whose level is another one than before.
+    pub moves: u32,
+}
+
+/// Puts the edges in and raises the levels: afterwards they are the raised list (`IsRaised`), the least levels that are at
+/// least the old ones, within the top, and meet the upper invariant in the new graph.
+///
+/// The thresholds are for the number of vertices of the graph, and no level is above their top. `added` is ascending, and none
+/// of its edges is in the graph, which then has at most `MAX_EDGES`. The upper invariant holds before the call. `workers` is 1
+/// to 64. The error is want of memory; graph and levels are then unspecified.
+///
+/// Counts at most 4 steps for each edge, and for each vertex, times the levels that it rises by, three for each neighbour that
+/// it has after the phase and one more (`effort`).
+///
+/// A vertex is looked at in O(1), and only where an edge came in at it, it rose, or a neighbour's rise took it over its bound;
+/// a rise by one level is one pass over the neighbours. Besides there are one pass over an empty bucket for each level up to
+/// the top, and one over all vertices before, for a copy of the levels, and one after. All is done on the calling thread,
+/// whatever the number of workers.
+pub fn insert_rounds<R: Threads + Sync, G: Gate + Sync, L: Ledger>(
+    _rt: &R,
+    alloc: Global,
+    _gate: &G,
+    workers: u32,
+    th: &Thresholds,
+    adj: &mut LevelAdj,
+    added: &[Edge],
+    steps: &mut Steps<L>,
+) -> Result<Tally, AllocError>
+    requires few_workers { (1 ≤ workers) × (workers ≤ 64) }
+    requires scale { th.now.vertices ≡ adj.old.graph.vertices }
+    requires capped { IsCapped th.now.profile adj.old.graph.vertices adj.old.levels }
+    requires upper { (v : ℕ) → v < adj.old.graph.vertices → MeetsUpper th.now.profile adj.old.graph adj.old.levels v }
+    requires ascending { EdgesFrom adj.old.graph.vertices 0 0 added.now }
+    requires absent { AllAbsent adj.old.graph added.now }
+    requires room { length adj.old.graph.edges + length added.now ≤ MAX_EDGES }
+    ensures graph { OnOk result (adj.new.graph ≡ with_edges adj.old.graph added.now) }
+    ensures raised { OnOk result (IsRaised th.now.profile adj.new.graph adj.old.levels adj.new.levels) }
+    ensures moves { IfOk result (λ tally. tally.moves ≡ moved_count adj.new.graph.vertices adj.old.levels adj.new.levels) }
+    ensures cost { let rises = effort adj.new.graph adj.old.levels adj.new.levels adj.new.graph.vertices in
+        OnOk result (steps.new ≤ steps.old + (4 * length added.now + rises)) }
+{
+    let _n = adj.graph().vertices();
+    let before = adj.levels().copy(alloc)?;
+    let mut queue = link_edges(alloc, th, adj, added, steps)?;
+    raise_queued(alloc, th, adj, &mut queue, steps)?;
+    let after = adj.levels();
+    Ok(Tally {
+        moves: moved_count(&before, after),
+    })
+}
