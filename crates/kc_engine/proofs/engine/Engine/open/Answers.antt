@@ -1,0 +1,14 @@
+use Rattle.std.proofs.Common.{refl}
+use Rattle.kc_engine.proofs.BatchLemmas.{start_is_sound}
+use Rattle.kc_engine.proofs.engine.Engine.open.Goals as goal
+
+pub invariant_of-result : goal.invariant_of-result
+invariant_of-result c =
+    let shape = c.args.shape in
+    record {
+      some_workers = c.requires.some_workers;
+      few_workers = c.requires.few_workers;
+      limit = c.requires.few_edges;
+      scale = λ h. rw (c.in_ok-new.ensures, c.in_ok-new-2.ensures) refl;
+      sound = λ h. rw (c.in_ok-new.ensures, c.in_ok-new-2.ensures) (start_is_sound shape.profile shape.n shape.phases_before shape.edge_limit c.requires.few_phases);
+    }

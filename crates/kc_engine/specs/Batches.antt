@@ -1,0 +1,83 @@
+-- Batches in turn: whether a cleaned batch is refused in a state, and the state behind it if it isn't.
+use Rattle.std.specs.Prelude.{ℕ, ◌≡◌, ◌≤◌, ◌+◌, ◌-◌, nat_lt, ◌&&◌, List, [], ◌∷◌, length, Option, Some, None, if◌then◌else◌, All}
+use Rattle.kc_graph.specs.declared.cleaning.Cleaned.{Cleaned}
+use Rattle.kc_graph.specs.declared.items.Item.{Item}
+use Rattle.kc_graph.specs.declared.limits.TheConstants.{MAX_ITEMS}
+use Rattle.kc_graph.specs.Shape.{Pair, GraphShape, with_edges, without_edges}
+use Rattle.kc_graph.specs.Cleaning.{IsInside, cleaned}
+use Rattle.kc_levels.specs.declared.profile.Profile.{Profile}
+use Rattle.kc_levels.specs.LevelList.{IsRaised, IsLowered}
+use Rattle.kc_levels.specs.Moved.{moved_count}
+use Rattle.kc_engine.specs.declared.limits.TheConstants.{MAX_PHASES}
+use Rattle.kc_engine.specs.declared.faults.EngineFault.{EngineFault}
+use Rattle.kc_engine.specs.declared.faults.EngineFault.TheVariants.{EdgeLimit, PhaseLimit}
+use Rattle.kc_engine.specs.States.{State}
+
+-- c is what some batch of items comes to in the graph: not too many items, their vertices all vertices of the graph
+pub record IsCleaning (g : GraphShape) (c : Cleaned) : Type 0 where
+  pub items : List Item
+  pub inside : All (IsInside g.vertices) items
+  pub few : length items ≤ MAX_ITEMS
+  pub comes_to : c ≡ cleaned g items
+
+-- how many phases it takes to let these edges leave, or come in
+abbrev pub phases_for : List Pair → ℕ
+phases_for [] = 0
+phases_for (e ∷ es) = 1
+
+-- how many phases the batch has: one for the edges that leave, and one for those that come in
+abbrev pub phases_of : Cleaned → ℕ
+phases_of c = phases_for c.removed + phases_for c.added
+
+-- how many edges there are after the batch
+abbrev pub edges_after : State → Cleaned → ℕ
+edges_after s c = (length s.graph.edges - length c.removed) + length c.added
+
+-- how many phases there were after the batch: the number of its last phase, if it has one
+abbrev pub phases_after : State → Cleaned → ℕ
+phases_after s c = s.phases + phases_of c
+
+-- why the batch is refused in this state, if it is: there would be more edges than the limit, or else its last phase would
+-- have too high a number
+abbrev pub refusal_of : ℕ → State → Cleaned → Option EngineFault
+refusal_of limit s c =
+    if nat_lt limit (edges_after s c) then Some (EdgeLimit (edges_after s c))
+    else if nat_lt 0 (phases_of c) && nat_lt MAX_PHASES (phases_after s c) then Some (PhaseLimit (phases_after s c))
+    else None
+
+-- the levels y after these edges left the graph at the levels x: where there are any, they are lowered from x
+abbrev pub AreLoweredIn : Profile → GraphShape → List Pair → List ℕ → List ℕ → Type 0
+AreLoweredIn p g [] x y = y ≡ x
+AreLoweredIn p g (e ∷ es) x y = IsLowered p (without_edges g (e ∷ es)) x y
+
+-- the levels y after these edges came into the graph at the levels x: where there are any, they are raised from x
+abbrev pub AreRaisedIn : Profile → GraphShape → List Pair → List ℕ → List ℕ → Type 0
+AreRaisedIn p g [] x y = y ≡ x
+AreRaisedIn p g (e ∷ es) x y = IsRaised p (with_edges g (e ∷ es)) x y
+
+-- the graph after the edges removed left and then those added came in
+abbrev pub graph_after : GraphShape → Cleaned → GraphShape
+graph_after g c = with_edges (without_edges g c.removed) c.added
+
+-- the levels y after the batch at the levels x: first some edges leave, then some come in
+pub record AreLevelsAfter (p : Profile) (g : GraphShape) (c : Cleaned) (x y : List ℕ) : Type 0 where
+  -- the levels behind the deletion phase, if there is one
+  pub between : List ℕ
+  pub lowered : AreLoweredIn p g c.removed x between
+  pub raised : AreRaisedIn p (without_edges g c.removed) c.added between y
+
+-- how many moves there are in two phases over n vertices: from the levels x to y, and from there to z
+abbrev pub moves_through : ℕ → List ℕ → List ℕ → List ℕ → ℕ
+moves_through n x y z = moved_count n x y + moved_count n y z
+
+-- t is the state s after this batch, which isn't refused
+pub record IsAfterBatch (s : State) (c : Cleaned) (t : State) : Type 0 where
+  pub profile : t.profile ≡ s.profile
+  pub graph : t.graph ≡ graph_after s.graph c
+  pub levels : AreLevelsAfter s.profile s.graph c s.levels t.levels
+  pub phases : t.phases ≡ phases_after s c
+
+-- y are the levels after the batch at the levels x, and there were so many moves
+pub record AreMovedBy (p : Profile) (g : GraphShape) (c : Cleaned) (x y : List ℕ) (moves : ℕ) : Type 0 where
+  pub levels : AreLevelsAfter p g c x y
+  pub count : moves ≡ moves_through g.vertices x levels.between y

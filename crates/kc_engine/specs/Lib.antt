@@ -1,0 +1,4 @@
+pub mod States
+pub mod Batches
+pub mod Planning
+pub mod Laws

@@ -1,0 +1,174 @@
+ghost use Rattle.std.specs.Prelude.{◌≡◌, ◌≤◌, false, IfOk, OnOk};
+ghost use Rattle.kc_levels.specs.LevelList.{MeetsBoth};
+ghost use Rattle.kc_engine.specs.States.{IsSound};
+ghost use Rattle.kc_engine.specs.Batches.{IsCleaning, refusal_of};
+ghost use Rattle.kc_engine.specs.Planning.{opened, Answers};
+
+use crate::faults::EngineFault;
+use crate::limits::MAX_PHASES;
+use crate::phases::{phase_count, run_phases};
+use crate::plans::BatchPlan;
+use crate::shape::Shape;
+use kc_adj::LevelAdj;
+use kc_graph::{Cleaned, Graph, MAX_EDGES, MAX_VERTICES};
+use kc_levels::{Levels, Thresholds};
+use kc_rounds::Gate;
+use std::alloc::{AllocError, Global};
+use std::marker::Model;
+use std::thread::Threads;
+
+/// A graph with levels, which cleaned batches change one after another.
+///
+/// Contracts see it as an `EngineView`: its state (`State`), workers and edge limit, and whether it has halted. Unless it has
+/// halted its state is sound (`IsSound`): both invariants hold, and no number is above its limit.
+#[derive(Drop)]
+pub struct Engine {
+    // For the vertices of the graph.
+    thresholds: Thresholds,
+    adj: LevelAdj,
+    // How many phases there were, at most `MAX_PHASES`.
+    phases: u32,
+    workers: u32,
+    edge_limit: u32,
+    // Whether there was no memory for a batch: graph and levels may then be those in the middle of a phase.
+    halted: bool,
+}
+
+impl Model for Engine {
+    ghost use Rattle.kc_engine.specs.Planning.{EngineView, IsKept};
+
+    ghost Value = { EngineView };
+
+    ghost view = { λ e. record { state = record { profile = e.thresholds.profile; graph = e.adj.graph; levels = e.adj.levels; phases = e.phases }; workers = e.workers; edge_limit = e.edge_limit; halted = e.halted } };
+
+    ghost invariant = { λ e. IsKept e.thresholds (record { state = record { profile = e.thresholds.profile; graph = e.adj.graph; levels = e.adj.levels; phases = e.phases }; workers = e.workers; edge_limit = e.edge_limit; halted = e.halted }) };
+}
+
+impl Engine {
+    /// The engine of this shape before its first batch (`opened`): no edges, all levels 0, not halted.
+    ///
+    /// The numbers of the shape are within their ranges. Takes memory and time for n vertices. The error is want of memory.
+    pub fn open(alloc: Global, shape: Shape) -> Result<Engine, AllocError>
+        requires some { 1 ≤ shape.n }
+        requires small { shape.n ≤ MAX_VERTICES }
+        requires some_workers { 1 ≤ shape.workers }
+        requires few_workers { shape.workers ≤ 64 }
+        requires few_phases { shape.phases_before ≤ MAX_PHASES }
+        requires few_edges { shape.edge_limit ≤ MAX_EDGES }
+        ensures { IfOk result (λ engine. engine ≡ opened shape) }
+    {
+        Ok(Engine {
+            thresholds: Thresholds::new(alloc, shape.profile, shape.n)?,
+            adj: LevelAdj::new(alloc, shape.n)?,
+            phases: shape.phases_before,
+            workers: shape.workers,
+            edge_limit: shape.edge_limit,
+            halted: false,
+        })
+    }
+
+    // Why the batch is refused, if it is. The engine hasn't halted.
+    fn refusal_of(&self, cleaned: &Cleaned) -> Option<EngineFault>
+        requires running { self.now.halted ≡ false }
+        requires cleaning { IsCleaning self.now.state.graph cleaned.now }
+        ensures { result ≡ refusal_of self.now.edge_limit self.now.state cleaned.now }
+    {
+        // Its contract says that the edges of the graph ascend.
+        let _n = self.adj.graph().vertices();
+        let left = self.adj.graph().edge_count() - cleaned.removed.len() as u32;
+        let edges = left + cleaned.added.len() as u32;
+        if edges > self.edge_limit {
+            return Some(EngineFault::EdgeLimit { edges });
+        }
+        let count = phase_count(cleaned);
+        let phase = self.phases + count;
+        if count > 0 && phase > MAX_PHASES {
+            return Some(EngineFault::PhaseLimit { phase });
+        }
+        None
+    }
+
+    /// Changes graph and levels by a cleaned batch (`Answers`), and gives the number of moves.
+    ///
+    /// First the edges of `removed` leave and the levels fall to the lowered list (`IsLowered`), then the edges of `added` come
+    /// in and the levels rise to the raised list (`IsRaised`). Each is a phase of its own and takes the next number; there is
+    /// none for an empty list. Unless the engine has halted, `cleaned` is what `clean` gives for this graph.
+    ///
+    /// The faults, of which the first that applies comes, before memory is asked for:
+    /// - `Halted` exactly where an earlier batch met want of memory;
+    /// - `EdgeLimit` exactly where the edges less those removed and with those added are more than the edge limit, with that
+    ///   number;
+    /// - `PhaseLimit` exactly where the batch has a phase and the number of its last one is above `MAX_PHASES`, with that number;
+    /// - `Memory` only where none of these applies.
+    ///
+    /// After the first three the engine is unchanged. After `Memory` it has halted, and its graph and levels are unspecified.
+    ///
+    /// Costs what `delete_rounds` and `insert_rounds` cost; a batch without phases and one that is refused cost O(1).
+    pub fn plan<R: Threads + Sync, G: Gate + Sync>(
+        &mut self,
+        rt: &R,
+        alloc: Global,
+        gate: &G,
+        cleaned: &Cleaned,
+    ) -> Result<BatchPlan, EngineFault>
+        requires cleaning { self.old.halted ≡ false → IsCleaning self.old.state.graph cleaned.now }
+        ensures answer { Answers self.old cleaned.now result self.new }
+        ensures both { OnOk result (MeetsBoth self.new.state.profile self.new.state.graph self.new.state.levels) }
+        ensures sound { OnOk result (IsSound self.new.edge_limit self.new.state) }
+    {
+        if self.halted {
+            return Err(EngineFault::Halted);
+        }
+        if let Some(fault) = self.refusal_of(cleaned) {
+            return Err(fault);
+        }
+        // Until both phases are done.
+        self.halted = true;
+        let moves = run_phases(
+            rt,
+            alloc,
+            gate,
+            self.workers,
+            &self.thresholds,
+            &mut self.adj,
+            cleaned,
+        )
+        .map_err(EngineFault::Memory)?;
+        self.phases += phase_count(cleaned);
+        self.halted = false;
+        Ok(BatchPlan { moves })
+    }
+
+    /// The graph, of which nothing is specified once the engine has halted.
+    pub fn graph(&self) -> &Graph
+        ensures value { result.now ≡ self.now.state.graph }
+        ensures sound { self.now.halted ≡ false → IsSound self.now.edge_limit self.now.state }
+    {
+        let _halted = self.halted;
+        self.adj.graph()
+    }
+
+    /// The levels, of which nothing is specified once the engine has halted.
+    pub fn levels(&self) -> &Levels
+        ensures value { result.now ≡ self.now.state.levels }
+        ensures sound { self.now.halted ≡ false → IsSound self.now.edge_limit self.now.state }
+    {
+        self.adj.levels()
+    }
+
+    /// The thresholds that the levels go by. They are for the vertices of the graph, unless the engine has halted.
+    pub fn thresholds(&self) -> &Thresholds
+        ensures profile { result.now.profile ≡ self.now.state.profile }
+        ensures scale { self.now.halted ≡ false → result.now.vertices ≡ self.now.state.graph.vertices }
+    {
+        &self.thresholds
+    }
+
+    /// How many phases there were, those before the engine was opened among them: 0 to `MAX_PHASES`.
+    pub fn phases(&self) -> u32
+        ensures value { result ≡ self.now.state.phases }
+        ensures few { self.now.halted ≡ false → result ≤ MAX_PHASES }
+    {
+        self.phases
+    }
+}

@@ -1,0 +1,225 @@
+ghost use Rattle.std.specs.Prelude.{◌≡◌, ◌≤◌, false, All, OnOk, IfOk};
+ghost use Rattle.std.specs.Bool.{OnTrue};
+ghost use Rattle.kc_graph.specs.Cleaning.{IsInside};
+
+use crate::{Engine, EngineFault, MAX_PHASES, Shape};
+use kc_graph::{Item, MAX_EDGES, MAX_ITEMS, MAX_VERTICES, clean};
+use kc_levels::Profile;
+use kc_rounds::OpenGate;
+use std::alloc::{AllocError, Global};
+use std::process::Abort;
+use std::test::Fail;
+use std::thread::Threads;
+
+fn put(u: u32, v: u32) -> Item {
+    Item::Insert { u, v }
+}
+
+fn take(u: u32, v: u32) -> Item {
+    Item::Delete { u, v }
+}
+
+// Whether the vertices of the item are below n.
+fn is_inside(item: Item, n: u32) -> bool
+    ensures { OnTrue result (IsInside n item) }
+{
+    match item {
+        Item::Insert { u, v } => u < n && v < n,
+        Item::Delete { u, v } => u < n && v < n,
+    }
+}
+
+// Whether the vertices of all the items are below n.
+fn are_inside(items: &[Item], n: u32) -> bool
+    ensures { OnTrue result (All (IsInside n) items.now) }
+{
+    for item in items {
+        if !is_inside(*item, n) {
+            return false;
+        }
+    }
+    true
+}
+
+// Whether the engine has these levels and so many edges, and had so many phases.
+fn is_as(engine: &Engine, levels: &[u16], edges: u32, phases: u32) -> bool {
+    engine.levels().as_slice() == levels
+        && engine.graph().edge_count() == edges
+        && engine.phases() == phases
+}
+
+// What becomes of a batch of these items: the number of moves, or the number with which it is refused.
+#[derive(Clone, Copy, Debug, PartialEq, Eq)]
+enum Outcome {
+    Moves(u32),
+    EdgeLimit(u32),
+    PhaseLimit(u32),
+}
+
+// Plans a batch of these items. The engine hasn't halted.
+fn run<R: Threads + Sync + Abort>(
+    rt: &R,
+    alloc: Global,
+    engine: &mut Engine,
+    items: &[Item],
+) -> Result<Outcome, AllocError>
+    requires running { engine.old.halted ≡ false }
+    ensures running { OnOk result (engine.new.halted ≡ false) }
+{
+    assert!(rt; items.len() <= MAX_ITEMS as usize);
+    assert!(rt; are_inside(items, engine.graph().vertices()));
+    let cleaned = clean(rt, alloc, engine.graph(), items)?;
+    match engine.plan(rt, alloc, &OpenGate::new(), &cleaned) {
+        Ok(plan) => Ok(Outcome::Moves(plan.moves)),
+        Err(EngineFault::Halted) => Err(AllocError),
+        Err(EngineFault::EdgeLimit { edges }) => Ok(Outcome::EdgeLimit(edges)),
+        Err(EngineFault::PhaseLimit { phase }) => Ok(Outcome::PhaseLimit(phase)),
+        Err(EngineFault::Memory(error)) => Err(error),
+    }
+}
+
+// The engine for n vertices with the program's limits.
+fn opened(alloc: Global, n: u32) -> Result<Engine, AllocError>
+    requires some { 1 ≤ n }
+    requires small { n ≤ MAX_VERTICES }
+    ensures { IfOk result (λ engine. engine.halted ≡ false) }
+{
+    let shape = Shape {
+        profile: Profile::One,
+        n,
+        workers: 1,
+        phases_before: 0,
+        edge_limit: MAX_EDGES,
+    };
+    Engine::open(alloc, shape)
+}
+
+#[test]
+fn a_star_rises_and_falls_again(rt: HostRuntime) -> Result<(), Fail> {
+    let mut engine = opened(rt.alloc(), 5)?;
+    let star = [put(0, 1), put(0, 2), put(0, 3), put(0, 4)];
+    let outcome = run(&rt, rt.alloc(), &mut engine, &star)?;
+    assert_eq!(rt; outcome, Outcome::Moves(5));
+    assert!(rt; is_as(&engine, &[2, 1, 1, 1, 1], 4, 1));
+    let none = [take(0, 1), take(0, 2), take(0, 3), take(0, 4)];
+    let outcome = run(&rt, rt.alloc(), &mut engine, &none)?;
+    assert_eq!(rt; outcome, Outcome::Moves(5));
+    assert!(rt; is_as(&engine, &[0, 0, 0, 0, 0], 0, 2));
+    Ok(())
+}
+
+#[test]
+fn levels_depend_on_what_was_before(rt: HostRuntime) -> Result<(), Fail> {
+    let mut engine = opened(rt.alloc(), 5)?;
+    let path = [put(0, 1), put(0, 2)];
+    let outcome = run(&rt, rt.alloc(), &mut engine, &path)?;
+    assert_eq!(rt; outcome, Outcome::Moves(3));
+    assert!(rt; is_as(&engine, &[1, 1, 1, 0, 0], 2, 1));
+    let outcome = run(&rt, rt.alloc(), &mut engine, &[put(0, 3)])?;
+    assert_eq!(rt; outcome, Outcome::Moves(2));
+    assert!(rt; is_as(&engine, &[2, 1, 1, 1, 0], 3, 2));
+    let outcome = run(&rt, rt.alloc(), &mut engine, &[take(0, 3)])?;
+    assert_eq!(rt; outcome, Outcome::Moves(1));
+    assert!(rt; is_as(&engine, &[2, 1, 1, 0, 0], 2, 3));
+    Ok(())
+}
+
+#[test]
+fn nobody_falls_without_need(rt: HostRuntime) -> Result<(), Fail> {
+    let mut engine = opened(rt.alloc(), 5)?;
+    let four = [
+        put(0, 1),
+        put(0, 2),
+        put(0, 3),
+        put(1, 2),
+        put(1, 3),
+        put(2, 3),
+    ];
+    let outcome = run(&rt, rt.alloc(), &mut engine, &four)?;
+    assert_eq!(rt; outcome, Outcome::Moves(4));
+    assert!(rt; is_as(&engine, &[6, 6, 6, 6, 0], 6, 1));
+    let outcome = run(&rt, rt.alloc(), &mut engine, &[take(0, 1)])?;
+    assert_eq!(rt; outcome, Outcome::Moves(0));
+    assert!(rt; is_as(&engine, &[6, 6, 6, 6, 0], 5, 2));
+    Ok(())
+}
+
+// The complete graph on eight vertices: vertex 0 keeps two neighbours.
+#[test]
+fn a_vertex_falls_part_of_the_way(rt: HostRuntime) -> Result<(), Fail> {
+    let mut engine = opened(rt.alloc(), 8)?;
+    let mut eight = Vec::new(rt.alloc());
+    for a in 0..7 {
+        for b in a + 1..8 {
+            eight.push(put(a, b))?;
+        }
+    }
+    let outcome = run(&rt, rt.alloc(), &mut engine, &eight)?;
+    assert_eq!(rt; outcome, Outcome::Moves(8));
+    assert!(rt; is_as(&engine, &[19, 19, 19, 19, 19, 19, 19, 19], 28, 1));
+    let five = [take(0, 1), take(0, 2), take(0, 3), take(0, 4), take(0, 5)];
+    let outcome = run(&rt, rt.alloc(), &mut engine, &five)?;
+    assert_eq!(rt; outcome, Outcome::Moves(1));
+    assert!(rt; is_as(&engine, &[13, 19, 19, 19, 19, 19, 19, 19], 23, 2));
+    Ok(())
+}
+
+#[test]
+fn edges_leave_before_others_come_in(rt: HostRuntime) -> Result<(), Fail> {
+    let mut engine = opened(rt.alloc(), 5)?;
+    let outcome = run(&rt, rt.alloc(), &mut engine, &[put(0, 1)])?;
+    assert_eq!(rt; outcome, Outcome::Moves(2));
+    assert!(rt; is_as(&engine, &[1, 1, 0, 0, 0], 1, 1));
+    let outcome = run(&rt, rt.alloc(), &mut engine, &[take(0, 1), put(0, 2)])?;
+    assert_eq!(rt; outcome, Outcome::Moves(4));
+    assert!(rt; is_as(&engine, &[1, 0, 1, 0, 0], 1, 3));
+    Ok(())
+}
+
+// One more phase has a number. A batch without a phase is accepted all the same.
+#[test]
+fn phases_are_limited(rt: HostRuntime) -> Result<(), Fail> {
+    let shape = Shape {
+        profile: Profile::One,
+        n: 2,
+        workers: 64,
+        phases_before: 1_048_574,
+        edge_limit: MAX_EDGES,
+    };
+    let mut engine = Engine::open(rt.alloc(), shape)?;
+    let outcome = run(&rt, rt.alloc(), &mut engine, &[put(0, 1)])?;
+    assert_eq!(rt; outcome, Outcome::Moves(2));
+    assert!(rt; is_as(&engine, &[1, 1], 1, 1_048_575));
+    let outcome = run(&rt, rt.alloc(), &mut engine, &[take(0, 1)])?;
+    assert_eq!(rt; outcome, Outcome::PhaseLimit(1_048_576));
+    assert!(rt; is_as(&engine, &[1, 1], 1, 1_048_575));
+    let outcome = run(&rt, rt.alloc(), &mut engine, &[put(1, 0)])?;
+    assert_eq!(rt; outcome, Outcome::Moves(0));
+    assert!(rt; is_as(&engine, &[1, 1], 1, 1_048_575));
+    Ok(())
+}
+
+// There is room for one edge, which may be exchanged for another. Both limits are passed at the end, and the edges' is told.
+#[test]
+fn edges_are_limited(rt: HostRuntime) -> Result<(), Fail> {
+    let shape = Shape {
+        profile: Profile::One,
+        n: 3,
+        workers: 1,
+        phases_before: MAX_PHASES - 3,
+        edge_limit: 1,
+    };
+    let mut engine = Engine::open(rt.alloc(), shape)?;
+    let outcome = run(&rt, rt.alloc(), &mut engine, &[put(0, 1)])?;
+    assert_eq!(rt; outcome, Outcome::Moves(2));
+    let outcome = run(&rt, rt.alloc(), &mut engine, &[put(1, 2)])?;
+    assert_eq!(rt; outcome, Outcome::EdgeLimit(2));
+    assert!(rt; is_as(&engine, &[1, 1, 0], 1, MAX_PHASES - 2));
+    let outcome = run(&rt, rt.alloc(), &mut engine, &[put(1, 2), take(0, 1)])?;
+    assert_eq!(rt; outcome, Outcome::Moves(4));
+    assert!(rt; is_as(&engine, &[0, 1, 1], 1, MAX_PHASES));
+    let outcome = run(&rt, rt.alloc(), &mut engine, &[put(0, 1), put(0, 2)])?;
+    assert_eq!(rt; outcome, Outcome::EdgeLimit(3));
+    assert!(rt; is_as(&engine, &[0, 1, 1], 1, MAX_PHASES));
+    Ok(())
+}
