@@ -1,0 +1,319 @@
+-- The points of a phase lie between its ends.
+use Rattle.std.proofs.Common.{ℕ, suc, zero, ◌≤◌, ◌<◌, ◌≡◌, ◌≢◌, ◌⊎◌, inl, inr, Bool, true, false, not, ◌||◌, ◌&&◌, List, [], ◌∷◌, length, get_or, map, filter, take, refl, ap, sym, ◌∙◌, arith}
+use Rattle.std.proofs.lemmas.Bool.{cases_eq, cases_lt, cases_Bool, true≢false}
+use Rattle.std.proofs.lemmas.Bool.Decides.{nat_tests}
+use Rattle.std.proofs.lemmas.List.{get_or_past, take-map}
+use Rattle.kc_graph.specs.Numbers.{AllBelow, has_number}
+use Rattle.kc_graph.specs.Shape.{GraphShape, Pair, IsGraph, has_edge, joined, with_edges, without_edges}
+use Rattle.kc_graph.proofs.ChangeLemmas.{vertices-without_edges, has_edge-with_edges, has_edge-without_edges, is_graph-without_edges, inside_from_ascending}
+use Rattle.kc_graph.proofs.EdgeLemmas.{joined_inside}
+use Rattle.kc_graph.proofs.EdgeListLemmas.{has_edge-filter}
+use Rattle.kc_levels.specs.LevelList.{IsBelow}
+use Rattle.kc_levels.specs.Between.{IsBetween}
+use Rattle.kc_levels.specs.Moved.{is_moved}
+use Rattle.kc_history.specs.declared.entries.Entry.{Entry}
+use Rattle.kc_history.specs.Points.{graph_after, levels_after}
+use Rattle.kc_groups.specs.declared.plans.PhasePlan.{PhasePlan}
+use Rattle.kc_groups.specs.Links.{AreLabels}
+use Rattle.kc_groups.specs.Labels.{AreJoined, AreRooted}
+use Rattle.kc_groups.specs.Entries.{labels_below, group_entry, quiet_entry, ends_at, is_quiet, entries_of, AreEntries}
+use Rattle.kc_groups.specs.Dealing.{edge_label}
+use Rattle.kc_groups.specs.Laws.{IsPhase, PointsLieBetween}
+use Rattle.kc_groups.proofs.LabelLaw.{labels_joined}
+use Rattle.kc_groups.proofs.ListLemmas.{labels_rise}
+use Rattle.kc_groups.proofs.DealingLemmas.{edge_joined, rooted, IsAt, is_at, ends_yes, ends_no, label_root}
+use Rattle.kc_groups.proofs.EdgesLaw.{present_in}
+use Rattle.kc_groups.proofs.LeadLaw.{AreOnTheWay, groups_lead, any_has, plan_toward, added, removed}
+
+or_true : (b : Bool) → b || true ≡ true
+or_true true = refl
+or_true false = refl
+
+and_second : (a b : Bool) → a && b ≡ true → b ≡ true
+and_second true b h = h
+and_second false b h = absurd (true≢false (sym h))
+
+-- a list that is nowhere above another within their length is nowhere above it at all
+all_below : (n : ℕ) (x y : List ℕ) → length x ≡ n → IsBelow n x y → (w : ℕ) → get_or x w 0 ≤ get_or y w 0
+all_below n x y sized low w = elim (cases_lt w n) [ inl inside ↦ low w inside | inr out ↦ omega (arith, get_or_past x w 0 (omega (arith, out, sized))) ]
+
+below_take : (n k : ℕ) (xs : List ℕ) → AllBelow n xs → AllBelow n (take k xs)
+below_take n zero xs below = tt
+below_take n (suc k) [] below = tt
+below_take n (suc k) (x ∷ xs) below = (below.0, below_take n k xs below.1)
+
+filtered_none : (e : Pair) (p : Pair → Bool) (es : List Pair) → has_edge e es ≡ false → has_edge e (filter p es) ≡ false
+filtered_none e p es none = has_edge-filter e p es ∙ grind (arith, nat_tests, none)
+
+module _ (phase : ℕ) (add : Bool) (edges : List Pair) (x y labels : List ℕ) (g : GraphShape) where
+  abbrev of : ℕ → Entry
+  of = group_entry phase add edges x y labels g.vertices
+
+  groups_out : (e : Pair) (rs : List ℕ) → has_edge e edges ≡ false → any_has e (map of rs) ≡ false
+  groups_out e [] none = refl
+  groups_out e (r ∷ rs) none =
+      ap (λ b. b || any_has e (map of rs)) (filtered_none e (ends_at labels r) edges none) ∙ groups_out e rs none
+
+  groups_hidden : (e : Pair) (l : ℕ) (rs : List ℕ) → IsAt g.vertices l (get_or labels e.0 0) (get_or labels e.1 0) → AllBelow g.vertices rs → has_number l rs ≡ false → any_has e (map of rs) ≡ false
+  groups_hidden e l [] at below hidden = refl
+  groups_hidden e l (r ∷ rs) at below hidden =
+      let ne : r ≢ l = λ same. true≢false (sym (grind (arith, nat_tests, same)) ∙ hidden) in
+      ap (λ b. b || any_has e (map of rs)) (has_edge-filter e (ends_at labels r) edges ∙ ap (λ b. b && has_edge e edges) (ends_no g.vertices l r labels e at below.0 ne))
+      ∙ groups_hidden e l rs at below.1 (grind (arith, nat_tests, hidden, ne))
+
+  groups_shown : (e : Pair) (l : ℕ) (rs : List ℕ) → IsAt g.vertices l (get_or labels e.0 0) (get_or labels e.1 0) → has_edge e edges ≡ true → has_number l rs ≡ true → any_has e (map of rs) ≡ true
+  groups_shown e l [] at has shown = absurd (true≢false (sym shown))
+  groups_shown e l (r ∷ rs) at has shown = elim (cases_eq r l) [
+    | inl same ↦
+        ap (λ b. b || any_has e (map of rs))
+        (has_edge-filter e (ends_at labels r) edges ∙ ap (λ b. b && has_edge e edges) (ap (λ t. ends_at labels t e) same ∙ ends_yes g.vertices l labels e at) ∙ has)
+    | inr ne ↦
+        ap (λ b. has_edge e (filter (ends_at labels r) edges) || b) (groups_shown e l rs at has (grind (arith, nat_tests, shown, ne))) ∙ or_true (has_edge e (filter (ends_at labels r) edges))
+  ]
+
+  end_label : (e : Pair) (v : ℕ) → AreRooted g.vertices (is_moved x y) labels → IsAt g.vertices (edge_label x y labels e) (get_or labels e.0 0) (get_or labels e.1 0) → (v ≡ e.0) ⊎ (v ≡ e.1) → v < g.vertices → is_moved x y v ≡ true → edge_label x y labels e ≡ get_or labels v 0
+  end_label e v r at end h m = elim end [
+    | inl low ↦ one (get_or labels e.0 0) (ap (λ u. get_or labels u 0) low) at.first
+    | inr high ↦ one (get_or labels e.1 0) (ap (λ u. get_or labels u 0) high) at.second
+  ]
+    where
+      one : (l : ℕ) → get_or labels v 0 ≡ l → (l ≡ edge_label x y labels e) ⊎ (l ≡ g.vertices) → edge_label x y labels e ≡ get_or labels v 0
+      one l same why = elim why [ inl is ↦ sym (same ∙ is) | inr none ↦ absurd (omega (arith, (r.root v h m).0, same, none)) ]
+
+  module _ (is : IsPhase edges x y g) (are : AreLabels g (is_moved x y) labels) (rs : List ℕ) (below : AllBelow g.vertices rs) where
+    joins : AreJoined g (is_moved x y) labels
+    joins = labels_joined g (is_moved x y) labels is.graph are
+
+    -- an edge of the phase at a vertex that moves is in one of the entries exactly where its label is among theirs
+    any_at : (e : Pair) (v : ℕ) → (v ≡ e.0) ⊎ (v ≡ e.1) → v < g.vertices → is_moved x y v ≡ true → any_has e (quiet_entry phase add edges x y ∷ map of rs) ≡ has_number (get_or labels v 0) rs && has_edge e edges
+    any_at e v end h m = elim (cases_Bool (has_edge e edges)) [
+      | inr none ↦
+          ap (λ b. b || any_has e (map of rs)) (filtered_none e (is_quiet x y) edges none) ∙ groups_out e rs none
+          ∙ sym (ap (λ b. has_number (get_or labels v 0) rs && b) none ∙ and_false (has_number (get_or labels v 0) rs))
+      | inl has ↦
+          let r = rooted g x y labels are joins in
+          let j = edge_joined g x y labels e is.graph joins (present_in g e edges is.present has) in
+          let at = is_at g.vertices x y labels e r j in
+          let same = end_label e v r at end h m in
+          let low : edge_label x y labels e < g.vertices = omega (arith, same, (r.root v h m).0) in
+          let quiet : has_edge e (filter (is_quiet x y) edges) ≡ false = has_edge-filter e (is_quiet x y) edges ∙ ap (λ b. b && has_edge e edges) (label_root g.vertices x y labels e r j low).1 in
+          ap (λ b. b || any_has e (map of rs)) quiet
+          ∙ elim (cases_Bool (has_number (get_or labels v 0) rs)) [
+            | inl shown ↦ groups_shown e (edge_label x y labels e) rs at has (ap (λ l. has_number l rs) same ∙ shown) ∙ sym (ap (λ b. b && has_edge e edges) shown ∙ has)
+            | inr hidden ↦ groups_hidden e (edge_label x y labels e) rs at below (ap (λ l. has_number l rs) same ∙ hidden) ∙ sym (ap (λ b. b && has_edge e edges) hidden)
+          ]
+    ]
+      where
+        and_false : (b : Bool) → b && false ≡ false
+        and_false true = refl
+        and_false false = refl
+
+    -- an edge of an entry is one of the phase
+    any_inside : (e : Pair) → any_has e (quiet_entry phase add edges x y ∷ map of rs) ≡ true → has_edge e edges ≡ true
+    any_inside e any = elim (cases_Bool (has_edge e edges)) [
+      | inl has ↦ has
+      | inr none ↦ absurd (true≢false (sym any ∙ ap (λ b. b || any_has e (map of rs)) (filtered_none e (is_quiet x y) edges none) ∙ groups_out e rs none))
+    ]
+
+    module _ (z : List ℕ) (way : AreOnTheWay g.vertices x y z (λ v. has_number (get_or labels v 0) rs)) where
+      still : (v : ℕ) → v < g.vertices → is_moved x y v ≡ false → (get_or x v 0 ≡ get_or y v 0) × (get_or z v 0 ≡ get_or y v 0)
+      still v h m = let same : get_or x v 0 ≡ get_or y v 0 = grind (arith, nat_tests, m) in (same, way.kept v h same)
+
+      near_old : (v w : ℕ) → v < g.vertices → is_moved x y v ≡ true → has_number (get_or labels v 0) rs ≡ false → joined v w g.edges ≡ true → get_or z w 0 ≡ get_or x w 0
+      near_old v w h m hidden share =
+          let inside : w < g.vertices = (joined_inside g.vertices 0 0 v w g.edges is.graph share).1 in
+          elim (cases_Bool (is_moved x y w)) [
+            | inl mw ↦ way.left w inside (ap (λ l. has_number l rs) (joins.one v w h (record { from = m; to = mw; edge = share })) ∙ hidden)
+            | inr sw ↦ let s = still w inside sw in s.1 ∙ sym s.0
+          ]
+
+      near_new : (v w : ℕ) → v < g.vertices → is_moved x y v ≡ true → has_number (get_or labels v 0) rs ≡ true → joined v w g.edges ≡ true → get_or z w 0 ≡ get_or y w 0
+      near_new v w h m shown share =
+          let inside : w < g.vertices = (joined_inside g.vertices 0 0 v w g.edges is.graph share).1 in
+          elim (cases_Bool (is_moved x y w)) [
+            | inl mw ↦ way.reached w inside (ap (λ l. has_number l rs) (joins.one v w h (record { from = m; to = mw; edge = share })) ∙ shown)
+            | inr sw ↦ (still w inside sw).1
+          ]
+
+      -- a level is the old or the new one
+      either : (w : ℕ) → (get_or z w 0 ≡ get_or x w 0) ⊎ (get_or z w 0 ≡ get_or y w 0)
+      either w = elim (cases_lt w g.vertices) [
+        | inr out ↦ inl (get_or_past z w 0 (omega (arith, out, way.sized)) ∙ sym (get_or_past x w 0 (omega (arith, out, is.before))))
+        | inl inside ↦ elim (cases_Bool (has_number (get_or labels w 0) rs)) [
+          | inl shown ↦ inr (way.reached w inside shown)
+          | inr hidden ↦ inl (way.left w inside hidden)
+        ]
+      ]
+
+      from_old : (w : ℕ) → IsBelow g.vertices x y → (get_or x w 0 ≤ get_or z w 0) × (get_or z w 0 ≤ get_or y w 0)
+      from_old w low =
+          let le : get_or x w 0 ≤ get_or y w 0 = all_below g.vertices x y is.before low w in
+          elim (either w) [ inl old ↦ (omega (arith, old), omega (arith, old, le)) | inr new ↦ (omega (arith, new, le), omega (arith, new)) ]
+
+      from_new : (w : ℕ) → IsBelow g.vertices y x → (get_or y w 0 ≤ get_or z w 0) × (get_or z w 0 ≤ get_or x w 0)
+      from_new w low =
+          let le : get_or y w 0 ≤ get_or x w 0 = all_below g.vertices y x is.after low w in
+          elim (either w) [ inl old ↦ (omega (arith, old, le), omega (arith, old)) | inr new ↦ (omega (arith, new), omega (arith, new, le)) ]
+
+joined_same : (v w : ℕ) (es fs : List Pair) → has_edge (v, w) es ≡ has_edge (v, w) fs → has_edge (w, v) es ≡ has_edge (w, v) fs → joined v w es ≡ joined v w fs
+joined_same v w es fs a b = ap (λ t. t || has_edge (w, v) es) a ∙ ap (λ t. has_edge (v, w) fs || t) b
+
+joined_more : (v w : ℕ) (es fs : List Pair) → ((e : Pair) → has_edge e es ≡ true → has_edge e fs ≡ true) → joined v w es ≡ true → joined v w fs ≡ true
+joined_more v w es fs more share = elim (cases_Bool (has_edge (v, w) es)) [
+  | inl low ↦ ap (λ t. t || has_edge (w, v) fs) (more (v, w) low)
+  | inr none ↦ ap (λ t. has_edge (v, w) fs || t) (more (w, v) (sym (ap (λ t. t || has_edge (w, v) es) none) ∙ share)) ∙ or_true (has_edge (v, w) fs)
+]
+
+module _ (phase : ℕ) (edges : List Pair) (x y labels : List ℕ) (g : GraphShape) (is : IsPhase edges x y g) (are : AreLabels g (is_moved x y) labels) (rs : List ℕ) (below : AllBelow g.vertices rs) where
+  module _ (before : GraphShape) (graph : IsGraph before) (same : before.vertices ≡ g.vertices) (new : g ≡ with_edges before edges) (low : IsBelow g.vertices x y) where
+    abbrev coming : List Entry
+    coming = quiet_entry phase true edges x y ∷ map (group_entry phase true edges x y labels g.vertices) rs
+
+    insertion_between : IsBetween before g (graph_after before (quiet_entry phase true edges x y ∷ map (group_entry phase true edges x y labels g.vertices) rs)) x y (levels_after x (map (group_entry phase true edges x y labels g.vertices) rs))
+    insertion_between =
+        let h = graph_after before coming in
+        let z = levels_after x (map (group_entry phase true edges x y labels g.vertices) rs) in
+        let way = groups_lead phase true edges x y labels g.vertices x rs is.before in
+        let led = added g.vertices before coming graph same (plan_toward phase true edges x y labels g.vertices rs (inside_from_ascending g.vertices 0 0 edges is.ascending)) in
+        let union : (e : Pair) → has_edge e g.edges ≡ has_edge e edges || has_edge e before.edges = λ e. ap (λ (t : GraphShape). has_edge e t.edges) new ∙ has_edge-with_edges e before edges in
+        let more : (e : Pair) → has_edge e before.edges ≡ true → has_edge e h.edges ≡ true = λ e has. led.edges e ∙ ap (λ b. any_has e coming || b) has ∙ or_true (any_has e coming) in
+        let fewer : (e : Pair) → has_edge e h.edges ≡ true → has_edge e g.edges ≡ true = λ e has. elim (cases_Bool (any_has e coming)) [
+          | inl any ↦ present_in g e edges is.present (any_inside phase true edges x y labels g is are rs below e any)
+          | inr none ↦ union e ∙ ap (λ b. has_edge e edges || b) (sym (ap (λ b. b || has_edge e before.edges) none) ∙ sym (led.edges e) ∙ has) ∙ or_true (has_edge e edges)
+        ] in
+        record {
+          lower = graph;
+          upper = is.graph;
+          middle = led.graph;
+          same_lower = same ∙ sym led.vertices;
+          same_upper = sym led.vertices;
+          sized = way.sized ∙ sym led.vertices;
+          above = λ w. (from_old phase true edges x y labels g is are rs below z way w low).0;
+          below = λ w. (from_old phase true edges x y labels g is are rs below z way w low).1;
+          more = λ v w. joined_more v w before.edges h.edges more;
+          fewer = λ v w. joined_more v w h.edges g.edges fewer;
+          each = λ v hv.
+              let at : v < g.vertices = omega (arith, hv, led.vertices) in
+              elim (cases_Bool (is_moved x y v)) [
+                | inr sv ↦ inl (still phase true edges x y labels g is are rs below z way v at sv).0
+                | inl m ↦ inr (elim (cases_Bool (has_number (get_or labels v 0) rs)) [
+                  | inr hidden ↦
+                      let alike : (e : Pair) → (v ≡ e.0) ⊎ (v ≡ e.1) → has_edge e h.edges ≡ has_edge e before.edges = λ e end.
+                      led.edges e ∙ ap (λ b. b || has_edge e before.edges) (any_at phase true edges x y labels g is are rs below e v end at m ∙ ap (λ b. b && has_edge e edges) hidden) in
+                      inl (record {
+                        level = way.left v at hidden;
+                        edges = λ w. joined_same v w h.edges before.edges (alike (v, w) (inl refl)) (alike (w, v) (inr refl));
+                        levels = λ w share. near_old phase true edges x y labels g is are rs below z way v w at m hidden (joined_more v w before.edges g.edges (λ e has. fewer e (more e has)) share);
+                      })
+                  | inl shown ↦
+                      let alike : (e : Pair) → (v ≡ e.0) ⊎ (v ≡ e.1) → has_edge e h.edges ≡ has_edge e g.edges = λ e end.
+                      led.edges e ∙ ap (λ b. b || has_edge e before.edges) (any_at phase true edges x y labels g is are rs below e v end at m ∙ ap (λ b. b && has_edge e edges) shown) ∙ sym (union e) in
+                      inr (record {
+                        level = way.reached v at shown;
+                        edges = λ w. joined_same v w h.edges g.edges (alike (v, w) (inl refl)) (alike (w, v) (inr refl));
+                        levels = λ w share. near_new phase true edges x y labels g is are rs below z way v w at m shown share;
+                      })
+                ])
+              ];
+        }
+
+  module _ (low : IsBelow g.vertices y x) where
+    abbrev leaving : List Entry
+    leaving = quiet_entry phase false edges x y ∷ map (group_entry phase false edges x y labels g.vertices) rs
+
+    deletion_between : IsBetween (without_edges g edges) g (graph_after g (quiet_entry phase false edges x y ∷ map (group_entry phase false edges x y labels g.vertices) rs)) y x (levels_after x (map (group_entry phase false edges x y labels g.vertices) rs))
+    deletion_between =
+        let h = graph_after g leaving in
+        let after = without_edges g edges in
+        let z = levels_after x (map (group_entry phase false edges x y labels g.vertices) rs) in
+        let way = groups_lead phase false edges x y labels g.vertices x rs is.before in
+        let led = removed g.vertices g leaving is.graph refl (plan_toward phase false edges x y labels g.vertices rs (inside_from_ascending g.vertices 0 0 edges is.ascending)) in
+        let left : (e : Pair) → has_edge e (without_edges g edges).edges ≡ not (has_edge e edges) && has_edge e g.edges = λ e. has_edge-without_edges e g edges in
+        let fewer : (e : Pair) → has_edge e h.edges ≡ true → has_edge e g.edges ≡ true = λ e has. and_second (not (any_has e leaving)) (has_edge e g.edges) (sym (led.edges e) ∙ has) in
+        let more : (e : Pair) → has_edge e after.edges ≡ true → has_edge e h.edges ≡ true = λ e has. elim (cases_Bool (any_has e leaving)) [
+          | inl any ↦ absurd (true≢false (sym has ∙ left e ∙ ap (λ b. not b && has_edge e g.edges) (any_inside phase false edges x y labels g is are rs below e any)))
+          | inr none ↦ led.edges e ∙ ap (λ b. not b && has_edge e g.edges) none ∙ and_second (not (has_edge e edges)) (has_edge e g.edges) (sym (left e) ∙ has)
+        ] in
+        record {
+          lower = is_graph-without_edges g edges is.graph;
+          upper = is.graph;
+          middle = led.graph;
+          same_lower = vertices-without_edges g edges ∙ sym led.vertices;
+          same_upper = sym led.vertices;
+          sized = way.sized ∙ sym led.vertices;
+          above = λ w. (from_new phase false edges x y labels g is are rs below z way w low).0;
+          below = λ w. (from_new phase false edges x y labels g is are rs below z way w low).1;
+          more = λ v w. joined_more v w after.edges h.edges more;
+          fewer = λ v w. joined_more v w h.edges g.edges fewer;
+          each = λ v hv.
+              let at : v < g.vertices = omega (arith, hv, led.vertices) in
+              elim (cases_Bool (is_moved x y v)) [
+                | inr sv ↦ inl (sym (still phase false edges x y labels g is are rs below z way v at sv).0)
+                | inl m ↦ inr (elim (cases_Bool (has_number (get_or labels v 0) rs)) [
+                  | inr hidden ↦
+                      let alike : (e : Pair) → (v ≡ e.0) ⊎ (v ≡ e.1) → has_edge e h.edges ≡ has_edge e g.edges = λ e end.
+                      led.edges e ∙ ap (λ b. not b && has_edge e g.edges) (any_at phase false edges x y labels g is are rs below e v end at m ∙ ap (λ b. b && has_edge e edges) hidden) in
+                      inr (record {
+                        level = way.left v at hidden;
+                        edges = λ w. joined_same v w h.edges g.edges (alike (v, w) (inl refl)) (alike (w, v) (inr refl));
+                        levels = λ w share. near_old phase false edges x y labels g is are rs below z way v w at m hidden share;
+                      })
+                  | inl shown ↦
+                      let alike : (e : Pair) → (v ≡ e.0) ⊎ (v ≡ e.1) → has_edge e h.edges ≡ has_edge e after.edges = λ e end.
+                      led.edges e ∙ ap (λ b. not b && has_edge e g.edges) (any_at phase false edges x y labels g is are rs below e v end at m ∙ ap (λ b. b && has_edge e edges) shown) ∙ sym (left e) in
+                      inl (record {
+                        level = way.reached v at shown;
+                        edges = λ w. joined_same v w h.edges after.edges (alike (v, w) (inl refl)) (alike (w, v) (inr refl));
+                        levels = λ w share. near_new phase false edges x y labels g is are rs below z way v w at m shown (joined_more v w after.edges g.edges (λ e has. fewer e (more e has)) share);
+                      })
+                ])
+              ];
+        }
+
+-- the first point of a phase is the one before it
+insertion_first : (edges : List Pair) (x y : List ℕ) (g before : GraphShape) → IsPhase edges x y g → IsGraph before → before.vertices ≡ g.vertices → g ≡ with_edges before edges → IsBelow g.vertices x y → IsBetween before g before x y x
+insertion_first edges x y g before is graph same new low = record {
+  lower = graph;
+  upper = is.graph;
+  middle = graph;
+  same_lower = refl;
+  same_upper = sym same;
+  sized = is.before ∙ sym same;
+  above = λ w. omega arith;
+  below = λ w. all_below g.vertices x y is.before low w;
+  more = λ v w share. share;
+  fewer = λ v w. joined_more v w before.edges g.edges (λ e has. ap (λ (t : GraphShape). has_edge e t.edges) new ∙ has_edge-with_edges e before edges ∙ ap (λ b. has_edge e edges || b) has ∙ or_true (has_edge e edges));
+  each = λ v h. inr (inl (record { level = refl; edges = λ w. refl; levels = λ w share. refl }));
+}
+
+deletion_first : (edges : List Pair) (x y : List ℕ) (g : GraphShape) → IsPhase edges x y g → IsBelow g.vertices y x → IsBetween (without_edges g edges) g g y x x
+deletion_first edges x y g is low = record {
+  lower = is_graph-without_edges g edges is.graph;
+  upper = is.graph;
+  middle = is.graph;
+  same_lower = vertices-without_edges g edges;
+  same_upper = refl;
+  sized = is.before;
+  above = λ w. all_below g.vertices y x is.after low w;
+  below = λ w. omega arith;
+  more = λ v w. joined_more v w (without_edges g edges).edges g.edges (λ e has. and_second (not (has_edge e edges)) (has_edge e g.edges) (sym (has_edge-without_edges e g edges) ∙ has));
+  fewer = λ v w share. share;
+  each = λ v h. inr (inr (record { level = refl; edges = λ w. refl; levels = λ w share. refl }));
+}
+
+insertion : (phase : ℕ) (edges : List Pair) (x y : List ℕ) (g before : GraphShape) (plan : PhasePlan) (p : ℕ) → IsPhase edges x y g → AreEntries phase true edges x y g plan → IsGraph before → before.vertices ≡ g.vertices → g ≡ with_edges before edges → IsBelow g.vertices x y → IsBetween before g (graph_after before (take p (entries_of plan))) x y (levels_after x (take p (entries_of plan)))
+insertion phase edges x y g before plan zero is a graph same new low = insertion_first edges x y g before is graph same new low
+insertion phase edges x y g before plan (suc k) is a graph same new low =
+    let roots = labels_below a.labels g.vertices in
+    rw (a.quiet, a.groups, take-map (group_entry phase true edges x y a.labels g.vertices) k roots)
+    (insertion_between phase edges x y a.labels g is a.are_labels (take k roots) (below_take g.vertices k roots (labels_rise a.labels g.vertices).1) before graph same new low)
+
+deletion : (phase : ℕ) (edges : List Pair) (x y : List ℕ) (g : GraphShape) (plan : PhasePlan) (p : ℕ) → IsPhase edges x y g → AreEntries phase false edges x y g plan → IsBelow g.vertices y x → IsBetween (without_edges g edges) g (graph_after g (take p (entries_of plan))) y x (levels_after x (take p (entries_of plan)))
+deletion phase edges x y g plan zero is a low = deletion_first edges x y g is low
+deletion phase edges x y g plan (suc k) is a low =
+    let roots = labels_below a.labels g.vertices in
+    rw (a.quiet, a.groups, take-map (group_entry phase false edges x y a.labels g.vertices) k roots)
+    (deletion_between phase edges x y a.labels g is a.are_labels (take k roots) (below_take g.vertices k roots (labels_rise a.labels g.vertices).1) low)
+
+pub points_lie_between : PointsLieBetween
+points_lie_between = record { insertion = insertion; deletion = deletion }

@@ -1,0 +1,10 @@
+pub mod FloodLemmas
+pub mod DealingLemmas
+pub mod LabelLaw
+pub mod ListLemmas
+pub mod PlanLaw
+pub mod MovesLaw
+pub mod EdgesLaw
+pub mod LeadLaw
+pub mod BetweenLaw
+pub mod AscendLaw

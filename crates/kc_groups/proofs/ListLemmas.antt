@@ -1,0 +1,98 @@
+-- The lists of labels and of moves, over plain lists.
+use Rattle.std.proofs.Common.{ℕ, suc, zero, ◌≤◌, ◌<◌, ◌≡◌, inl, inr, Bool, true, false, cond, eqb, List, [], ◌∷◌, ◌++◌, length, get_or, map, refl, ap, sym, ◌∙◌, arith, subst}
+use Rattle.std.specs.List.{All, Contains}
+use Rattle.std.proofs.lemmas.Bool.{cases_eq}
+use Rattle.std.proofs.lemmas.Bool.Decides.{nat_tests}
+use Rattle.std.proofs.lemmas.List.{map_push}
+use Rattle.std.proofs.lemmas.List.Elements.{All-push, Contains-push, Contains-append_left}
+use Rattle.kc_graph.specs.Numbers.{RisesFrom, AllBelow, has_number}
+use Rattle.kc_graph.proofs.NumberLemmas.{rises_at_least, has_number-push}
+use Rattle.kc_history.specs.declared.moves.Move.{Move}
+use Rattle.kc_groups.specs.Entries.{pushed_if, labels_below, moves_below, move_of}
+
+rises_push : (low k : ℕ) (xs : List ℕ) → RisesFrom low xs → AllBelow k xs → low ≤ k → RisesFrom low (xs ++ k ∷ [])
+rises_push low k [] up below le = (le, tt)
+rises_push low k (x ∷ xs) up below le = (up.0, rises_push (suc x) k xs up.1 below.1 (omega (arith, below.0)))
+
+below_push : (k : ℕ) (xs : List ℕ) → AllBelow k xs → AllBelow (suc k) (xs ++ k ∷ [])
+below_push k [] below = (omega arith, tt)
+below_push k (x ∷ xs) below = (omega (arith, below.0), below_push k xs below.1)
+
+below_next : (k : ℕ) (xs : List ℕ) → AllBelow k xs → AllBelow (suc k) xs
+below_next k [] below = tt
+below_next k (x ∷ xs) below = (omega (arith, below.0), below_next k xs below.1)
+
+pub labels_rise : (labels : List ℕ) (k : ℕ) → RisesFrom 0 (labels_below labels k) × AllBelow k (labels_below labels k)
+labels_rise labels zero = (tt, tt)
+labels_rise labels (suc k) =
+    let before = labels_rise labels k in
+    elim (eqb (get_or labels k 0) k) as (λ t. RisesFrom 0 (cond t (labels_below labels k ++ k ∷ []) (labels_below labels k)) × AllBelow (suc k) (cond t (labels_below labels k ++ k ∷ []) (labels_below labels k))) [
+      | true ↦ (rises_push 0 k (labels_below labels k) before.0 before.1 (omega arith), below_push k (labels_below labels k) before.1)
+      | false ↦ (before.0, below_next k (labels_below labels k) before.1)
+    ]
+
+pub all_pushed : {A : Type 0} (P : A → Type 0) (b : Bool) (x : A) (xs : List A) → All P xs → (b ≡ true → P x) → All P (pushed_if b x xs)
+all_pushed P true x xs all here = All-push P xs x all (here refl)
+all_pushed P false x xs all here = all
+
+pub labels_own : (labels : List ℕ) (n k : ℕ) → k ≤ n → All (λ r. (get_or labels r 0 ≡ r) × (r < n)) (labels_below labels k)
+labels_own labels n zero le = λ i d h. absurd (omega arith)
+labels_own labels n (suc k) le =
+    all_pushed (λ r. (get_or labels r 0 ≡ r) × (r < n)) (eqb (get_or labels k 0) k) k (labels_below labels k) (labels_own labels n k (omega arith)) (λ e. (grind (arith, nat_tests, e), omega arith))
+
+-- each label below k is in the list
+pub has_label : (labels : List ℕ) (k l : ℕ) → l < k → get_or labels l 0 ≡ l → has_number l (labels_below labels k) ≡ true
+has_label labels zero l h e = absurd (omega arith)
+has_label labels (suc k) l h e = elim (cases_eq l k) [
+  | inl same ↦ here (eqb (get_or labels k 0) k) same (grind (arith, nat_tests, sym (ap (λ u. get_or labels u 0) same) ∙ e ∙ same))
+  | inr ne ↦ more (eqb (get_or labels k 0) k) (has_label labels k l (omega arith) e)
+]
+  where
+    here : (b : Bool) → l ≡ k → b ≡ true → has_number l (pushed_if b k (labels_below labels k)) ≡ true
+    here b same t = rw t (has_number-push l k (labels_below labels k) ∙ grind (arith, nat_tests, same))
+
+    more : (b : Bool) → has_number l (labels_below labels k) ≡ true → has_number l (pushed_if b k (labels_below labels k)) ≡ true
+    more true has = has_number-push l k (labels_below labels k) ∙ grind (arith, nat_tests, has)
+    more false has = has
+
+-- the vertices of moves
+abbrev pub vertices : List Move → List ℕ
+vertices ms = map (λ (m : Move). m.vertex) ms
+
+-- what holds of the move of each vertex of the label l holds of each move of its list
+pub all_moves : (labels x y : List ℕ) (l n k : ℕ) (P : Move → Type 0) → k ≤ n → ((v : ℕ) → v < n → get_or labels v 0 ≡ l → P (move_of x y v)) → All P (moves_below labels x y l k)
+all_moves labels x y l n zero P le f = λ i d h. absurd (omega arith)
+all_moves labels x y l n (suc k) P le f =
+    all_pushed P (eqb (get_or labels k 0) l) (move_of x y k) (moves_below labels x y l k) (all_moves labels x y l n k P (omega arith) f) (λ e. f k (omega arith) (grind (arith, nat_tests, e)))
+
+pub moves_rise : (labels x y : List ℕ) (l k : ℕ) → RisesFrom 0 (vertices (moves_below labels x y l k)) × AllBelow k (vertices (moves_below labels x y l k))
+moves_rise labels x y l zero = (tt, tt)
+moves_rise labels x y l (suc k) = go (eqb (get_or labels k 0) l) (moves_rise labels x y l k)
+  where
+    go : (b : Bool) → RisesFrom 0 (vertices (moves_below labels x y l k)) × AllBelow k (vertices (moves_below labels x y l k)) → RisesFrom 0 (vertices (pushed_if b (move_of x y k) (moves_below labels x y l k))) × AllBelow (suc k) (vertices (pushed_if b (move_of x y k) (moves_below labels x y l k)))
+    go true before =
+        rw (map_push (λ (m : Move). m.vertex) (moves_below labels x y l k) (move_of x y k))
+        (rises_push 0 k (vertices (moves_below labels x y l k)) before.0 before.1 (omega arith), below_push k (vertices (moves_below labels x y l k)) before.1)
+    go false before = (before.0, below_next k (vertices (moves_below labels x y l k)) before.1)
+
+-- the move of each vertex of the label l is in the list
+pub has_move : (labels x y : List ℕ) (l k v : ℕ) → v < k → get_or labels v 0 ≡ l → Contains (moves_below labels x y l k) (move_of x y v)
+has_move labels x y l zero v h e = absurd (omega arith)
+has_move labels x y l (suc k) v h e = elim (cases_eq v k) [
+  | inl same ↦ subst (λ u. Contains (moves_below labels x y l (suc k)) (move_of x y u)) (sym same) (here (eqb (get_or labels k 0) l) (grind (arith, nat_tests, sym (ap (λ u. get_or labels u 0) same) ∙ e)))
+  | inr ne ↦ more (eqb (get_or labels k 0) l) (has_move labels x y l k v (omega arith) e)
+]
+  where
+    here : (b : Bool) → b ≡ true → Contains (pushed_if b (move_of x y k) (moves_below labels x y l k)) (move_of x y k)
+    here b t = rw t (Contains-push (moves_below labels x y l k) (move_of x y k))
+
+    more : (b : Bool) → Contains (moves_below labels x y l k) (move_of x y v) → Contains (pushed_if b (move_of x y k) (moves_below labels x y l k)) (move_of x y v)
+    more true has = Contains-append_left (moves_below labels x y l k) (move_of x y k ∷ []) (move_of x y v) has
+    more false has = has
+
+pub rises_apart : (xs : List ℕ) (low i j : ℕ) → RisesFrom low xs → i < length xs → j < length xs → get_or xs i 0 ≡ get_or xs j 0 → i ≡ j
+rises_apart [] low i j up h k e = absurd (omega arith)
+rises_apart (x ∷ xs) low zero zero up h k e = refl
+rises_apart (x ∷ xs) low zero (suc j) up h k e = absurd (omega (arith, rises_at_least (suc x) xs j up.1 (omega arith)))
+rises_apart (x ∷ xs) low (suc i) zero up h k e = absurd (omega (arith, rises_at_least (suc x) xs i up.1 (omega arith)))
+rises_apart (x ∷ xs) low (suc i) (suc j) up h k e = ap suc (rises_apart xs (suc x) i j up.1 (omega arith) (omega arith) e)

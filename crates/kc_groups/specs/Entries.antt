@@ -1,0 +1,54 @@
+-- The entries of a phase that changes the levels x to y. Its edges come in where `add` is true, and leave where it is false.
+use Rattle.std.specs.Prelude.{ℕ, ◌≡◌, ◌==◌, ◌||◌, ◌&&◌, Bool, not, cond, List, [], ◌∷◌, ◌++◌, Some, None, get_or, map, filter}
+use Rattle.std.proofs.Common.{suc, zero}
+use Rattle.kc_graph.specs.Shape.{GraphShape, Pair}
+use Rattle.kc_levels.specs.Moved.{is_moved}
+use Rattle.kc_history.specs.declared.moves.Move.{Move}
+use Rattle.kc_history.specs.declared.entries.Entry.{Entry}
+use Rattle.kc_groups.specs.declared.plans.PhasePlan.{PhasePlan}
+use Rattle.kc_groups.specs.Links.{AreLabels}
+
+-- the list with x at its end, where b is true
+abbrev pub pushed_if : {A : Type 0} → Bool → A → List A → List A
+pushed_if b x xs = cond b (xs ++ x ∷ []) xs
+
+-- the labels among the vertices below k, ascending: each is its own label
+abbrev pub labels_below : List ℕ → ℕ → List ℕ
+labels_below labels zero = []
+labels_below labels (suc k) = pushed_if (get_or labels k 0 == k) k (labels_below labels k)
+
+-- the move of v
+abbrev pub move_of : List ℕ → List ℕ → ℕ → Move
+move_of x y v = record { vertex = v; old = get_or x v 0; new = get_or y v 0 }
+
+-- the moves of the vertices below k whose label is l, ascending
+abbrev pub moves_below : List ℕ → List ℕ → List ℕ → ℕ → ℕ → List Move
+moves_below labels x y l zero = []
+moves_below labels x y l (suc k) = pushed_if (get_or labels k 0 == l) (move_of x y k) (moves_below labels x y l k)
+
+-- whether an end of the edge has the label l
+abbrev pub ends_at : List ℕ → ℕ → Pair → Bool
+ends_at labels l e = (get_or labels e.0 0 == l) || (get_or labels e.1 0 == l)
+
+-- whether no end of the edge moves
+abbrev pub is_quiet : List ℕ → List ℕ → Pair → Bool
+is_quiet x y e = not (is_moved x y e.0) && not (is_moved x y e.1)
+
+-- the entry of the edges without an end that moves
+abbrev pub quiet_entry : ℕ → Bool → List Pair → List ℕ → List ℕ → Entry
+quiet_entry phase add edges x y = record { phase = phase; label = None; add = add; moves = []; edges = filter (is_quiet x y) edges }
+
+-- the entry of the label l: the moves of its vertices, and the edges with an end among them
+abbrev pub group_entry : ℕ → Bool → List Pair → List ℕ → List ℕ → List ℕ → ℕ → ℕ → Entry
+group_entry phase add edges x y labels n l = record { phase = phase; label = Some l; add = add; moves = moves_below labels x y l n; edges = filter (ends_at labels l) edges }
+
+-- the entries of a plan, in the order in which they take effect
+abbrev pub entries_of : PhasePlan → List Entry
+entries_of plan = plan.quiet ∷ plan.groups
+
+-- the plan holds the entries of the phase: the quiet one, and one for each label, labels ascending
+pub record AreEntries (phase : ℕ) (add : Bool) (edges : List Pair) (x y : List ℕ) (g : GraphShape) (plan : PhasePlan) : Type 0 where
+  pub labels : List ℕ
+  pub are_labels : AreLabels g (is_moved x y) labels
+  pub quiet : plan.quiet ≡ quiet_entry phase add edges x y
+  pub groups : plan.groups ≡ map (group_entry phase add edges x y labels g.vertices) (labels_below labels g.vertices)

@@ -1,0 +1,99 @@
+// The label of each vertex that moves, by flooding.
+ghost use Rattle.std.specs.Prelude.{◌≡◌, ℕ, ◌+◌, ◌<◌, ◌≤◌, ◌∷◌, [], OnOk, IfOk, true, length, slice_index};
+ghost use Rattle.kc_levels.specs.Moved.{is_moved};
+ghost use Rattle.kc_groups.specs.Labels.{AreJoined, IsFlooding, unlabelled};
+ghost use Rattle.kc_groups.specs.Links.{AreLabels};
+
+use kc_graph::Graph;
+use kc_levels::Levels;
+use std::alloc::{AllocError, Global};
+
+// Whether v moves.
+pub(crate) fn is_moved(before: &Levels, after: &Levels, v: u32) -> bool
+    requires vertex { v < length before.now }
+    requires same { length after.now ≡ length before.now }
+    ensures { result ≡ is_moved before.now after.now v }
+{
+    before.get(v) != after.get(v)
+}
+
+// Gives the label to the vertices that v is linked to and that have none yet, and lets them wait.
+fn follow(
+    graph: &Graph,
+    before: &Levels,
+    after: &Levels,
+    labels: &mut Vec<u32>,
+    stack: &mut Vec<u32>,
+    label: u32,
+    v: u32,
+) -> Result<(), AllocError>
+    requires before { length before.now ≡ graph.now.vertices }
+    requires after { length after.now ≡ graph.now.vertices }
+    requires vertex { v < graph.now.vertices }
+    requires label { label < graph.now.vertices }
+    requires own { slice_index labels.old.items label ≡ label }
+    requires flooding { IsFlooding graph.now (is_moved before.now after.now) label labels.old.items (v ∷ stack.old.items) }
+    ensures own { OnOk result (slice_index labels.new.items label ≡ label) }
+    ensures flooding { OnOk result (IsFlooding graph.now (is_moved before.now after.now) label labels.new.items stack.new.items) }
+    ensures left { OnOk result (unlabelled graph.now.vertices labels.new.items + length stack.new.items ≡ unlabelled graph.now.vertices labels.old.items + length stack.old.items) }
+{
+    let n = graph.vertices();
+    for w in graph.neighbours(v) {
+        if labels[*w as usize] == n && is_moved(before, after, *w) {
+            labels[*w as usize] = label;
+            stack.push(*w)?;
+        }
+    }
+    Ok(())
+}
+
+// Gives the label to its own vertex and to all that links reach from there.
+fn flood(
+    graph: &Graph,
+    before: &Levels,
+    after: &Levels,
+    labels: &mut Vec<u32>,
+    stack: &mut Vec<u32>,
+    label: u32,
+) -> Result<(), AllocError>
+    requires before { length before.now ≡ graph.now.vertices }
+    requires after { length after.now ≡ graph.now.vertices }
+    requires label { label < graph.now.vertices }
+    requires moved { is_moved before.now after.now label ≡ true }
+    requires unlabelled { slice_index labels.old.items label ≡ graph.now.vertices }
+    requires empty { stack.old.items ≡ [] }
+    requires flooding { IsFlooding graph.now (is_moved before.now after.now) label labels.old.items [] }
+    ensures empty { OnOk result (stack.new.items ≡ []) }
+    ensures flooding { OnOk result (IsFlooding graph.now (is_moved before.now after.now) (label + 1) labels.new.items []) }
+{
+    labels[label as usize] = label;
+    stack.push(label)?;
+    while let Some(v) = stack.pop() {
+        follow(graph, before, after, labels, stack, label, v)?;
+    }
+    Ok(())
+}
+
+// A label for each vertex that moves, and the number of vertices for the others. One pass over the vertices, and one over the
+// neighbours of each that moves.
+pub(crate) fn label_all(
+    alloc: Global,
+    graph: &Graph,
+    before: &Levels,
+    after: &Levels,
+) -> Result<Vec<u32>, AllocError>
+    requires before { length before.now ≡ graph.now.vertices }
+    requires after { length after.now ≡ graph.now.vertices }
+    ensures joined { IfOk result (λ labels. AreJoined graph.now (is_moved before.now after.now) labels.items) }
+    ensures labels { IfOk result (λ labels. AreLabels graph.now (is_moved before.now after.now) labels.items) }
+{
+    let n = graph.vertices();
+    let mut labels = vec![in alloc; n; n as usize]?;
+    let mut stack = Vec::new(alloc);
+    for v in 0..n {
+        if labels[v as usize] == n && is_moved(before, after, v) {
+            flood(graph, before, after, &mut labels, &mut stack, v)?;
+        }
+    }
+    Ok(labels)
+}

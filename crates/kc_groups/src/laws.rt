@@ -1,0 +1,44 @@
+// Laws of the definitions. The functions do nothing: each has laws as its contract.
+
+ghost use Rattle.kc_groups.specs.Laws.{LabelsAreOne, PlanIsOne, PlanIsWellFormed, MovesAreInTheirGroups, EdgesAreDealtOnce, EntriesLeadOver, PointsLieBetween, PlanAscends};
+
+/// Each graph with two lists of levels has exactly one list of labels.
+pub fn labels_are_one()
+    ensures { LabelsAreOne }
+{}
+
+/// Exactly one plan holds the entries of a phase.
+pub fn plan_is_one()
+    ensures { PlanIsOne }
+{}
+
+/// The plan of a phase is well formed where all levels are below 4,096.
+pub fn plan_is_well_formed()
+    ensures { PlanIsWellFormed }
+{}
+
+/// The moves of a plan are those of the vertices that move, each in the entry of its label with its levels before and after.
+pub fn moves_are_in_their_groups()
+    ensures { MovesAreInTheirGroups }
+{}
+
+/// Each edge of a phase is in exactly one of its entries, and no other pair is in one.
+pub fn edges_are_dealt_once()
+    ensures { EdgesAreDealtOnce }
+{}
+
+/// The entries of a phase lead from the graph and levels before it to those after it.
+pub fn entries_lead_over()
+    ensures { EntriesLeadOver }
+{}
+
+/// At each point of a phase the graph and levels lie between those before and those after it, so that both invariants hold
+/// there where they hold before and after.
+pub fn points_lie_between()
+    ensures { PointsLieBetween }
+{}
+
+/// Moves ascend by vertex in each entry of a phase, and its edges ascend.
+pub fn plan_ascends()
+    ensures { PlanAscends }
+{}

@@ -1,0 +1,236 @@
+ghost use Rattle.std.specs.Prelude.{◌≡◌, ◌≤◌, ◌<◌, OnOk, IfOk, length};
+ghost use Rattle.std.specs.Bool.{OnTrue};
+ghost use Rattle.kc_graph.specs.Shape.{EdgesFrom};
+ghost use Rattle.kc_graph.specs.Changes.{AllPresent};
+ghost use Rattle.kc_levels.specs.LevelList.{IsBelow};
+
+use crate::{PhasePlan, plan_phase};
+use kc_graph::{Edge, Graph, MAX_EDGES, MAX_VERTICES};
+use kc_history::Move;
+use kc_levels::Levels;
+use std::alloc::{AllocError, Global};
+use std::process::Abort;
+use std::test::Fail;
+
+// Puts the edges into the graph.
+fn insert_all<R: Abort>(
+    rt: &R,
+    alloc: Global,
+    graph: &mut Graph,
+    edges: &[Edge],
+) -> Result<(), AllocError>
+    ensures { OnOk result (graph.new.vertices ≡ graph.old.vertices) }
+{
+    for e in edges {
+        assert!(rt; e.b < graph.vertices());
+        assert!(rt; !graph.has(*e));
+        assert!(rt; graph.edge_count() < MAX_EDGES);
+        graph.insert(alloc, *e)?;
+    }
+    Ok(())
+}
+
+// The levels of a list.
+fn levels_of(alloc: Global, items: &[u16]) -> Result<Levels, AllocError>
+    requires { length items.now ≤ MAX_VERTICES }
+    ensures { IfOk result (λ x. length x ≡ length items.now) }
+{
+    let mut levels = Levels::zeros(alloc, items.len() as u32)?;
+    for v in 0..items.len() {
+        levels.set(v as u32, items[v]);
+    }
+    Ok(levels)
+}
+
+// Whether no level of x is above that of y.
+fn is_below(x: &Levels, y: &Levels) -> bool
+    requires { length y.now ≡ length x.now }
+    ensures { OnTrue result (IsBelow (length x.now) x.now y.now) }
+{
+    let x = x.as_slice();
+    let y = y.as_slice();
+    for v in 0..x.len() {
+        if x[v] > y[v] {
+            return false;
+        }
+    }
+    true
+}
+
+// Whether each of the edges is in the graph.
+fn are_present(graph: &Graph, edges: &[Edge]) -> bool
+    requires { EdgesFrom graph.now.vertices 0 0 edges.now }
+    ensures { OnTrue result (AllPresent graph.now edges.now) }
+{
+    for e in edges {
+        if !graph.has(*e) {
+            return false;
+        }
+    }
+    true
+}
+
+// The plan of a phase from one list of levels to another, in a graph with the phase's edges and others.
+fn plan<R: Abort>(
+    rt: &R,
+    alloc: Global,
+    add: bool,
+    edges: &[Edge],
+    others: &[Edge],
+    before: &[u16],
+    after: &[u16],
+) -> Result<PhasePlan, AllocError>
+    requires positive { 1 ≤ length before.now }
+    requires small { length before.now ≤ MAX_VERTICES }
+    requires same { length after.now ≡ length before.now }
+    requires ascending { EdgesFrom (length before.now) 0 0 edges.now }
+{
+    let n = before.len() as u32;
+    let mut graph = Graph::new(alloc, n)?;
+    insert_all(rt, alloc, &mut graph, edges)?;
+    insert_all(rt, alloc, &mut graph, others)?;
+    let before = levels_of(alloc, before)?;
+    let after = levels_of(alloc, after)?;
+    assert!(rt; are_present(&graph, edges));
+    assert!(rt; !add || is_below(&before, &after));
+    assert!(rt; add || is_below(&after, &before));
+    plan_phase(alloc, 7, add, edges, &before, &after, &graph)
+}
+
+// The quiet entry has these edges, and there are so many groups.
+fn check_quiet<R: Abort>(rt: &R, plan: &PhasePlan, add: bool, edges: &[Edge], groups: usize) {
+    assert!(rt; plan.quiet.phase == 7 && plan.quiet.add == add);
+    assert_eq!(rt; plan.quiet.label, None);
+    assert!(rt; plan.quiet.moves.is_empty());
+    assert_eq!(rt; plan.quiet.edges.as_slice(), edges);
+    assert_eq!(rt; plan.groups.len(), groups);
+}
+
+// The group at a place has this label, and these moves and edges.
+fn check_group<R: Abort>(
+    rt: &R,
+    plan: &PhasePlan,
+    place: usize,
+    label: u32,
+    moves: &[(u32, u16, u16)],
+    edges: &[Edge],
+) {
+    let groups = plan.groups.as_slice();
+    assert!(rt; place < groups.len());
+    let entry = &groups[place];
+    assert!(rt; entry.phase == 7 && entry.add == plan.quiet.add);
+    assert_eq!(rt; entry.label, Some(label));
+    let members = entry.moves.as_slice();
+    assert_eq!(rt; members.len(), moves.len());
+    for i in 0..members.len() {
+        let (vertex, old, new) = moves[i];
+        assert_eq!(rt; members[i], Move { vertex, old, new });
+    }
+    assert_eq!(rt; entry.edges.as_slice(), edges);
+}
+
+fn edge(a: u32, b: u32) -> Edge
+    requires { a < b }
+    ensures { result ≡ (a, b) }
+{
+    Edge { a, b }
+}
+
+#[test]
+fn a_path_rises_together(rt: HostRuntime) -> Result<(), Fail> {
+    let path = [edge(0, 1), edge(1, 2)];
+    let plan = plan(
+        &rt,
+        rt.alloc(),
+        true,
+        &path,
+        &[],
+        &[0, 0, 0, 0, 0],
+        &[1, 1, 1, 0, 0],
+    )?;
+    check_quiet(&rt, &plan, true, &[], 1);
+    check_group(&rt, &plan, 0, 0, &[(0, 0, 1), (1, 0, 1), (2, 0, 1)], &path);
+    Ok(())
+}
+
+// Four vertices that are joined each with each stay, and the one that comes to them rises by itself.
+#[test]
+fn a_neighbour_that_stays_is_in_no_group(rt: HostRuntime) -> Result<(), Fail> {
+    let four = [
+        edge(0, 1),
+        edge(0, 2),
+        edge(0, 3),
+        edge(1, 2),
+        edge(1, 3),
+        edge(2, 3),
+    ];
+    let added = [edge(3, 4)];
+    let plan = plan(
+        &rt,
+        rt.alloc(),
+        true,
+        &added,
+        &four,
+        &[6, 6, 6, 6, 0],
+        &[6, 6, 6, 6, 1],
+    )?;
+    check_quiet(&rt, &plan, true, &[], 1);
+    check_group(&rt, &plan, 0, 4, &[(4, 0, 1)], &added);
+    Ok(())
+}
+
+// The same four lose an edge and stay, and two others fall.
+#[test]
+fn an_edge_between_vertices_that_stay_is_quiet(rt: HostRuntime) -> Result<(), Fail> {
+    let others = [edge(0, 2), edge(0, 3), edge(1, 2), edge(1, 3), edge(2, 3)];
+    let removed = [edge(0, 1), edge(4, 5)];
+    let plan = plan(
+        &rt,
+        rt.alloc(),
+        false,
+        &removed,
+        &others,
+        &[6, 6, 6, 6, 1, 1],
+        &[6, 6, 6, 6, 0, 0],
+    )?;
+    check_quiet(&rt, &plan, false, &[edge(0, 1)], 1);
+    check_group(&rt, &plan, 0, 4, &[(4, 1, 0), (5, 1, 0)], &[edge(4, 5)]);
+    Ok(())
+}
+
+#[test]
+fn two_groups_rise(rt: HostRuntime) -> Result<(), Fail> {
+    let added = [edge(0, 1), edge(2, 3)];
+    let plan = plan(
+        &rt,
+        rt.alloc(),
+        true,
+        &added,
+        &[],
+        &[0, 0, 0, 0, 0, 0],
+        &[1, 1, 1, 1, 0, 0],
+    )?;
+    check_quiet(&rt, &plan, true, &[], 2);
+    check_group(&rt, &plan, 0, 0, &[(0, 0, 1), (1, 0, 1)], &[edge(0, 1)]);
+    check_group(&rt, &plan, 1, 2, &[(2, 0, 1), (3, 0, 1)], &[edge(2, 3)]);
+    Ok(())
+}
+
+// A star gains an edge: its middle and the new end rise, from different levels, and its other ends stay.
+#[test]
+fn a_rise_that_sets_off_another_is_in_its_group(rt: HostRuntime) -> Result<(), Fail> {
+    let added = [edge(0, 3)];
+    let star = [edge(0, 1), edge(0, 2)];
+    let plan = plan(
+        &rt,
+        rt.alloc(),
+        true,
+        &added,
+        &star,
+        &[1, 1, 1, 0, 0],
+        &[2, 1, 1, 1, 0],
+    )?;
+    check_quiet(&rt, &plan, true, &[], 1);
+    check_group(&rt, &plan, 0, 0, &[(0, 1, 2), (3, 0, 1)], &added);
+    Ok(())
+}
