@@ -9,6 +9,7 @@ use Rattle.std.proofs.Math.Nat.{mul-le-mul_right}
 use Rattle.kc_graph.specs.Numbers.{has_number}
 use Rattle.kc_graph.specs.Shape.{GraphShape, Pair, IsGraph, EdgesFrom, neighbours_of, without_edge, without_edges}
 use Rattle.kc_graph.proofs.NumberLemmas.{has_number_index}
+use Rattle.kc_graph.proofs.CountLemmas.{count_by-cons}
 use Rattle.kc_graph.proofs.NeighbourLemmas.{neighbours_both, neighbours_of_remove_other, no_own_neighbour}
 use Rattle.kc_graph.proofs.ChangeLemmas.{vertices-without_edges}
 use Rattle.kc_levels.specs.declared.profile.Profile.{Profile}
@@ -18,6 +19,7 @@ use Rattle.kc_levels.proofs.Places.{changed}
 use Rattle.kc_levels.proofs.AtLeast.{at_least-set, at_least-kept}
 use Rattle.kc_levels.proofs.Lowering.{lowering_first, lowering_more, lowering_done}
 use Rattle.kc_adj.specs.LeveledGraph.{LeveledGraph}
+use Rattle.kc_delete.specs.Waiting.{IsSifted, IsTaken}
 use Rattle.kc_delete.specs.Settling.{WaitsOrMeets, IsSettling, StillWait, IsUntouched, IsLookedAt, ends_of}
 
 -- a mark more
@@ -101,6 +103,17 @@ settling_fall p g x y waits after v to graph s vertex d sized still looked = rec
       | inr far ↦ as_before u h ne (λ l e. at_least-set g y u v to l (neighbours_both u v g.edges ∙ far))
     ]
 
+-- some who waited leave, who have enough neighbours
+pub settling_sifted : (p : Profile) (g h : GraphShape) (x y : List ℕ) (before after : List Bool) → h ≡ g → IsSettling p g x y before → IsSifted p h y before after → IsSettling p g x y after
+settling_sifted p g h x y before after same s r = record {
+  lowering = s.lowering;
+  sized = r.sized ∙ s.sized;
+  meets = λ v inside. elim (s.meets v inside) [
+    | inl marked ↦ elim (r.meets v marked) [ inl still ↦ inl still | inr meets ↦ inr (subst (λ (k : GraphShape). MeetsLower p k y v) same meets) ]
+    | inr meets ↦ inr meets
+  ];
+}
+
 -- nobody waits
 pub settling_done : (p : Profile) (g : GraphShape) (x y : List ℕ) (waits : List Bool) → IsSettling p g x y waits → ((v : ℕ) → get_or waits v false ≡ false) → IsLowered p g x y
 settling_done p g x y waits s none = lowering_done p g x y s.lowering (λ v h. elim (s.meets v h) [
@@ -120,6 +133,29 @@ work_kept g y waits v inside marked =
     one : (b : Bool) → b ≡ true → 1 ≤ cond b 1 0
     one false h = absurd (true≢false (sym h))
     one true h = omega arith
+
+one_less : (a b : Bool) (m n : ℕ) → (a ≡ true → b ≡ true) → m ≤ n → cond a 1 0 + m ≤ cond b 1 0 + n
+one_less false false m n e le = omega (arith, le)
+one_less false true m n e le = omega (arith, le)
+one_less true false m n e le = absurd (true≢false (sym (e refl)))
+one_less true true m n e le = omega (arith, le)
+
+fewer_marks : (before after : List Bool) → length after ≡ length before → ((v : ℕ) → get_or after v false ≡ true → get_or before v false ≡ true) → count_by (λ b. b) after ≤ count_by (λ b. b) before
+fewer_marks [] [] same fewer = omega arith
+fewer_marks [] (b ∷ bs) same fewer = absurd (omega (arith, same))
+fewer_marks (a ∷ as_) [] same fewer = absurd (omega (arith, same))
+fewer_marks (a ∷ as_) (b ∷ bs) same fewer =
+    rw (count_by-cons (λ c. c) b bs, count_by-cons (λ c. c) a as_) (one_less b a _ _ (fewer zero) (fewer_marks as_ bs (omega (arith, same)) (λ v. fewer (suc v))))
+
+-- who leaves leaves less to do
+pub work_sifted : (p : Profile) (g : GraphShape) (y : List ℕ) (before after : List Bool) → IsSifted p g y before after → work_left g y after ≤ work_left g y before
+work_sifted p g y before after r = omega (arith, fewer_marks before after r.sized r.fewer)
+
+pub work_taken : (p : Profile) (h g : GraphShape) (y : List ℕ) (before after : List Bool) (v : ℕ) → IsTaken p h y before after v → work_left g y after < work_left g y before
+work_taken p h g y before after v t =
+    let less : work_left g y (set t.between v false) < work_left g y t.between = work_kept g y t.between v t.inside t.waited in
+    let fewer : count_by (λ b. b) t.between ≤ count_by (λ b. b) before = fewer_marks before t.between t.sifted.sized t.sifted.fewer in
+    rw t.taken (omega (arith, less, fewer))
 
 pub work_falls : (g : GraphShape) (y : List ℕ) (waits after : List Bool) (v to : ℕ) → v < length y → to < get_or y v 0 → length after ≡ g.vertices → work_left g (set y v to) after < work_left g y waits
 work_falls g y waits after v to inside less sized =

@@ -1,8 +1,9 @@
 -- Lowering with marks at the vertices that are still to be looked at.
-use Rattle.std.specs.Prelude.{ℕ, ◌-◌, ◌≤◌, ◌<◌, ◌≡◌, ◌⊎◌, Bool, true, false, List, [], ◌∷◌, length, get_or}
+use Rattle.std.specs.Prelude.{ℕ, ◌-◌, ◌≤◌, ◌<◌, ◌≡◌, ◌⊎◌, ◌&&◌, nat_lt, Bool, true, false, List, [], ◌∷◌, length, get_or}
 use Rattle.kc_graph.specs.Shape.{GraphShape, Pair}
 use Rattle.kc_levels.specs.declared.profile.Profile.{Profile}
-use Rattle.kc_levels.specs.LevelList.{MeetsLower, IsLowering}
+use Rattle.kc_levels.specs.Thresholds.{low, group_of}
+use Rattle.kc_levels.specs.LevelList.{at_least, MeetsLower, IsLowering}
 
 -- v waits, or has enough neighbours to stand on its level
 abbrev pub WaitsOrMeets : Profile → GraphShape → List ℕ → List Bool → ℕ → Type 0
@@ -13,6 +14,10 @@ pub record IsSettling (p : Profile) (g : GraphShape) (x y : List ℕ) (waits : L
   pub lowering : IsLowering p g x y
   pub sized : length waits ≡ g.vertices
   pub meets : (v : ℕ) → v < g.vertices → WaitsOrMeets p g y waits v
+
+-- whether v has too few neighbours to stand on its level
+abbrev pub is_short : Profile → GraphShape → List ℕ → ℕ → Bool
+is_short p g y v = nat_lt 0 (get_or y v 0) && nat_lt (at_least g y v (get_or y v 0 - 1)) (low p (group_of p g.vertices (get_or y v 0 - 1)))
 
 -- who waits before waits after
 abbrev pub StillWait : List Bool → List Bool → Type 0

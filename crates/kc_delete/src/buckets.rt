@@ -1,9 +1,10 @@
 // Lists of vertices by level.
 
-ghost use Rattle.std.specs.Prelude.{◌≡◌, ◌++◌, ◌∷◌, ◌<◌, ◌≤◌, ℕ, [], OnOk, OnErr, IfSome, IfNone, slice_index_or, slice_set, length};
+ghost use Rattle.std.specs.Prelude.{◌≡◌, ◌++◌, ◌∷◌, ◌<◌, ◌≤◌, ℕ, [], OnOk, OnErr, slice_index_or, slice_set, length};
 
 use std::alloc::{AllocError, Global};
 use std::marker::Model;
+use std::mem;
 
 /// Some vertices, seen as a list.
 #[derive(Drop)]
@@ -37,14 +38,6 @@ impl Bucket {
         self.items.push(v)?;
         Ok(())
     }
-
-    /// Takes the last vertex out.
-    pub fn pop(&mut self) -> Option<u32>
-        ensures some { IfSome result (λ v. self.old ≡ self.new ++ v ∷ []) }
-        ensures none { IfNone result ((self.old ≡ []) × (self.new ≡ [])) }
-    {
-        self.items.pop()
-    }
 }
 
 /// Makes empty buckets up to this level, where there are fewer. The error is want of memory.
@@ -68,12 +61,11 @@ pub fn put(buckets: &mut Vec<Bucket>, level: u16, v: u32) -> Result<(), AllocErr
     buckets[level as usize].push(v)
 }
 
-/// Takes the last vertex of a level's bucket out.
-pub fn take_last(buckets: &mut Vec<Bucket>, level: usize) -> Option<u32>
+/// Takes all vertices out of the bucket of a level.
+pub fn take_all(alloc: Global, buckets: &mut Vec<Bucket>, level: usize) -> Vec<u32>
     requires { level < length buckets.old.items }
-    ensures some { IfSome result (λ v. slice_index_or buckets.old.items level [] ≡ slice_index_or buckets.new.items level [] ++ v ∷ []) }
-    ensures others { buckets.new.items ≡ slice_set buckets.old.items level (slice_index_or buckets.new.items level []) }
-    ensures none { IfNone result ((slice_index_or buckets.old.items level [] ≡ []) × (buckets.new.items ≡ buckets.old.items)) }
+    ensures taken { result.items ≡ slice_index_or buckets.old.items level [] }
+    ensures left { buckets.new.items ≡ slice_set buckets.old.items level [] }
 {
-    buckets[level].pop()
+    mem::replace(&mut buckets[level].items, Vec::new(alloc))
 }

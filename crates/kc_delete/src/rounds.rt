@@ -11,7 +11,7 @@ use crate::waiting::Waiting;
 use kc_adj::{LevelAdj, Steps};
 use kc_graph::Edge;
 use kc_levels::{Thresholds, moved_count};
-use kc_rounds::Gate;
+use kc_rounds::{Gate, Rounds};
 use std::alloc::{AllocError, Global};
 use std::sync::ledger::Ledger;
 use std::thread::Threads;
@@ -59,25 +59,28 @@ fn add_short_ends(
 /// (`without_edges`).
 ///
 /// The thresholds are for this number of vertices, and no level is above their top. The lower invariant holds before the
-/// call. `removed` is ascending, and each of its edges is in the graph. `workers` is 1 to 64; whatever it is, all is done
-/// on the calling thread and `gate` is told nothing, so the answer doesn't depend on either.
+/// call. `removed` is ascending, and each of its edges is in the graph. `workers` is 1 to 64. The answer doesn't depend on it
+/// nor on what the gate does.
 ///
 /// The error is want of memory; graph, levels and steps are then unspecified.
 ///
 /// A vertex that has too few neighbours to stand on its level waits, never twice at a time, under the level that it desired
-/// when it began to wait. The one under the lowest level is taken next, and falls to its desired level at once. A vertex is
-/// looked at only where an edge left it, or where a neighbour fell that it counted before and doesn't count now; a look is
-/// O(1). A vertex that begins to wait and one that is taken cost a call of `LevelAdj::desired` each, at most 12 passes over
-/// the neighbours; a fall costs two passes more. That a vertex seldom falls twice isn't proved, and no bound on the steps is
-/// promised. Besides there are three passes over all vertices, without their neighbours: to copy the levels, to make a
-/// mark for each vertex, and to count the moves.
+/// when it began to wait. A round is all that wait under the lowest level: up to `workers` threads (`Rounds`) find those of
+/// them that have too few neighbours, which then fall one after the other, each to the level that it desires then. The first
+/// round is cut into as many pieces as there are workers, later short ones into fewer.
+///
+/// A vertex is looked at only where an edge left it, or where a neighbour fell that it counted before and doesn't count now, and
+/// once in a round; a look is O(1). A vertex that begins to wait and one that falls cost a call of `LevelAdj::desired` each,
+/// at most 12 passes over the neighbours; a fall costs two passes more. That a vertex seldom falls twice isn't proved, and no
+/// bound on the steps is promised. Besides there are three passes over all vertices, without their neighbours: to copy the
+/// levels, to make a mark for each vertex, and to count the moves.
 ///
 /// Memory is taken for the copy, for the marks, and for the vertices that wait, in a list for each level up to the greatest
-/// one that a vertex waited under.
+/// one that a vertex waited under, and for those of a round that fall.
 pub fn delete_rounds<R: Threads + Sync, G: Gate + Sync, L: Ledger>(
-    _rt: &R,
+    rt: &R,
     alloc: Global,
-    _gate: &G,
+    gate: &G,
     workers: u32,
     th: &Thresholds,
     adj: &mut LevelAdj,
@@ -99,7 +102,8 @@ pub fn delete_rounds<R: Threads + Sync, G: Gate + Sync, L: Ledger>(
     let mut waiting = Waiting::new(alloc, n)?;
     unlink_edges(adj, removed, steps);
     add_short_ends(adj, th, removed, &mut waiting)?;
-    settle(adj, th, &mut waiting, steps)?;
+    let mut rounds = Rounds::new(rt, alloc, gate, workers);
+    settle(&mut rounds, adj, th, &mut waiting, steps)?;
     Ok(Tally {
         moves: moved_count(&before, adj.levels()),
     })

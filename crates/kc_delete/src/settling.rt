@@ -1,28 +1,20 @@
 // Falls of vertices that have too few neighbours to stand on their level.
 
-ghost use Rattle.std.specs.Prelude.{◌≡◌, ℕ, ◌<◌, ◌≤◌, ◌↔◌, ◌-◌, OnOk, IsTrue, length, slice_index};
+ghost use Rattle.std.specs.Prelude.{◌≡◌, ℕ, ◌<◌, ◌≤◌, ◌-◌, OnOk, length, slice_index};
 ghost use Rattle.std.specs.Bool.{OnTrue, OnFalse};
 ghost use Rattle.kc_graph.specs.Shape.{IsGraph, neighbours_of};
 ghost use Rattle.kc_levels.specs.Thresholds.{top_level};
-ghost use Rattle.kc_levels.specs.LevelList.{MeetsLower, IsCapped, IsLowered};
+ghost use Rattle.kc_levels.specs.LevelList.{IsCapped, IsLowered};
 ghost use Rattle.kc_delete.specs.Settling.{IsSettling, WaitsOrMeets, StillWait, IsUntouched, IsLookedAt};
 
+use crate::short::is_short;
 use crate::waiting::Waiting;
 use kc_adj::{LevelAdj, Steps};
 use kc_levels::Thresholds;
+use kc_rounds::{Gate, Rounds};
 use std::alloc::AllocError;
 use std::sync::ledger::Ledger;
-
-// Whether v has enough neighbours to stand on its level, by its kept count.
-fn meets_lower(adj: &LevelAdj, th: &Thresholds, v: u32) -> bool
-    requires vertex { v < adj.now.graph.vertices }
-    requires scale { th.now.vertices ≡ adj.now.graph.vertices }
-    requires capped { slice_index adj.now.levels v ≤ top_level th.now.profile th.now.vertices }
-    ensures { IsTrue result ↔ MeetsLower th.now.profile adj.now.graph adj.now.levels v }
-{
-    let level = adj.level(v);
-    level == 0 || th.low(th.group(level - 1)) <= adj.at_least_below(v)
-}
+use std::thread::Threads;
 
 /// Lets v wait under its desired level, where it has too few neighbours to stand on its level and doesn't wait yet.
 ///
@@ -41,7 +33,7 @@ pub fn add_if_short(
     ensures still { OnOk result (StillWait waiting.old waiting.new) }
     ensures looked { OnOk result (WaitsOrMeets th.now.profile adj.now.graph adj.now.levels waiting.new v) }
 {
-    if !meets_lower(adj, th, v) && !waiting.has(v) {
+    if is_short(adj, th, v) && !waiting.has(v) {
         waiting.add(v, adj.desired(th, v))?;
     }
     Ok(())
@@ -83,11 +75,12 @@ fn add_short_neighbours(
     Ok(())
 }
 
-/// Lets the vertices that wait fall to their desired levels, and their neighbours wait where they need to, until nobody
-/// waits.
+/// Lets the vertices that wait fall to their desired levels, round after round, and their neighbours wait where they need to,
+/// until nobody waits.
 ///
 /// The error is want of memory; levels and queue are then unspecified.
-pub fn settle<L: Ledger>(
+pub fn settle<R: Threads + Sync, G: Gate + Sync, L: Ledger>(
+    rounds: &mut Rounds<R, G>,
     adj: &mut LevelAdj,
     th: &Thresholds,
     waiting: &mut Waiting,
@@ -100,7 +93,7 @@ pub fn settle<L: Ledger>(
     ensures graph { OnOk result (adj.new.graph ≡ adj.old.graph) }
     ensures lowered { OnOk result (IsLowered th.now.profile adj.old.graph adj.old.levels adj.new.levels) }
 {
-    while let Some(v) = waiting.take() {
+    while let Some(v) = waiting.next(rounds, adj, th)? {
         let from = adj.level(v);
         let to = adj.desired(th, v);
         if to < from {

@@ -10,12 +10,15 @@ use crate::delete_rounds;
 use kc_adj::{LevelAdj, Steps};
 use kc_graph::{Edge, Graph, MAX_EDGES, MAX_VERTICES};
 use kc_levels::{Profile, Thresholds, check_lower};
-use kc_rounds::OpenGate;
+use kc_rounds::{Gate, OpenGate, Spot};
 use std::alloc::{AllocError, Global};
 use std::marker::Brand;
 use std::process::Abort;
+use std::sync::atomic::Ordering::SeqCst;
+use std::sync::atomic::{AtomicBool, AtomicU64};
 use std::sync::ledger::{Blank, Ledger};
 use std::test::Fail;
+use std::thread;
 use std::thread::Threads;
 
 // The graph with these edges, each vertex on its level.
@@ -85,16 +88,19 @@ fn are_present(graph: &Graph, edges: &[Edge]) -> bool
 }
 
 // What `check` says, with a counter of its own.
-fn check_counting<R: Threads + Sync + Abort, L: Ledger>(
+fn check_counting<R: Threads + Sync + Abort, G: Gate + Sync, L: Ledger>(
     rt: &R,
     alloc: Global,
     blank: Blank,
+    gate: &G,
+    workers: u32,
     edges: &[Edge],
     levels: &[u16],
     removed: &[Edge],
     want: &[u16],
     moves: u32,
 ) -> Result<(), AllocError>
+    requires few_workers { (1 ≤ workers) × (workers ≤ 64) }
     requires name { blank.name ≡ L.name }
     requires parts { blank.parts ≡ L.parts }
     requires some { 0 < L.parts }
@@ -108,22 +114,14 @@ fn check_counting<R: Threads + Sync + Abort, L: Ledger>(
     assert!(rt; are_capped(&adj, &th));
     assert!(rt; meet_lower(&adj, &th));
     assert!(rt; are_present(adj.graph(), removed));
-    let tally = delete_rounds(
-        rt,
-        alloc,
-        &OpenGate::new(),
-        2,
-        &th,
-        &mut adj,
-        removed,
-        &mut steps,
-    )?;
+    let tally = delete_rounds(rt, alloc, gate, workers, &th, &mut adj, removed, &mut steps)?;
     assert_eq!(rt; adj.levels().as_slice(), want);
     assert_eq!(rt; tally.moves, moves);
     Ok(())
 }
 
-// One phase from these edges and levels, in which some edges leave, gives these levels, and moves so many vertices.
+// One phase from these edges and levels, in which some edges leave, by any number of workers gives these levels, and moves so
+// many vertices.
 fn check<R: Threads + Sync + Abort>(
     rt: &R,
     alloc: Global,
@@ -137,16 +135,21 @@ fn check<R: Threads + Sync + Abort>(
     requires small { length levels.now ≤ MAX_VERTICES }
     requires ascending { EdgesFrom (length levels.now) 0 0 removed.now }
 {
-    check_counting::<R, Brand>(
-        rt,
-        alloc,
-        Blank::new(1),
-        edges,
-        levels,
-        removed,
-        want,
-        moves,
-    )
+    for workers in [1, 3, 64] {
+        check_counting::<R, OpenGate, Brand>(
+            rt,
+            alloc,
+            Blank::new(1),
+            &OpenGate::new(),
+            workers,
+            edges,
+            levels,
+            removed,
+            want,
+            moves,
+        )?;
+    }
+    Ok(())
 }
 
 // The complete graph on eight vertices: vertex 0 keeps two neighbours.
@@ -219,5 +222,66 @@ fn nobody_falls_without_need(rt: HostRuntime) -> Result<(), Fail> {
         0,
     )?;
     check(&rt, rt.alloc(), &four, &levels, &[], &levels, 0)?;
+    Ok(())
+}
+
+const TURNS: u64 = 10_000_000;
+
+// Holds the first piece 0 that it is told until it was told piece 1, for at most so many turns.
+#[derive(Drop)]
+struct Holding {
+    has_held: AtomicBool,
+    told: AtomicBool,
+    turns_left: AtomicU64,
+}
+
+impl Gate for Holding {
+    fn at(&self, spot: Spot) {
+        match spot {
+            Spot::Piece { index: 0 } => {
+                if self.has_held.swap(true, SeqCst) {
+                    return;
+                }
+                for turn in 0..TURNS {
+                    if self.told.load(SeqCst) {
+                        self.turns_left.store(TURNS - turn, SeqCst);
+                        return;
+                    }
+                    thread::yield_now();
+                }
+            }
+            Spot::Piece { index: 1 } => self.told.store(true, SeqCst),
+            _ => {}
+        }
+    }
+}
+
+// All five vertices of the star have to fall at once.
+#[test]
+fn a_first_round_has_two_pieces_at_once(rt: HostRuntime) -> Result<(), Fail> {
+    let gate = Holding {
+        has_held: AtomicBool::new(false),
+        told: AtomicBool::new(false),
+        turns_left: AtomicU64::new(0),
+    };
+    let star = [
+        Edge { a: 0, b: 1 },
+        Edge { a: 0, b: 2 },
+        Edge { a: 0, b: 3 },
+        Edge { a: 0, b: 4 },
+    ];
+    check_counting::<HostRuntime, Holding, Brand>(
+        &rt,
+        rt.alloc(),
+        Blank::new(1),
+        &gate,
+        2,
+        &star,
+        &[2, 1, 1, 1, 1],
+        &star,
+        &[0, 0, 0, 0, 0],
+        5,
+    )?;
+    assert!(rt; gate.turns_left.load(SeqCst) > 0);
     Ok(())
 }

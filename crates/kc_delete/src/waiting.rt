@@ -1,21 +1,29 @@
-ghost use Rattle.std.specs.Prelude.{◌≡◌, ℕ, ◌<◌, ◌+◌, true, false, IfOk, IfSome, IfNone, OnOk, OnErr, length, replicate, slice_index_or, slice_set};
-ghost use Rattle.kc_delete.specs.Waiting.{AreFiled};
+ghost use Rattle.std.specs.Prelude.{◌≡◌, ℕ, ◌<◌, ◌≤◌, ◌-◌, ◌⊎◌, ◌&&◌, ◌||◌, List, Bool, true, false, not, [], All, IfOk, IfSome, IfNone, OnOk, OnErr, length, replicate, slice_index_or, slice_set};
+ghost use Rattle.kc_graph.specs.Numbers.{has_number};
+ghost use Rattle.kc_levels.specs.LevelList.{IsCapped};
+ghost use Rattle.kc_delete.specs.Waiting.{AreFiled, IsSifted, IsTaken};
 
-use crate::buckets::{Bucket, put, reach, take_last};
+use crate::buckets::{Bucket, put, reach, take_all};
+use crate::short::Short;
+use kc_adj::LevelAdj;
+use kc_levels::Thresholds;
+use kc_rounds::{Gate, Rounds};
 use std::alloc::{AllocError, Global};
 use std::marker::Model;
+use std::thread::Threads;
 
-/// Vertices that wait to be looked at, each filed under a level. Those of the least level are taken first, and of them the
-/// one that came last.
+/// Vertices that wait to be looked at, each filed under a level. Those of the least level are the next round.
 ///
 /// Contracts see it as a list of marks: for each vertex whether it waits. Buckets are made up to the greatest level that a
-/// vertex was filed under, and keep their memory. Who lets no vertex wait that waits already has each in one bucket at most.
+/// vertex was filed under. Who lets no vertex wait that waits already has each in one bucket at most, or in the round.
 #[derive(Drop)]
 pub struct Waiting {
     // for each level the vertices that are filed under it
     buckets: Vec<Bucket>,
     // no vertex that waits is filed under a lower level
     first: usize,
+    // what is left of the round that is under way
+    round: Vec<u32>,
     // for each vertex whether it waits
     marks: Vec<bool>,
     alloc: Global,
@@ -29,28 +37,58 @@ impl Model for Waiting {
 
     ghost view = { λ w. w.marks.items };
 
-    ghost invariant = { λ w. AreFiled w.first w.buckets.items w.marks.items };
+    ghost invariant = { λ w. AreFiled w.first w.buckets.items w.round.items w.marks.items };
 }
 
-// Takes a vertex that waits from the bucket of a level. Afterwards it doesn't wait.
-fn take_from(buckets: &mut Vec<Bucket>, level: usize, marks: &mut Vec<bool>) -> Option<u32>
-    requires level { level < length buckets.old.items }
-    requires filed { AreFiled level buckets.old.items marks.old.items }
-    ensures filed { AreFiled level buckets.new.items marks.new.items }
+// Takes the last vertex of a round that waits still. Afterwards it doesn't wait.
+fn take_from(round: &mut Vec<u32>, marks: &mut Vec<bool>) -> Option<u32>
+    requires inside { (v : ℕ) → has_number v round.old.items ≡ true → v < length marks.old.items }
     ensures inside { IfSome result (λ v. v < length marks.old.items) }
     ensures waited { IfSome result (λ v. slice_index_or marks.old.items v false ≡ true) }
     ensures taken { IfSome result (λ v. marks.new.items ≡ slice_set marks.old.items v false) }
     ensures kept { IfNone result (marks.new.items ≡ marks.old.items) }
-    ensures next { IfNone result (AreFiled (level + 1) buckets.new.items marks.new.items) }
-    ensures sized { length buckets.new.items ≡ length buckets.old.items }
+    ensures none { IfNone result (round.new.items ≡ []) }
+    ensures fewer { (v : ℕ) → has_number v round.new.items ≡ true → has_number v round.old.items ≡ true }
+    ensures still { (v : ℕ) → slice_index_or marks.new.items v false ≡ true → has_number v round.old.items ≡ true → has_number v round.new.items ≡ true }
 {
-    while let Some(v) = take_last(buckets, level) {
+    while let Some(v) = round.pop() {
         if marks[v as usize] {
             marks[v as usize] = false;
             return Some(v);
         }
     }
     None
+}
+
+// Takes the vertices of the least level that has some, from `first` on, or none where no level has any.
+fn take_least(alloc: Global, buckets: &mut Vec<Bucket>, first: &mut usize) -> Vec<u32>
+    ensures filed { (waits : List Bool) → AreFiled first.old buckets.old.items [] waits → AreFiled first.new buckets.new.items result.items waits }
+    ensures none { result.items ≡ [] → length buckets.new.items ≤ first.new }
+    ensures some { (result.items ≡ []) ⊎ (length buckets.new.items - first.new < length buckets.old.items - first.old) }
+{
+    while *first < buckets.len() {
+        let bucket = take_all(alloc, buckets, *first);
+        *first += 1;
+        if !bucket.is_empty() {
+            return bucket;
+        }
+    }
+    Vec::new(alloc)
+}
+
+// Of the candidates only the movers wait on.
+fn keep_marks(marks: &mut Vec<bool>, candidates: &[u32], movers: &[u32])
+    requires candidates { All (λ v. v < length marks.old.items) candidates.now }
+    requires movers { All (λ v. v < length marks.old.items) movers.now }
+    ensures sized { length marks.new.items ≡ length marks.old.items }
+    ensures marks { (v : ℕ) → slice_index_or marks.new.items v false ≡ has_number v movers.now || (slice_index_or marks.old.items v false && not (has_number v candidates.now)) }
+{
+    for v in candidates {
+        marks[*v as usize] = false;
+    }
+    for v in movers {
+        marks[*v as usize] = true;
+    }
 }
 
 impl Waiting {
@@ -61,6 +99,7 @@ impl Waiting {
         Ok(Waiting {
             buckets: Vec::new(alloc),
             first: 0,
+            round: Vec::new(alloc),
             marks: vec![in alloc; false; n as usize]?,
             alloc,
         })
@@ -87,20 +126,37 @@ impl Waiting {
         Ok(())
     }
 
-    /// A vertex that waits under the least level. Afterwards it doesn't wait.
-    pub fn take(&mut self) -> Option<u32>
-        ensures inside { IfSome result (λ v. v < length self.old) }
-        ensures waited { IfSome result (λ v. slice_index_or self.old v false ≡ true) }
-        ensures taken { IfSome result (λ v. self.new ≡ slice_set self.old v false) }
-        ensures none { IfNone result ((v : ℕ) → slice_index_or self.old v false ≡ false) }
+    /// The next vertex of the round that is under way, or of a new round where that one has come to its end. Afterwards it
+    /// doesn't wait. `None` says that nobody waits.
+    ///
+    /// A round is all that wait under the least level. Those of them that have enough neighbours when it begins leave it, and
+    /// wait no more. The error is want of memory.
+    pub fn next<R: Threads + Sync, G: Gate + Sync>(
+        &mut self,
+        rounds: &mut Rounds<R, G>,
+        adj: &LevelAdj,
+        th: &Thresholds,
+    ) -> Result<Option<u32>, AllocError>
+        requires scale { th.now.vertices ≡ adj.now.graph.vertices }
+        requires capped { IsCapped th.now.profile adj.now.graph.vertices adj.now.levels }
+        requires sized { length self.old ≡ adj.now.graph.vertices }
+        ensures some { IfOk result (λ next. IfSome next (IsTaken th.now.profile adj.now.graph adj.now.levels self.old self.new)) }
+        ensures none { IfOk result (λ next. IfNone next (IsSifted th.now.profile adj.now.graph adj.now.levels self.old self.new)) }
+        ensures nobody { IfOk result (λ next. IfNone next ((v : ℕ) → slice_index_or self.new v false ≡ false)) }
     {
-        while self.first < self.buckets.len() {
-            let taken = take_from(&mut self.buckets, self.first, &mut self.marks);
+        loop {
+            let taken = take_from(&mut self.round, &mut self.marks);
             if taken.is_some() {
-                return taken;
+                return Ok(taken);
             }
-            self.first += 1;
+            self.round = take_least(self.alloc, &mut self.buckets, &mut self.first);
+            if self.round.is_empty() {
+                return Ok(None);
+            }
+            let marks = &self.marks;
+            let movers = rounds.movers(&self.round, &Short { adj, th, marks })?;
+            keep_marks(&mut self.marks, &self.round, &movers);
+            self.round = movers;
         }
-        None
     }
 }

@@ -23,7 +23,7 @@ pub record IsHoled (p : Profile) (g : GraphShape) (y : List ℕ) (l v : ℕ) (qu
   pub found : (u : ℕ) → u < g.vertices → u ≢ v → IsFiled l y queue u ⊎ MeetsUpper p g y u
 
 -- what holds of a new bucket at its level, and of the old bucket at each other level, holds at every level
-placed : (queue : List (List ℕ)) (a k : ℕ) (new : List ℕ) → a < length queue → (P : List ℕ → Type 0) → (k ≡ a → P new) → (k ≢ a → P (get_or queue k [])) → P (get_or (set queue a new) k [])
+pub placed : (queue : List (List ℕ)) (a k : ℕ) (new : List ℕ) → a < length queue → (P : List ℕ → Type 0) → (k ≡ a → P new) → (k ≢ a → P (get_or queue k [])) → P (get_or (set queue a new) k [])
 placed queue a k new inside P here there = elim (cases_eq k a) [
   | inl e ↦ rw (ap (λ j. get_or (set queue a new) j []) e ∙ get_or-set_same queue a new [] inside) (here e)
   | inr ne ↦ rw (get_or-set_other queue a k new [] ne) (there ne)
@@ -32,13 +32,22 @@ placed queue a k new inside P here there = elim (cases_eq k a) [
 has_last : (v : ℕ) (xs : List ℕ) → has_number v (xs ++ v ∷ []) ≡ true
 has_last v xs = has_number-push v v xs ∙ grind (arith, nat_tests)
 
+has_first : (v : ℕ) (xs : List ℕ) → has_number v (v ∷ xs) ≡ true
+has_first v xs = grind (arith, nat_tests)
+
+pub has_more : (u v : ℕ) (xs : List ℕ) → has_number u xs ≡ true → has_number u (v ∷ xs) ≡ true
+has_more u v xs there = grind (arith, nat_tests, there)
+
+has_rest : (u v : ℕ) (xs : List ℕ) → u ≢ v → has_number u (v ∷ xs) ≡ true → has_number u xs ≡ true
+has_rest u v xs ne there = grind (arith, nat_tests, ne, there)
+
 pushed_is : (u v : ℕ) (xs : List ℕ) → has_number u (xs ++ v ∷ []) ≡ true → (u ≡ v) ⊎ (has_number u xs ≡ true)
 pushed_is u v xs there = elim (cases_eq u v) [
   | inl e ↦ inl e
   | inr ne ↦ let at = sym (has_number-push u v xs) ∙ there in inr (grind (arith, nat_tests, at, ne))
 ]
 
-has_number-filter : (u : ℕ) (p : ℕ → Bool) (xs : List ℕ) → has_number u (filter p xs) ≡ has_number u xs && p u
+pub has_number-filter : (u : ℕ) (p : ℕ → Bool) (xs : List ℕ) → has_number u (filter p xs) ≡ has_number u xs && p u
 has_number-filter u p [] = refl
 has_number-filter u p (x ∷ xs) = elim (cases_eq x u) [
   | inl e ↦ rw e (grind (arith, nat_tests, has_number-filter u p xs))
@@ -64,18 +73,18 @@ module _ (queue : List (List ℕ)) (a : ℕ) (more : List ℕ) (inside : a < len
       (λ ne there. old k u there)
 
 -- v is taken out of the bucket of level l
-module _ (p : Profile) (g : GraphShape) (y : List ℕ) (l v : ℕ) (queue taken : List (List ℕ)) (inside : l < length queue) (s : IsQueued p g y l queue) (is : get_or queue l [] ≡ get_or taken l [] ++ v ∷ []) (others : taken ≡ set queue l (get_or taken l [])) where
+module _ (p : Profile) (g : GraphShape) (y : List ℕ) (l v : ℕ) (queue taken : List (List ℕ)) (inside : l < length queue) (s : IsQueued p g y l queue) (is : get_or queue l [] ≡ v ∷ get_or taken l []) (others : taken ≡ set queue l (get_or taken l [])) where
   pub taken_inside : v < g.vertices
-  taken_inside = s.inside l v (ap (has_number v) is ∙ has_last v (get_or taken l []))
+  taken_inside = s.inside l v (ap (has_number v) is ∙ has_first v (get_or taken l []))
 
-  was_there : (u : ℕ) → u ≢ v → has_number u (get_or taken l [] ++ v ∷ []) ≡ true → has_number u (get_or taken l []) ≡ true
-  was_there u ne there = elim (pushed_is u v (get_or taken l []) there) [ inl e ↦ absurd (ne e) | inr old ↦ old ]
+  was_there : (u : ℕ) → u ≢ v → has_number u (v ∷ get_or taken l []) ≡ true → has_number u (get_or taken l []) ≡ true
+  was_there u ne there = has_rest u v (get_or taken l []) ne there
 
   back : (k u : ℕ) → has_number u (get_or taken k []) ≡ true → has_number u (get_or queue k []) ≡ true
   back k u there = elim (cases_eq k l) [
     | inl e ↦
         let at : has_number u (get_or taken l []) ≡ true = rw e at there in
-        rw e (ap (has_number u) is ∙ has_number-push u v (get_or taken l []) ∙ grind (arith, nat_tests, at))
+        rw e (ap (has_number u) is ∙ has_more u v (get_or taken l []) at)
     | inr ne ↦ ap (has_number u) (sym (get_or-set_other queue l k (get_or taken l []) [] ne) ∙ ap (λ f. get_or f k []) (sym others)) ∙ there
   ]
 

@@ -1,3 +1,4 @@
 pub mod Buckets
 pub mod Reaching
 pub mod Linking
+pub mod LevelRounds

@@ -70,7 +70,7 @@ reached_first p a l queue s long capped queued = record {
 }
 
 -- v is taken out of the bucket of level l
-module _ (p : Profile) (n : ℕ) (a b : LeveledGraph) (l v s t : ℕ) (queue taken : List (List ℕ)) (scale : n ≡ a.graph.vertices) (room : l < top_level p n) (r : HasReached p a b l queue s t) (is : get_or queue l [] ≡ get_or taken l [] ++ v ∷ []) (others : taken ≡ set queue l (get_or taken l [])) where
+module _ (p : Profile) (n : ℕ) (a b : LeveledGraph) (l v s t : ℕ) (queue taken : List (List ℕ)) (scale : n ≡ a.graph.vertices) (room : l < top_level p n) (r : HasReached p a b l queue s t) (is : get_or queue l [] ≡ v ∷ get_or taken l []) (others : taken ≡ set queue l (get_or taken l [])) where
   below : l < top_level p a.graph.vertices
   below = rw scale at room
 

@@ -1,3 +1,4 @@
 pub mod Effort
 pub mod BucketQueue
 pub mod Reached
+pub mod Round

@@ -1,10 +1,11 @@
-ghost use Rattle.std.specs.Prelude.{◌≡◌, ◌++◌, ◌∷◌, ◌<◌, ◌+◌, [], replicate, OnOk, IfOk, IfSome, IfNone, slice_index, slice_index_or, slice_set, length};
+ghost use Rattle.std.specs.Prelude.{◌≡◌, ◌++◌, ◌∷◌, ◌<◌, ◌+◌, [], replicate, OnOk, IfOk, slice_index, slice_index_or, slice_set, length};
 ghost use Rattle.kc_graph.specs.Shape.{neighbours_of};
 ghost use Rattle.kc_adj.specs.Crossing.{crossed};
 
 use kc_adj::{LevelAdj, Steps};
 use std::alloc::{AllocError, Global};
 use std::marker::Model;
+use std::mem;
 use std::sync::ledger::Ledger;
 
 /// Some vertices in the order in which they came; one may be there more than once.
@@ -60,14 +61,13 @@ impl BucketQueue {
         Ok(())
     }
 
-    /// Takes a vertex out of the bucket of a level, the one that came last, or answers that the bucket is empty.
-    pub fn take(&mut self, level: u16) -> Option<u32>
+    /// Takes all vertices out of the bucket of a level, in the order in which they came.
+    pub fn take_all(&mut self, alloc: Global, level: u16) -> Vec<u32>
         requires { level < length self.old }
-        ensures some { IfSome result (λ v. slice_index_or self.old level [] ≡ slice_index_or self.new level [] ++ v ∷ []) }
-        ensures others { self.new ≡ slice_set self.old level (slice_index_or self.new level []) }
-        ensures none { IfNone result ((slice_index_or self.old level [] ≡ []) × (slice_index_or self.new level [] ≡ [])) }
+        ensures taken { result.items ≡ slice_index_or self.old level [] }
+        ensures left { self.new ≡ slice_set self.old level [] }
     {
-        self.buckets[level as usize].vertices.pop()
+        mem::replace(&mut self.buckets[level as usize].vertices, Vec::new(alloc))
     }
 
     /// Lifts `v` from `level`, where it is, to the next, and puts into that level's bucket the neighbours on it that now have

@@ -10,7 +10,7 @@ use crate::raising::raise_queued;
 use kc_adj::{LevelAdj, Steps};
 use kc_graph::{Edge, MAX_EDGES};
 use kc_levels::{Thresholds, moved_count};
-use kc_rounds::Gate;
+use kc_rounds::{Gate, Rounds};
 use std::alloc::{AllocError, Global};
 use std::sync::ledger::Ledger;
 use std::thread::Threads;
@@ -32,14 +32,19 @@ pub struct Tally {
 /// Counts at most 4 steps for each edge, and for each vertex, times the levels that it rises by, three for each neighbour that
 /// it has after the phase and one more (`effort`).
 ///
+/// Goes through the levels once, from the lowest up. Each level is a round: those of its waiting vertices that have to rise are
+/// found by up to `workers` threads (`Rounds`), and rise one after the other. The answer doesn't depend on `workers` nor on
+/// what the gate does. The first round with candidates is cut into as many pieces as there are workers, later short ones into
+/// fewer.
+///
 /// A vertex is looked at in O(1), and only where an edge came in at it, it rose, or a neighbour's rise took it over its bound;
-/// a rise by one level is one pass over the neighbours. Besides there are one pass over an empty bucket for each level up to
-/// the top, and one over all vertices before, for a copy of the levels, and one after. All is done on the calling thread,
-/// whatever the number of workers.
+/// a rise by one level is one pass over the neighbours. A round takes memory for its waiting vertices that rise. Besides there
+/// are one pass over an empty bucket for each level up to the top, and one over all vertices before, for a copy of the levels,
+/// and one after.
 pub fn insert_rounds<R: Threads + Sync, G: Gate + Sync, L: Ledger>(
-    _rt: &R,
+    rt: &R,
     alloc: Global,
-    _gate: &G,
+    gate: &G,
     workers: u32,
     th: &Thresholds,
     adj: &mut LevelAdj,
@@ -62,7 +67,8 @@ pub fn insert_rounds<R: Threads + Sync, G: Gate + Sync, L: Ledger>(
     let _n = adj.graph().vertices();
     let before = adj.levels().copy(alloc)?;
     let mut queue = link_edges(alloc, th, adj, added, steps)?;
-    raise_queued(alloc, th, adj, &mut queue, steps)?;
+    let mut rounds = Rounds::new(rt, alloc, gate, workers);
+    raise_queued(&mut rounds, alloc, th, adj, &mut queue, steps)?;
     let after = adj.levels();
     Ok(Tally {
         moves: moved_count(&before, after),

@@ -5,23 +5,29 @@ use crate::insert_rounds;
 use kc_adj::{LevelAdj, Steps};
 use kc_graph::{Edge, MAX_EDGES, MAX_VERTICES};
 use kc_levels::{Profile, Thresholds};
-use kc_rounds::OpenGate;
+use kc_rounds::{Gate, OpenGate, Spot};
 use std::alloc::{AllocError, Global};
 use std::marker::Brand;
 use std::process::Abort;
+use std::sync::atomic::Ordering::SeqCst;
+use std::sync::atomic::{AtomicBool, AtomicU64};
 use std::sync::ledger::{Blank, Ledger};
 use std::test::Fail;
+use std::thread;
 use std::thread::Threads;
 
 // One phase into a graph without edges, counted in a ledger, gives these levels, and moves so many vertices.
-fn check_counted<R: Threads + Sync + Abort, L: Ledger>(
+fn check_counted<R: Threads + Sync + Abort, G: Gate + Sync, L: Ledger>(
     rt: &R,
     alloc: Global,
     blank: Blank,
+    gate: &G,
+    workers: u32,
     added: &[Edge],
     want: &[u16],
     moves: u32,
 ) -> Result<(), AllocError>
+    requires few_workers { (1 ≤ workers) × (workers ≤ 64) }
     requires name { blank.name ≡ L.name }
     requires parts { blank.parts ≡ L.parts }
     requires some_part { 0 < L.parts }
@@ -34,22 +40,13 @@ fn check_counted<R: Threads + Sync + Abort, L: Ledger>(
     let th = Thresholds::new(alloc, Profile::One, n)?;
     let mut adj = LevelAdj::new(alloc, n)?;
     let mut steps = Steps::<L>::new(blank);
-    let tally = insert_rounds(
-        rt,
-        alloc,
-        &OpenGate::new(),
-        1,
-        &th,
-        &mut adj,
-        added,
-        &mut steps,
-    )?;
+    let tally = insert_rounds(rt, alloc, gate, workers, &th, &mut adj, added, &mut steps)?;
     assert_eq!(rt; adj.levels().as_slice(), want);
     assert_eq!(rt; tally.moves, moves);
     Ok(())
 }
 
-// One phase into a graph without edges gives these levels, and moves so many vertices.
+// One phase into a graph without edges, by any number of workers, gives these levels, and moves so many vertices.
 fn check<R: Threads + Sync + Abort>(
     rt: &R,
     alloc: Global,
@@ -62,7 +59,19 @@ fn check<R: Threads + Sync + Abort>(
     requires ascending { EdgesFrom (length want.now) 0 0 added.now }
     requires few { length added.now ≤ MAX_EDGES }
 {
-    check_counted::<R, Brand>(rt, alloc, Blank::new(1), added, want, moves)
+    for workers in [1, 3, 64] {
+        check_counted::<R, OpenGate, Brand>(
+            rt,
+            alloc,
+            Blank::new(1),
+            &OpenGate::new(),
+            workers,
+            added,
+            want,
+            moves,
+        )?;
+    }
+    Ok(())
 }
 
 // Three edges of one vertex among n vertices, one of them to the last vertex.
@@ -202,5 +211,63 @@ fn check_second_phase<R: Threads + Sync + Abort, L: Ledger>(
 #[test]
 fn a_second_phase_raises_further(rt: HostRuntime) -> Result<(), Fail> {
     check_second_phase::<HostRuntime, Brand>(&rt, rt.alloc(), Blank::new(1))?;
+    Ok(())
+}
+
+const TURNS: u64 = 10_000_000;
+
+// Holds the first piece 0 that it is told until it was told piece 1, for at most so many turns.
+#[derive(Drop)]
+struct Holding {
+    has_held: AtomicBool,
+    told: AtomicBool,
+    turns_left: AtomicU64,
+}
+
+impl Gate for Holding {
+    fn at(&self, spot: Spot) {
+        match spot {
+            Spot::Piece { index: 0 } => {
+                if self.has_held.swap(true, SeqCst) {
+                    return;
+                }
+                for turn in 0..TURNS {
+                    if self.told.load(SeqCst) {
+                        self.turns_left.store(TURNS - turn, SeqCst);
+                        return;
+                    }
+                    thread::yield_now();
+                }
+            }
+            Spot::Piece { index: 1 } => self.told.store(true, SeqCst),
+            _ => {}
+        }
+    }
+}
+
+#[test]
+fn a_first_round_has_two_pieces_at_once(rt: HostRuntime) -> Result<(), Fail> {
+    let gate = Holding {
+        has_held: AtomicBool::new(false),
+        told: AtomicBool::new(false),
+        turns_left: AtomicU64::new(0),
+    };
+    let star = [
+        Edge { a: 0, b: 1 },
+        Edge { a: 0, b: 2 },
+        Edge { a: 0, b: 3 },
+        Edge { a: 0, b: 4 },
+    ];
+    check_counted::<HostRuntime, Holding, Brand>(
+        &rt,
+        rt.alloc(),
+        Blank::new(1),
+        &gate,
+        2,
+        &star,
+        &[2, 1, 1, 1, 1],
+        5,
+    )?;
+    assert!(rt; gate.turns_left.load(SeqCst) > 0);
     Ok(())
 }

@@ -1,13 +1,19 @@
-//! Where a run can be watched and held: the places that a gate is told of, and the gate that lets everything pass.
+//! Work in rounds: lists of vertices that are tested in pieces, one to a thread, and the places where a run can be watched
+//! and held.
 //!
-//! Rounds, publications and readers tell a [`Gate`] where they are. A program passes an [`OpenGate`]; a test passes
-//! a gate of its own, which may hold a thread at a place until another thread has come to one.
+//! [`filter_round`] gives the vertices of a list that pass a [`RoundTest`], in order, by up to 64 workers. Rounds,
+//! publications and readers tell a [`Gate`] where they are. A program passes an [`OpenGate`]; a test passes a gate of its own,
+//! which may hold a thread at a place until another thread has come to one.
 #![tactic(auto)]
 
+mod filtering;
 mod gate;
+mod rounds;
 mod spot;
 
+pub use filtering::{RoundTest, filter_round};
 pub use gate::{Gate, OpenGate};
+pub use rounds::Rounds;
 pub use spot::Spot;
 
 #[cfg(test)]

@@ -96,7 +96,7 @@ fn compare_batch<R: Threads + Sync + Abort, L: Ledger>(
         rt,
         alloc,
         &OpenGate::new(),
-        1,
+        3,
         th,
         adj,
         cleaned.removed.as_slice(),

@@ -28,19 +28,19 @@ add_short_ends-requires-clause-ascending g c =
     rw (c.unlink_edges.ensures, vertices-without_edges c.args.adj.now.graph c.args.removed.now) c.requires.ascending
 
 pub settle-requires-clause-graph : goal.settle-requires-clause-graph
-settle-requires-clause-graph g c =
+settle-requires-clause-graph g c κs o =
     rw c.unlink_edges.ensures (is_graph-without_edges c.args.adj.now.graph c.args.removed.now (rw c.graph.ensures at c.vertices-n.ensures.graph))
 
 pub settle-requires-clause-scale : goal.settle-requires-clause-scale
-settle-requires-clause-scale g c =
+settle-requires-clause-scale g c κs o =
     rw c.unlink_edges.ensures (c.requires.scale ∙ sym (vertices-without_edges c.args.adj.now.graph c.args.removed.now))
 
 pub settle-requires-clause-capped : goal.settle-requires-clause-capped
-settle-requires-clause-capped g c =
+settle-requires-clause-capped g c κs o =
     rw (c.unlink_edges.ensures, vertices-without_edges c.args.adj.now.graph c.args.removed.now) c.requires.capped
 
 pub settle-requires-clause-settling : goal.settle-requires-clause-settling
-settle-requires-clause-settling g c =
+settle-requires-clause-settling g c κs o =
     let sized = rw (c.unlink_edges.ensures, vertices-without_edges c.args.adj.now.graph c.args.removed.now) at c.in_ok-add_short_ends.ensures.sized in
     let looked = rw c.unlink_edges.ensures at c.in_ok-add_short_ends.ensures.looked in
     rw c.unlink_edges.ensures

@@ -1,8 +1,15 @@
-use Rattle.kc_delete.proofs.SettlingLemmas.{after_fall}
+use Rattle.kc_delete.specs.Waiting.{IsTaken}
+use Rattle.kc_delete.proofs.SettlingLemmas.{settling_sifted, after_fall, work_taken}
 use Rattle.kc_delete.proofs.settling.settle.Goals as goal
 
-pub loop-v-preserved-in-Continue-1 : goal.loop-v-preserved-in-Continue-1
-loop-v-preserved-in-Continue-1 g c =
-    after_fall _ _ _ c.loop-v.adj c.fall.new.self c.loop-v.waiting c.take.new.self c.add_short_neighbours.new.waiting c.in-Some.v c.level-from.result c.desired-to.result
-    c.requires.graph c.loop-v.invariant.0 c.loop-v.invariant.1 c.in-Some.ensures.inside c.in-Some.ensures.taken c.level-from.ensures c.desired-to.ensures c.fall.ensures.value
+pub loop-v-preserved-in-Continue-branch-3 : goal.loop-v-preserved-in-Continue-branch-3
+loop-v-preserved-in-Continue-branch-3 g c =
+    let t : IsTaken c.args.th.now.profile c.loop-v.adj.graph c.loop-v.adj.levels c.loop-v.waiting c.next.new.self c.in-Some.v = rw c.in-Some.is at c.in_ok-v.ensures.some in
+    after_fall _ _ _ c.loop-v.adj c.fall.new.self t.between c.next.new.self c.add_short_neighbours.new.waiting c.in-Some.v c.level-from.result c.desired-to.result
+    c.requires.graph c.loop-v.invariant.0 (settling_sifted _ _ _ _ _ _ _ c.loop-v.invariant.0 c.loop-v.invariant.1 t.sifted) t.inside t.taken c.level-from.ensures c.desired-to.ensures c.fall.ensures.value
     c.in_ok-add_short_neighbours.ensures.sized c.in_ok-add_short_neighbours.ensures.still c.in_ok-add_short_neighbours.ensures.looked
+
+pub loop-v-smaller : goal.loop-v-smaller
+loop-v-smaller g c =
+    let t : IsTaken c.args.th.now.profile c.loop-v.adj.graph c.loop-v.adj.levels c.loop-v.waiting c.next.new.self c.in-Some.v = rw c.in-Some.is at c.in_ok-v.ensures.some in
+    work_taken _ _ c.args.adj.now.graph _ _ _ _ t

@@ -1,9 +1,6 @@
-use Rattle.std.proofs.Common.{length, get_or, []}
-use Rattle.kc_insert.specs.Reached.{HasReached}
+use Rattle.std.proofs.Common.{drop}
+use Rattle.kc_insert.proofs.LevelRounds.{IsRound}
 use Rattle.kc_insert.proofs.raising.raise_level.Given as goal
 
 abbrev pub invariant-loop-v : goal.invariant-loop-v
-invariant-loop-v g l = HasReached l.th.profile l.initial.adj l.adj l.level l.queue l.initial.steps l.steps
-
-abbrev pub decreases-loop-v : goal.decreases-loop-v
-decreases-loop-v g l = length (get_or l.queue l.level [])
+invariant-loop-v g l = IsRound l.th.profile l.initial.adj l.adj l.level l.most (drop l.v-index l.v-items) l.queue l.initial.steps l.steps

@@ -7,10 +7,10 @@ pub loop-level-init : goal.loop-level-init
 loop-level-init g c = reached_first _ _ _ _ _ c.levels-levels.ensures.sized c.requires.capped c.requires.queued
 
 pub raise_level-requires-clause-capped : goal.raise_level-requires-clause-capped
-raise_level-requires-clause-capped g c = (reached_here _ _ _ _ _ _ _ c.loop-level.invariant).0
+raise_level-requires-clause-capped g c κs o = (reached_here _ _ _ _ _ _ _ c.loop-level.invariant).0
 
 pub raise_level-requires-clause-queued : goal.raise_level-requires-clause-queued
-raise_level-requires-clause-queued g c = (reached_here _ _ _ _ _ _ _ c.loop-level.invariant).1
+raise_level-requires-clause-queued g c κs o = (reached_here _ _ _ _ _ _ _ c.loop-level.invariant).1
 
 pub loop-level-preserved : goal.loop-level-preserved
 loop-level-preserved g c = reached_then _ _ _ _ _ _ _ _ _ _ _ c.loop-level.invariant c.in_ok-raise_level.ensures

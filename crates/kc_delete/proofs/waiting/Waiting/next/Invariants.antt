@@ -1,0 +1,12 @@
+use Rattle.std.proofs.Common.{◌-◌, length}
+use Rattle.kc_delete.specs.Waiting.{AreFiled, IsSifted}
+use Rattle.kc_delete.proofs.waiting.Waiting.next.Given as goal
+
+abbrev pub invariant-loop-taken : goal.invariant-loop-taken
+invariant-loop-taken g l = record {
+  filed : AreFiled l.self-inside.first l.self-inside.buckets.items l.self-inside.round.items l.self-inside.marks.items;
+  sifted : IsSifted l.th.profile l.adj.graph l.adj.levels l.initial.self-inside.marks.items l.self-inside.marks.items;
+}
+
+abbrev pub decreases-loop-taken : goal.decreases-loop-taken
+decreases-loop-taken g l = length l.self-inside.buckets.items - l.self-inside.first

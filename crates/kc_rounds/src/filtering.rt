@@ -1,0 +1,111 @@
+ghost use Rattle.std.specs.Prelude.{◌≡◌, ℕ, ◌-◌, ◌*◌, ◌/◌, ◌<◌, ◌≤◌, Bool, All, IfOk, filter};
+
+use crate::{Gate, Spot};
+use std::alloc::{AllocError, Global};
+use std::thread;
+use std::thread::Threads;
+
+/// A test of vertices that several threads may make at once.
+pub trait RoundTest {
+    /// Which vertices pass.
+    ghost keeps: { Self → ℕ → Bool };
+
+    /// Which vertices may be tested.
+    ghost may_ask: { Self → ℕ → Type 0 };
+
+    /// Whether `v` passes.
+    fn keep(&self, v: u32) -> bool
+        requires { may_ask self.now v }
+        ensures { result ≡ keeps self.now v };
+}
+
+// The length of the pieces: the least with which there are no more pieces than workers.
+fn piece_size(candidates: usize, workers: u32) -> usize
+    requires few_workers { 1 ≤ workers }
+    requires some { 0 < candidates }
+    ensures positive { 0 < result }
+    ensures enough { candidates ≤ workers * result }
+    ensures least { workers * (result - 1) < candidates }
+{
+    candidates.div_ceil(workers as usize)
+}
+
+// The number of the piece that begins at this place, counted from 0.
+fn piece_index(start: usize, size: usize, workers: u32) -> u32
+    requires some { 0 < size }
+    requires few { start < workers * size }
+    ensures { result ≡ start / size }
+{
+    (start / size) as u32
+}
+
+// The vertices of a piece that pass, in order. The gate is told the piece before the first of them is tested.
+fn filter_piece<F: RoundTest, G: Gate>(
+    alloc: Global,
+    gate: &G,
+    index: u32,
+    piece: &[u32],
+    test: &F,
+) -> Result<Vec<u32>, AllocError>
+    requires { All (F.may_ask test.now) piece.now }
+    ensures { IfOk result (λ v. v.items ≡ filter (F.keeps test.now) piece.now) }
+{
+    gate.at(Spot::Piece { index });
+    let mut kept = Vec::with_capacity(alloc, piece.len())?;
+    for v in piece {
+        if test.keep(*v) {
+            kept.push(*v)?;
+        }
+    }
+    Ok(kept)
+}
+
+/// The candidates that pass, in order, whatever the number of workers.
+///
+/// `workers` is 1 to 64, and each candidate may be tested. They are cut into pieces of their number divided by `workers`,
+/// rounded up, and each piece is tested in a thread of its own where one can be made; with one worker no thread is started.
+/// At the start of each piece the gate is told its index. An empty list has no piece.
+///
+/// Tests each candidate once. Takes memory for the answer, and with more than one worker for one answer of each piece besides.
+/// The error is want of memory.
+pub fn filter_round<R: Threads + Sync, F: RoundTest + Sync, G: Gate + Sync>(
+    rt: &R,
+    alloc: Global,
+    gate: &G,
+    workers: u32,
+    candidates: &[u32],
+    test: &F,
+) -> Result<Vec<u32>, AllocError>
+    requires few_workers { (1 ≤ workers) × (workers ≤ 64) }
+    requires asked { All (F.may_ask test.now) candidates.now }
+    ensures { IfOk result (λ v. v.items ≡ filter (F.keeps test.now) candidates.now) }
+{
+    let mut kept = Vec::new(alloc);
+    if candidates.is_empty() {
+        return Ok(kept);
+    }
+    if workers == 1 {
+        return filter_piece(alloc, gate, 0, candidates, test);
+    }
+    let size = piece_size(candidates.len(), workers);
+    let pieces = thread::map_chunks(
+        rt,
+        alloc,
+        candidates,
+        size,
+        &|start: usize, piece: &[u32]| -> Result<Vec<u32>, AllocError>
+            requires { (0 < size) × (start < workers * size) × All (F.may_ask test.now) piece.now }
+            ensures { IfOk result (λ v. v.items ≡ filter (F.keeps test.entry.now) piece.entry.now) }
+        {
+            let index = piece_index(start, size, workers);
+            filter_piece(alloc, gate, index, piece, test)
+        },
+    )?;
+    for piece in &pieces {
+        match piece {
+            Ok(part) => kept.extend_from_slice(part.as_slice())?,
+            Err(_) => return Err(AllocError),
+        }
+    }
+    Ok(kept)
+}
