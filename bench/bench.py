@@ -1,5 +1,5 @@
 #!/usr/bin/env python3
-"""Time and memory of `kcore run 1`, beside another program with the same command line.
+"""Time and memory of `kcore run 1` and `kcore exact`, beside another program with the same command line.
 
     bench/bench.py [--program PATH] [--other PATH] [--runs N] [--keep DIR] [--only NAME,NAME]
 
@@ -15,6 +15,10 @@ Whole runs, each with all its edges inserted:
 - snap100000  the same in batches of 100,000
 - power       1,048,576 edges between 65,536 vertices, degrees by a power law (R-MAT), in one batch
 - grid        998,284 edges of a grid of 707 times 707 vertices, as SNAP text in one batch
+- power1000, power100000, grid1000, grid100000     their edges in any order, in batches of so many
+- uniform-window, power-window, grid-window        half of the edges in any order in batches of 100,000, and then each batch
+              takes the oldest 10,000 out and puts the next 10,000 in, until all have been there
+- exact       2,000,000 edges between 262,144 vertices, each pair as likely as another, in two batches: the command `exact`
 
 Parts of a run, each the difference of two runs that differ in nothing else:
 
@@ -32,9 +36,17 @@ import subprocess
 import sys
 import tempfile
 
-WHOLE = ("uniform", "snap1000", "snap10000", "snap100000", "power", "grid")
+WHOLE = (
+    "uniform", "snap1000", "snap10000", "snap100000", "power", "grid",
+    "power1000", "power100000", "grid1000", "grid100000",
+    "uniform-window", "power-window", "grid-window",
+    "exact",
+)
 PARTS = ("read", "clean", "print", "three", "link+raise")
 SIDE = 707
+
+# The words of a row's command, where they aren't `run 1`.
+WORDS = {"exact": ["exact"]}
 
 
 def uniform_edges(n, m, seed):
@@ -88,6 +100,16 @@ def in_batches(edges, size):
     return [snap(edges[i:i + size]) for i in range(0, len(edges), size)]
 
 
+def in_window(edges, size, filling):
+    """Half of the edges come in in batches of one size, and then the oldest leave as others come in, so many a batch."""
+    half = len(edges) // 2
+    yield from in_batches(edges[:half], filling)
+    for i in range(half, len(edges), size):
+        coming = edges[i:i + size]
+        leaving = edges[i - half:i - half + len(coming)]
+        yield "".join(f"- {a} {b}\n" for a, b in leaving) + signed(coming)
+
+
 def write_input(folder, name, n, batches, last="end"):
     """Each batch is the text of its lines; the last ends with this line."""
     ends = ["end"] * (len(batches) - 1) + [last]
@@ -103,12 +125,21 @@ def make_inputs(folder):
     random.Random(11).shuffle(uniform)
     for size in (1_000, 10_000, 100_000):
         write_input(folder, f"snap{size}", 100_000, in_batches(uniform, size))
-    write_input(folder, "power", 1 << 16, [signed(power_edges(16, 1 << 20, 7))])
-    n, grid = SIDE * SIDE, snap(grid_edges(SIDE))
+    power, grid_list = power_edges(16, 1 << 20, 7), list(grid_edges(SIDE))
+    write_input(folder, "power", 1 << 16, [signed(power)])
+    n, grid = SIDE * SIDE, snap(grid_list)
+    for name, vertices, edges in ("power", 1 << 16, power), ("grid", n, grid_list):
+        random.Random(11).shuffle(edges)
+        for size in (1_000, 100_000):
+            write_input(folder, f"{name}{size}", vertices, in_batches(edges, size))
+    for name, vertices, edges in ("uniform", 100_000, uniform), ("power", 1 << 16, power), ("grid", n, grid_list):
+        write_input(folder, f"{name}-window", vertices, list(in_window(edges, 10_000, 100_000)))
     write_input(folder, "grid", n, [grid])
     write_input(folder, "grid-refused", n, [grid], last="stop")
     write_input(folder, "grid-twice", n, [grid, grid])
     write_input(folder, "grid-twice-refused", n, [grid, grid], last="stop")
+    uniform = uniform_edges(1 << 18, 2_000_000, 13)
+    write_input(folder, "exact", 1 << 18, [signed(uniform[:1_000_000]), signed(uniform[1_000_000:])])
     write_input(folder, "none", n, [])
     write_input(folder, "one", 1, [])
 
@@ -117,10 +148,10 @@ def input_path(folder, name):
     return os.path.join(folder, f"{name}.kc")
 
 
-def run_once(program, path):
+def run_once(program, words, path):
     """Seconds of processor time and KiB of peak memory of one run."""
     with open(path, "rb") as source, open(os.devnull, "wb") as sink:
-        child = subprocess.Popen([program, "run", "1"], stdin=source, stdout=sink, stderr=subprocess.DEVNULL)
+        child = subprocess.Popen([program, *words], stdin=source, stdout=sink, stderr=subprocess.DEVNULL)
         _, status, usage = os.wait4(child.pid, 0)
         child.returncode = os.waitstatus_to_exitcode(status)
     if child.returncode not in (0, 1):
@@ -128,18 +159,19 @@ def run_once(program, path):
     return usage.ru_utime + usage.ru_stime, usage.ru_maxrss
 
 
-def best(program, path, runs):
-    results = [run_once(program, path) for _ in range(runs)]
+def best(program, folder, name, runs):
+    words, path = WORDS.get(name, ["run", "1"]), input_path(folder, name)
+    results = [run_once(program, words, path) for _ in range(runs)]
     return min(seconds for seconds, _ in results), max(memory for _, memory in results)
 
 
 def measure(program, folder, runs, names):
     """Seconds and KiB of each row."""
-    runs_of = {name: best(program, input_path(folder, name), runs) for name in names if name in WHOLE}
+    runs_of = {name: best(program, folder, name, runs) for name in names if name in WHOLE}
     if any(name in PARTS for name in names):
         for name in ("grid", "grid-refused", "grid-twice", "grid-twice-refused", "none", "one"):
             if name not in runs_of:
-                runs_of[name] = best(program, input_path(folder, name), runs)
+                runs_of[name] = best(program, folder, name, runs)
         less = {
             "read": ("grid-refused", "none"),
             "clean": ("grid-twice", "grid-twice-refused"),
@@ -169,8 +201,8 @@ def main():
     with tempfile.TemporaryDirectory() as scratch:
         folder = options.keep or scratch
         os.makedirs(folder, exist_ok=True)
-        # The last input that is made.
-        if not os.path.exists(input_path(folder, "one")):
+        # The input that came with the last row, and the last that is made.
+        if not all(os.path.exists(input_path(folder, name)) for name in ("exact", "one")):
             print("making the inputs ..", flush=True)
             # In a process of its own: the memory of this one would count as that of the programs that it starts.
             maker = multiprocessing.Process(target=make_inputs, args=(folder,))

@@ -18,11 +18,11 @@ use Rattle.kc_levels.specs.Moved.{moved_count}
 use Rattle.kc_levels.proofs.RaisedLaw.{raised_is_one_list}
 use Rattle.kc_levels.proofs.LoweredLaw.{lowered_is_one_list}
 use Rattle.kc_levels.proofs.BothKept.{insertion_keeps_both, deletion_keeps_both}
-use Rattle.kc_engine.specs.declared.limits.TheConstants.{MAX_PHASES}
+use Rattle.kc_history.specs.declared.limits.TheConstants.{MAX_PHASE}
 use Rattle.kc_engine.specs.declared.faults.EngineFault.{EngineFault}
 use Rattle.kc_engine.specs.declared.faults.EngineFault.TheVariants.{EdgeLimit, PhaseLimit}
 use Rattle.kc_engine.specs.States.{State, IsSound}
-use Rattle.kc_engine.specs.Batches.{IsCleaning, phases_of, edges_after, phases_after, refusal_of, AreLoweredIn, AreRaisedIn, graph_after, AreLevelsAfter, IsAfterBatch, AreMovedBy}
+use Rattle.kc_engine.specs.Batches.{IsCleaning, phases_of, edges_after, phases_after, refusal_of, AreLoweredIn, AreRaisedIn, graph_after, AreLevelsAfter, IsAfterBatch}
 use Rattle.kc_engine.specs.Laws.{StartIsSound, BatchHasOneState, BatchKeepsSound, BatchKeepsBoth}
 
 zeros_capped : (p : Profile) (n : ℕ) → IsCapped p n (replicate n 0)
@@ -58,7 +58,7 @@ few_added g c graph k = rw k.comes_to (omega (arith, each_item_counts_once g k.i
 -- what is so of a batch that isn't refused
 pub record IsAccepted (limit : ℕ) (s : State) (c : Cleaned) : Type 0 where
   pub room : edges_after s c ≤ limit
-  pub number : phases_after s c ≤ MAX_PHASES
+  pub number : phases_after s c ≤ MAX_PHASE
 
 none_chosen : (a b : Bool) (x y : EngineFault) → (if a then Some x else if b then Some y else None) ≡ None → (a ≡ false) × (b ≡ false)
 none_chosen true b x y e = absurd cc
@@ -75,12 +75,12 @@ number_from k s most few e = elim (either_false (nat_lt 0 k) (nat_lt most (s + k
   | inr small ↦ grind (arith, nat_tests, small)
 ]
 
-pub accepted : (limit : ℕ) (s : State) (c : Cleaned) → s.phases ≤ MAX_PHASES → refusal_of limit s c ≡ None → IsAccepted limit s c
+pub accepted : (limit : ℕ) (s : State) (c : Cleaned) → s.phases ≤ MAX_PHASE → refusal_of limit s c ≡ None → IsAccepted limit s c
 accepted limit s c few e =
-    let f = none_chosen (nat_lt limit (edges_after s c)) (nat_lt 0 (phases_of c) && nat_lt MAX_PHASES (phases_after s c)) (EdgeLimit (edges_after s c)) (PhaseLimit (phases_after s c)) e in
+    let f = none_chosen (nat_lt limit (edges_after s c)) (nat_lt 0 (phases_of c) && nat_lt MAX_PHASE (phases_after s c)) (EdgeLimit (edges_after s c)) (PhaseLimit (phases_after s c)) e in
     record {
       room = grind (arith, nat_tests, f.0);
-      number = number_from (phases_of c) s.phases MAX_PHASES few f.1;
+      number = number_from (phases_of c) s.phases MAX_PHASE few f.1;
     }
 
 -- what is true of a graph and its levels before and after each phase
@@ -133,7 +133,7 @@ one_raised p g (e ∷ es) x k up =
     raised_is_one_list p (with_edges g (e ∷ es)) x (is_graph-with_edges g (e ∷ es) k.graph (inside_from_ascending g.vertices 0 0 (e ∷ es) up))
     (k.both.sized ∙ sym same) (rw same k.capped)
 
-ascend_later : (g : GraphShape) (c : Cleaned) → FitsGraph g c → EdgesFrom (without_edges g c.removed).vertices 0 0 c.added
+pub ascend_later : (g : GraphShape) (c : Cleaned) → FitsGraph g c → EdgesFrom (without_edges g c.removed).vertices 0 0 c.added
 ascend_later g c f = rw (vertices-without_edges g c.removed) f.added_ascend
 
 -- what a batch leaves
@@ -193,19 +193,19 @@ batch_keeps_both limit s t c k cleaning a =
     rw (a.profile, a.graph) there.both
 
 -- the state behind the phases of a batch
-pub behind_phases : (s : State) (c : Cleaned) (g : GraphShape) (y : List ℕ) (moves count : ℕ) → g ≡ graph_after s.graph c → AreMovedBy s.profile s.graph c s.levels y moves → count ≡ phases_of c
+pub behind_phases : (s : State) (c : Cleaned) (g : GraphShape) (y : List ℕ) (count : ℕ) → g ≡ graph_after s.graph c → AreLevelsAfter s.profile s.graph c s.levels y → count ≡ phases_of c
     → IsAfterBatch s c (record { profile = s.profile; graph = g; levels = y; phases = s.phases + count })
-behind_phases s c g y moves count graph moved counted = record { profile = refl; graph = graph; levels = moved.levels; phases = ap (λ k. s.phases + k) counted }
+behind_phases s c g y count graph moved counted = record { profile = refl; graph = graph; levels = moved; phases = ap (λ k. s.phases + k) counted }
 
 pub vertices_after : (g : GraphShape) (c : Cleaned) → (graph_after g c).vertices ≡ g.vertices
 vertices_after g c = vertices-with_edges (without_edges g c.removed) c.added ∙ vertices-without_edges g c.removed
 
 -- the sound state behind the phases of a batch that isn't refused
-pub sound_behind : (limit : ℕ) (s : State) (c : Cleaned) (g : GraphShape) (y : List ℕ) (moves count : ℕ) → limit ≤ MAX_EDGES → IsSound limit s → IsCleaning s.graph c → refusal_of limit s c ≡ None
-    → g ≡ graph_after s.graph c → AreMovedBy s.profile s.graph c s.levels y moves → count ≡ phases_of c
+pub sound_behind : (limit : ℕ) (s : State) (c : Cleaned) (g : GraphShape) (y : List ℕ) (count : ℕ) → limit ≤ MAX_EDGES → IsSound limit s → IsCleaning s.graph c → refusal_of limit s c ≡ None
+    → g ≡ graph_after s.graph c → AreLevelsAfter s.profile s.graph c s.levels y → count ≡ phases_of c
     → IsSound limit (record { profile = s.profile; graph = g; levels = y; phases = s.phases + count })
-sound_behind limit s c g y moves count small k cleaning none graph moved counted =
-    batch_keeps_sound limit s (record { profile = s.profile; graph = g; levels = y; phases = s.phases + count }) c small k cleaning none (behind_phases s c g y moves count graph moved counted)
+sound_behind limit s c g y count small k cleaning none graph moved counted =
+    batch_keeps_sound limit s (record { profile = s.profile; graph = g; levels = y; phases = s.phases + count }) c small k cleaning none (behind_phases s c g y count graph moved counted)
 
 -- what was answered where a mapped error didn't come
 pub ok_before : {T E D : Type 0} (r : Result T E) (m : Result T D) (x : T) (Q : E → Type 0) → m ≡ Ok x → MatchResult r (λ y. m ≡ Ok y) Q → is_ok m ≡ is_ok r → r ≡ Ok x

@@ -1,5 +1,5 @@
 -- Batches in turn: whether a cleaned batch is refused in a state, and the state behind it if it isn't.
-use Rattle.std.specs.Prelude.{ℕ, ◌≡◌, ◌≤◌, ◌+◌, ◌-◌, nat_lt, ◌&&◌, List, [], ◌∷◌, length, Option, Some, None, if◌then◌else◌, All}
+use Rattle.std.specs.Prelude.{ℕ, ◌≡◌, ◌≤◌, ◌+◌, ◌-◌, nat_lt, ◌&&◌, Bool, true, false, List, [], ◌∷◌, ◌++◌, length, Option, Some, None, if◌then◌else◌, All}
 use Rattle.kc_graph.specs.declared.cleaning.Cleaned.{Cleaned}
 use Rattle.kc_graph.specs.declared.items.Item.{Item}
 use Rattle.kc_graph.specs.declared.limits.TheConstants.{MAX_ITEMS}
@@ -8,7 +8,11 @@ use Rattle.kc_graph.specs.Cleaning.{IsInside, cleaned}
 use Rattle.kc_levels.specs.declared.profile.Profile.{Profile}
 use Rattle.kc_levels.specs.LevelList.{IsRaised, IsLowered}
 use Rattle.kc_levels.specs.Moved.{moved_count}
-use Rattle.kc_engine.specs.declared.limits.TheConstants.{MAX_PHASES}
+use Rattle.kc_history.specs.declared.limits.TheConstants.{MAX_PHASE}
+use Rattle.kc_history.specs.declared.entries.Entry.{Entry}
+use Rattle.kc_groups.specs.declared.plans.PhasePlan.{PhasePlan}
+use Rattle.kc_groups.specs.Entries.{entries_of, AreEntries}
+use Rattle.kc_engine.specs.declared.plans.BatchPlan.{BatchPlan}
 use Rattle.kc_engine.specs.declared.faults.EngineFault.{EngineFault}
 use Rattle.kc_engine.specs.declared.faults.EngineFault.TheVariants.{EdgeLimit, PhaseLimit}
 use Rattle.kc_engine.specs.States.{State}
@@ -42,7 +46,7 @@ phases_after s c = s.phases + phases_of c
 abbrev pub refusal_of : ℕ → State → Cleaned → Option EngineFault
 refusal_of limit s c =
     if nat_lt limit (edges_after s c) then Some (EdgeLimit (edges_after s c))
-    else if nat_lt 0 (phases_of c) && nat_lt MAX_PHASES (phases_after s c) then Some (PhaseLimit (phases_after s c))
+    else if nat_lt 0 (phases_of c) && nat_lt MAX_PHASE (phases_after s c) then Some (PhaseLimit (phases_after s c))
     else None
 
 -- the levels y after these edges left the graph at the levels x: where there are any, they are lowered from x
@@ -77,7 +81,39 @@ pub record IsAfterBatch (s : State) (c : Cleaned) (t : State) : Type 0 where
   pub levels : AreLevelsAfter s.profile s.graph c s.levels t.levels
   pub phases : t.phases ≡ phases_after s c
 
--- y are the levels after the batch at the levels x, and there were so many moves
-pub record AreMovedBy (p : Profile) (g : GraphShape) (c : Cleaned) (x y : List ℕ) (moves : ℕ) : Type 0 where
+-- plans has one plan, which holds the entries of the phase
+pub record IsOnePhase (phase : ℕ) (add : Bool) (edges : List Pair) (x y : List ℕ) (g : GraphShape) (plans : List PhasePlan) : Type 0 where
+  pub plan : PhasePlan
+  pub alone : plans ≡ plan ∷ []
+  pub entries : AreEntries phase add edges x y g plan
+
+-- the phase in which these edges come in, or leave, and the levels change from x to y: one where there are edges, and else none;
+-- g is the graph that has them
+abbrev pub ArePhaseOf : ℕ → Bool → List Pair → List ℕ → List ℕ → GraphShape → List PhasePlan → Type 0
+ArePhaseOf phase add [] x y g plans = plans ≡ []
+ArePhaseOf phase add (e ∷ es) x y g plans = IsOnePhase phase add (e ∷ es) x y g plans
+
+-- the phases of the batch, numbered on from those before: the levels change from x to those between when edges leave the graph g,
+-- and from there to y when edges come in
+pub record ArePhases (before : ℕ) (g : GraphShape) (c : Cleaned) (x between y : List ℕ) (plans : List PhasePlan) : Type 0 where
+  pub leaving : List PhasePlan
+  pub coming : List PhasePlan
+  pub all : plans ≡ leaving ++ coming
+  pub deletion : ArePhaseOf (before + 1) false c.removed x between g leaving
+  pub insertion : ArePhaseOf (before + phases_for c.removed + 1) true c.added between y (graph_after g c) coming
+
+-- the plan of the batch, after which the levels are y: its phases, and how many moves there are in them
+pub record IsPlanOf (p : Profile) (before : ℕ) (g : GraphShape) (c : Cleaned) (x y : List ℕ) (plan : BatchPlan) : Type 0 where
   pub levels : AreLevelsAfter p g c x y
-  pub count : moves ≡ moves_through g.vertices x levels.between y
+  pub phases : ArePhases before g c x levels.between y plan.phases
+  pub count : plan.moves ≡ moves_through g.vertices x levels.between y
+
+-- t is the state s after this batch, which isn't refused, and plans are its phases
+pub record IsAfterPhases (s : State) (c : Cleaned) (t : State) (plans : List PhasePlan) : Type 0 where
+  pub after : IsAfterBatch s c t
+  pub phases : ArePhases s.phases s.graph c s.levels after.levels.between t.levels plans
+
+-- the entries of phases, in the order in which they take effect
+abbrev pub entries_in : List PhasePlan → List Entry
+entries_in [] = []
+entries_in (p ∷ ps) = entries_of p ++ entries_in ps

@@ -8,7 +8,7 @@ use Rattle.kc_engine.specs.declared.plans.BatchPlan.{BatchPlan}
 use Rattle.kc_engine.specs.declared.faults.EngineFault.{EngineFault}
 use Rattle.kc_engine.specs.declared.faults.EngineFault.TheVariants.{Halted, EdgeLimit, PhaseLimit, Memory}
 use Rattle.kc_engine.specs.States.{State, start, IsSound}
-use Rattle.kc_engine.specs.Batches.{refusal_of, moves_through, IsAfterBatch}
+use Rattle.kc_engine.specs.Batches.{refusal_of, moves_through, IsAfterBatch, ArePhases}
 
 -- what contracts see of an `Engine`; once it has halted, graph and levels of the state are unspecified
 pub record EngineView : Type 0 where
@@ -29,11 +29,12 @@ pub record IsKept (th : Scale) (e : EngineView) : Type 0 where
   pub scale : e.halted ≡ false → th.vertices ≡ e.state.graph.vertices
   pub sound : e.halted ≡ false → IsSound e.edge_limit e.state
 
--- the batch was accepted: f is the engine e after it
+-- the batch was accepted: f is the engine e after it, and the plan has its phases
 pub record IsPlanned (e : EngineView) (c : Cleaned) (plan : BatchPlan) (f : EngineView) : Type 0 where
   pub running : e.halted ≡ false
   pub accepted : refusal_of e.edge_limit e.state c ≡ None
   pub after : IsAfterBatch e.state c f.state
+  pub phases : ArePhases e.state.phases e.state.graph c e.state.levels after.levels.between f.state.levels plan.phases
   pub moves : plan.moves ≡ moves_through e.state.graph.vertices e.state.levels after.levels.between f.state.levels
   pub rest : f ≡ record e { state = f.state }
 

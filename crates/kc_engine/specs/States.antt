@@ -3,7 +3,7 @@ use Rattle.std.specs.Prelude.{ℕ, ◌≤◌, List, [], length, replicate}
 use Rattle.kc_graph.specs.Shape.{GraphShape, IsGraph}
 use Rattle.kc_levels.specs.declared.profile.Profile.{Profile}
 use Rattle.kc_levels.specs.LevelList.{MeetsBoth, IsCapped}
-use Rattle.kc_engine.specs.declared.limits.TheConstants.{MAX_PHASES}
+use Rattle.kc_history.specs.declared.limits.TheConstants.{MAX_PHASE}
 
 -- a graph with a level for each vertex by the thresholds of a profile, and the number of phases so far
 pub record State : Type 0 where
@@ -22,4 +22,4 @@ pub record IsSound (limit : ℕ) (s : State) : Type 0 where
   pub both : MeetsBoth s.profile s.graph s.levels
   pub capped : IsCapped s.profile s.graph.vertices s.levels
   pub few_edges : length s.graph.edges ≤ limit
-  pub few_phases : s.phases ≤ MAX_PHASES
+  pub few_phases : s.phases ≤ MAX_PHASE

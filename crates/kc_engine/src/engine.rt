@@ -1,16 +1,17 @@
-ghost use Rattle.std.specs.Prelude.{◌≡◌, ◌≤◌, false, IfOk, OnOk};
+ghost use Rattle.std.specs.Prelude.{◌≡◌, ◌≤◌, false, IfOk, OnOk, All};
 ghost use Rattle.kc_levels.specs.LevelList.{MeetsBoth};
+ghost use Rattle.kc_groups.specs.WellFormed.{IsWellFormed};
 ghost use Rattle.kc_engine.specs.States.{IsSound};
 ghost use Rattle.kc_engine.specs.Batches.{IsCleaning, refusal_of};
 ghost use Rattle.kc_engine.specs.Planning.{opened, Answers};
 
 use crate::faults::EngineFault;
-use crate::limits::MAX_PHASES;
 use crate::phases::{phase_count, run_phases};
 use crate::plans::BatchPlan;
 use crate::shape::Shape;
 use kc_adj::LevelAdj;
 use kc_graph::{Cleaned, Graph, MAX_EDGES, MAX_VERTICES};
+use kc_history::MAX_PHASE;
 use kc_levels::{Levels, Thresholds};
 use kc_rounds::Gate;
 use std::alloc::{AllocError, Global};
@@ -26,7 +27,7 @@ pub struct Engine {
     // For the vertices of the graph.
     thresholds: Thresholds,
     adj: LevelAdj,
-    // How many phases there were, at most `MAX_PHASES`.
+    // How many phases there were, at most `MAX_PHASE`.
     phases: u32,
     workers: u32,
     edge_limit: u32,
@@ -53,7 +54,7 @@ impl Engine {
         requires small { shape.n ≤ MAX_VERTICES }
         requires some_workers { 1 ≤ shape.workers }
         requires few_workers { shape.workers ≤ 64 }
-        requires few_phases { shape.phases_before ≤ MAX_PHASES }
+        requires few_phases { shape.phases_before ≤ MAX_PHASE }
         requires few_edges { shape.edge_limit ≤ MAX_EDGES }
         ensures { IfOk result (λ engine. engine ≡ opened shape) }
     {
@@ -82,13 +83,13 @@ impl Engine {
         }
         let count = phase_count(cleaned);
         let phase = self.phases + count;
-        if count > 0 && phase > MAX_PHASES {
+        if count > 0 && phase > MAX_PHASE {
             return Some(EngineFault::PhaseLimit { phase });
         }
         None
     }
 
-    /// Changes graph and levels by a cleaned batch (`Answers`), and gives the number of moves.
+    /// Changes graph and levels by a cleaned batch (`Answers`), and gives the phases and the number of moves.
     ///
     /// First the edges of `removed` leave and the levels fall to the lowered list (`IsLowered`), then the edges of `added` come
     /// in and the levels rise to the raised list (`IsRaised`). Each is a phase of its own and takes the next number; there is
@@ -98,12 +99,17 @@ impl Engine {
     /// - `Halted` exactly where an earlier batch met want of memory;
     /// - `EdgeLimit` exactly where the edges less those removed and with those added are more than the edge limit, with that
     ///   number;
-    /// - `PhaseLimit` exactly where the batch has a phase and the number of its last one is above `MAX_PHASES`, with that number;
+    /// - `PhaseLimit` exactly where the batch has a phase and the number of its last one is above `MAX_PHASE`, with that number;
     /// - `Memory` only where none of these applies.
     ///
     /// After the first three the engine is unchanged. After `Memory` it has halted, and its graph and levels are unspecified.
     ///
-    /// Costs what `delete_rounds` and `insert_rounds` cost; a batch without phases and one that is refused cost O(1).
+    /// A phase has the entries of `AreEntries`, by its number, the levels before and after it, and the graph that has its edges:
+    /// the one before edges leave, and the one after they come in. Each is well formed.
+    ///
+    /// Costs what `delete_rounds`, `insert_rounds` and, for each phase, `plan_phase` cost, besides one pass over the vertices for
+    /// each phase, to copy the levels. For the plan of a deletion phase its edges come in once more and leave again, each time at
+    /// the cost of `LevelAdj::link` and `unlink`. A batch without phases and one that is refused cost O(1).
     pub fn plan<R: Threads + Sync, G: Gate + Sync>(
         &mut self,
         rt: &R,
@@ -115,6 +121,7 @@ impl Engine {
         ensures answer { Answers self.old cleaned.now result self.new }
         ensures both { OnOk result (MeetsBoth self.new.state.profile self.new.state.graph self.new.state.levels) }
         ensures sound { OnOk result (IsSound self.new.edge_limit self.new.state) }
+        ensures well_formed { IfOk result (λ plan. All (IsWellFormed self.old.state.graph.vertices) plan.phases) }
     {
         if self.halted {
             return Err(EngineFault::Halted);
@@ -124,19 +131,20 @@ impl Engine {
         }
         // Until both phases are done.
         self.halted = true;
-        let moves = run_phases(
+        let plan = run_phases(
             rt,
             alloc,
             gate,
             self.workers,
             &self.thresholds,
             &mut self.adj,
+            self.phases,
             cleaned,
         )
         .map_err(EngineFault::Memory)?;
         self.phases += phase_count(cleaned);
         self.halted = false;
-        Ok(BatchPlan { moves })
+        Ok(plan)
     }
 
     /// The graph, of which nothing is specified once the engine has halted.
@@ -164,10 +172,10 @@ impl Engine {
         &self.thresholds
     }
 
-    /// How many phases there were, those before the engine was opened among them: 0 to `MAX_PHASES`.
+    /// How many phases there were, those before the engine was opened among them: 0 to `MAX_PHASE`.
     pub fn phases(&self) -> u32
         ensures value { result ≡ self.now.state.phases }
-        ensures few { self.now.halted ≡ false → result ≤ MAX_PHASES }
+        ensures few { self.now.halted ≡ false → result ≤ MAX_PHASE }
     {
         self.phases
     }

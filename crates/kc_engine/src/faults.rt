@@ -10,7 +10,7 @@ pub enum EngineFault {
     /// The graph would have more edges than the engine's limit: this many.
     #[error("the graph would have {edges} edges")]
     EdgeLimit { edges: u32 },
-    /// The batch's last phase would have a number above `MAX_PHASES`: this one.
+    /// The batch's last phase would have a number above `MAX_PHASE`: this one.
     #[error("the last phase would have the number {phase}")]
     PhaseLimit { phase: u32 },
     /// There was no memory for the batch, and the engine has halted.

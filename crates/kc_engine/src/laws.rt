@@ -1,6 +1,6 @@
 // Laws of the definitions. The functions do nothing: each has laws as its contract.
 
-ghost use Rattle.kc_engine.specs.Laws.{StartIsSound, BatchHasOneState, BatchKeepsSound, BatchKeepsBoth};
+ghost use Rattle.kc_engine.specs.Laws.{StartIsSound, BatchHasOneState, BatchKeepsSound, BatchKeepsBoth, PhasesAreOne, PhasesAreNumberedOn, PhasesAreWellFormed, PhasesLeadOver, PhasesLeadOn};
 
 /// Before the first batch the state is sound.
 pub fn start_is_sound()
@@ -16,4 +16,25 @@ pub fn batch_has_one_state()
 pub fn batch_keeps_sound()
     ensures sound { BatchKeepsSound }
     ensures both { BatchKeepsBoth }
+{}
+
+/// Each batch has exactly one list of phases.
+pub fn phases_are_one()
+    ensures { PhasesAreOne }
+{}
+
+/// The phases of a batch are numbered on from those before it, and each has its plan.
+pub fn phases_are_numbered_on()
+    ensures { PhasesAreNumberedOn }
+{}
+
+/// The phases of a batch are well formed.
+pub fn phases_are_well_formed()
+    ensures { PhasesAreWellFormed }
+{}
+
+/// The entries of the phases of a batch lead from the graph and levels before it to those after it, also behind a history.
+pub fn phases_lead_over()
+    ensures over { PhasesLeadOver }
+    ensures on { PhasesLeadOn }
 {}

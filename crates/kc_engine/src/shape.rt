@@ -9,7 +9,7 @@ pub struct Shape {
     pub n: u32,
     /// How many workers a phase may use, 1 to 64. Graph, levels and answers don't depend on it.
     pub workers: u32,
-    /// How many phases there were before, 0 to `MAX_PHASES`: the first phase has the next number.
+    /// How many phases there were before, 0 to `MAX_PHASE`: the first phase has the next number.
     pub phases_before: u32,
     /// The greatest number of edges that a batch may come to, 0 to `MAX_EDGES`.
     pub edge_limit: u32,

@@ -1,9 +1,11 @@
-ghost use Rattle.std.specs.Prelude.{◌≡◌, ◌≤◌, false, All, OnOk, IfOk};
+ghost use Rattle.std.specs.Prelude.{◌≡◌, ◌≤◌, ◌<◌, false, All, OnOk, IfOk};
 ghost use Rattle.std.specs.Bool.{OnTrue};
 ghost use Rattle.kc_graph.specs.Cleaning.{IsInside};
 
-use crate::{Engine, EngineFault, MAX_PHASES, Shape};
-use kc_graph::{Item, MAX_EDGES, MAX_ITEMS, MAX_VERTICES, clean};
+use crate::{BatchPlan, Engine, EngineFault, MAX_PHASE, Shape};
+use kc_graph::{Edge, Item, MAX_EDGES, MAX_ITEMS, MAX_VERTICES, clean};
+use kc_groups::PhasePlan;
+use kc_history::{Entry, Move};
 use kc_levels::Profile;
 use kc_rounds::OpenGate;
 use std::alloc::{AllocError, Global};
@@ -78,6 +80,93 @@ fn run<R: Threads + Sync + Abort>(
     }
 }
 
+// The plan of a batch of these items, which isn't refused. The engine hasn't halted.
+fn planned<R: Threads + Sync + Abort>(
+    rt: &R,
+    alloc: Global,
+    engine: &mut Engine,
+    items: &[Item],
+) -> Result<BatchPlan, AllocError>
+    requires running { engine.old.halted ≡ false }
+    ensures running { OnOk result (engine.new.halted ≡ false) }
+{
+    assert!(rt; items.len() <= MAX_ITEMS as usize);
+    assert!(rt; are_inside(items, engine.graph().vertices()));
+    let cleaned = clean(rt, alloc, engine.graph(), items)?;
+    match engine.plan(rt, alloc, &OpenGate::new(), &cleaned) {
+        Ok(plan) => Ok(plan),
+        Err(_) => Err(AllocError),
+    }
+}
+
+// Whether the phase has this number, direction and quiet edges, and so many groups.
+fn is_phase(plan: &PhasePlan, phase: u32, add: bool, quiet: &[Edge], groups: usize) -> bool {
+    let entry = &plan.quiet;
+    entry.phase == phase
+        && entry.add == add
+        && entry.label.is_none()
+        && entry.moves.is_empty()
+        && entry.edges.as_slice() == quiet
+        && plan.groups.len() == groups
+}
+
+// Whether the group has this number, direction and label, and these moves and edges.
+fn is_group(
+    group: &Entry,
+    phase: u32,
+    add: bool,
+    label: u32,
+    moves: &[Move],
+    edges: &[Edge],
+) -> bool {
+    group.phase == phase
+        && group.add == add
+        && group.label == Some(label)
+        && group.moves.as_slice() == moves
+        && group.edges.as_slice() == edges
+}
+
+// The plan has one phase, with one group.
+fn check_single<R: Abort>(
+    rt: &R,
+    plan: &BatchPlan,
+    phase: u32,
+    add: bool,
+    moves: &[Move],
+    edges: &[Edge],
+) {
+    let phases = plan.phases.as_slice();
+    assert_eq!(rt; phases.len(), 1);
+    assert!(rt; is_phase(&phases[0], phase, add, &[], 1));
+    check_first(rt, &phases[0], phase, add, moves, edges);
+}
+
+// The first group of the phase has these moves and edges.
+fn check_first<R: Abort>(
+    rt: &R,
+    plan: &PhasePlan,
+    phase: u32,
+    add: bool,
+    moves: &[Move],
+    edges: &[Edge],
+) {
+    let groups = plan.groups.as_slice();
+    assert!(rt; groups.len() >= 1);
+    assert!(rt; moves.len() >= 1);
+    assert!(rt; is_group(&groups[0], phase, add, moves[0].vertex, moves, edges));
+}
+
+fn edge(a: u32, b: u32) -> Edge
+    requires { a < b }
+    ensures { result ≡ (a, b) }
+{
+    Edge { a, b }
+}
+
+fn moved(vertex: u32, old: u16, new: u16) -> Move {
+    Move { vertex, old, new }
+}
+
 // The engine for n vertices with the program's limits.
 fn opened(alloc: Global, n: u32) -> Result<Engine, AllocError>
     requires some { 1 ≤ n }
@@ -138,9 +227,40 @@ fn nobody_falls_without_need(rt: HostRuntime) -> Result<(), Fail> {
     let outcome = run(&rt, rt.alloc(), &mut engine, &four)?;
     assert_eq!(rt; outcome, Outcome::Moves(4));
     assert!(rt; is_as(&engine, &[6, 6, 6, 6, 0], 6, 1));
-    let outcome = run(&rt, rt.alloc(), &mut engine, &[take(0, 1)])?;
-    assert_eq!(rt; outcome, Outcome::Moves(0));
+    let plan = planned(&rt, rt.alloc(), &mut engine, &[take(0, 1)])?;
+    assert_eq!(rt; plan.moves, 0);
     assert!(rt; is_as(&engine, &[6, 6, 6, 6, 0], 5, 2));
+    let phases = plan.phases.as_slice();
+    assert_eq!(rt; phases.len(), 1);
+    assert!(rt; is_phase(&phases[0], 2, false, &[edge(0, 1)], 0));
+    Ok(())
+}
+
+#[test]
+fn a_path_rises_as_one_group(rt: HostRuntime) -> Result<(), Fail> {
+    let mut engine = opened(rt.alloc(), 5)?;
+    let plan = planned(&rt, rt.alloc(), &mut engine, &[put(0, 1), put(1, 2)])?;
+    let rises = [moved(0, 0, 1), moved(1, 0, 1), moved(2, 0, 1)];
+    check_single(&rt, &plan, 1, true, &rises, &[edge(0, 1), edge(1, 2)]);
+    Ok(())
+}
+
+// The complete graph on four vertices, and a fifth one that comes to it.
+#[test]
+fn a_neighbour_that_stays_is_in_no_group(rt: HostRuntime) -> Result<(), Fail> {
+    let mut engine = opened(rt.alloc(), 5)?;
+    let four = [
+        put(0, 1),
+        put(0, 2),
+        put(0, 3),
+        put(1, 2),
+        put(1, 3),
+        put(2, 3),
+    ];
+    let plan = planned(&rt, rt.alloc(), &mut engine, &four)?;
+    assert_eq!(rt; plan.phases.len(), 1);
+    let plan = planned(&rt, rt.alloc(), &mut engine, &[put(3, 4)])?;
+    check_single(&rt, &plan, 2, true, &[moved(4, 0, 1)], &[edge(3, 4)]);
     Ok(())
 }
 
@@ -158,9 +278,11 @@ fn a_vertex_falls_part_of_the_way(rt: HostRuntime) -> Result<(), Fail> {
     assert_eq!(rt; outcome, Outcome::Moves(8));
     assert!(rt; is_as(&engine, &[19, 19, 19, 19, 19, 19, 19, 19], 28, 1));
     let five = [take(0, 1), take(0, 2), take(0, 3), take(0, 4), take(0, 5)];
-    let outcome = run(&rt, rt.alloc(), &mut engine, &five)?;
-    assert_eq!(rt; outcome, Outcome::Moves(1));
+    let plan = planned(&rt, rt.alloc(), &mut engine, &five)?;
+    assert_eq!(rt; plan.moves, 1);
     assert!(rt; is_as(&engine, &[13, 19, 19, 19, 19, 19, 19, 19], 23, 2));
+    let edges = [edge(0, 1), edge(0, 2), edge(0, 3), edge(0, 4), edge(0, 5)];
+    check_single(&rt, &plan, 2, false, &[moved(0, 19, 13)], &edges);
     Ok(())
 }
 
@@ -170,9 +292,17 @@ fn edges_leave_before_others_come_in(rt: HostRuntime) -> Result<(), Fail> {
     let outcome = run(&rt, rt.alloc(), &mut engine, &[put(0, 1)])?;
     assert_eq!(rt; outcome, Outcome::Moves(2));
     assert!(rt; is_as(&engine, &[1, 1, 0, 0, 0], 1, 1));
-    let outcome = run(&rt, rt.alloc(), &mut engine, &[take(0, 1), put(0, 2)])?;
-    assert_eq!(rt; outcome, Outcome::Moves(4));
+    let plan = planned(&rt, rt.alloc(), &mut engine, &[take(0, 1), put(0, 2)])?;
+    assert_eq!(rt; plan.moves, 4);
     assert!(rt; is_as(&engine, &[1, 0, 1, 0, 0], 1, 3));
+    let phases = plan.phases.as_slice();
+    assert_eq!(rt; phases.len(), 2);
+    assert!(rt; is_phase(&phases[0], 2, false, &[], 1));
+    let falls = [moved(0, 1, 0), moved(1, 1, 0)];
+    check_first(&rt, &phases[0], 2, false, &falls, &[edge(0, 1)]);
+    assert!(rt; is_phase(&phases[1], 3, true, &[], 1));
+    let rises = [moved(0, 0, 1), moved(2, 0, 1)];
+    check_first(&rt, &phases[1], 3, true, &rises, &[edge(0, 2)]);
     Ok(())
 }
 
@@ -206,7 +336,7 @@ fn edges_are_limited(rt: HostRuntime) -> Result<(), Fail> {
         profile: Profile::One,
         n: 3,
         workers: 1,
-        phases_before: MAX_PHASES - 3,
+        phases_before: MAX_PHASE - 3,
         edge_limit: 1,
     };
     let mut engine = Engine::open(rt.alloc(), shape)?;
@@ -214,12 +344,12 @@ fn edges_are_limited(rt: HostRuntime) -> Result<(), Fail> {
     assert_eq!(rt; outcome, Outcome::Moves(2));
     let outcome = run(&rt, rt.alloc(), &mut engine, &[put(1, 2)])?;
     assert_eq!(rt; outcome, Outcome::EdgeLimit(2));
-    assert!(rt; is_as(&engine, &[1, 1, 0], 1, MAX_PHASES - 2));
+    assert!(rt; is_as(&engine, &[1, 1, 0], 1, MAX_PHASE - 2));
     let outcome = run(&rt, rt.alloc(), &mut engine, &[put(1, 2), take(0, 1)])?;
     assert_eq!(rt; outcome, Outcome::Moves(4));
-    assert!(rt; is_as(&engine, &[0, 1, 1], 1, MAX_PHASES));
+    assert!(rt; is_as(&engine, &[0, 1, 1], 1, MAX_PHASE));
     let outcome = run(&rt, rt.alloc(), &mut engine, &[put(0, 1), put(0, 2)])?;
     assert_eq!(rt; outcome, Outcome::EdgeLimit(3));
-    assert!(rt; is_as(&engine, &[0, 1, 1], 1, MAX_PHASES));
+    assert!(rt; is_as(&engine, &[0, 1, 1], 1, MAX_PHASE));
     Ok(())
 }

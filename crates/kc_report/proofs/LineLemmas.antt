@@ -8,7 +8,7 @@ use Rattle.kc_text.specs.Writing.{Sends, Appends}
 use Rattle.kc_text.proofs.Known.{appends_send}
 use Rattle.kc_graph.specs.declared.cleaning.Cleaned.{Cleaned}
 use Rattle.kc_levels.specs.declared.thresholds.Estimate.{Estimate}
-use Rattle.kc_report.specs.Lines.{vertices_line, header_refused_line, batch_line, refused_line, vertex_line}
+use Rattle.kc_report.specs.Lines.{vertices_line, header_refused_line, batch_line, refused_line, vertex_line, coreness_line}
 
 -- a buffer that was sent as a line
 pub sent_as : {T : Type 0} → (before now : Option (List ℕ)) (buffer line : List ℕ) (result : Result T SendFault) → buffer ++ 10 ∷ [] ≡ line → Sends before now (buffer ++ 10 ∷ []) result → Appends before now line result
@@ -46,6 +46,11 @@ batch_filled number removed added c old a b d z ea er eg eb ed =
     ∙ counts_filled number c old a (codes " removed " ++ (decimal removed ++ (codes " added " ++ (decimal added ++ 10 ∷ [])))) z ea
     ∙ rw (er, eg) (sym (line_in_order number c))
 
-pub refused_filled : (number line : ℕ) (reason : Reason) (old a b d e : List ℕ) → old ≡ [] → a ≡ (old ++ codes "batch ") ++ decimal number → b ≡ (a ++ codes " refused line ") ++ decimal line
-    → d ≡ b ++ codes " " → e ≡ d ++ reason_word reason → e ++ 10 ∷ [] ≡ refused_line number line reason
-refused_filled number line reason old a b d e z ea eb ed ee = rw (ee, ed, eb, ea, z) (simp append_assoc)
+pub refused_filled : (number line : ℕ) (reason : Reason) (old a b d e : List ℕ) → a ≡ (old ++ codes "batch ") ++ decimal number → b ≡ (a ++ codes " refused line ") ++ decimal line
+    → d ≡ b ++ codes " " → e ≡ d ++ reason_word reason → e ++ 10 ∷ [] ≡ old ++ refused_line number line reason
+refused_filled number line reason old a b d e ea eb ed ee = rw (ee, ed, eb, ea) (simp append_assoc)
+
+pub coreness_filled : (v coreness : ℕ) (e : Estimate) (old a b c d f : List ℕ) → old ≡ [] → a ≡ (old ++ codes "vertex ") ++ decimal v
+    → b ≡ (a ++ codes " coreness ") ++ decimal coreness → c ≡ (b ++ codes " low ") ++ decimal e.lo
+    → d ≡ (c ++ codes " est ") ++ decimal e.est → f ≡ (d ++ codes " high ") ++ decimal e.hi → f ++ 10 ∷ [] ≡ coreness_line v coreness e
+coreness_filled v coreness e old a b c d f z ea eb ec ed ef = rw (ef, ed, ec, eb, ea, z) (simp append_assoc)

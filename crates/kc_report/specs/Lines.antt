@@ -1,7 +1,10 @@
--- The lines of a run.
-use Rattle.std.specs.Prelude.{ℕ, List, [], ◌∷◌, ◌++◌, length, decimal, codes}
-use Rattle.std.specs.List.{join_with_byte}
+-- The lines of a run, and those of an exact text.
+use Rattle.std.specs.Prelude.{ℕ, Bool, true, false, List, [], ◌∷◌, ◌++◌, length, map, Option, Some, None, decimal, codes}
+use Rattle.std.specs.List.{join_with_byte, flat_map}
 use Rattle.kc_graph.specs.declared.cleaning.Cleaned.{Cleaned}
+use Rattle.kc_groups.specs.declared.plans.PhasePlan.{PhasePlan}
+use Rattle.kc_history.specs.declared.entries.Entry.{Entry}
+use Rattle.kc_history.specs.declared.moves.Move.{Move}
 use Rattle.kc_levels.specs.declared.thresholds.Estimate.{Estimate}
 use Rattle.kc_text.specs.declared.reason.Reason.{Reason}
 use Rattle.kc_text.specs.Reasons.{reason_word}
@@ -27,6 +30,37 @@ batch_line number c =
     ∷ codes "loops" ∷ decimal c.loops ∷ codes "repeats" ∷ decimal c.repeats ∷ codes "idle" ∷ decimal c.idle
     ∷ codes "removed" ∷ decimal (length c.removed) ∷ codes "added" ∷ decimal (length c.added) ∷ [])
 
+abbrev pub direction_word : Bool → List ℕ
+direction_word true = codes "insert"
+direction_word false = codes "delete"
+
+-- a phase: its number, whether its edges come in or leave, and how many of them are quiet
+abbrev pub phase_line : PhasePlan → List ℕ
+phase_line plan =
+    line_of (codes "phase" ∷ decimal plan.quiet.phase ∷ direction_word plan.quiet.add
+    ∷ codes "quiet" ∷ decimal (length plan.quiet.edges) ∷ [])
+
+-- a vertex that moved, and its new level
+abbrev pub member_word : Move → List ℕ
+member_word m = decimal m.vertex ++ (58 ∷ decimal m.new)
+
+-- the label of a group; each group has one
+abbrev pub label_word : Option ℕ → List ℕ
+label_word (Some label) = decimal label
+label_word None = []
+
+-- a group: the number of its phase, its label, and its vertices
+abbrev pub group_line : Entry → List ℕ
+group_line group = line_of (codes "group" ∷ decimal group.phase ∷ label_word group.label ∷ map member_word group.moves)
+
+-- a phase, and then its groups
+abbrev pub phase_text : PhasePlan → List ℕ
+phase_text plan = phase_line plan ++ flat_map group_line plan.groups
+
+-- an accepted batch, and then its phases
+abbrev pub batch_text : ℕ → Cleaned → List PhasePlan → List ℕ
+batch_text number c phases = batch_line number c ++ flat_map phase_text phases
+
 -- a refused batch: its number, and the line and the reason of its first fault
 abbrev pub refused_line : ℕ → ℕ → Reason → List ℕ
 refused_line number line reason =
@@ -47,3 +81,20 @@ vertex_line v level e up down =
 
 abbrev pub end_line : List ℕ
 end_line = line_of (codes "end" ∷ [])
+
+-- a refused batch ahead of a text that has no lines for batches: its line of a run, as a comment
+abbrev pub note_line : ℕ → ℕ → Reason → List ℕ
+note_line number line reason = codes "# " ++ refused_line number line reason
+
+abbrev pub exact_magic_line : List ℕ
+exact_magic_line = line_of (codes "kcore-exact" ∷ codes "1" ∷ [])
+
+-- the two lines ahead of the vertices of an exact text
+abbrev pub exact_head_text : ℕ → List ℕ
+exact_head_text n = exact_magic_line ++ vertices_line n
+
+-- a vertex of an exact text: its coreness, and what its level says of it
+abbrev pub coreness_line : ℕ → ℕ → Estimate → List ℕ
+coreness_line v coreness e =
+    line_of (codes "vertex" ∷ decimal v ∷ codes "coreness" ∷ decimal coreness
+    ∷ codes "low" ∷ decimal e.lo ∷ codes "est" ∷ decimal e.est ∷ codes "high" ∷ decimal e.hi ∷ [])

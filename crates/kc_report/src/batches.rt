@@ -1,11 +1,14 @@
-ghost use Rattle.std.specs.Prelude.{◌≡◌, ◌<◌, ◌^◌, [], ◌∷◌, ◌++◌, length, OnOk, decimal, codes};
+ghost use Rattle.std.specs.Prelude.{◌≡◌, ℕ, ◌<◌, ◌^◌, [], ◌∷◌, ◌++◌, length, All, OnOk, decimal, codes};
 ghost use Rattle.kc_text.specs.Writing.{Appends, WriteCause};
 ghost use Rattle.kc_text.specs.Reasons.{reason_word};
 ghost use Rattle.kc_report.specs.Buffer.{IsCleared};
-ghost use Rattle.kc_report.specs.Lines.{batch_line, refused_line};
+ghost use Rattle.kc_groups.specs.WellFormed.{IsWellFormed};
+ghost use Rattle.kc_report.specs.Lines.{batch_line, batch_text, refused_line};
 
 use crate::fill::fill_named;
+use crate::phases::write_phases;
 use kc_graph::Cleaned;
+use kc_groups::PhasePlan;
 use kc_text::{LineBuf, Reason, SendFault, Sink};
 use std::alloc::{AllocError, Global};
 
@@ -43,12 +46,8 @@ fn fill_batch(
     fill_named(alloc, buf, b" added ", cleaned.added.len() as u32)
 }
 
-/// Writes the line of an accepted batch (`batch_line`): its number, what its cleaning counted, and how many edges are
-/// removed and added, fewer than 2^32 of each.
-///
-/// Batches are numbered from 1, refused ones included; any number is written. After `WriteFault`, which only a failed
-/// write gives, and after `Memory` the sink took a prefix of the line.
-pub fn write_batch<K: Sink>(
+// Writes the line of an accepted batch.
+fn write_batch_line<K: Sink>(
     alloc: Global,
     buf: &mut LineBuf,
     sink: &mut K,
@@ -68,15 +67,44 @@ pub fn write_batch<K: Sink>(
     }
 }
 
-fn fill_refused(
+/// Writes the lines of an accepted batch (`batch_text`), one after another: its own, with its number, what its cleaning counted,
+/// and how many edges are removed and added, fewer than 2^32 of each; and for each of its phases one with its number, its
+/// direction and how many edges are quiet, fewer than 2^32, and one for each group of vertices that moved together, with their
+/// new levels.
+///
+/// Batches are numbered from 1, refused ones included; any number is written. Each plan of a phase is well formed. After
+/// `WriteFault`, which only a failed write gives, and after `Memory` the sink took a prefix of the lines. Those behind one that
+/// fails aren't tried.
+pub fn write_batch<K: Sink>(
+    alloc: Global,
+    buf: &mut LineBuf,
+    sink: &mut K,
+    number: u32,
+    cleaned: &Cleaned,
+    phases: &[PhasePlan],
+) -> Result<(), SendFault>
+    requires empty { buf.old ≡ [] }
+    requires few_removed { length cleaned.now.removed < 2 ^ 32 }
+    requires few_added { length cleaned.now.added < 2 ^ 32 }
+    requires few_quiet { All (λ plan. length plan.quiet.edges < 2 ^ 32) phases.now }
+    requires well_formed { All (λ plan. (n : ℕ) × IsWellFormed n plan) phases.now }
+    ensures text { Appends (K.taken sink.old) (K.taken sink.new) (batch_text number cleaned.now phases.now) result }
+    ensures buffer { IsCleared buf.new result }
+    ensures cause { WriteCause (K.faults sink.old) (K.faults sink.new) result }
+{
+    write_batch_line(alloc, buf, sink, number, cleaned)?;
+    write_phases(alloc, buf, sink, phases)
+}
+
+// The line of a refused batch but for its line feed, behind what the buffer holds.
+pub fn fill_refused(
     alloc: Global,
     buf: &mut LineBuf,
     number: u32,
     line: u32,
     reason: Reason,
 ) -> Result<(), AllocError>
-    requires { buf.old ≡ [] }
-    ensures { OnOk result (buf.new ++ 10 ∷ [] ≡ refused_line number line reason) }
+    ensures { OnOk result (buf.new ++ 10 ∷ [] ≡ buf.old ++ refused_line number line reason) }
 {
     fill_named(alloc, buf, b"batch ", number)?;
     fill_named(alloc, buf, b" refused line ", line)?;

@@ -20,8 +20,8 @@ fn write_magic<K: Sink>(alloc: Global, buf: &mut LineBuf, sink: &mut K) -> Resul
     }
 }
 
-// Writes the second line.
-fn write_vertices<K: Sink>(
+// Writes the second line, which a run and an exact text have alike.
+pub fn write_vertices<K: Sink>(
     alloc: Global,
     buf: &mut LineBuf,
     sink: &mut K,

@@ -1,14 +1,18 @@
 // Each public call, on texts that were worked out by hand.
-ghost use Rattle.std.specs.Prelude.{◌≡◌, IfOk, length};
+ghost use Rattle.std.specs.Prelude.{◌≡◌, ◌≤◌, IfOk, length};
 
 use crate::{
-    write_batch, write_end, write_head, write_header_refused, write_refused, write_vertex,
+    write_batch, write_coreness, write_end, write_exact_head, write_head, write_header_refused,
+    write_note, write_refused, write_vertex,
 };
 use kc_graph::{Cleaned, Edge, Edges};
 use kc_levels::Estimate;
 use kc_text::{LineBuf, MemSink, Reason, SendFault};
 use std::alloc::{AllocError, Global};
 use std::test::Fail;
+
+// The lines of batches with phases.
+mod phases;
 
 const ESTIMATE: Estimate = Estimate {
     est: 2,
@@ -43,7 +47,7 @@ fn lines_of_a_run(rt: HostRuntime) -> Result<(), Fail> {
         let mut sink = MemSink::new(alloc, 1000, piece, &[])?;
         let mut buf = LineBuf::new(alloc);
         write_head(alloc, &mut buf, &mut sink, 1048576)?;
-        write_batch(alloc, &mut buf, &mut sink, 1, &cleaned)?;
+        write_batch(alloc, &mut buf, &mut sink, 1, &cleaned, &[])?;
         write_refused(alloc, &mut buf, &mut sink, 2, 17, Reason::EdgeLimit)?;
         write_vertex(alloc, &mut buf, &mut sink, 0, 65535, ESTIMATE, 5, 10)?;
         write_end(alloc, &mut buf, &mut sink)?;
@@ -76,7 +80,7 @@ fn each_line_is_one_call(rt: HostRuntime) -> Result<(), Fail> {
         let mut sink = MemSink::new(alloc, 1000, 1000, &[failing])?;
         let answers = [
             write_head(alloc, &mut LineBuf::new(alloc), &mut sink, 1),
-            write_batch(alloc, &mut LineBuf::new(alloc), &mut sink, 9, &cleaned),
+            write_batch(alloc, &mut LineBuf::new(alloc), &mut sink, 9, &cleaned, &[]),
             write_refused(
                 alloc,
                 &mut LineBuf::new(alloc),
@@ -133,5 +137,37 @@ fn line_of_a_refused_header(rt: HostRuntime) -> Result<(), Fail> {
     let mut sink = MemSink::new(alloc, 1000, 1000, &[2])?;
     write_header_refused(alloc, &mut LineBuf::new(alloc), &mut sink, 3)?;
     assert_eq!(rt; sink.bytes(), b"refused line 3 header\n".as_slice());
+    Ok(())
+}
+
+// Four vertices joined each with each, and one alone: of the four the level says 1 to 4, and 2 for an estimate.
+#[test]
+fn lines_of_an_exact_text(rt: HostRuntime) -> Result<(), Fail> {
+    let alloc = rt.alloc();
+    let joined = Estimate {
+        est: 2,
+        lo: 1,
+        hi: 4,
+    };
+    let alone = Estimate {
+        est: 0,
+        lo: 0,
+        hi: 0,
+    };
+    for piece in [1, 7, 1000] {
+        let mut sink = MemSink::new(alloc, 1000, piece, &[])?;
+        let mut buf = LineBuf::new(alloc);
+        write_note(alloc, &mut buf, &mut sink, 2, 9, Reason::BadVertex)?;
+        write_exact_head(alloc, &mut buf, &mut sink, 5)?;
+        write_coreness(alloc, &mut buf, &mut sink, 3, 3, joined)?;
+        write_coreness(alloc, &mut buf, &mut sink, 4, 0, alone)?;
+        write_end(alloc, &mut buf, &mut sink)?;
+        let want: &[u8] = b"# batch 2 refused line 9 bad-vertex\n\
+            kcore-exact 1\nvertices 5\n\
+            vertex 3 coreness 3 low 1 est 2 high 4\n\
+            vertex 4 coreness 0 low 0 est 0 high 0\n\
+            end\n";
+        assert_eq!(rt; sink.bytes(), want, "in pieces of {piece}");
+    }
     Ok(())
 }

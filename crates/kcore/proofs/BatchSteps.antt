@@ -1,36 +1,112 @@
 -- A batch without a fault that was applied, and its line.
-use Rattle.std.proofs.Common.{ℕ, ◌≡◌, true, false, List, refl, subst}
-use Rattle.std.specs.Prelude.{Option, Some, None}
+use Rattle.std.proofs.Common.{ℕ, ◌≡◌, ◌≤◌, ◌<◌, ◌+◌, Bool, true, false, List, [], ◌∷◌, length, refl, subst, arith}
+use Rattle.std.proofs.lemmas.List.Sums.{length-filter, count_by-le-length}
+use Rattle.std.proofs.lemmas.List.Elements.{All-nil, All-cons, All-append}
+use Rattle.std.specs.Prelude.{Option, None, All}
 use Rattle.std.specs.Io.KnownBytes.{append_known}
 use Rattle.kc_graph.specs.declared.cleaning.Cleaned.{Cleaned}
-use Rattle.kc_graph.specs.Cleaning.{cleaned}
+use Rattle.kc_graph.specs.declared.items.Item.{Item}
+use Rattle.kc_graph.specs.declared.limits.TheConstants.{MAX_EDGES, MAX_VERTICES}
+use Rattle.kc_graph.specs.Shape.{Pair, GraphShape, IsGraph}
+use Rattle.kc_graph.specs.Cleaning.{IsInside, cleaned}
+use Rattle.kc_graph.proofs.CleaningLemmas.{each_item_counts_once}
 use Rattle.kc_text.specs.declared.reason.Reason.{Reason}
 use Rattle.kc_text.specs.Writing.{IsPrefix}
 use Rattle.kc_batch.specs.declared.batch.Batch.{Batch}
-use Rattle.kc_batch.specs.declared.batch.Next.TheVariants.{Items}
-use Rattle.kc_report.specs.Lines.{batch_line, refused_line}
-use Rattle.kcore.specs.declared.state.State.{State}
-use Rattle.kcore.specs.States.{refusal_of, IsAfter, IsStep, is_refused}
+use Rattle.kc_batch.specs.declared.batch.Next.{Next}
+use Rattle.kc_batch.specs.declared.batch.Next.TheVariants.{Items, Refused, End}
+use Rattle.kc_batch.specs.Batches.{IsNext}
+use Rattle.kc_text.proofs.Known.{append_none, prefix_none}
+use Rattle.kc_groups.specs.declared.plans.PhasePlan.{PhasePlan}
+use Rattle.kc_groups.specs.Entries.{is_quiet}
+use Rattle.kc_groups.specs.WellFormed.{IsWellFormed}
+use Rattle.kc_engine.specs.States.{State, IsSound}
+use Rattle.kc_engine.specs.Batches.{phases_for, graph_after, ArePhaseOf, IsAfterPhases}
+use Rattle.kc_engine.proofs.PhaseLaw.{phases_are_well_formed}
+use Rattle.kcore.specs.declared.report.Report.{Report}
+use Rattle.kcore.specs.Reports.{accepted_text, refused_text}
+use Rattle.kcore.specs.States.{stay, refusal_of, reason_of}
+use Rattle.kcore.specs.Stops.{WroteStep, WroteSome}
+use Rattle.kcore.specs.Outcomes.{IsRefusedFor}
 use Rattle.kcore.specs.RunText.{step_text}
+use Rattle.kcore.proofs.Steps.{some_step}
 
-pub accepted_step : (number : ℕ) (s t : State) (b : Batch) (d : Cleaned) (before now : Option (List ℕ)) → refusal_of s (cleaned s.graph b.items) ≡ None → d ≡ cleaned s.graph b.items
-    → IsAfter s (cleaned s.graph b.items).added t → now ≡ append_known before (batch_line number d)
-    → IsStep s (Items b) t × (now ≡ append_known before (step_text number s (Items b))) × (false ≡ is_refused s (Items b))
-accepted_step number s t b d before now e f a w =
-    let v : now ≡ append_known before (batch_line number (cleaned s.graph b.items)) = subst (λ (x : Cleaned). now ≡ append_known before (batch_line number x)) f w in
-    (rw e a, rw e v, rw e refl)
+-- a batch doesn't change more edges than it has items
+pub few_removed : (g : GraphShape) (items : List Item) → IsGraph g → All (IsInside g.vertices) items → length items ≤ 1048576 → length (cleaned g items).removed < 4294967296
+few_removed g items graph inside few = omega (arith, each_item_counts_once g items graph inside, few)
 
-pub accepted_prefix : (number : ℕ) (s : State) (b : Batch) (d : Cleaned) (before now : Option (List ℕ)) → refusal_of s (cleaned s.graph b.items) ≡ None → d ≡ cleaned s.graph b.items
-    → IsPrefix before now (batch_line number d) → IsPrefix before now (step_text number s (Items b))
-accepted_prefix number s b d before now e f p =
-    let v : IsPrefix before now (batch_line number (cleaned s.graph b.items)) = subst (λ (x : Cleaned). IsPrefix before now (batch_line number x)) f p in
-    rw e v
+pub few_added : (g : GraphShape) (items : List Item) → IsGraph g → All (IsInside g.vertices) items → length items ≤ 1048576 → length (cleaned g items).added < 4294967296
+few_added g items graph inside few = omega (arith, each_item_counts_once g items graph inside, few)
 
-pub refused_step : (number : ℕ) (s t : State) (b : Batch) (reason : Reason) (before now : Option (List ℕ)) → refusal_of s (cleaned s.graph b.items) ≡ Some reason → t ≡ s
-    → now ≡ append_known before (refused_line number b.line reason)
-    → IsStep s (Items b) t × (now ≡ append_known before (step_text number s (Items b))) × (true ≡ is_refused s (Items b))
-refused_step number s t b reason before now e same w = (rw e same, rw e w, rw e refl)
+-- quiet edges are some of the edges of a phase
+few_quiet_of : (phase : ℕ) (add : Bool) (edges : List Pair) (x y : List ℕ) (g : GraphShape) (plans : List PhasePlan) → ArePhaseOf phase add edges x y g plans → length edges < 4294967296
+    → All (λ (p : PhasePlan). length p.quiet.edges < 4294967296) plans
+few_quiet_of phase add [] x y g plans a few = rw a (All-nil (λ (p : PhasePlan). length p.quiet.edges < 4294967296))
+few_quiet_of phase add (e ∷ es) x y g plans a few =
+    let quiet : length a.plan.quiet.edges < 4294967296 =
+    rw (a.entries.quiet, length-filter (is_quiet x y) (e ∷ es)) (omega (arith, few, count_by-le-length (is_quiet x y) (e ∷ es))) in
+    rw a.alone (All-cons (λ (p : PhasePlan). length p.quiet.edges < 4294967296) a.plan [] quiet (All-nil (λ (p : PhasePlan). length p.quiet.edges < 4294967296)))
 
-pub refused_prefix : (number : ℕ) (s : State) (b : Batch) (reason : Reason) (before now : Option (List ℕ)) → refusal_of s (cleaned s.graph b.items) ≡ Some reason
-    → IsPrefix before now (refused_line number b.line reason) → IsPrefix before now (step_text number s (Items b))
-refused_prefix number s b reason before now e p = rw e p
+pub few_quiet : (s t : State) (items : List Item) (plans : List PhasePlan) → IsGraph s.graph → All (IsInside s.graph.vertices) items → length items ≤ 1048576
+    → IsAfterPhases s (cleaned s.graph items) t plans → All (λ (p : PhasePlan). length p.quiet.edges < 4294967296) plans
+few_quiet s t items plans graph inside few a =
+    let c = cleaned s.graph items in
+    rw a.phases.all
+    (All-append (λ (p : PhasePlan). length p.quiet.edges < 4294967296) a.phases.leaving a.phases.coming
+    (few_quiet_of (s.phases + 1) false c.removed s.levels a.after.levels.between s.graph a.phases.leaving a.phases.deletion (few_removed s.graph items graph inside few))
+    (few_quiet_of (s.phases + phases_for c.removed + 1) true c.added a.after.levels.between t.levels (graph_after s.graph c) a.phases.coming a.phases.insertion (few_added s.graph items graph inside few)))
+
+with_some : (n : ℕ) (plans : List PhasePlan) → All (IsWellFormed n) plans → All (λ (p : PhasePlan). (m : ℕ) × IsWellFormed m p) plans
+with_some n plans all = λ i d h. (n, all i d h)
+
+-- phases are well formed
+pub well_formed : (s t : State) (items : List Item) (plans : List PhasePlan) → s.graph.vertices ≤ MAX_VERTICES → IsSound MAX_EDGES s → All (IsInside s.graph.vertices) items → length items ≤ 1048576
+    → IsAfterPhases s (cleaned s.graph items) t plans → All (λ (p : PhasePlan). (m : ℕ) × IsWellFormed m p) plans
+well_formed s t items plans small k inside few a =
+    with_some s.graph.vertices plans (phases_are_well_formed MAX_EDGES s t (cleaned s.graph items) plans small k (record { items = items; inside = inside; few = few; comes_to = refl }) a)
+
+pub accepted_step : (report : Report) (number : ℕ) (s t : State) (b : Batch) (d : Cleaned) (plans : List PhasePlan) (before now : Option (List ℕ)) → refusal_of s (cleaned s.graph b.items) ≡ None
+    → d ≡ cleaned s.graph b.items → IsAfterPhases s (cleaned s.graph b.items) t plans → now ≡ append_known before (accepted_text report number d plans)
+    → WroteStep report number (Items b) s t before now false
+accepted_step report number s t b d plans before now e f a w =
+    let v : now ≡ append_known before (accepted_text report number (cleaned s.graph b.items) plans) = subst (λ (x : Cleaned). now ≡ append_known before (accepted_text report number x plans)) f w in
+    record { step = record { state = t; phases = plans }; is_step = rw e a; last = refl; taken = rw e v; refusal = rw e refl }
+
+pub accepted_prefix : (report : Report) (number : ℕ) (s t : State) (b : Batch) (d : Cleaned) (plans : List PhasePlan) (before now : Option (List ℕ)) → refusal_of s (cleaned s.graph b.items) ≡ None
+    → d ≡ cleaned s.graph b.items → IsAfterPhases s (cleaned s.graph b.items) t plans → IsPrefix before now (accepted_text report number d plans)
+    → WroteSome report number (Items b) s before now
+accepted_prefix report number s t b d plans before now e f a p =
+    let v : IsPrefix before now (accepted_text report number (cleaned s.graph b.items) plans) = subst (λ (x : Cleaned). IsPrefix before now (accepted_text report number x plans)) f p in
+    record { step = record { state = t; phases = plans }; is_step = rw e a; prefix = rw e v }
+
+pub refused_step : (report : Report) (number : ℕ) (s t : State) (b : Batch) (reason : Reason) (before now : Option (List ℕ)) → IsRefusedFor s (cleaned s.graph b.items) reason t
+    → now ≡ append_known before (refused_text report number b.line reason)
+    → WroteStep report number (Items b) s t before now true
+refused_step report number s t b reason before now r w =
+    let v : now ≡ append_known before (refused_text report number b.line (reason_of r.fault)) = subst (λ (x : Reason). now ≡ append_known before (refused_text report number b.line x)) r.word w in
+    record { step = stay s; is_step = rw r.refused refl; last = r.same; taken = rw r.refused v; refusal = rw r.refused refl }
+
+pub refused_prefix : (report : Report) (number : ℕ) (s t : State) (b : Batch) (reason : Reason) (before now : Option (List ℕ)) → IsRefusedFor s (cleaned s.graph b.items) reason t
+    → IsPrefix before now (refused_text report number b.line reason) → WroteSome report number (Items b) s before now
+refused_prefix report number s t b reason before now r p =
+    let v : IsPrefix before now (refused_text report number b.line (reason_of r.fault)) = subst (λ (x : Reason). IsPrefix before now (refused_text report number b.line x)) r.word p in
+    record { step = stay s; is_step = rw r.refused refl; prefix = rw r.refused v }
+
+-- a batch of which nothing was written
+pub nothing_of : (report : Report) (number n : ℕ) (b : Next) (s : State) (before now : Option (List ℕ)) → IsSound MAX_EDGES s → s.graph.vertices ≡ n → IsNext n 1048576 b → now ≡ before
+    → WroteSome report number b s before now
+nothing_of report number n b s before now k e i same =
+    let there = some_step s n b k e i in
+    record { step = there.0; is_step = there.1; prefix = prefix_none before now (step_text report number s b there.0.phases) same }
+
+-- a batch that the grammar refuses, and one that isn't there
+pub refused_line_written : (report : Report) (number line : ℕ) (reason : Reason) (s : State) (before now : Option (List ℕ)) → now ≡ append_known before (refused_text report number line reason)
+    → WroteStep report number (Refused line reason) s s before now true
+refused_line_written report number line reason s before now e = record { step = stay s; is_step = refl; last = refl; taken = e; refusal = refl }
+
+pub refused_line_prefix : (report : Report) (number line : ℕ) (reason : Reason) (s : State) (before now : Option (List ℕ)) → IsPrefix before now (refused_text report number line reason)
+    → WroteSome report number (Refused line reason) s before now
+refused_line_prefix report number line reason s before now p = record { step = stay s; is_step = refl; prefix = p }
+
+pub end_written : (report : Report) (number : ℕ) (s : State) (before : Option (List ℕ)) → WroteStep report number End s s before before false
+end_written report number s before = record { step = stay s; is_step = refl; last = refl; taken = append_none before; refusal = refl }

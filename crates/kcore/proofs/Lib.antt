@@ -3,6 +3,9 @@ pub mod BatchSteps
 pub mod Runs
 pub mod Texts
 pub mod Tails
+pub mod ExactTails
+pub mod SomeCorenesses
+pub mod ExactTexts
 pub mod WordLists
 pub mod WaitingLemmas
 pub mod RisingLemmas

@@ -6,7 +6,7 @@ use Rattle.std.specs.Io.KnownBytes.{append_known}
 use Rattle.std.specs.Prelude.{Option}
 use Rattle.kc_text.specs.Writing.{IsPrefix}
 use Rattle.kc_text.proofs.Known.{append_twice, prefix_longer, prefix_then}
-use Rattle.kcore.specs.declared.state.State.{State}
+use Rattle.kc_engine.specs.States.{State}
 use Rattle.kcore.specs.RunText.{vertex_text, vertex_lines}
 
 -- the lines of the vertices below n begin with those below v

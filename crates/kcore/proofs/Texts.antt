@@ -16,80 +16,77 @@ use Rattle.kc_batch.specs.Batches.{batches}
 use Rattle.kc_batch.specs.BatchInputs.{BatchInput, WithBatches, HeaderRefused, behind_header, input_of}
 use Rattle.kc_batch.proofs.BatchRanges.{batches_keep_ranges}
 use Rattle.kc_report.specs.Lines.{head_text, header_refused_line}
-use Rattle.kcore.specs.declared.state.State.{State}
-use Rattle.kcore.specs.declared.run.Stop.{Stop}
-use Rattle.kcore.specs.States.{start, AreStates, last_state}
+use Rattle.kc_engine.specs.States.{State}
+use Rattle.kcore.specs.declared.report.Report.TheVariants.{Lines}
+use Rattle.kcore.specs.declared.stop.Stop.{Stop}
+use Rattle.kcore.specs.States.{Step, start, AreSteps, last_state}
 use Rattle.kcore.specs.RunText.{batch_lines, some_refused, tail_text, IsRun, IsRunText}
 use Rattle.kcore.specs.Stops.{RunsBatches, WritesRun, Writes}
-use Rattle.kcore.specs.declared.command.Command.{Command}
-use Rattle.kcore.specs.declared.command.Command.TheVariants.{RunOne}
-use Rattle.kcore.specs.Commands.{Holds}
 use Rattle.kcore.specs.Laws.{HoldsIn, HoldsThroughout, InputHasOneText, EachStateHolds}
 use Rattle.kcore.proofs.Steps.{sound_start}
-use Rattle.std.proofs.lemmas.List.Elements.{All-cons}
 use Rattle.kcore.proofs.Runs.{holds_in, some_states, one_run, all_hold}
 
 -- the text for these states
-abbrev run_text : (header : HeaderShape) (bs : List Next) (ts : List State) → List ℕ
-run_text header bs ts = head_text header.n ++ (batch_lines 1 (start header.profile header.n) bs ts ++ tail_text header.n (last_state (start header.profile header.n) ts))
+abbrev run_text : (header : HeaderShape) (bs : List Next) (ts : List Step) → List ℕ
+run_text header bs ts = head_text header.n ++ (batch_lines Lines 1 (start header.profile header.n) bs ts ++ tail_text header.n (last_state (start header.profile header.n) ts))
 
-is_run : (header : HeaderShape) (bs : List Next) (ts : List State) → AreStates (start header.profile header.n) bs ts → IsRun header bs (run_text header bs ts) (some_refused (start header.profile header.n) bs ts)
-is_run header bs ts a = record { states = ts; are_states = a; text_is = refl; refusal = refl }
+is_run : (header : HeaderShape) (bs : List Next) (ts : List Step) → AreSteps (start header.profile header.n) bs ts → IsRun header bs (run_text header bs ts) (some_refused (start header.profile header.n) bs ts)
+is_run header bs ts a = record { steps = ts; are_steps = a; text_is = refl; refusal = refl }
 
-start_states : (header : HeaderShape) (limit : ℕ) (ls : List Token) → (ts : List State) × AreStates (start header.profile header.n) (batches header.n limit ls) ts
-start_states header limit ls =
-    some_states header.n limit (start header.profile header.n) (batches header.n limit ls) (sound_start header.profile header.n) refl (batches_keep_ranges header.n limit ls)
+pub start_states : (header : HeaderShape) (ls : List Token) → (ts : List Step) × AreSteps (start header.profile header.n) (batches header.n 1048576 ls) ts
+start_states header ls =
+    some_states header.n (start header.profile header.n) (batches header.n 1048576 ls) (sound_start header.profile header.n) refl (batches_keep_ranges header.n 1048576 ls)
 
 -- a prefix of the head was written, or all of it
-pub head_prefix : (header : HeaderShape) (limit : ℕ) (toks : Option (List Token)) (before now : Option (List ℕ)) (stop : Stop) → IsPrefix before now (head_text header.n)
-    → WritesRun header (option_map (batches header.n limit) toks) before now (Err stop)
-head_prefix header limit None before now stop p = tt
-head_prefix header limit (Some ls) before now stop p =
-    let there = start_states header limit ls in
+pub head_prefix : (header : HeaderShape) (toks : Option (List Token)) (before now : Option (List ℕ)) (stop : Stop) → IsPrefix before now (head_text header.n)
+    → WritesRun header (option_map (batches header.n 1048576) toks) before now (Err stop)
+head_prefix header None before now stop p = tt
+head_prefix header (Some ls) before now stop p =
+    let there = start_states header ls in
     record {
-      text = run_text header (batches header.n limit ls) there.0;
-      refused = some_refused (start header.profile header.n) (batches header.n limit ls) there.0;
-      is_text = is_run header (batches header.n limit ls) there.0 there.1;
+      text = run_text header (batches header.n 1048576 ls) there.0;
+      refused = some_refused (start header.profile header.n) (batches header.n 1048576 ls) there.0;
+      is_text = is_run header (batches header.n 1048576 ls) there.0 there.1;
       prefix = prefix_longer before now (head_text header.n) _ p;
     }
 
-pub head_written : (header : HeaderShape) (limit : ℕ) (toks : Option (List Token)) (before now : Option (List ℕ)) (stop : Stop) → now ≡ append_known before (head_text header.n)
-    → WritesRun header (option_map (batches header.n limit) toks) before now (Err stop)
-head_written header limit toks before now stop e = head_prefix header limit toks before now stop (prefix_all before now (head_text header.n) e)
+pub head_written : (header : HeaderShape) (toks : Option (List Token)) (before now : Option (List ℕ)) (stop : Stop) → now ≡ append_known before (head_text header.n)
+    → WritesRun header (option_map (batches header.n 1048576) toks) before now (Err stop)
+head_written header toks before now stop e = head_prefix header toks before now stop (prefix_all before now (head_text header.n) e)
 
 -- the head, and a prefix of the lines of the batches
 pub batches_prefix : (header : HeaderShape) (told : Option (List Next)) (t : State) (before now later : Option (List ℕ)) (stop other : Stop) → now ≡ append_known before (head_text header.n)
-    → RunsBatches (start header.profile header.n) t told now later (Err other) → WritesRun header told before later (Err stop)
+    → RunsBatches Lines (start header.profile header.n) t told now later (Err other) → WritesRun header told before later (Err stop)
 batches_prefix header None t before now later stop other e w = tt
 batches_prefix header (Some bs) t before now later stop other e w =
     record {
-      text = run_text header bs w.states;
-      refused = some_refused (start header.profile header.n) bs w.states;
-      is_text = is_run header bs w.states w.are_states;
-      prefix = prefix_then before now later (head_text header.n) _ e (prefix_longer now later (batch_lines 1 (start header.profile header.n) bs w.states) _ w.prefix);
+      text = run_text header bs w.steps;
+      refused = some_refused (start header.profile header.n) bs w.steps;
+      is_text = is_run header bs w.steps w.are_steps;
+      prefix = prefix_then before now later (head_text header.n) _ e (prefix_longer now later (batch_lines Lines 1 (start header.profile header.n) bs w.steps) _ w.prefix);
     }
 
 -- the head, the lines of the batches, and a prefix of what is behind them
 pub tail_prefix : (header : HeaderShape) (told : Option (List Next)) (t : State) (before now later last : Option (List ℕ)) (refused : Bool) (stop : Stop) → now ≡ append_known before (head_text header.n)
-    → RunsBatches (start header.profile header.n) t told now later (Ok refused) → IsPrefix later last (tail_text header.n t) → WritesRun header told before last (Err stop)
+    → RunsBatches Lines (start header.profile header.n) t told now later (Ok refused) → IsPrefix later last (tail_text header.n t) → WritesRun header told before last (Err stop)
 tail_prefix header None t before now later last refused stop e w p = tt
 tail_prefix header (Some bs) t before now later last refused stop e w p =
     record {
-      text = run_text header bs w.states;
-      refused = some_refused (start header.profile header.n) bs w.states;
-      is_text = is_run header bs w.states w.are_states;
-      prefix = prefix_then before now last (head_text header.n) _ e (prefix_then now later last (batch_lines 1 (start header.profile header.n) bs w.states) _ w.taken (rw w.last p));
+      text = run_text header bs w.steps;
+      refused = some_refused (start header.profile header.n) bs w.steps;
+      is_text = is_run header bs w.steps w.are_steps;
+      prefix = prefix_then before now last (head_text header.n) _ e (prefix_then now later last (batch_lines Lines 1 (start header.profile header.n) bs w.steps) _ w.taken (rw w.last p));
     }
 
 -- all of it
 pub tail_written : (header : HeaderShape) (told : Option (List Next)) (t : State) (before now later last : Option (List ℕ)) (refused : Bool) → now ≡ append_known before (head_text header.n)
-    → RunsBatches (start header.profile header.n) t told now later (Ok refused) → last ≡ append_known later (tail_text header.n t) → WritesRun header told before last (Ok refused)
+    → RunsBatches Lines (start header.profile header.n) t told now later (Ok refused) → last ≡ append_known later (tail_text header.n t) → WritesRun header told before last (Ok refused)
 tail_written header None t before now later last refused e w f = tt
 tail_written header (Some bs) t before now later last refused e w f =
     record {
-      text = run_text header bs w.states;
-      is_text = record { states = w.states; are_states = w.are_states; text_is = refl; refusal = w.refusal };
-      taken = append_twice before now last (head_text header.n) _ e (append_twice now later last (batch_lines 1 (start header.profile header.n) bs w.states) _ w.taken (rw w.last f));
+      text = run_text header bs w.steps;
+      is_text = record { steps = w.steps; are_steps = w.are_steps; text_is = refl; refusal = w.refusal };
+      taken = append_twice before now last (head_text header.n) _ e (append_twice now later last (batch_lines Lines 1 (start header.profile header.n) bs w.steps) _ w.taken (rw w.last f));
     }
 
 -- an input with a header
@@ -111,45 +108,39 @@ header_refused_prefix line input None before now stop e p = rw e tt
 header_refused_prefix line input (Some x) before now stop e p = rw e (record { text = header_refused_line line; refused = true; is_text = (refl, refl); prefix = p })
 
 -- each input has a text
-some_text : (limit : ℕ) (text : HeaderText) → (said : List ℕ) × ((refused : Bool) × IsRunText (behind_header limit text) said refused)
-some_text limit (Accepted header rest) =
-    let there = start_states header limit (tokens rest) in
-    (run_text header (batches header.n limit (tokens rest)) there.0, (some_refused (start header.profile header.n) (batches header.n limit (tokens rest)) there.0, is_run header (batches header.n limit (tokens rest)) there.0 there.1))
-some_text limit (Refused line) = (header_refused_line line, (true, (refl, refl)))
+some_text : (text : HeaderText) → (said : List ℕ) × ((refused : Bool) × IsRunText (behind_header 1048576 text) said refused)
+some_text (Accepted header rest) =
+    let there = start_states header (tokens rest) in
+    (run_text header (batches header.n 1048576 (tokens rest)) there.0, (some_refused (start header.profile header.n) (batches header.n 1048576 (tokens rest)) there.0, is_run header (batches header.n 1048576 (tokens rest)) there.0 there.1))
+some_text (Refused line) = (header_refused_line line, (true, (refl, refl)))
 
 -- nothing was written
-pub writes_nothing : (line_limit input_limit limit : ℕ) (left before now : Option (List ℕ)) (stop : Stop) → now ≡ before → Writes (option_map (input_of line_limit input_limit limit) left) before now (Err stop)
-writes_nothing line_limit input_limit limit None before now stop e = tt
-writes_nothing line_limit input_limit limit (Some bytes) before now stop e =
-    let there = some_text limit (header_of (kept (lines line_limit input_limit bytes))) in
+pub writes_nothing : (line_limit input_limit : ℕ) (left before now : Option (List ℕ)) (stop : Stop) → now ≡ before → Writes (option_map (input_of line_limit input_limit 1048576) left) before now (Err stop)
+writes_nothing line_limit input_limit None before now stop e = tt
+writes_nothing line_limit input_limit (Some bytes) before now stop e =
+    let there = some_text (header_of (kept (lines line_limit input_limit bytes))) in
     record { text = there.0; refused = there.1.0; is_text = there.1.1; prefix = prefix_none before now there.0 e }
 
 -- the text is one
-one_of_header : (limit : ℕ) (text : HeaderText) (a b : List ℕ) (x y : Bool) → IsRunText (behind_header limit text) a x → IsRunText (behind_header limit text) b y → (a ≡ b) × (x ≡ y)
-one_of_header limit (Refused line) a b x y p q = (p.0 ∙ sym q.0, p.1 ∙ sym q.1)
-one_of_header limit (Accepted header rest) a b x y p q =
-    let bs = batches header.n limit (tokens rest) in
-    let same : p.states ≡ q.states = one_run header.n limit (start header.profile header.n) bs p.states q.states (sound_start header.profile header.n) refl (batches_keep_ranges header.n limit (tokens rest)) p.are_states q.are_states in (
-      p.text_is ∙ ap (λ (ts : List State). run_text header bs ts) same ∙ sym q.text_is,
-      sym p.refusal ∙ ap (λ (ts : List State). some_refused (start header.profile header.n) bs ts) same ∙ q.refusal,
+one_of_header : (text : HeaderText) (a b : List ℕ) (x y : Bool) → IsRunText (behind_header 1048576 text) a x → IsRunText (behind_header 1048576 text) b y → (a ≡ b) × (x ≡ y)
+one_of_header (Refused line) a b x y p q = (p.0 ∙ sym q.0, p.1 ∙ sym q.1)
+one_of_header (Accepted header rest) a b x y p q =
+    let bs = batches header.n 1048576 (tokens rest) in
+    let same : p.steps ≡ q.steps = one_run header.n (start header.profile header.n) bs p.steps q.steps (sound_start header.profile header.n) refl (batches_keep_ranges header.n 1048576 (tokens rest)) p.are_steps q.are_steps in (
+      p.text_is ∙ ap (λ (ts : List Step). run_text header bs ts) same ∙ sym q.text_is,
+      sym p.refusal ∙ ap (λ (ts : List Step). some_refused (start header.profile header.n) bs ts) same ∙ q.refusal,
     )
 
 pub input_has_one_text : InputHasOneText
 input_has_one_text bytes =
     let text = header_of (kept (lines 65536 1073741824 bytes)) in
-    let there = some_text 1048576 text in
-    (there.0, (there.1.0, (there.1.1, λ a x p. one_of_header 1048576 text a there.0 x there.1.0 p there.1.1)))
+    let there = some_text text in
+    (there.0, (there.1.0, (there.1.1, λ a x p. one_of_header text a there.0 x there.1.0 p there.1.1)))
 
-holds_behind : (limit : ℕ) (text : HeaderText) → HoldsThroughout (behind_header limit text)
-holds_behind limit (Refused line) = tt
-holds_behind limit (Accepted header rest) = λ ts a.
-    All-cons HoldsIn (start header.profile header.n) ts (holds_in (start header.profile header.n) (sound_start header.profile header.n))
-    (all_hold header.n limit (start header.profile header.n) (batches header.n limit (tokens rest)) ts (sound_start header.profile header.n) refl (batches_keep_ranges header.n limit (tokens rest)) a)
+holds_behind : (text : HeaderText) → HoldsThroughout (behind_header 1048576 text)
+holds_behind (Refused line) = tt
+holds_behind (Accepted header rest) = λ ts a.
+    (holds_in (start header.profile header.n) (sound_start header.profile header.n), all_hold header.n (start header.profile header.n) (batches header.n 1048576 (tokens rest)) ts (sound_start header.profile header.n) refl (batches_keep_ranges header.n 1048576 (tokens rest)) a)
 
 pub each_state_holds : EachStateHolds
-each_state_holds bytes = holds_behind 1048576 (header_of (kept (lines 65536 1073741824 bytes)))
-
-pub holds : (command : Option Command) (left : Option (List ℕ)) → Holds command left
-holds None left = tt
-holds (Some command) None = tt
-holds (Some RunOne) (Some bytes) = each_state_holds bytes
+each_state_holds bytes = holds_behind (header_of (kept (lines 65536 1073741824 bytes)))

@@ -10,9 +10,14 @@ two_words (x ∷ []) a b n e f = absurd (omega arith)
 two_words (x ∷ y ∷ []) a b n e f = let p : x ≡ a = same_Some _ _ e in let q : y ≡ b = same_Some _ _ f in rw (p, q) refl
 two_words (x ∷ y ∷ z ∷ more) a b n e f = absurd (omega arith)
 
-pub not_two_words : (ws : List (List ℕ)) → length ws ≢ 2 → command_of ws ≡ None
+pub one_word : (ws : List (List ℕ)) (a : List ℕ) → length ws ≡ 1 → slice_get ws 0 ≡ Some a → ws ≡ a ∷ []
+one_word [] a n e = absurd (omega arith)
+one_word (x ∷ []) a n e = let p : x ≡ a = same_Some _ _ e in rw p refl
+one_word (x ∷ y ∷ more) a n e = absurd (omega arith)
+
+pub other_words : (ws : List (List ℕ)) → length ws ≢ 1 → length ws ≢ 2 → command_of ws ≡ None
 unfolding command_of
-not_two_words [] n = refl
-not_two_words (x ∷ []) n = refl
-not_two_words (x ∷ y ∷ []) n = absurd (n refl)
-not_two_words (x ∷ y ∷ z ∷ more) n = refl
+other_words [] n m = refl
+other_words (x ∷ []) n m = absurd (n refl)
+other_words (x ∷ y ∷ []) n m = absurd (m refl)
+other_words (x ∷ y ∷ z ∷ more) n m = refl

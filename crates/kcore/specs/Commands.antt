@@ -1,25 +1,40 @@
 -- The command lines, and what each command writes for the bytes that it reads.
-use Rattle.std.specs.Prelude.{ℕ, ◌≡◌, Bool, true, false, ◌&&◌, List, [], ◌∷◌, Option, Some, None, if◌then◌else◌, codes, ◌⊎◌}
+use Rattle.std.specs.Prelude.{ℕ, ◌≡◌, ◌≤◌, nat_le, Bool, true, false, ◌&&◌, List, [], ◌∷◌, Option, Some, None, if◌then◌else◌, codes, ◌⊎◌}
 use Rattle.std.specs.Str.{bytes_eq}
 use Rattle.kc_text.specs.Causes.{Rose}
+use Rattle.kc_text.specs.Numbers.{number_of}
 use Rattle.kcore.specs.declared.command.Command.{Command}
-use Rattle.kcore.specs.declared.command.Command.TheVariants.{RunOne}
+use Rattle.kcore.specs.declared.command.Command.TheVariants.{Run, Exact}
 use Rattle.kcore.specs.declared.status.Status.{Status}
 use Rattle.kcore.specs.declared.status.Status.TheVariants.{Done, Refused, Usage, ReadFault, WriteFault, Memory}
 use Rattle.kcore.specs.RunText.{input_said, IsRunText}
+use Rattle.kcore.specs.ExactText.{IsExactText}
 use Rattle.kcore.specs.Texts.{WritesWhole, WritesPrefix}
-use Rattle.kcore.specs.Laws.{HoldsThroughout}
+use Rattle.kcore.specs.Laws.{HoldsThroughout, FitsExactly}
+
+-- `run` with this number of workers, which is 1 to 64
+abbrev pub run_with : Option ℕ → Option Command
+run_with None = None
+run_with (Some workers) = if nat_le 1 workers && nat_le workers 64 then Some (Run workers) else None
 
 -- the command of a command line without the program's name
 unfoldable pub command_of : List (List ℕ) → Option Command
 command_of [] = None
-command_of (w ∷ []) = None
-command_of (w ∷ a ∷ []) = if bytes_eq w (codes "run") && bytes_eq a (codes "1") then Some RunOne else None
+command_of (w ∷ []) = if bytes_eq w (codes "exact") then Some Exact else None
+command_of (w ∷ a ∷ []) = if bytes_eq w (codes "run") then run_with (number_of a) else None
 command_of (w ∷ a ∷ b ∷ more) = None
 
--- the text is the one that the command writes for these bytes, and `refused` says whether it refuses them, or a part of them
+-- the workers of a command are 1 to 64
+abbrev pub FitsWorkers : Option Command → Type 0
+FitsWorkers (Some (Run workers)) = (1 ≤ workers) × (workers ≤ 64)
+FitsWorkers (Some Exact) = Unit {0}
+FitsWorkers None = Unit {0}
+
+-- the text is the one that the command writes for these bytes, and `refused` says whether it refuses them, or a part of them;
+-- it doesn't depend on the number of workers
 abbrev pub IsText : Command → List ℕ → List ℕ → Bool → Type 0
-IsText RunOne bytes text refused = IsRunText (input_said bytes) text refused
+IsText (Run workers) bytes text refused = IsRunText (input_said bytes) text refused
+IsText Exact bytes text refused = IsExactText (input_said bytes) text refused
 
 abbrev pub Wrote : Command → List ℕ → Option (List ℕ) → Option (List ℕ) → Status → Type 0
 Wrote command bytes before now Done = WritesWhole (IsText command bytes) before now false
@@ -37,11 +52,13 @@ Answers None left before now status = Unit {0}
 Answers (Some command) None before now status = Unit {0}
 Answers (Some command) (Some bytes) before now status = Wrote command bytes before now status
 
--- where the source tells its bytes, in each state of the command both invariants hold, and what is printed bounds the coreness
+-- where the source tells its bytes, in each state of the command both invariants hold, and what is printed bounds the coreness;
+-- on each line of a vertex that `exact` writes, it bounds the coreness that stands there
 abbrev pub Holds : Option Command → Option (List ℕ) → Type 0
 Holds None left = Unit {0}
 Holds (Some command) None = Unit {0}
-Holds (Some RunOne) (Some bytes) = HoldsThroughout (input_said bytes)
+Holds (Some (Run workers)) (Some bytes) = HoldsThroughout (input_said bytes)
+Holds (Some Exact) (Some bytes) = HoldsThroughout (input_said bytes) × FitsExactly (input_said bytes)
 
 -- the counts of faults of the source, r, and of the sink, w: a fault is answered only where the count of its object
 -- rose, and every other count is as it was

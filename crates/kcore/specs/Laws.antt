@@ -1,11 +1,14 @@
--- Laws of the text of `run`, each the contract of a function of `laws`.
-use Rattle.std.specs.Prelude.{ℕ, ◌≡◌, ◌≤◌, ◌*◌, Bool, List, ◌∷◌, All}
+-- Laws of the texts, each the contract of a function of `laws`.
+use Rattle.std.specs.Prelude.{ℕ, ◌≡◌, ◌≤◌, ◌<◌, ◌*◌, Bool, List, All, get_or}
+use Rattle.kc_levels.specs.declared.thresholds.Estimate.{Estimate}
 use Rattle.kc_levels.specs.LevelList.{MeetsBoth}
 use Rattle.kc_batch.specs.BatchInputs.{BatchInput, WithBatches, HeaderRefused}
-use Rattle.kcore.specs.declared.state.State.{State}
-use Rattle.kcore.specs.States.{start, AreStates}
+use Rattle.kc_engine.specs.States.{State}
+use Rattle.kcore.specs.States.{start, Step, AreSteps, last_state}
 use Rattle.kc_bound.specs.Cores.{IsCoreness}
 use Rattle.kcore.specs.RunText.{input_said, printed_of, IsRunText}
+use Rattle.kcore.specs.Corenesses.{AreCorenesses}
+use Rattle.kcore.specs.ExactText.{IsExactText}
 
 -- each input has exactly one text, and it is refused or it isn't
 abbrev pub InputHasOneText : Type 0
@@ -14,9 +17,16 @@ InputHasOneText =
     (text : List ℕ) × ((refused : Bool) × (IsRunText (input_said bytes) text refused
     × ((a : List ℕ) (x : Bool) → IsRunText (input_said bytes) a x → (a ≡ text) × (x ≡ refused))))
 
+-- and exactly one exact text
+abbrev pub InputHasOneExactText : Type 0
+InputHasOneExactText =
+    (bytes : List ℕ) →
+    (text : List ℕ) × ((refused : Bool) × (IsExactText (input_said bytes) text refused
+    × ((a : List ℕ) (x : Bool) → IsExactText (input_said bytes) a x → (a ≡ text) × (x ≡ refused))))
+
 -- both invariants hold in a state, and what is printed of each vertex bounds its coreness
 pub record HoldsIn (s : State) : Type 0 where
-  pub both : MeetsBoth s.thresholds.profile s.graph s.levels
+  pub both : MeetsBoth s.profile s.graph s.levels
   pub low : (v c : ℕ) → IsCoreness s.graph v c → (printed_of s v).lo ≤ c
   pub high : (v c : ℕ) → IsCoreness s.graph v c → c ≤ (printed_of s v).hi
   pub estimate : (v c : ℕ) → IsCoreness s.graph v c → (printed_of s v).est ≤ 2 * c
@@ -26,8 +36,23 @@ pub record HoldsIn (s : State) : Type 0 where
 abbrev pub HoldsThroughout : BatchInput → Type 0
 HoldsThroughout (HeaderRefused line) = Unit {0}
 HoldsThroughout (WithBatches header batches) =
-    (states : List State) → AreStates (start header.profile header.n) batches states
-    → All HoldsIn (start header.profile header.n ∷ states)
+    (steps : List Step) → AreSteps (start header.profile header.n) batches steps
+    → HoldsIn (start header.profile header.n) × All (λ (t : Step). HoldsIn t.state) steps
 
 abbrev pub EachStateHolds : Type 0
 EachStateHolds = (bytes : List ℕ) → HoldsThroughout (input_said bytes)
+
+-- a printed estimate and its bounds fit a printed coreness
+pub record FitsCoreness (p : Estimate) (coreness : ℕ) : Type 0 where
+  pub low : p.lo ≤ coreness
+  pub high : coreness ≤ p.hi
+  pub estimate : p.est ≤ 2 * coreness
+  pub near : coreness ≤ 3 * p.est
+
+-- in the exact text of an input, on the line of each vertex
+abbrev pub FitsExactly : BatchInput → Type 0
+FitsExactly (HeaderRefused line) = Unit {0}
+FitsExactly (WithBatches header batches) =
+    (steps : List Step) → AreSteps (start header.profile header.n) batches steps
+    → (corenesses : List ℕ) → AreCorenesses (last_state (start header.profile header.n) steps).graph corenesses
+    → (v : ℕ) → v < header.n → FitsCoreness (printed_of (last_state (start header.profile header.n) steps) v) (get_or corenesses v 0)

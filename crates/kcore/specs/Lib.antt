@@ -1,6 +1,9 @@
 pub mod States
 pub mod Outcomes
+pub mod Reports
 pub mod RunText
+pub mod Corenesses
+pub mod ExactText
 pub mod Texts
 pub mod Stops
 pub mod Commands

@@ -1,12 +1,22 @@
 -- What became of a batch without a fault.
 use Rattle.std.specs.Prelude.{◌≡◌, Some, None}
 use Rattle.kc_graph.specs.declared.cleaning.Cleaned.{Cleaned}
-use Rattle.kcore.specs.declared.state.State.{State}
-use Rattle.kcore.specs.declared.state.Outcome.{Outcome}
-use Rattle.kcore.specs.declared.state.Outcome.TheVariants.{Accepted, Refused}
-use Rattle.kcore.specs.States.{refusal_of, IsAfter}
+use Rattle.kc_text.specs.declared.reason.Reason.{Reason}
+use Rattle.kc_engine.specs.declared.faults.EngineFault.{EngineFault}
+use Rattle.kc_engine.specs.States.{State}
+use Rattle.kc_engine.specs.Batches.{IsAfterPhases}
+use Rattle.kcore.specs.declared.applying.Outcome.{Outcome}
+use Rattle.kcore.specs.declared.applying.Outcome.TheVariants.{Accepted, Refused}
+use Rattle.kcore.specs.States.{refusal_of, reason_of}
+
+-- a batch that comes to c is refused in the state s for this reason, and leaves the state t
+pub record IsRefusedFor (s : State) (c : Cleaned) (reason : Reason) (t : State) : Type 0 where
+  pub fault : EngineFault
+  pub refused : refusal_of s c ≡ Some fault
+  pub word : reason ≡ reason_of fault
+  pub same : t ≡ s
 
 -- a batch that comes to c in the state s becomes this, and leaves the state t
 abbrev pub Becomes : State → Cleaned → Outcome → State → Type 0
-Becomes s c (Accepted d) t = (refusal_of s c ≡ None) × (d ≡ c) × IsAfter s c.added t
-Becomes s c (Refused reason) t = (refusal_of s c ≡ Some reason) × (t ≡ s)
+Becomes s c (Accepted d phases) t = (refusal_of s c ≡ None) × (d ≡ c) × IsAfterPhases s c t phases
+Becomes s c (Refused reason) t = IsRefusedFor s c reason t

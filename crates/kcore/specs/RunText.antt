@@ -1,41 +1,40 @@
 -- The text of `run`: what is written for an input.
-use Rattle.std.specs.Prelude.{ℕ, zero, suc, ◌≡◌, ◌+◌, ◌-◌, Bool, true, false, ◌||◌, List, [], ◌∷◌, ◌++◌, Option, Some, None, get_or}
-use Rattle.kc_graph.specs.declared.cleaning.Cleaned.{Cleaned}
+use Rattle.std.specs.Prelude.{ℕ, zero, suc, ◌≡◌, ◌+◌, ◌-◌, Bool, true, false, ◌||◌, List, [], ◌∷◌, ◌++◌, get_or}
 use Rattle.kc_graph.specs.Cleaning.{cleaned}
 use Rattle.kc_levels.specs.declared.profile.Profile.{Profile}
 use Rattle.kc_levels.specs.declared.thresholds.Estimate.{Estimate}
 use Rattle.kc_levels.specs.Thresholds.{est, lo, high, group_of}
 use Rattle.kc_levels.specs.LevelList.{at_least}
-use Rattle.kc_text.specs.declared.reason.Reason.{Reason}
 use Rattle.kc_batch.specs.declared.batch.Next.{Next}
 use Rattle.kc_batch.specs.declared.batch.Next.TheVariants.{Items, Refused, End}
 use Rattle.kc_batch.specs.HeaderShape.{HeaderShape}
 use Rattle.kc_batch.specs.BatchInputs.{BatchInput, WithBatches, HeaderRefused, input_of}
-use Rattle.kc_report.specs.Lines.{head_text, header_refused_line, batch_line, refused_line, vertex_line, end_line}
-use Rattle.kcore.specs.declared.state.State.{State}
-use Rattle.kcore.specs.States.{start, refusal_of, AreStates, last_state, is_refused}
+use Rattle.kc_report.specs.Lines.{head_text, header_refused_line, vertex_line, end_line}
+use Rattle.kc_groups.specs.declared.plans.PhasePlan.{PhasePlan}
+use Rattle.kc_engine.specs.States.{State}
+use Rattle.kcore.specs.declared.report.Report.{Report}
+use Rattle.kcore.specs.declared.report.Report.TheVariants.{Lines}
+use Rattle.kcore.specs.Reports.{refused_text, cleaned_text}
+use Rattle.kcore.specs.States.{Step, start, refusal_of, AreSteps, last_state, is_refused}
 
-abbrev pub cleaned_line : ℕ → ℕ → Cleaned → Option Reason → List ℕ
-cleaned_line number line c None = batch_line number c
-cleaned_line number line c (Some reason) = refused_line number line reason
+-- what is written of the batch with this number in this state, where it has these phases; one that is refused after its
+-- cleaning is refused at its `end`
+abbrev pub step_text : Report → ℕ → State → Next → List PhasePlan → List ℕ
+step_text report number s (Items batch) phases = let c = cleaned s.graph batch.items in cleaned_text report number batch.line c (refusal_of s c) phases
+step_text report number s (Refused line reason) phases = refused_text report number line reason
+step_text report number s End phases = []
 
--- the line of the batch with this number in this state; one that is refused after its cleaning is refused at its `end`
-abbrev pub step_text : ℕ → State → Next → List ℕ
-step_text number s (Items batch) = let c = cleaned s.graph batch.items in cleaned_line number batch.line c (refusal_of s c)
-step_text number s (Refused line reason) = refused_line number line reason
-step_text number s End = []
-
--- the lines of batches, of which the first has this number, with the states behind each of them
-abbrev pub batch_lines : ℕ → State → List Next → List State → List ℕ
-batch_lines number s [] ts = []
-batch_lines number s (b ∷ bs) [] = []
-batch_lines number s (b ∷ bs) (t ∷ ts) = step_text number s b ++ batch_lines (number + 1) t bs ts
+-- what is written of batches, of which the first has this number, with what each of them leads to
+abbrev pub batch_lines : Report → ℕ → State → List Next → List Step → List ℕ
+batch_lines report number s [] ts = []
+batch_lines report number s (b ∷ bs) [] = []
+batch_lines report number s (b ∷ bs) (t ∷ ts) = step_text report number s b t.phases ++ batch_lines report (number + 1) t.state bs ts
 
 -- whether one of the batches is refused
-abbrev pub some_refused : State → List Next → List State → Bool
+abbrev pub some_refused : State → List Next → List Step → Bool
 some_refused s [] ts = false
 some_refused s (b ∷ bs) [] = false
-some_refused s (b ∷ bs) (t ∷ ts) = is_refused s b || some_refused t bs ts
+some_refused s (b ∷ bs) (t ∷ ts) = is_refused s b || some_refused t.state bs ts
 
 -- what a level of n vertices says of the coreness
 abbrev pub estimate_of : Profile → ℕ → ℕ → Estimate
@@ -43,7 +42,7 @@ estimate_of p n level = let j = group_of p n level in record { est = est p j; lo
 
 -- what is printed of vertex v
 abbrev pub printed_of : State → ℕ → Estimate
-printed_of s v = estimate_of s.thresholds.profile s.thresholds.vertices (get_or s.levels v 0)
+printed_of s v = estimate_of s.profile s.graph.vertices (get_or s.levels v 0)
 
 -- the line of vertex v: its level, the estimate and the bounds of its coreness, and how many of its neighbours stand on its
 -- level or above, and on the level below or above (on level 0 all of them)
@@ -63,12 +62,12 @@ tail_text n s = vertex_lines s n ++ end_line
 
 -- a whole text of a header with these batches, and whether some of them are refused
 pub record IsRun (header : HeaderShape) (batches : List Next) (text : List ℕ) (refused : Bool) : Type 0 where
-  pub states : List State
-  pub are_states : AreStates (start header.profile header.n) batches states
+  pub steps : List Step
+  pub are_steps : AreSteps (start header.profile header.n) batches steps
   pub text_is :
-      text ≡ head_text header.n ++ (batch_lines 1 (start header.profile header.n) batches states
-      ++ tail_text header.n (last_state (start header.profile header.n) states))
-  pub refusal : some_refused (start header.profile header.n) batches states ≡ refused
+      text ≡ head_text header.n ++ (batch_lines Lines 1 (start header.profile header.n) batches steps
+      ++ tail_text header.n (last_state (start header.profile header.n) steps))
+  pub refusal : some_refused (start header.profile header.n) batches steps ≡ refused
 
 -- what bytes say to the program: lines have at most 65,536 bytes, the input at most 1,073,741,824, and a batch at most
 -- 1,048,576 items

@@ -1,24 +1,43 @@
 //! The commands of the program.
 ghost use Rattle.std.specs.Prelude.{◌≡◌, ◌∷◌, []};
-ghost use Rattle.kcore.specs.Commands.{command_of};
+ghost use Rattle.kcore.specs.Commands.{command_of, FitsWorkers};
 
 use crate::word::is_word;
-use kc_text::Words;
+use kc_text::{Words, read_number};
 
 /// What the words of a command line ask for.
 #[derive(Clone, Copy, Debug, PartialEq, Eq)]
 pub enum Command {
-    /// `run 1`: apply the batches of an input in turn, and print each batch and then each vertex.
-    RunOne,
+    /// `run W`: apply the batches of an input in turn with W workers, 1 to 64, and print each batch and then each vertex.
+    Run { workers: u32 },
+    /// `exact`: apply the batches of an input in turn, and print the coreness of each vertex behind them.
+    Exact,
 }
 
 // The command of two words.
 #[tactic(auto, unfolding(crate::specs::Commands::command_of))]
 fn of_two(name: &[u8], workers: &[u8]) -> Option<Command>
-    ensures { result ≡ command_of (name.now ∷ workers.now ∷ []) }
+    ensures command { result ≡ command_of (name.now ∷ workers.now ∷ []) }
+    ensures few { FitsWorkers result }
 {
-    if is_word(name, b"run") && is_word(workers, b"1") {
-        Some(Command::RunOne)
+    if !is_word(name, b"run") {
+        return None;
+    }
+    let workers = read_number(workers)?;
+    if workers < 1 || workers > 64 {
+        return None;
+    }
+    Some(Command::Run { workers })
+}
+
+// The command of one word.
+#[tactic(auto, unfolding(crate::specs::Commands::command_of))]
+fn of_one(name: &[u8]) -> Option<Command>
+    ensures command { result ≡ command_of (name.now ∷ []) }
+    ensures few { FitsWorkers result }
+{
+    if is_word(name, b"exact") {
+        Some(Command::Exact)
     } else {
         None
     }
@@ -27,9 +46,14 @@ fn of_two(name: &[u8], workers: &[u8]) -> Option<Command>
 impl Command {
     /// The command of a command line, or None where the words name none.
     pub fn from_words(words: &Words) -> Option<Command>
-        ensures { result ≡ command_of words.now }
+        ensures command { result ≡ command_of words.now }
+        ensures few { FitsWorkers result }
     {
-        if words.len() != 2 {
+        let count = words.len();
+        if count == 1 {
+            return of_one(words.word(0));
+        }
+        if count != 2 {
             return None;
         }
         of_two(words.word(0), words.word(1))

@@ -1,18 +1,21 @@
 //! The program `kcore`: an approximate k-core decomposition of a graph, from bytes to bytes.
 //!
 //! [`top::run_command`] is the program; `main` only hands it the words of the command line, the standard input and
-//! output, and ends with its exit number. `run` reads the batches of an input in turn and writes their lines, `state` says
-//! what each of them does, its levels come from `insert_rounds`, and the lines of the vertices are written in `vertices`.
+//! output, and ends with its exit number. `run` reads the batches of an input in turn and writes what is due of each (`report`),
+//! `applying` gives each of them to the engine, and the lines of the vertices are written in `vertices`, those of an exact text
+//! in `exact`.
 #![tactic(auto)]
 
 ghost use Rattle.kcore.specs.Commands.{EndsAs};
 
+mod applying;
 mod command;
-pub mod insert_rounds;
+mod exact;
 pub mod laws;
+mod report;
 mod run;
-mod state;
 mod status;
+mod stop;
 #[cfg(test)]
 mod tests;
 pub mod top;

@@ -1,103 +1,65 @@
-//! The command `run`: the batches of an input, from bytes to bytes.
-ghost use Rattle.std.specs.Prelude.{◌≡◌, ◌≤◌, ◌^◌, ◌+◌, [], Option, OnOk};
+//! The batches of an input, from bytes to bytes: the command `run`, and what other commands settle before they write.
+ghost use Rattle.std.specs.Prelude.{◌≡◌, ◌≤◌, ◌^◌, ◌+◌, [], Option, OnOk, IfOk};
 ghost use Rattle.std.specs.Option.{option_map};
 ghost use Rattle.kc_text.specs.Reading.{budget};
 ghost use Rattle.kc_batch.specs.Batches.{batches_left, IsNext, IsEnd};
 ghost use Rattle.kc_batch.specs.Headers.{IsHeader};
-ghost use Rattle.kcore.specs.States.{IsSound};
+ghost use Rattle.kcore.specs.States.{IsOpen};
 ghost use Rattle.kcore.specs.RunText.{input_said};
-ghost use Rattle.kcore.specs.Stops.{is_last_batch, RunsBatches, Writes, WritesRun, WritesStep, StopCause, WriteStop};
+ghost use Rattle.kcore.specs.Stops.{is_last_batch, RunsBatches, Settles, Writes, WritesRun, WritesStep, StopCause, WriteStop};
 
-use crate::state::{Outcome, State, apply, start};
+use crate::applying::{Outcome, apply, open};
+use crate::report::Report;
+use crate::stop::Stop;
 use crate::vertices::write_tail;
-use kc_batch::{BatchFault, Header, HeaderFault, Next, next_batch};
+use kc_batch::{Header, HeaderFault, Next, next_batch};
+use kc_engine::Engine;
 use kc_graph::MAX_ITEMS;
-use kc_report::{write_batch, write_head, write_header_refused, write_refused};
+use kc_report::{write_head, write_header_refused};
 use kc_rounds::Gate;
-use kc_text::{LineBuf, LineReader, Reason, SendFault, Sink, Source};
-use std::alloc::{AllocError, Global};
+use kc_text::{LineBuf, LineReader, Reason, Sink, Source};
+use std::alloc::Global;
 use std::thread::Threads;
 
 // The greatest number of bytes of a line, and of the input.
-const LINE_LIMIT: u32 = 65_536;
+pub const LINE_LIMIT: u32 = 65_536;
 
-const INPUT_LIMIT: u32 = 1_073_741_824;
+pub const INPUT_LIMIT: u32 = 1_073_741_824;
 
-/// Why a run stopped before its end.
-#[derive(Clone, Copy, Debug, PartialEq, Eq)]
-pub enum Stop {
-    ReadFault,
-    WriteFault,
-    Memory,
-}
-
-impl From<AllocError> for Stop {
-    ghost use Rattle.kcore.specs.declared.run.Stop.TheVariants.{Memory};
-
-    ghost from_gives = { λ _ s. s ≡ Memory };
-
-    fn from(_fault: AllocError) -> Stop {
-        Stop::Memory
-    }
-}
-
-impl From<BatchFault> for Stop {
-    ghost use Rattle.kcore.specs.Stops.{stop_of_batch};
-
-    ghost from_gives = { λ f s. s ≡ stop_of_batch f };
-
-    fn from(fault: BatchFault) -> Stop {
-        match fault {
-            BatchFault::ReadFault => Stop::ReadFault,
-            BatchFault::Memory(_) => Stop::Memory,
-        }
-    }
-}
-
-impl From<SendFault> for Stop {
-    ghost use Rattle.kcore.specs.Stops.{stop_of_send};
-
-    ghost from_gives = { λ f s. s ≡ stop_of_send f };
-
-    fn from(fault: SendFault) -> Stop {
-        match fault {
-            SendFault::WriteFault => Stop::WriteFault,
-            SendFault::Memory(_) => Stop::Memory,
-        }
-    }
-}
-
-// Applies the batch with this number and writes its line. Says whether it is refused.
+// Applies the batch with this number and writes what is due of it. Says whether it is refused.
 fn run_batch<R: Threads + Sync, K: Sink, G: Gate + Sync>(
     rt: &R,
     alloc: Global,
     gate: &G,
-    state: &mut State,
+    engine: &mut Engine,
     buf: &mut LineBuf,
     sink: &mut K,
+    report: Report,
     number: u32,
     next: Next,
 ) -> Result<bool, Stop>
-    requires sound { IsSound state.old }
-    requires batch { IsNext state.old.graph.vertices 1048576 next }
+    requires open { IsOpen engine.old }
+    requires batch { IsNext engine.old.state.graph.vertices 1048576 next }
     requires empty { buf.old ≡ [] }
-    ensures step { WritesStep number next state.old state.new (K.taken sink.old) (K.taken sink.new) result }
+    ensures step { WritesStep report number next engine.old.state engine.new.state (K.taken sink.old) (K.taken sink.new) result }
+    ensures open { OnOk result (IsOpen engine.new) }
     ensures empty { OnOk result (buf.new ≡ []) }
     ensures cause { WriteStop (K.faults sink.old) (K.faults sink.new) result }
 {
+    let _n = engine.graph().vertices();
     match next {
-        Next::Items(batch) => match apply(rt, alloc, gate, state, batch.items.as_slice())? {
-            Outcome::Accepted(cleaned) => {
-                write_batch(alloc, buf, sink, number, &cleaned)?;
+        Next::Items(batch) => match apply(rt, alloc, gate, engine, batch.items.as_slice())? {
+            Outcome::Accepted(cleaned, phases) => {
+                report.write_accepted(alloc, buf, sink, number, &cleaned, phases.as_slice())?;
                 Ok(false)
             }
             Outcome::Refused(reason) => {
-                write_refused(alloc, buf, sink, number, batch.line, reason)?;
+                report.write_refusal(alloc, buf, sink, number, batch.line, reason)?;
                 Ok(true)
             }
         },
         Next::Refused { line, reason } => {
-            write_refused(alloc, buf, sink, number, line, reason)?;
+            report.write_refusal(alloc, buf, sink, number, line, reason)?;
             Ok(true)
         }
         Next::End => Ok(false),
@@ -117,25 +79,26 @@ fn is_last(next: &Next) -> bool
     )
 }
 
-// Runs the batches of a graph of n vertices, and leaves the state behind them. Says whether one was refused.
+// Runs the batches of a graph of n vertices, and leaves the engine behind them. Says whether one was refused.
 fn run_batches<R: Threads + Sync, S: Source, K: Sink, G: Gate + Sync>(
     rt: &R,
     alloc: Global,
     gate: &G,
     n: u32,
-    state: &mut State,
+    engine: &mut Engine,
     buf: &mut LineBuf,
     reader: &mut LineReader,
     src: &mut S,
     sink: &mut K,
+    report: Report,
 ) -> Result<bool, Stop>
-    requires sound { IsSound state.old }
-    requires vertices { state.old.graph.vertices ≡ n }
+    requires open { IsOpen engine.old }
+    requires vertices { engine.old.state.graph.vertices ≡ n }
     requires empty { buf.old ≡ [] }
     requires budget { budget reader.old ≤ 2 ^ 30 + 1 }
-    ensures text { RunsBatches state.old state.new (batches_left n 1048576 reader.old (S.left src.old)) (K.taken sink.old) (K.taken sink.new) result }
-    ensures sound { OnOk result (IsSound state.new) }
-    ensures vertices { OnOk result (state.new.graph.vertices ≡ n) }
+    ensures text { RunsBatches report engine.old.state engine.new.state (batches_left n 1048576 reader.old (S.left src.old)) (K.taken sink.old) (K.taken sink.new) result }
+    ensures open { OnOk result (IsOpen engine.new) }
+    ensures vertices { OnOk result (engine.new.state.graph.vertices ≡ n) }
     ensures empty { OnOk result (buf.new ≡ []) }
     ensures cause { StopCause (S.faults src.old) (S.faults src.new) (K.faults sink.old) (K.faults sink.new) result }
 {
@@ -148,7 +111,7 @@ fn run_batches<R: Threads + Sync, S: Source, K: Sink, G: Gate + Sync>(
         }
         let last = is_last(&next);
         number += 1;
-        if run_batch(rt, alloc, gate, state, buf, sink, number, next)? {
+        if run_batch(rt, alloc, gate, engine, buf, sink, report, number, next)? {
             refused = true;
         }
         if last {
@@ -157,16 +120,64 @@ fn run_batches<R: Threads + Sync, S: Source, K: Sink, G: Gate + Sync>(
     }
 }
 
+/// What the batches of an input have come to.
+#[derive(Drop)]
+pub struct Settled {
+    pub engine: Engine,
+    /// Whether one of them was refused.
+    pub refused: bool,
+}
+
+/// Applies the batches behind a header, and writes a note of each that is refused. The buffer is empty, and is again
+/// after Ok.
+pub fn settle<R: Threads + Sync, S: Source, K: Sink, G: Gate + Sync>(
+    rt: &R,
+    alloc: Global,
+    gate: &G,
+    header: &Header,
+    buf: &mut LineBuf,
+    reader: &mut LineReader,
+    src: &mut S,
+    sink: &mut K,
+) -> Result<Settled, Stop>
+    requires header { IsHeader header.now }
+    requires empty { buf.old ≡ [] }
+    requires budget { budget reader.old ≤ 2 ^ 30 + 1 }
+    ensures text { Settles header.now (batches_left header.now.n 1048576 reader.old (S.left src.old)) (K.taken sink.old) (K.taken sink.new) result }
+    ensures open { IfOk result (λ settled. IsOpen settled.engine) }
+    ensures vertices { IfOk result (λ settled. settled.engine.state.graph.vertices ≡ header.now.n) }
+    ensures empty { OnOk result (buf.new ≡ []) }
+    ensures cause { StopCause (S.faults src.old) (S.faults src.new) (K.faults sink.old) (K.faults sink.new) result }
+{
+    let mut engine = open(alloc, header.profile, header.n, 1)?;
+    let n = header.n;
+    let refused = run_batches(
+        rt,
+        alloc,
+        gate,
+        n,
+        &mut engine,
+        buf,
+        reader,
+        src,
+        sink,
+        Report::Notes,
+    )?;
+    Ok(Settled { engine, refused })
+}
+
 // Runs what is behind a header. Says whether a batch was refused.
 fn run_header<R: Threads + Sync, S: Source, K: Sink, G: Gate + Sync>(
     rt: &R,
     alloc: Global,
     gate: &G,
+    workers: u32,
     header: &Header,
     reader: &mut LineReader,
     src: &mut S,
     sink: &mut K,
 ) -> Result<bool, Stop>
+    requires few_workers { (1 ≤ workers) × (workers ≤ 64) }
     requires header { IsHeader header.now }
     requires budget { budget reader.old ≤ 2 ^ 30 + 1 }
     ensures text { WritesRun header.now (batches_left header.now.n 1048576 reader.old (S.left src.old)) (K.taken sink.old) (K.taken sink.new) result }
@@ -174,10 +185,21 @@ fn run_header<R: Threads + Sync, S: Source, K: Sink, G: Gate + Sync>(
 {
     let mut buf = LineBuf::new(alloc);
     write_head(alloc, &mut buf, sink, header.n)?;
-    let mut state = start(alloc, header.profile, header.n)?;
+    let mut engine = open(alloc, header.profile, header.n, workers)?;
     let n = header.n;
-    let refused = run_batches(rt, alloc, gate, n, &mut state, &mut buf, reader, src, sink)?;
-    write_tail(alloc, &mut buf, sink, n, &state)?;
+    let refused = run_batches(
+        rt,
+        alloc,
+        gate,
+        n,
+        &mut engine,
+        &mut buf,
+        reader,
+        src,
+        sink,
+        Report::Lines,
+    )?;
+    write_tail(alloc, &mut buf, sink, n, &engine)?;
     Ok(refused)
 }
 
@@ -185,16 +207,18 @@ fn run_header<R: Threads + Sync, S: Source, K: Sink, G: Gate + Sync>(
 pub fn run_one<R: Threads + Sync, S: Source, K: Sink, G: Gate + Sync>(
     rt: &R,
     alloc: Global,
+    workers: u32,
     src: &mut S,
     sink: &mut K,
     gate: &G,
 ) -> Result<bool, Stop>
+    requires few_workers { (1 ≤ workers) × (workers ≤ 64) }
     ensures text { Writes (option_map input_said (S.left src.old)) (K.taken sink.old) (K.taken sink.new) result }
     ensures cause { StopCause (S.faults src.old) (S.faults src.new) (K.faults sink.old) (K.faults sink.new) result }
 {
     let mut reader = LineReader::new(alloc, LINE_LIMIT, INPUT_LIMIT)?;
     match Header::read(alloc, &mut reader, src) {
-        Ok(header) => run_header(rt, alloc, gate, &header, &mut reader, src, sink),
+        Ok(header) => run_header(rt, alloc, gate, workers, &header, &mut reader, src, sink),
         Err(HeaderFault::Refused { line }) => {
             write_header_refused(alloc, &mut LineBuf::new(alloc), sink, line)?;
             Ok(true)

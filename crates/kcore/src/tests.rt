@@ -1,6 +1,10 @@
 // The top call over sources and sinks in memory. Each text was worked out by hand from its input.
 ghost use Rattle.std.specs.Prelude.{◌<◌};
 
+mod comparing;
+mod pieces;
+mod recounting;
+
 use crate::status::Status;
 use crate::top::run_command;
 use kc_rounds::OpenGate;
@@ -33,35 +37,35 @@ fn answer<R: Threads + Sync>(
 
 #[test]
 fn runs_in_any_pieces(rt: HostRuntime) -> Result<(), Fail> {
-    let rows: [(&[u8], &[u8], Status); 18] = [
+    let rows: [(&[u8], &[u8], Status); 22] = [
         // A path.
         (
             b"kcore 1\nvertices 5\nbatch\n+ 0 1\n1 2\nend\n",
-            b"kcore-run 1\nvertices 5\nbatch 1 loops 0 repeats 0 idle 0 removed 0 added 2\nvertex 0 level 1 est 2 low 1 high 2 up 1 down 1\nvertex 1 level 1 est 2 low 1 high 2 up 2 down 2\nvertex 2 level 1 est 2 low 1 high 2 up 1 down 1\nvertex 3 level 0 est 0 low 0 high 0 up 0 down 0\nvertex 4 level 0 est 0 low 0 high 0 up 0 down 0\nend\n",
+            b"kcore-run 1\nvertices 5\nbatch 1 loops 0 repeats 0 idle 0 removed 0 added 2\nphase 1 insert quiet 0\ngroup 1 0 0:1 1:1 2:1\nvertex 0 level 1 est 2 low 1 high 2 up 1 down 1\nvertex 1 level 1 est 2 low 1 high 2 up 2 down 2\nvertex 2 level 1 est 2 low 1 high 2 up 1 down 1\nvertex 3 level 0 est 0 low 0 high 0 up 0 down 0\nvertex 4 level 0 est 0 low 0 high 0 up 0 down 0\nend\n",
             Status::Done,
         ),
         // The complete graph on four vertices, and then an edge to the fifth.
         (
             b"kcore 1\nvertices 5\nbatch\n0 1\n0 2\n0 3\n1 2\n1 3\n2 3\nend\nbatch\n+ 3 4\nend\n",
-            b"kcore-run 1\nvertices 5\nbatch 1 loops 0 repeats 0 idle 0 removed 0 added 6\nbatch 2 loops 0 repeats 0 idle 0 removed 0 added 1\nvertex 0 level 6 est 2 low 1 high 4 up 3 down 3\nvertex 1 level 6 est 2 low 1 high 4 up 3 down 3\nvertex 2 level 6 est 2 low 1 high 4 up 3 down 3\nvertex 3 level 6 est 2 low 1 high 4 up 3 down 3\nvertex 4 level 1 est 2 low 1 high 2 up 1 down 1\nend\n",
+            b"kcore-run 1\nvertices 5\nbatch 1 loops 0 repeats 0 idle 0 removed 0 added 6\nphase 1 insert quiet 0\ngroup 1 0 0:6 1:6 2:6 3:6\nbatch 2 loops 0 repeats 0 idle 0 removed 0 added 1\nphase 2 insert quiet 0\ngroup 2 4 4:1\nvertex 0 level 6 est 2 low 1 high 4 up 3 down 3\nvertex 1 level 6 est 2 low 1 high 4 up 3 down 3\nvertex 2 level 6 est 2 low 1 high 4 up 3 down 3\nvertex 3 level 6 est 2 low 1 high 4 up 3 down 3\nvertex 4 level 1 est 2 low 1 high 2 up 1 down 1\nend\n",
             Status::Done,
         ),
         // A star.
         (
             b"kcore 1\nvertices 5\nbatch\n0 1\n0 2\n0 3\n0 4\nend\n",
-            b"kcore-run 1\nvertices 5\nbatch 1 loops 0 repeats 0 idle 0 removed 0 added 4\nvertex 0 level 2 est 2 low 1 high 2 up 0 down 4\nvertex 1 level 1 est 2 low 1 high 2 up 1 down 1\nvertex 2 level 1 est 2 low 1 high 2 up 1 down 1\nvertex 3 level 1 est 2 low 1 high 2 up 1 down 1\nvertex 4 level 1 est 2 low 1 high 2 up 1 down 1\nend\n",
+            b"kcore-run 1\nvertices 5\nbatch 1 loops 0 repeats 0 idle 0 removed 0 added 4\nphase 1 insert quiet 0\ngroup 1 0 0:2 1:1 2:1 3:1 4:1\nvertex 0 level 2 est 2 low 1 high 2 up 0 down 4\nvertex 1 level 1 est 2 low 1 high 2 up 1 down 1\nvertex 2 level 1 est 2 low 1 high 2 up 1 down 1\nvertex 3 level 1 est 2 low 1 high 2 up 1 down 1\nvertex 4 level 1 est 2 low 1 high 2 up 1 down 1\nend\n",
             Status::Done,
         ),
         // A second batch lifts the vertex in the middle.
         (
             b"kcore 1\nvertices 5\nbatch\n0 1\n0 2\nend\nbatch\n+ 0 3\nend\n",
-            b"kcore-run 1\nvertices 5\nbatch 1 loops 0 repeats 0 idle 0 removed 0 added 2\nbatch 2 loops 0 repeats 0 idle 0 removed 0 added 1\nvertex 0 level 2 est 2 low 1 high 2 up 0 down 3\nvertex 1 level 1 est 2 low 1 high 2 up 1 down 1\nvertex 2 level 1 est 2 low 1 high 2 up 1 down 1\nvertex 3 level 1 est 2 low 1 high 2 up 1 down 1\nvertex 4 level 0 est 0 low 0 high 0 up 0 down 0\nend\n",
+            b"kcore-run 1\nvertices 5\nbatch 1 loops 0 repeats 0 idle 0 removed 0 added 2\nphase 1 insert quiet 0\ngroup 1 0 0:1 1:1 2:1\nbatch 2 loops 0 repeats 0 idle 0 removed 0 added 1\nphase 2 insert quiet 0\ngroup 2 0 0:2 3:1\nvertex 0 level 2 est 2 low 1 high 2 up 0 down 3\nvertex 1 level 1 est 2 low 1 high 2 up 1 down 1\nvertex 2 level 1 est 2 low 1 high 2 up 1 down 1\nvertex 3 level 1 est 2 low 1 high 2 up 1 down 1\nvertex 4 level 0 est 0 low 0 high 0 up 0 down 0\nend\n",
             Status::Done,
         ),
         // The complete graph on eight vertices.
         (
             b"kcore 1\nvertices 8\nbatch\n0 1\n0 2\n0 3\n0 4\n0 5\n0 6\n0 7\n1 2\n1 3\n1 4\n1 5\n1 6\n1 7\n2 3\n2 4\n2 5\n2 6\n2 7\n3 4\n3 5\n3 6\n3 7\n4 5\n4 6\n4 7\n5 6\n5 7\n6 7\nend\n",
-            b"kcore-run 1\nvertices 8\nbatch 1 loops 0 repeats 0 idle 0 removed 0 added 28\nvertex 0 level 19 est 4 low 2 high 8 up 7 down 7\nvertex 1 level 19 est 4 low 2 high 8 up 7 down 7\nvertex 2 level 19 est 4 low 2 high 8 up 7 down 7\nvertex 3 level 19 est 4 low 2 high 8 up 7 down 7\nvertex 4 level 19 est 4 low 2 high 8 up 7 down 7\nvertex 5 level 19 est 4 low 2 high 8 up 7 down 7\nvertex 6 level 19 est 4 low 2 high 8 up 7 down 7\nvertex 7 level 19 est 4 low 2 high 8 up 7 down 7\nend\n",
+            b"kcore-run 1\nvertices 8\nbatch 1 loops 0 repeats 0 idle 0 removed 0 added 28\nphase 1 insert quiet 0\ngroup 1 0 0:19 1:19 2:19 3:19 4:19 5:19 6:19 7:19\nvertex 0 level 19 est 4 low 2 high 8 up 7 down 7\nvertex 1 level 19 est 4 low 2 high 8 up 7 down 7\nvertex 2 level 19 est 4 low 2 high 8 up 7 down 7\nvertex 3 level 19 est 4 low 2 high 8 up 7 down 7\nvertex 4 level 19 est 4 low 2 high 8 up 7 down 7\nvertex 5 level 19 est 4 low 2 high 8 up 7 down 7\nvertex 6 level 19 est 4 low 2 high 8 up 7 down 7\nvertex 7 level 19 est 4 low 2 high 8 up 7 down 7\nend\n",
             Status::Done,
         ),
         // A loop, a repeat and an idle item; an empty batch.
@@ -73,20 +77,44 @@ fn runs_in_any_pieces(rt: HostRuntime) -> Result<(), Fail> {
         // SNAP text: comments, tabs, both directions, CR LF.
         (
             b"kcore 1\r\nvertices 3\r\nbatch\r\n# Undirected graph\r\n# FromNodeId\tToNodeId\r\n0\t1\r\n1\t0\r\n1\t2\r\n2\t1\r\nend\r\n",
-            b"kcore-run 1\nvertices 3\nbatch 1 loops 0 repeats 2 idle 0 removed 0 added 2\nvertex 0 level 1 est 2 low 1 high 2 up 1 down 1\nvertex 1 level 1 est 2 low 1 high 2 up 2 down 2\nvertex 2 level 1 est 2 low 1 high 2 up 1 down 1\nend\n",
+            b"kcore-run 1\nvertices 3\nbatch 1 loops 0 repeats 2 idle 0 removed 0 added 2\nphase 1 insert quiet 0\ngroup 1 0 0:1 1:1 2:1\nvertex 0 level 1 est 2 low 1 high 2 up 1 down 1\nvertex 1 level 1 est 2 low 1 high 2 up 2 down 2\nvertex 2 level 1 est 2 low 1 high 2 up 1 down 1\nend\n",
             Status::Done,
         ),
         // A refused batch between two others.
         (
             b"kcore 1\nvertices 3\nbatch\n0 1\nend\nbatch\n1 2\n0 2\n1 3\nend\nbatch\n1 2\nend\n",
-            b"kcore-run 1\nvertices 3\nbatch 1 loops 0 repeats 0 idle 0 removed 0 added 1\nbatch 2 refused line 9 bad-vertex\nbatch 3 loops 0 repeats 0 idle 0 removed 0 added 1\nvertex 0 level 1 est 2 low 1 high 2 up 1 down 1\nvertex 1 level 1 est 2 low 1 high 2 up 2 down 2\nvertex 2 level 1 est 2 low 1 high 2 up 1 down 1\nend\n",
+            b"kcore-run 1\nvertices 3\nbatch 1 loops 0 repeats 0 idle 0 removed 0 added 1\nphase 1 insert quiet 0\ngroup 1 0 0:1 1:1\nbatch 2 refused line 9 bad-vertex\nbatch 3 loops 0 repeats 0 idle 0 removed 0 added 1\nphase 2 insert quiet 0\ngroup 2 2 2:1\nvertex 0 level 1 est 2 low 1 high 2 up 1 down 1\nvertex 1 level 1 est 2 low 1 high 2 up 2 down 2\nvertex 2 level 1 est 2 low 1 high 2 up 1 down 1\nend\n",
             Status::Refused,
         ),
-        // A batch that would remove an edge is refused at its end.
+        // A batch takes out all edges of a star, and all levels fall.
+        (
+            b"kcore 1\nvertices 5\nbatch\n0 1\n0 2\n0 3\n0 4\nend\nbatch\n- 0 1\n- 0 2\n- 0 3\n- 0 4\nend\n",
+            b"kcore-run 1\nvertices 5\nbatch 1 loops 0 repeats 0 idle 0 removed 0 added 4\nphase 1 insert quiet 0\ngroup 1 0 0:2 1:1 2:1 3:1 4:1\nbatch 2 loops 0 repeats 0 idle 0 removed 4 added 0\nphase 2 delete quiet 0\ngroup 2 0 0:0 1:0 2:0 3:0 4:0\nvertex 0 level 0 est 0 low 0 high 0 up 0 down 0\nvertex 1 level 0 est 0 low 0 high 0 up 0 down 0\nvertex 2 level 0 est 0 low 0 high 0 up 0 down 0\nvertex 3 level 0 est 0 low 0 high 0 up 0 down 0\nvertex 4 level 0 est 0 low 0 high 0 up 0 down 0\nend\n",
+            Status::Done,
+        ),
+        // A vertex that rose stays where it is, though fewer edges at once would not have lifted it.
+        (
+            b"kcore 1\nvertices 5\nbatch\n0 1\n0 2\nend\nbatch\n+ 0 3\nend\nbatch\n- 0 3\nend\n",
+            b"kcore-run 1\nvertices 5\nbatch 1 loops 0 repeats 0 idle 0 removed 0 added 2\nphase 1 insert quiet 0\ngroup 1 0 0:1 1:1 2:1\nbatch 2 loops 0 repeats 0 idle 0 removed 0 added 1\nphase 2 insert quiet 0\ngroup 2 0 0:2 3:1\nbatch 3 loops 0 repeats 0 idle 0 removed 1 added 0\nphase 3 delete quiet 0\ngroup 3 3 3:0\nvertex 0 level 2 est 2 low 1 high 2 up 0 down 2\nvertex 1 level 1 est 2 low 1 high 2 up 1 down 1\nvertex 2 level 1 est 2 low 1 high 2 up 1 down 1\nvertex 3 level 0 est 0 low 0 high 0 up 0 down 0\nvertex 4 level 0 est 0 low 0 high 0 up 0 down 0\nend\n",
+            Status::Done,
+        ),
+        // An edge leaves, and no level falls.
+        (
+            b"kcore 1\nvertices 5\nbatch\n0 1\n0 2\n0 3\n1 2\n1 3\n2 3\nend\nbatch\n- 0 1\nend\n",
+            b"kcore-run 1\nvertices 5\nbatch 1 loops 0 repeats 0 idle 0 removed 0 added 6\nphase 1 insert quiet 0\ngroup 1 0 0:6 1:6 2:6 3:6\nbatch 2 loops 0 repeats 0 idle 0 removed 1 added 0\nphase 2 delete quiet 1\nvertex 0 level 6 est 2 low 1 high 4 up 2 down 2\nvertex 1 level 6 est 2 low 1 high 4 up 2 down 2\nvertex 2 level 6 est 2 low 1 high 4 up 3 down 3\nvertex 3 level 6 est 2 low 1 high 4 up 3 down 3\nvertex 4 level 0 est 0 low 0 high 0 up 0 down 0\nend\n",
+            Status::Done,
+        ),
+        // A vertex falls by some levels.
+        (
+            b"kcore 1\nvertices 8\nbatch\n0 1\n0 2\n0 3\n0 4\n0 5\n0 6\n0 7\n1 2\n1 3\n1 4\n1 5\n1 6\n1 7\n2 3\n2 4\n2 5\n2 6\n2 7\n3 4\n3 5\n3 6\n3 7\n4 5\n4 6\n4 7\n5 6\n5 7\n6 7\nend\nbatch\n- 0 1\n- 0 2\n- 0 3\n- 0 4\n- 0 5\nend\n",
+            b"kcore-run 1\nvertices 8\nbatch 1 loops 0 repeats 0 idle 0 removed 0 added 28\nphase 1 insert quiet 0\ngroup 1 0 0:19 1:19 2:19 3:19 4:19 5:19 6:19 7:19\nbatch 2 loops 0 repeats 0 idle 0 removed 5 added 0\nphase 2 delete quiet 0\ngroup 2 0 0:13\nvertex 0 level 13 est 2 low 1 high 6 up 2 down 2\nvertex 1 level 19 est 4 low 2 high 8 up 6 down 6\nvertex 2 level 19 est 4 low 2 high 8 up 6 down 6\nvertex 3 level 19 est 4 low 2 high 8 up 6 down 6\nvertex 4 level 19 est 4 low 2 high 8 up 6 down 6\nvertex 5 level 19 est 4 low 2 high 8 up 6 down 6\nvertex 6 level 19 est 4 low 2 high 8 up 6 down 6\nvertex 7 level 19 est 4 low 2 high 8 up 6 down 6\nend\n",
+            Status::Done,
+        ),
+        // One batch takes an edge out and puts another in.
         (
             b"kcore 1\nvertices 5\nbatch\n0 1\nend\nbatch\n- 0 1\n+ 0 2\nend\n",
-            b"kcore-run 1\nvertices 5\nbatch 1 loops 0 repeats 0 idle 0 removed 0 added 1\nbatch 2 refused line 9 bad-line\nvertex 0 level 1 est 2 low 1 high 2 up 1 down 1\nvertex 1 level 1 est 2 low 1 high 2 up 1 down 1\nvertex 2 level 0 est 0 low 0 high 0 up 0 down 0\nvertex 3 level 0 est 0 low 0 high 0 up 0 down 0\nvertex 4 level 0 est 0 low 0 high 0 up 0 down 0\nend\n",
-            Status::Refused,
+            b"kcore-run 1\nvertices 5\nbatch 1 loops 0 repeats 0 idle 0 removed 0 added 1\nphase 1 insert quiet 0\ngroup 1 0 0:1 1:1\nbatch 2 loops 0 repeats 0 idle 0 removed 1 added 1\nphase 2 delete quiet 0\ngroup 2 0 0:0 1:0\nphase 3 insert quiet 0\ngroup 3 0 0:1 2:1\nvertex 0 level 1 est 2 low 1 high 2 up 1 down 1\nvertex 1 level 0 est 0 low 0 high 0 up 0 down 0\nvertex 2 level 1 est 2 low 1 high 2 up 1 down 1\nvertex 3 level 0 est 0 low 0 high 0 up 0 down 0\nvertex 4 level 0 est 0 low 0 high 0 up 0 down 0\nend\n",
+            Status::Done,
         ),
         // The input ends within a batch.
         (
@@ -116,7 +144,7 @@ fn runs_in_any_pieces(rt: HostRuntime) -> Result<(), Fail> {
         // An ask is read and checked.
         (
             b"kcore 1\nvertices 2\nask 2 0 1\nbatch\n1 0\nend\n",
-            b"kcore-run 1\nvertices 2\nbatch 1 loops 0 repeats 0 idle 0 removed 0 added 1\nvertex 0 level 1 est 2 low 1 high 2 up 1 down 1\nvertex 1 level 1 est 2 low 1 high 2 up 1 down 1\nend\n",
+            b"kcore-run 1\nvertices 2\nbatch 1 loops 0 repeats 0 idle 0 removed 0 added 1\nphase 1 insert quiet 0\ngroup 1 0 0:1 1:1\nvertex 0 level 1 est 2 low 1 high 2 up 1 down 1\nvertex 1 level 1 est 2 low 1 high 2 up 1 down 1\nend\n",
             Status::Done,
         ),
         // An ask behind a batch, and one that isn't whole.
@@ -132,8 +160,8 @@ fn runs_in_any_pieces(rt: HostRuntime) -> Result<(), Fail> {
         ),
     ];
     for (input, text, status) in rows {
-        for piece in [1, 2, 7, 1_000_000] {
-            let (got, written) = answer(&rt, rt.alloc(), "run 1", input, piece, (&[], &[]))?;
+        for (line, piece) in [("run 1", 1), ("run 3", 2), ("run 064", 1_000_000)] {
+            let (got, written) = answer(&rt, rt.alloc(), line, input, piece, (&[], &[]))?;
             assert_eq!(rt; got, status);
             assert_eq!(rt; written.as_slice(), text);
         }
@@ -161,7 +189,8 @@ fn other_words_name_no_command(rt: HostRuntime) -> Result<(), Fail> {
         "",
         "run",
         "run 0",
-        "run 01",
+        "run +1",
+        "run 00000000001",
         "run 65",
         "run 1 1",
         "exact 1",
@@ -200,7 +229,7 @@ fn is_proper_prefix(some: &[u8], all: &[u8]) -> bool {
     some.len() < all.len() && some == &all[..some.len()]
 }
 
-// Each read and each write fails in turn: the run makes 11 reads and 66 writes.
+// Each read and each write fails in turn: the run makes 11 reads and 83 writes.
 #[test]
 fn each_fault_leaves_a_prefix(rt: HostRuntime) -> Result<(), Fail> {
     let input: &[u8] =
@@ -212,13 +241,64 @@ fn each_fault_leaves_a_prefix(rt: HostRuntime) -> Result<(), Fail> {
         assert_eq!(rt; status, Status::ReadFault, "at read {call}");
         assert!(rt; is_proper_prefix(&written, &whole), "at read {call}");
     }
-    let (status, written) = answer(&rt, rt.alloc(), "run 1", input, 5, (&[], &[67]))?;
+    let (status, written) = answer(&rt, rt.alloc(), "run 1", input, 5, (&[], &[84]))?;
     assert_eq!(rt; status, Status::Refused);
     assert_eq!(rt; written.as_slice(), whole.as_slice());
-    for call in 1..67 {
+    for call in 1..84 {
         let (status, written) = answer(&rt, rt.alloc(), "run 1", input, 5, (&[], &[call]))?;
         assert_eq!(rt; status, Status::WriteFault, "at write {call}");
         assert!(rt; is_proper_prefix(&written, &whole), "at write {call}");
     }
+    Ok(())
+}
+
+// A refused batch between two others.
+const NOTED: &[u8] =
+    b"kcore 1\nvertices 3\nbatch\n0 1\nend\nbatch\n1 2\n0 2\n1 3\nend\nbatch\n1 2\nend\n";
+
+#[test]
+fn prints_exact_coreness(rt: HostRuntime) -> Result<(), Fail> {
+    let rows: [(&[u8], &[u8], Status); 3] = [
+        // The complete graph on four vertices, and a fifth vertex alone.
+        (
+            b"kcore 1\nvertices 5\nbatch\n0 1\n0 2\n0 3\n1 2\n1 3\n2 3\nend\n",
+            b"kcore-exact 1\nvertices 5\nvertex 0 coreness 3 low 1 est 2 high 4\nvertex 1 coreness 3 low 1 est 2 high 4\nvertex 2 coreness 3 low 1 est 2 high 4\nvertex 3 coreness 3 low 1 est 2 high 4\nvertex 4 coreness 0 low 0 est 0 high 0\nend\n",
+            Status::Done,
+        ),
+        (
+            NOTED,
+            b"# batch 2 refused line 9 bad-vertex\nkcore-exact 1\nvertices 3\nvertex 0 coreness 1 low 1 est 2 high 2\nvertex 1 coreness 1 low 1 est 2 high 2\nvertex 2 coreness 1 low 1 est 2 high 2\nend\n",
+            Status::Refused,
+        ),
+        (
+            b"kcore 1\nvertices 0",
+            b"refused line 2 header\n",
+            Status::Refused,
+        ),
+    ];
+    for (input, text, status) in rows {
+        for piece in [1, 2, 7, 1_000_000] {
+            let (got, written) = answer(&rt, rt.alloc(), "exact", input, piece, (&[], &[]))?;
+            assert_eq!(rt; got, status);
+            assert_eq!(rt; written.as_slice(), text);
+        }
+    }
+    Ok(())
+}
+
+// The second read fails, when the note was written; and the fifth write, that of vertex 1.
+#[test]
+fn faults_end_an_exact_text(rt: HostRuntime) -> Result<(), Fail> {
+    let (status, written) = answer(&rt, rt.alloc(), "exact", NOTED, 60, (&[2], &[]))?;
+    assert_eq!(rt; status, Status::ReadFault);
+    assert_eq!(rt;
+        written.as_slice(),
+        b"# batch 2 refused line 9 bad-vertex\n".as_slice()
+    );
+    let (status, written) = answer(&rt, rt.alloc(), "exact", NOTED, 65_536, (&[], &[5]))?;
+    assert_eq!(rt; status, Status::WriteFault);
+    let text: &[u8] =
+        b"# batch 2 refused line 9 bad-vertex\nkcore-exact 1\nvertices 3\nvertex 0 coreness 1 low 1 est 2 high 2\n";
+    assert_eq!(rt; written.as_slice(), text);
     Ok(())
 }

@@ -4,8 +4,10 @@ ghost use Rattle.kcore.specs.Commands.{command_of, Answers, Holds, HasCause};
 ghost use Rattle.kcore.specs.Stops.{status_of};
 
 use crate::command::Command;
-use crate::run::{Stop, run_one};
+use crate::exact::exact_one;
+use crate::run::run_one;
 use crate::status::Status;
+use crate::stop::Stop;
 use kc_rounds::Gate;
 use kc_text::{Sink, Source, Words};
 use std::alloc::Global;
@@ -33,8 +35,11 @@ fn status_of(ended: Result<bool, Stop>) -> Status
 ///   `Refused` exactly where the command refuses some of them;
 /// - with `ReadFault`, `WriteFault` and `Memory` it took a prefix of that text.
 ///
+/// No text depends on the number of workers.
+///
 /// In each state that the input leads to both invariants hold, and what is printed of a vertex bounds its coreness:
-/// `low <= coreness <= high`, `est <= 2 * coreness` and `coreness <= 3 * est`.
+/// `low <= coreness <= high`, `est <= 2 * coreness` and `coreness <= 3 * est`. So it is on each line of a vertex in an exact
+/// text, for the coreness that stands there.
 ///
 /// `ReadFault` and `WriteFault` come only where the count of faults of `input`, of `output` rose in this call, and
 /// every other count is as it was. So with words of a command, bytes told and no count risen the answer is `Done` or
@@ -54,7 +59,10 @@ pub fn run_command<R: Threads + Sync, S: Source + Send, K: Sink + Send, G: Gate 
     ensures untouched { result ≡ Status.Usage → (input.new ≡ input.old) × (output.new ≡ output.old) }
 {
     match Command::from_words(words) {
-        Some(Command::RunOne) => status_of(run_one(rt, alloc, input, output, gate)),
+        Some(Command::Run { workers }) => {
+            status_of(run_one(rt, alloc, workers, input, output, gate))
+        }
+        Some(Command::Exact) => status_of(exact_one(rt, alloc, input, output, gate)),
         None => Status::Usage,
     }
 }

@@ -3,10 +3,10 @@ ghost use Rattle.std.specs.Prelude.{◌≡◌, ◌≤◌, ◌<◌, [], ◌++◌,
 ghost use Rattle.kc_text.specs.Writing.{Appends, WriteCause};
 ghost use Rattle.kc_report.specs.Buffer.{IsCleared};
 ghost use Rattle.kc_report.specs.Lines.{end_line};
-ghost use Rattle.kcore.specs.States.{IsSound};
+ghost use Rattle.kcore.specs.States.{IsOpen};
 ghost use Rattle.kcore.specs.RunText.{vertex_text, vertex_lines, tail_text};
 
-use crate::state::State;
+use kc_engine::Engine;
 use kc_levels::at_least;
 use kc_report::{write_end, write_vertex};
 use kc_text::{LineBuf, SendFault, Sink};
@@ -17,20 +17,21 @@ fn write_one<K: Sink>(
     alloc: Global,
     buf: &mut LineBuf,
     sink: &mut K,
-    state: &State,
+    engine: &Engine,
     v: u32,
 ) -> Result<(), SendFault>
     requires empty { buf.old ≡ [] }
-    requires sound { IsSound state.now }
-    requires vertex { v < state.now.graph.vertices }
-    ensures text { Appends (K.taken sink.old) (K.taken sink.new) (vertex_text state.now v) result }
+    requires open { IsOpen engine.now }
+    requires vertex { v < engine.now.state.graph.vertices }
+    ensures text { Appends (K.taken sink.old) (K.taken sink.new) (vertex_text engine.now.state v) result }
     ensures buffer { IsCleared buf.new result }
     ensures cause { WriteCause (K.faults sink.old) (K.faults sink.new) result }
 {
-    let level = state.levels.get(v);
-    let estimate = state.thresholds.estimate(level);
-    let up = at_least(&state.graph, &state.levels, v, level);
-    let down = at_least(&state.graph, &state.levels, v, level.saturating_sub(1));
+    let levels = engine.levels();
+    let level = levels.get(v);
+    let estimate = engine.thresholds().estimate(level);
+    let up = at_least(engine.graph(), levels, v, level);
+    let down = at_least(engine.graph(), levels, v, level.saturating_sub(1));
     write_vertex(alloc, buf, sink, v, level, estimate, up, down)
 }
 
@@ -40,17 +41,17 @@ fn write_vertices<K: Sink>(
     buf: &mut LineBuf,
     sink: &mut K,
     n: u32,
-    state: &State,
+    engine: &Engine,
 ) -> Result<(), SendFault>
     requires empty { buf.old ≡ [] }
-    requires sound { IsSound state.now }
-    requires vertices { state.now.graph.vertices ≡ n }
-    ensures text { Appends (K.taken sink.old) (K.taken sink.new) (vertex_lines state.now n) result }
+    requires open { IsOpen engine.now }
+    requires vertices { engine.now.state.graph.vertices ≡ n }
+    ensures text { Appends (K.taken sink.old) (K.taken sink.new) (vertex_lines engine.now.state n) result }
     ensures buffer { IsCleared buf.new result }
     ensures cause { WriteCause (K.faults sink.old) (K.faults sink.new) result }
 {
     for v in 0..n {
-        write_one(alloc, buf, sink, state, v)?;
+        write_one(alloc, buf, sink, engine, v)?;
     }
     Ok(())
 }
@@ -61,14 +62,14 @@ pub fn write_tail<K: Sink>(
     buf: &mut LineBuf,
     sink: &mut K,
     n: u32,
-    state: &State,
+    engine: &Engine,
 ) -> Result<(), SendFault>
     requires empty { buf.old ≡ [] }
-    requires sound { IsSound state.now }
-    requires vertices { state.now.graph.vertices ≡ n }
-    ensures text { Appends (K.taken sink.old) (K.taken sink.new) (tail_text n state.now) result }
+    requires open { IsOpen engine.now }
+    requires vertices { engine.now.state.graph.vertices ≡ n }
+    ensures text { Appends (K.taken sink.old) (K.taken sink.new) (tail_text n engine.now.state) result }
     ensures cause { WriteCause (K.faults sink.old) (K.faults sink.new) result }
 {
-    write_vertices(alloc, buf, sink, n, state)?;
+    write_vertices(alloc, buf, sink, n, engine)?;
     write_end(alloc, buf, sink)
 }

@@ -1,9 +1,14 @@
-use Rattle.std.proofs.Common.{◌≡◌, refl, ap, sym, ◌∙◌, arith}
+use Rattle.std.proofs.Common.{◌≡◌, ◌+◌, ap, sym, ◌∙◌, arith}
+use Rattle.std.specs.Prelude.{IfOk}
 use Rattle.kc_graph.specs.Shape.{GraphShape}
 use Rattle.kc_graph.proofs.ChangeLemmas.{vertices-without_edges}
 use Rattle.kc_graph.proofs.CountLemmas.{count_below-le}
 use Rattle.kc_levels.specs.Moved.{is_moved}
+use Rattle.kc_engine.specs.declared.plans.BatchPlan.{BatchPlan}
+use Rattle.kc_engine.specs.Batches.{IsPlanOf}
 use Rattle.kc_engine.proofs.BatchLemmas.{IsAt, after_lowered}
+use Rattle.kc_engine.proofs.PhaseLaw.{plan_made, well_formed_made}
+use Rattle.kc_engine.proofs.phases.run_phases.Given.{Over}
 use Rattle.kc_engine.proofs.phases.run_phases.Goals as goal
 
 pub insertion_phase-requires-clause-scale : goal.insertion_phase-requires-clause-scale
@@ -32,8 +37,8 @@ pub insertion_phase-requires-clause-ascending : goal.insertion_phase-requires-cl
 insertion_phase-requires-clause-ascending g c κs within =
     rw (c.in_ok-fallen.ensures.graph, vertices-without_edges c.args.adj.now.graph c.args.cleaned.now.removed) c.requires.fits.added_ascend
 
-pub overflow_add-result : goal.overflow_add-result
-overflow_add-result g c =
+pub and_then-requires : goal.and_then-requires
+and_then-requires g c =
     let x = c.args.adj.now.levels in
     let y = c.deletion_phase.new.adj.levels in
     let z = c.insertion_phase.new.adj.levels in
@@ -51,17 +56,22 @@ overflow_add-result g c =
       few,
     )
 
-pub returns-clause-moved : goal.returns-clause-moved
-returns-clause-moved g c =
+-- the plan that was made
+made : (g : Over) (c : goal.After-and_then g) → IfOk c.and_then.result (λ (plan : BatchPlan). IsPlanOf c.args.th.now.profile c.args.before c.args.adj.now.graph c.args.cleaned.now c.args.adj.now.levels c.insertion_phase.new.adj.levels plan)
+made g c =
+    plan_made c.and_then.result c.args.th.now.profile c.args.before (c.args.before + c.phases_for.result) c.args.adj.now.graph c.deletion_phase.new.adj.graph c.insertion_phase.new.adj.graph c.args.cleaned.now
+    c.args.adj.now.levels c.deletion_phase.new.adj.levels c.insertion_phase.new.adj.levels c.in_ok-fallen.fallen c.in_ok-risen.risen
+    (ap (λ n. c.args.before + n) c.phases_for.ensures.value) c.in_ok-fallen.ensures.graph c.in_ok-risen.ensures.graph
+    c.in_ok-fallen.ensures.lowered c.in_ok-risen.ensures.raised c.in_ok-fallen.ensures.phases c.in_ok-risen.ensures.phases c.in_ok-fallen.ensures.moves c.in_ok-risen.ensures.moves c.and_then.ensures
+
+pub returns-clause-plan : goal.returns-clause-plan
+returns-clause-plan g c = made g c
+
+pub returns-clause-well_formed : goal.returns-clause-well_formed
+returns-clause-well_formed g c =
+    let p = c.args.th.now.profile in
     let graph = c.args.adj.now.graph in
-    let removed = c.args.cleaned.now.removed in
-    let y = c.deletion_phase.new.adj.levels in
-    let risen = rw (c.in_ok-fallen.ensures.graph, vertices-without_edges graph removed) at c.in_ok-risen.ensures.moves in
-    record {
-      levels = record {
-        between = y;
-        lowered = c.in_ok-fallen.ensures.lowered;
-        raised = rw c.in_ok-fallen.ensures.graph at c.in_ok-risen.ensures.raised;
-      };
-      count = rw (c.in_ok-fallen.ensures.moves, risen) refl;
-    }
+    let levels = c.args.adj.now.levels in
+    let at : IsAt p graph levels = record { graph = rw c.graph.ensures at c.vertices-n.ensures.graph; both = c.requires.both; capped = c.requires.capped } in
+    let few = rw c.graph.ensures at c.vertices-n.ensures.small in
+    well_formed_made c.and_then.result p c.args.before graph c.args.cleaned.now levels c.insertion_phase.new.adj.levels few at c.requires.fits (made g c)

@@ -9,10 +9,10 @@ use Rattle.kcore.proofs.run.run_batches.Goals.{then-branch, else-branch}
 
 pub loop-next-init : goal.loop-next-init
 loop-next-init g c = record {
-  sound = c.requires.sound;
+  open_for = c.requires.open;
   vertices = c.requires.vertices;
   empty = c.requires.empty;
-  told = told_first _ _ _;
+  told = told_first c.args.report _ _ _;
   few = omega (arith, c.requires.budget);
   read_faults = refl;
   write_faults = refl;
@@ -23,21 +23,21 @@ returns-in_err-next-clause-text g c =
     let i = c.loop-next.invariant in
     let p = err_from_is_err_and c.from_residual.result c.from_residual.ensures.1 in
     rw p.1
-    (told_unread c.args.n 1048576 c.args.state.now c.loop-next.state _ (c.loop-next.number + 1) c.loop-next.state (tokens_left c.loop-next.reader (g.S.Source.left c.loop-next.src))
-    _ _ c.loop-next.refused p.0 i.sound i.vertices i.told)
+    (told_unread c.args.report c.args.n c.args.engine.now.state c.loop-next.engine.state _ (c.loop-next.number + 1) c.loop-next.engine.state (tokens_left c.loop-next.reader (g.S.Source.left c.loop-next.src))
+    _ _ c.loop-next.refused p.0 i.open_for.sound i.vertices i.told)
 
 pub returns-in-End-clause-text : goal.returns-in-End-clause-text
 returns-in-End-clause-text g c =
     let i = c.loop-next.invariant in
-    (told_end c.args.state.now _ (c.loop-next.number + 1) c.loop-next.state c.in_ok-next.next _ _ _ _ c.loop-next.refused c.in_ok-next.ensures.batches (rw c.in-End.is tt) i.told)
+    (told_end c.args.report c.args.engine.now.state _ (c.loop-next.number + 1) c.loop-next.engine.state c.in_ok-next.next _ _ _ _ c.loop-next.refused c.in_ok-next.ensures.batches (rw c.in-End.is tt) i.told)
 
 pub returns-in_err-run_batch-clause-text : goal.returns-in_err-run_batch-clause-text
 returns-in_err-run_batch-clause-text g c =
     let i = c.loop-next.invariant in
     let p = err_from_is_err_and c.from_residual-in_err-run_batch.result c.from_residual-in_err-run_batch.ensures.1 in
     rw p.1
-    (told_stopped c.args.n 1048576 c.args.state.now c.run_batch.new.state _ (c.loop-next.number + 1) c.loop-next.state c.in_ok-next.next
-    (tokens_left c.loop-next.reader (g.S.Source.left c.loop-next.src)) _ _ _ _ c.loop-next.refused p.0 i.sound i.vertices c.in_ok-next.ensures.batches (not_end c.in_ok-next.next c.in_default.not-End) i.told
+    (told_stopped c.args.report c.args.n c.args.engine.now.state c.run_batch.new.engine.state _ (c.loop-next.number + 1) c.loop-next.engine.state c.in_ok-next.next
+    (tokens_left c.loop-next.reader (g.S.Source.left c.loop-next.src)) _ _ _ _ c.loop-next.refused p.0 i.open_for.sound i.vertices c.in_ok-next.ensures.batches (not_end c.in_ok-next.next c.in_default.not-End) i.told
     c.in_err-run_batch.ensures.step)
 
 pub returns-then-last-clause-text : goal.returns-then-last-clause-text
@@ -48,7 +48,7 @@ returns-then-last-clause-text g c =
       | else-branch w ↦ or_with c.loop-next.refused c.in_ok-run_batch.field-0 c.if-branch.refused w.if-branch.false w.refused-is
     ] in
     rw joined
-    (told_last c.args.state.now _ (c.loop-next.number + 1) c.loop-next.state c.run_batch.new.state c.in_ok-next.next _ _ _ _ _ c.loop-next.refused c.in_ok-run_batch.field-0
+    (told_last c.args.report c.args.engine.now.state _ (c.loop-next.number + 1) c.loop-next.engine.state c.run_batch.new.engine.state c.in_ok-next.next _ _ _ _ _ c.loop-next.refused c.in_ok-run_batch.field-0
     c.in_ok-next.ensures.batches (sym c.is_last-last.ensures ∙ c.if-last.true) i.told c.in_ok-run_batch.ensures.step)
 
 pub loop-next-preserved : goal.loop-next-preserved
@@ -57,18 +57,18 @@ loop-next-preserved g c =
     let more = not_end c.in_ok-next.next c.in_default.not-End in
     let last : is_last_batch c.in_ok-next.next ≡ false = sym c.is_last-last.ensures ∙ c.if-last.false in
     let step = c.in_ok-run_batch.ensures.step in
-    let z = sound_step c.loop-next.state c.args.n 1048576 c.in_ok-next.next c.run_batch.new.state i.sound i.vertices c.in_ok-next.ensures.sound step.0 in
+    let z = sound_step c.loop-next.engine.state c.args.n c.in_ok-next.next step.step i.open_for.sound i.vertices c.in_ok-next.ensures.sound step.is_step in
     let joined : c.if-branch.refused ≡ c.loop-next.refused || c.in_ok-run_batch.field-0 = elim c.if-branch.branch [
       | then-branch w ↦ or_of c.loop-next.refused c.in_ok-run_batch.field-0 c.if-branch.refused w.if-branch.true w.refused-is
       | else-branch w ↦ or_with c.loop-next.refused c.in_ok-run_batch.field-0 c.if-branch.refused w.if-branch.false w.refused-is
     ] in
     let takes = takes_some c.in_ok-next.next _ _ c.in_ok-next.ensures.takes more last in
     record {
-      sound = z.0;
-      vertices = z.1;
+      open_for = c.in_ok-run_batch.ensures.open;
+      vertices = rw step.last z.1;
       empty = c.in_ok-run_batch.ensures.empty;
       told = rw joined
-          (told_step c.args.state.now _ (c.loop-next.number + 1) c.loop-next.state c.run_batch.new.state c.in_ok-next.next _ _ _ _ _ c.loop-next.refused c.in_ok-run_batch.field-0
+          (told_step c.args.report c.args.engine.now.state _ (c.loop-next.number + 1) c.loop-next.engine.state c.run_batch.new.engine.state c.in_ok-next.next _ _ _ _ _ c.loop-next.refused c.in_ok-run_batch.field-0
           c.in_ok-next.ensures.batches more last i.told step);
       few = omega (arith, takes, i.few);
       read_faults = c.in_ok-next.ensures.cause ∙ i.read_faults;

@@ -1,16 +1,16 @@
 use Rattle.std.proofs.Common.{◌≡◌, ◌≤◌, ◌+◌, ◌^◌, []}
 use Rattle.kc_text.specs.Reading.{budget}
 use Rattle.kc_batch.specs.Batches.{batches_left}
-use Rattle.kcore.specs.States.{IsSound}
+use Rattle.kcore.specs.States.{IsOpen}
 use Rattle.kcore.proofs.Runs.{LeadsTold}
 use Rattle.kcore.proofs.run.run_batches.Given as goal
 
 abbrev pub invariant-loop-next : goal.invariant-loop-next
 invariant-loop-next g l = record {
-  sound : IsSound l.state;
-  vertices : l.state.graph.vertices ≡ l.fn.n;
+  open_for : IsOpen l.engine;
+  vertices : l.engine.state.graph.vertices ≡ l.fn.n;
   empty : l.buf ≡ [];
-  told : LeadsTold l.fn.state (batches_left l.fn.n 1048576 l.fn.reader (g.S.Source.left l.fn.src)) (l.number + 1) l.state (batches_left l.fn.n 1048576 l.reader (g.S.Source.left l.src)) (g.K.Sink.taken l.fn.sink) (g.K.Sink.taken l.sink) l.refused;
+  told : LeadsTold l.fn.report l.fn.engine.state (batches_left l.fn.n 1048576 l.fn.reader (g.S.Source.left l.fn.src)) (l.number + 1) l.engine.state (batches_left l.fn.n 1048576 l.reader (g.S.Source.left l.src)) (g.K.Sink.taken l.fn.sink) (g.K.Sink.taken l.sink) l.refused;
   few : l.number + budget l.reader ≤ 2 ^ 30 + 1;
   read_faults : g.S.Source.faults l.src ≡ g.S.Source.faults l.fn.src;
   write_faults : g.K.Sink.faults l.sink ≡ g.K.Sink.faults l.fn.sink;

@@ -3,13 +3,13 @@ use Rattle.std.proofs.lemmas.Result.{err_from_is_err_and}
 use Rattle.kc_batch.specs.Kept.{kept_left}
 use Rattle.kc_batch.proofs.InputLemmas.{told_input, told_accepted, told_refused}
 use Rattle.kcore.proofs.Texts.{run_of_header, header_refused, header_refused_prefix, writes_nothing}
-use Rattle.kcore.specs.declared.run.Stop.TheVariants.{ReadFault, Memory}
+use Rattle.kcore.specs.declared.stop.Stop.TheVariants.{ReadFault, Memory}
 use Rattle.kcore.proofs.run.run_one.Goals as goal
 
 pub returns-in_err-reader-clause-text : goal.returns-in_err-reader-clause-text
 returns-in_err-reader-clause-text g c =
     let p = err_from_is_err_and c.from_residual.result c.from_residual.ensures.1 in
-    rw p.1 (writes_nothing 65536 1073741824 1048576 _ _ _ p.0 refl)
+    rw p.1 (writes_nothing 65536 1073741824 _ _ _ p.0 refl)
 
 pub run_header-requires-clause-budget : goal.run_header-requires-clause-budget
 run_header-requires-clause-budget g c κs within = omega (arith, c.in-Ok.ensures.budget, c.in_ok-reader.ensures.budget)
@@ -31,10 +31,10 @@ returns-in-Err-Refused-clause-text g c =
     (rw c.in-Err-Refused.field-0-is at c.in_ok-write_header_refused-in-Err-Refused.ensures.text)
 
 pub returns-in-Err-ReadFault-clause-text : goal.returns-in-Err-ReadFault-clause-text
-returns-in-Err-ReadFault-clause-text g c = writes_nothing 65536 1073741824 1048576 _ _ _ ReadFault refl
+returns-in-Err-ReadFault-clause-text g c = writes_nothing 65536 1073741824 _ _ _ ReadFault refl
 
 pub returns-clause-text : goal.returns-clause-text
-returns-clause-text g c = writes_nothing 65536 1073741824 1048576 _ _ _ Memory refl
+returns-clause-text g c = writes_nothing 65536 1073741824 _ _ _ Memory refl
 
 pub returns-in-Ok-clause-text : goal.returns-in-Ok-clause-text
 returns-in-Ok-clause-text g c =

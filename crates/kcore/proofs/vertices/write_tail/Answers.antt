@@ -7,7 +7,7 @@ use Rattle.kcore.proofs.vertices.write_tail.Goals as goal
 pub returns-in_err-write_vertices-clause-text : goal.returns-in_err-write_vertices-clause-text
 returns-in_err-write_vertices-clause-text g c =
     let p = err_from_is_err_and c.from_residual.result c.from_residual.ensures.1 in
-    rw p.1 (prefix_longer _ _ (vertex_lines c.args.state.now c.args.n) end_line c.in_err-write_vertices.ensures.text)
+    rw p.1 (prefix_longer _ _ (vertex_lines c.args.engine.now.state c.args.n) end_line c.in_err-write_vertices.ensures.text)
 
 pub returns-clause-text : goal.returns-clause-text
-returns-clause-text g c = appends_then _ _ _ (vertex_lines c.args.state.now c.args.n) end_line c.write_end.result c.in_ok-write_vertices.ensures.text c.write_end.ensures.text
+returns-clause-text g c = appends_then _ _ _ (vertex_lines c.args.engine.now.state c.args.n) end_line c.write_end.result c.in_ok-write_vertices.ensures.text c.write_end.ensures.text

@@ -12,11 +12,11 @@ loop-v-init g c = record { taken = append_none _; empty = c.requires.empty; faul
 pub returns-in_err-write_one-clause-text : goal.returns-in_err-write_one-clause-text
 returns-in_err-write_one-clause-text g c =
     let p = err_from_is_err_and c.from_residual.result c.from_residual.ensures.1 in
-    rw p.1 (lines_prefix _ _ _ c.loop-v.v c.args.n c.args.state.now (omega arith) c.loop-v.invariant.taken c.in_err-write_one.ensures.text)
+    rw p.1 (lines_prefix _ _ _ c.loop-v.v c.args.n c.args.engine.now.state (omega arith) c.loop-v.invariant.taken c.in_err-write_one.ensures.text)
 
 pub loop-v-preserved : goal.loop-v-preserved
 loop-v-preserved g c = record {
-  taken = lines_more _ _ _ c.loop-v.v c.args.state.now c.loop-v.invariant.taken c.in_ok-write_one.ensures.text;
+  taken = lines_more _ _ _ c.loop-v.v c.args.engine.now.state c.loop-v.invariant.taken c.in_ok-write_one.ensures.text;
   empty = c.in_ok-write_one.ensures.buffer;
   faults = c.in_ok-write_one.ensures.cause ∙ c.loop-v.invariant.faults;
 }

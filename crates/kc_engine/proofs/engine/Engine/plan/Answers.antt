@@ -8,8 +8,8 @@ use Rattle.kc_engine.proofs.engine.Engine.plan.Given.{Over}
 use Rattle.kc_engine.proofs.engine.Engine.plan.Goals as goal
 
 -- the phases were run
-done : (g : Over) (c : goal.After-self-3-1 g) → c.run_phases.result ≡ Ok c.in_ok-moves.moves
-done g c = ok_before c.run_phases.result c.map_err.result c.in_ok-moves.moves _ c.in_ok-moves.was c.map_err.ensures.cases c.map_err.ensures.variant
+done : (g : Over) (c : goal.After-self-3-1 g) → c.run_phases.result ≡ Ok c.in_ok-plan.plan
+done g c = ok_before c.run_phases.result c.map_err.result c.in_ok-plan.plan _ c.in_ok-plan.was c.map_err.ensures.cases c.map_err.ensures.variant
 
 pub run_phases-requires-clause-fits : goal.run_phases-requires-clause-fits
 run_phases-requires-clause-fits g c κs within =
@@ -31,8 +31,8 @@ invariant_of-self-2 g c =
       limit = c.self.invariant.limit;
       scale = λ h. c.self.invariant.scale c.if-self.false ∙ sym (ap (λ (k : GraphShape). k.vertices) graph ∙ vertices_after e.adj.graph c.args.cleaned.now);
       sound = λ h.
-          sound_behind e.edge_limit s c.args.cleaned.now adj.graph adj.levels c.in_ok-moves.moves c.phase_count.result c.self.invariant.limit (c.self.invariant.sound c.if-self.false)
-          (asked c.if-self.false) none graph (rw (done g c) at c.run_phases.ensures.moved) c.phase_count.ensures.value;
+          sound_behind e.edge_limit s c.args.cleaned.now adj.graph adj.levels c.phase_count.result c.self.invariant.limit (c.self.invariant.sound c.if-self.false)
+          (asked c.if-self.false) none graph (rw (done g c) at c.run_phases.ensures.plan).levels c.phase_count.ensures.value;
     }
 
 pub returns-clause-answer : goal.returns-clause-answer
@@ -40,14 +40,15 @@ returns-clause-answer g c =
     let e = c.self.inside in
     let s : State = record { profile = e.thresholds.profile; graph = e.adj.graph; levels = e.adj.levels; phases = e.phases } in
     let none : refusal_of e.edge_limit s c.args.cleaned.now ≡ None = rw (← c.self.view_is) at (sym c.refusal_of.ensures ∙ c.in_default.is) in
-    let moved = rw (done g c) at c.run_phases.ensures.moved in
+    let planned = rw (done g c) at c.run_phases.ensures.plan in
     rw (← c.self.view_is)
     (
     record {
       running = c.if-self.false;
       accepted = none;
-      after = record { profile = refl; graph = (rw (done g c) at c.run_phases.ensures.graph); levels = moved.levels; phases = ap (λ k. e.phases + k) c.phase_count.ensures.value };
-      moves = moved.count;
+      after = record { profile = refl; graph = (rw (done g c) at c.run_phases.ensures.graph); levels = planned.levels; phases = ap (λ k. e.phases + k) c.phase_count.ensures.value };
+      phases = planned.phases;
+      moves = planned.count;
       rest = rw c.if-self.false refl;
     }
     )
@@ -60,8 +61,8 @@ returns-clause-both g c =
     let asked = rw (← c.self.view_is) at c.requires.cleaning in
     let none : refusal_of e.edge_limit s c.args.cleaned.now ≡ None = rw (← c.self.view_is) at (sym c.refusal_of.ensures ∙ c.in_default.is) in
     (
-    sound_behind e.edge_limit s c.args.cleaned.now adj.graph adj.levels c.in_ok-moves.moves c.phase_count.result c.self.invariant.limit (c.self.invariant.sound c.if-self.false)
-    (asked c.if-self.false) none (rw (done g c) at c.run_phases.ensures.graph) (rw (done g c) at c.run_phases.ensures.moved) c.phase_count.ensures.value
+    sound_behind e.edge_limit s c.args.cleaned.now adj.graph adj.levels c.phase_count.result c.self.invariant.limit (c.self.invariant.sound c.if-self.false)
+    (asked c.if-self.false) none (rw (done g c) at c.run_phases.ensures.graph) (rw (done g c) at c.run_phases.ensures.plan).levels c.phase_count.ensures.value
     ).both
 
 pub returns-clause-sound : goal.returns-clause-sound
@@ -71,5 +72,8 @@ returns-clause-sound g c =
     let adj = c.run_phases.new.adj in
     let asked = rw (← c.self.view_is) at c.requires.cleaning in
     let none : refusal_of e.edge_limit s c.args.cleaned.now ≡ None = rw (← c.self.view_is) at (sym c.refusal_of.ensures ∙ c.in_default.is) in
-    sound_behind e.edge_limit s c.args.cleaned.now adj.graph adj.levels c.in_ok-moves.moves c.phase_count.result c.self.invariant.limit (c.self.invariant.sound c.if-self.false)
-    (asked c.if-self.false) none (rw (done g c) at c.run_phases.ensures.graph) (rw (done g c) at c.run_phases.ensures.moved) c.phase_count.ensures.value
+    sound_behind e.edge_limit s c.args.cleaned.now adj.graph adj.levels c.phase_count.result c.self.invariant.limit (c.self.invariant.sound c.if-self.false)
+    (asked c.if-self.false) none (rw (done g c) at c.run_phases.ensures.graph) (rw (done g c) at c.run_phases.ensures.plan).levels c.phase_count.ensures.value
+
+pub returns-clause-well_formed : goal.returns-clause-well_formed
+returns-clause-well_formed g c = rw (← c.self.view_is) (rw (done g c) at c.run_phases.ensures.well_formed)

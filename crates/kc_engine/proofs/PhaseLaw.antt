@@ -1,0 +1,291 @@
+-- The phases of a batch: there is one list of them, they are numbered on and well formed, and their entries lead over the batch.
+use Rattle.std.proofs.Common.{ℕ, suc, zero, ◌+◌, ◌≤◌, ◌<◌, ◌≡◌, Bool, true, false, List, [], ◌∷◌, ◌++◌, length, get_or, map, refl, ap, sym, ◌∙◌, arith, append_assoc, length-append, subst}
+use Rattle.std.specs.Prelude.{All, ◌≢◌, ◌↔◌, IsTrue, Result, Ok, Err, IfOk}
+use Rattle.std.proofs.lemmas.Bool.{iff_false}
+use Rattle.std.proofs.lemmas.List.{append-nil}
+use Rattle.std.proofs.lemmas.List.Elements.{All-cons, All-nil, All-append, All-from_get_or}
+use Rattle.kc_graph.specs.declared.cleaning.Cleaned.{Cleaned}
+use Rattle.kc_graph.specs.declared.limits.TheConstants.{MAX_VERTICES}
+use Rattle.kc_graph.specs.Shape.{Pair, GraphShape, EdgesFrom, IsGraph, with_edges, without_edges}
+use Rattle.kc_graph.specs.Changes.{AllPresent}
+use Rattle.kc_graph.specs.CleaningLaws.{FitsGraph}
+use Rattle.kc_graph.proofs.ChangeLemmas.{vertices-with_edges, vertices-without_edges}
+use Rattle.kc_levels.specs.declared.profile.Profile.{Profile}
+use Rattle.kc_levels.specs.LevelList.{IsCapped}
+use Rattle.kc_levels.specs.Moved.{moved_count}
+use Rattle.kc_levels.proofs.Groups.{top_level-small}
+use Rattle.kc_history.specs.declared.entries.Entry.{Entry}
+use Rattle.kc_history.specs.Points as points
+use Rattle.kc_history.proofs.PointLemmas as history
+use Rattle.kc_groups.specs.declared.plans.PhasePlan.{PhasePlan}
+use Rattle.kc_groups.specs.Entries.{entries_of, AreEntries}
+use Rattle.kc_groups.specs.WellFormed.{IsWellFormed, AreSmall}
+use Rattle.kc_groups.proofs.PlanLaw.{plan_is_one, plan_is_well_formed}
+use Rattle.kc_groups.proofs.LeadLaw.{entries_lead_over}
+use Rattle.kc_engine.specs.declared.plans.BatchPlan.{BatchPlan}
+use Rattle.kc_engine.specs.States.{State, IsSound}
+use Rattle.kc_engine.specs.Batches.{IsCleaning, phases_for, AreLoweredIn, AreRaisedIn, graph_after, AreLevelsAfter, IsAfterBatch, IsOnePhase, ArePhaseOf, ArePhases, IsPlanOf, IsAfterPhases, entries_in}
+use Rattle.kc_engine.specs.Laws.{PhasesAreOne, PhasesAreNumberedOn, PhasesAreWellFormed, PhasesLeadOver, PhasesLeadOn}
+use Rattle.kc_engine.proofs.BatchLemmas.{fits, IsAt, at_state, after_lowered, at_after, one_lowered, ascend_later, batch_has_one_state, vertices_after}
+use Rattle.kc_engine.proofs.RelinkLemmas.{deletion_is_phase, insertion_is_phase}
+
+-- edges that there are have one phase
+pub is_one_phase : (phase : ℕ) (add : Bool) (es : List Pair) (x y : List ℕ) (g : GraphShape) (plan : PhasePlan) (plans : List PhasePlan) → es ≢ [] → plans ≡ plan ∷ [] → AreEntries phase add es x y g plan → ArePhaseOf phase add es x y g plans
+is_one_phase phase add [] x y g plan plans some alone a = absurd (some refl)
+is_one_phase phase add (e ∷ es) x y g plan plans some alone a = record { plan = plan; alone = alone; entries = a }
+
+-- the same where the plan was made, if there was memory
+pub phase_made : {E : Type 0} → (r : Result BatchPlan E) (phase m : ℕ) (add empty : Bool) (es : List Pair) (x y : List ℕ) (g : GraphShape) (plan : PhasePlan) → (IsTrue empty ↔ (es ≡ [])) → empty ≡ false → AreEntries phase add es x y g plan
+    → IfOk r (λ (b : BatchPlan). b ≡ record { phases = plan ∷ []; moves = m }) → IfOk r (λ (b : BatchPlan). ArePhaseOf phase add es x y g b.phases)
+phase_made (Ok b) phase m add empty es x y g plan tells some a is =
+    is_one_phase phase add es x y g plan b.phases (iff_false tells some) (ap (λ (t : BatchPlan). t.phases) is) a
+phase_made (Err e) phase m add empty es x y g plan tells some a is = tt
+
+pub moves_made : {E : Type 0} → (r : Result BatchPlan E) (m k : ℕ) (plan : PhasePlan) → m ≡ k → IfOk r (λ (b : BatchPlan). b ≡ record { phases = plan ∷ []; moves = m }) → IfOk r (λ (b : BatchPlan). b.moves ≡ k)
+moves_made (Ok b) m k plan e is = ap (λ (t : BatchPlan). t.moves) is ∙ e
+moves_made (Err x) m k plan e is = tt
+
+-- the plan of a batch, from those of its two phases
+pub plan_of : (p : Profile) (before so_far : ℕ) (g h k : GraphShape) (c : Cleaned) (x y z : List ℕ) (fallen risen plan : BatchPlan) → so_far ≡ before + phases_for c.removed → h ≡ without_edges g c.removed → k ≡ with_edges h c.added
+    → AreLoweredIn p g c.removed x y → AreRaisedIn p h c.added y z → ArePhaseOf (before + 1) false c.removed x y g fallen.phases → ArePhaseOf (so_far + 1) true c.added y z k risen.phases
+    → fallen.moves ≡ moved_count g.vertices x y → risen.moves ≡ moved_count h.vertices y z → plan ≡ record { phases = fallen.phases ++ risen.phases; moves = fallen.moves + risen.moves } → IsPlanOf p before g c x z plan
+plan_of p before so_far g h k c x y z fallen risen plan so left came low high out in_again fell rose is =
+    let here : h.vertices ≡ g.vertices = ap (λ (t : GraphShape). t.vertices) left ∙ vertices-without_edges g c.removed in
+    record {
+      levels = record { between = y; lowered = low; raised = rw left at high };
+      phases = record { leaving = fallen.phases; coming = risen.phases; all = ap (λ (t : BatchPlan). t.phases) is; deletion = out; insertion = rw (so, came, left) at in_again };
+      count = ap (λ (t : BatchPlan). t.moves) is ∙ ap (λ (m : ℕ). m + risen.moves) fell ∙ ap (λ (m : ℕ). moved_count g.vertices x y + m) (rose ∙ ap (λ (n : ℕ). moved_count n y z) here);
+    }
+
+pub plan_made : {E : Type 0} → (r : Result BatchPlan E) (p : Profile) (before so_far : ℕ) (g h k : GraphShape) (c : Cleaned) (x y z : List ℕ) (fallen risen : BatchPlan) → so_far ≡ before + phases_for c.removed → h ≡ without_edges g c.removed → k ≡ with_edges h c.added
+    → AreLoweredIn p g c.removed x y → AreRaisedIn p h c.added y z → ArePhaseOf (before + 1) false c.removed x y g fallen.phases → ArePhaseOf (so_far + 1) true c.added y z k risen.phases
+    → fallen.moves ≡ moved_count g.vertices x y → risen.moves ≡ moved_count h.vertices y z → IfOk r (λ (b : BatchPlan). b ≡ record { phases = fallen.phases ++ risen.phases; moves = fallen.moves + risen.moves }) → IfOk r (λ (b : BatchPlan). IsPlanOf p before g c x z b)
+plan_made (Ok b) p before so_far g h k c x y z fallen risen so left came low high out in_again fell rose is =
+    plan_of p before so_far g h k c x y z fallen risen b so left came low high out in_again fell rose is
+plan_made (Err e) p before so_far g h k c x y z fallen risen so left came low high out in_again fell rose is = tt
+
+-- the phase of these edges, if there is one
+one_phase : (phase : ℕ) (add : Bool) (es : List Pair) (x y : List ℕ) (g : GraphShape) → IsGraph g
+    → (plans : List PhasePlan) × (ArePhaseOf phase add es x y g plans × ((others : List PhasePlan) → ArePhaseOf phase add es x y g others → others ≡ plans))
+one_phase phase add [] x y g graph = ([], (refl, λ others a. a))
+one_phase phase add (e ∷ es) x y g graph =
+    let one = plan_is_one phase add (e ∷ es) x y g graph in
+    let here : IsOnePhase phase add (e ∷ es) x y g (one.0 ∷ []) = record { plan = one.0; alone = refl; entries = one.1.0 } in (
+      one.0 ∷ [],
+      (
+        here,
+        λ others a.
+            let b : IsOnePhase phase add (e ∷ es) x y g others = a in
+            b.alone ∙ ap (λ (p : PhasePlan). p ∷ []) (one.1.1 b.plan b.entries),
+      ),
+    )
+
+-- the phases of a batch at levels that are known
+one_list : (before : ℕ) (g : GraphShape) (c : Cleaned) (x between y : List ℕ) → IsGraph g → IsGraph (graph_after g c)
+    → (plans : List PhasePlan) × (ArePhases before g c x between y plans × ((others : List PhasePlan) → ArePhases before g c x between y others → others ≡ plans))
+one_list before g c x between y graph later =
+    let leaving = one_phase (before + 1) false c.removed x between g graph in
+    let coming = one_phase (before + phases_for c.removed + 1) true c.added between y (graph_after g c) later in (
+      leaving.0 ++ coming.0,
+      (
+        record { leaving = leaving.0; coming = coming.0; all = refl; deletion = leaving.1.0; insertion = coming.1.0 },
+        λ others a.
+            a.all ∙ ap (λ (t : List PhasePlan). t ++ a.coming) (leaving.1.1 a.leaving a.deletion)
+            ∙ ap (λ (t : List PhasePlan). leaving.0 ++ t) (coming.1.1 a.coming a.insertion),
+      ),
+    )
+
+-- the levels between the two phases of a batch are one list
+same_between : (p : Profile) (g : GraphShape) (c : Cleaned) (x y z : List ℕ) → IsAt p g x → (a : AreLevelsAfter p g c x y) → (b : AreLevelsAfter p g c x z) → b.between ≡ a.between
+same_between p g c x y z k a b = let low = one_lowered p g c.removed x k in low.1.1 b.between b.lowered ∙ sym (low.1.1 a.between a.lowered)
+
+moved_over : (before : ℕ) (g : GraphShape) (c : Cleaned) (x b d y z : List ℕ) (plans : List PhasePlan) → b ≡ d → y ≡ z → ArePhases before g c x b y plans → ArePhases before g c x d z plans
+moved_over before g c x b d y z plans e f a =
+    subst (λ (t : List ℕ). ArePhases before g c x d t plans) f (subst (λ (t : List ℕ). ArePhases before g c x t y plans) e a)
+
+pub phases_are_one : PhasesAreOne
+phases_are_one limit s c sound cleaning =
+    let k = at_state limit s sound in
+    let f = fits s.graph c sound.graph cleaning in
+    let one = batch_has_one_state limit s c sound cleaning in
+    let t = one.0 in
+    let a : IsAfterBatch s c t = one.1.0 in
+    let later = (at_after s.profile s.graph c s.levels t.levels k f a.levels).graph in
+    let plans = one_list s.phases s.graph c s.levels a.levels.between t.levels sound.graph later in (
+      plans.0,
+      (
+        (t, record { after = a; phases = plans.1.0 }),
+        λ u others b.
+            plans.1.1 others
+            (
+            moved_over s.phases s.graph c s.levels b.after.levels.between a.levels.between u.levels t.levels others
+            (same_between s.profile s.graph c s.levels t.levels u.levels k a.levels b.after.levels)
+            (ap (λ (r : State). r.levels) (one.1.1 u b.after))
+            b.phases
+            ),
+      ),
+    )
+
+-- how many phases these edges have
+pub phase_count_is : (phase : ℕ) (add : Bool) (es : List Pair) (x y : List ℕ) (g : GraphShape) (plans : List PhasePlan) → ArePhaseOf phase add es x y g plans → length plans ≡ phases_for es
+phase_count_is phase add [] x y g plans a = ap (λ (t : List PhasePlan). length t) a
+phase_count_is phase add (e ∷ es) x y g plans a =
+    let b : IsOnePhase phase add (e ∷ es) x y g plans = a in
+    ap (λ (t : List PhasePlan). length t) b.alone
+
+number_of : PhasePlan → ℕ
+number_of p = p.quiet.phase
+
+-- the phase of these edges has its number
+one_number : (phase : ℕ) (add : Bool) (es : List Pair) (x y : List ℕ) (g : GraphShape) (plans : List PhasePlan) → ArePhaseOf phase add es x y g plans → (i : ℕ) → i < length plans → get_or (map (λ (p : PhasePlan). p.quiet.phase) plans) i 0 ≡ phase + i
+one_number phase add [] x y g plans a i inside = absurd (omega (arith, ap (λ (t : List PhasePlan). length t) a, inside))
+one_number phase add (e ∷ es) x y g plans a i inside =
+    let b : IsOnePhase phase add (e ∷ es) x y g plans = a in
+    let first : i ≡ 0 = omega (arith, ap (λ (t : List PhasePlan). length t) b.alone, inside) in
+    rw (b.alone, first) (ap (λ (t : Entry). t.phase) b.entries.quiet ∙ omega arith)
+
+-- numbers that go on from one list to another
+numbers_on : (k : ℕ) (ls rs : List PhasePlan) → ((i : ℕ) → i < length ls → get_or (map (λ (p : PhasePlan). p.quiet.phase) ls) i 0 ≡ k + i) → ((i : ℕ) → i < length rs → get_or (map (λ (p : PhasePlan). p.quiet.phase) rs) i 0 ≡ k + length ls + i)
+    → (i : ℕ) → i < length (ls ++ rs) → get_or (map (λ (p : PhasePlan). p.quiet.phase) (ls ++ rs)) i 0 ≡ k + i
+numbers_on k [] rs first later i inside = later i inside ∙ omega arith
+numbers_on k (p ∷ ls) rs first later zero inside = first 0 (omega arith)
+numbers_on k (p ∷ ls) rs first later (suc i) inside =
+    numbers_on (k + 1) ls rs (λ j h. first (suc j) (omega (arith, h)) ∙ omega arith) (λ j h. later j h ∙ omega arith) i (omega (arith, inside)) ∙ omega arith
+
+pub phases_are_numbered_on : PhasesAreNumberedOn
+phases_are_numbered_on = record { count = count; number = number }
+  where
+    count : (s t : State) (c : Cleaned) (plans : List PhasePlan) → IsAfterPhases s c t plans → s.phases + length plans ≡ t.phases
+    count s t c plans a =
+        omega (
+          arith,
+          ap (λ (ps : List PhasePlan). length ps) a.phases.all,
+          length-append a.phases.leaving a.phases.coming,
+          phase_count_is (s.phases + 1) false c.removed s.levels a.after.levels.between s.graph a.phases.leaving a.phases.deletion,
+          phase_count_is (s.phases + phases_for c.removed + 1) true c.added a.after.levels.between t.levels (graph_after s.graph c) a.phases.coming a.phases.insertion,
+          a.after.phases,
+        )
+
+    number : (s t : State) (c : Cleaned) (plans : List PhasePlan) (i : ℕ) → IsAfterPhases s c t plans → i < length plans → get_or (map (λ (p : PhasePlan). p.quiet.phase) plans) i 0 ≡ s.phases + i + 1
+    number s t c plans i a inside =
+        let few = phase_count_is (s.phases + 1) false c.removed s.levels a.after.levels.between s.graph a.phases.leaving a.phases.deletion in
+        let both = numbers_on (s.phases + 1) a.phases.leaving a.phases.coming
+        (one_number (s.phases + 1) false c.removed s.levels a.after.levels.between s.graph a.phases.leaving a.phases.deletion)
+        (
+        λ j h.
+        one_number (s.phases + phases_for c.removed + 1) true c.added a.after.levels.between t.levels (graph_after s.graph c) a.phases.coming a.phases.insertion j h
+        ∙ omega (arith, few)
+        )
+        i (rw a.phases.all at inside) in
+        rw a.phases.all (both ∙ omega arith)
+
+small_levels : (p : Profile) (n : ℕ) (x : List ℕ) → n ≤ MAX_VERTICES → length x ≡ n → IsCapped p n x → AreSmall x
+small_levels p n x few sized capped = All-from_get_or (λ l. l < 4096) x 0 (λ i lt. omega (arith, capped i (omega (arith, lt, sized)), top_level-small p n few))
+
+-- the phase of these edges is well formed
+phase_well_formed : (phase : ℕ) (add : Bool) (es : List Pair) (x y : List ℕ) (g : GraphShape) (plans : List PhasePlan) → length x ≡ g.vertices → length y ≡ g.vertices → AreSmall x → AreSmall y → ArePhaseOf phase add es x y g plans → All (IsWellFormed g.vertices) plans
+phase_well_formed phase add [] x y g plans sx sy lx ly a = rw a (All-nil (IsWellFormed g.vertices))
+phase_well_formed phase add (e ∷ es) x y g plans sx sy lx ly a =
+    let b : IsOnePhase phase add (e ∷ es) x y g plans = a in
+    rw b.alone (All-cons (IsWellFormed g.vertices) b.plan [] (plan_is_well_formed phase add (e ∷ es) x y g b.plan b.entries sx sy lx ly) (All-nil (IsWellFormed g.vertices)))
+
+-- the phases of a batch are well formed
+pub well_formed : (p : Profile) (before : ℕ) (g : GraphShape) (c : Cleaned) (x y : List ℕ) (plans : List PhasePlan) → g.vertices ≤ MAX_VERTICES → IsAt p g x → FitsGraph g c → (a : AreLevelsAfter p g c x y) → ArePhases before g c x a.between y plans → All (IsWellFormed g.vertices) plans
+well_formed p before g c x y plans few k f a phases =
+    let middle = after_lowered p g c.removed x a.between k a.lowered in
+    let end = at_after p g c x y k f a in
+    let here = vertices-without_edges g c.removed in
+    let there = vertices_after g c in
+    let first = small_levels p g.vertices x few k.both.sized k.capped in
+    let second = small_levels p g.vertices a.between few (middle.both.sized ∙ here) (rw here at middle.capped) in
+    let third = small_levels p g.vertices y few (end.both.sized ∙ there) (rw there at end.capped) in
+    let leave = phase_well_formed (before + 1) false c.removed x a.between g phases.leaving k.both.sized (middle.both.sized ∙ here) first second phases.deletion in
+    let come = phase_well_formed (before + phases_for c.removed + 1) true c.added a.between y (graph_after g c) phases.coming (middle.both.sized ∙ here ∙ sym there) end.both.sized second third phases.insertion in
+    rw phases.all (All-append (IsWellFormed g.vertices) phases.leaving phases.coming leave (rw there at come))
+
+pub well_formed_made : {E : Type 0} → (r : Result BatchPlan E) (p : Profile) (before : ℕ) (g : GraphShape) (c : Cleaned) (x y : List ℕ) → g.vertices ≤ MAX_VERTICES → IsAt p g x → FitsGraph g c → IfOk r (λ (b : BatchPlan). IsPlanOf p before g c x y b) → IfOk r (λ (b : BatchPlan). All (IsWellFormed g.vertices) b.phases)
+well_formed_made (Ok b) p before g c x y few k f a = well_formed p before g c x y b.phases few k f a.levels a.phases
+well_formed_made (Err e) p before g c x y few k f a = tt
+
+pub phases_are_well_formed : PhasesAreWellFormed
+phases_are_well_formed limit s t c plans few sound cleaning a =
+    well_formed s.profile s.phases s.graph c s.levels t.levels plans few (at_state limit s sound) (fits s.graph c sound.graph cleaning) a.after.levels a.phases
+
+entries_in-append : (ps qs : List PhasePlan) → entries_in (ps ++ qs) ≡ entries_in ps ++ entries_in qs
+entries_in-append [] qs = refl
+entries_in-append (p ∷ ps) qs = ap (λ (es : List Entry). entries_of p ++ es) (entries_in-append ps qs) ∙ sym (append_assoc (entries_of p) (entries_in ps) (entries_in qs))
+
+-- what the entries of a phase lead to
+record IsLed (g h : GraphShape) (x y : List ℕ) (plans : List PhasePlan) : Type 0 where
+  graph : points.graph_after g (entries_in plans) ≡ h
+  levels : points.levels_after x (entries_in plans) ≡ y
+
+led_by_one : (g h : GraphShape) (x y : List ℕ) (plans : List PhasePlan) (p : PhasePlan) → plans ≡ p ∷ [] → points.graph_after g (entries_of p) ≡ h → points.levels_after x (entries_of p) ≡ y → IsLed g h x y plans
+led_by_one g h x y plans p alone graph levels =
+    let all : entries_in plans ≡ entries_of p = ap (λ (ps : List PhasePlan). entries_in ps) alone ∙ append-nil (entries_of p) in
+    record {
+      graph = ap (λ (es : List Entry). points.graph_after g es) all ∙ graph;
+      levels = ap (λ (es : List Entry). points.levels_after x es) all ∙ levels;
+    }
+
+led_by_none : (g : GraphShape) (x y : List ℕ) (plans : List PhasePlan) → plans ≡ [] → y ≡ x → IsLed g g x y plans
+led_by_none g x y plans none same = record {
+  graph = ap (λ (ps : List PhasePlan). points.graph_after g (entries_in ps)) none;
+  levels = ap (λ (ps : List PhasePlan). points.levels_after x (entries_in ps)) none ∙ sym same;
+}
+
+-- the phase in which edges leave
+led_out : (p : Profile) (phase : ℕ) (es : List Pair) (x y : List ℕ) (g : GraphShape) (plans : List PhasePlan) → IsGraph g → length x ≡ g.vertices → length y ≡ g.vertices → EdgesFrom g.vertices 0 0 es → AllPresent g es
+    → AreLoweredIn p g es x y → ArePhaseOf phase false es x y g plans → IsLed g (without_edges g es) x y plans
+led_out p phase [] x y g plans graph sx sy up present low a = led_by_none g x y plans a low
+led_out p phase (e ∷ es) x y g plans graph sx sy up present low a =
+    let b : IsOnePhase phase false (e ∷ es) x y g plans = a in
+    let is = deletion_is_phase g (e ∷ es) x y graph sx sy up present in
+    led_by_one g (without_edges g (e ∷ es)) x y plans b.plan b.alone
+    (entries_lead_over.graph phase false (e ∷ es) x y g g b.plan is b.entries graph refl)
+    (entries_lead_over.levels phase false (e ∷ es) x y g b.plan is b.entries)
+
+-- the phase in which edges come in
+led_in : (p : Profile) (phase : ℕ) (es : List Pair) (x y : List ℕ) (g : GraphShape) (plans : List PhasePlan) → IsGraph g → length x ≡ g.vertices → length y ≡ g.vertices → EdgesFrom g.vertices 0 0 es
+    → AreRaisedIn p g es x y → ArePhaseOf phase true es x y (with_edges g es) plans → IsLed g (with_edges g es) x y plans
+led_in p phase [] x y g plans graph sx sy up high a = led_by_none g x y plans a high
+led_in p phase (e ∷ es) x y g plans graph sx sy up high a =
+    let b : IsOnePhase phase true (e ∷ es) x y (with_edges g (e ∷ es)) plans = a in
+    let is = insertion_is_phase g (e ∷ es) x y graph sx sy up in
+    led_by_one g (with_edges g (e ∷ es)) x y plans b.plan b.alone
+    (entries_lead_over.graph phase true (e ∷ es) x y (with_edges g (e ∷ es)) g b.plan is b.entries graph (sym (vertices-with_edges g (e ∷ es))))
+    (entries_lead_over.levels phase true (e ∷ es) x y (with_edges g (e ∷ es)) b.plan is b.entries)
+
+led_both : (g h k : GraphShape) (x y z : List ℕ) (ps qs plans : List PhasePlan) → plans ≡ ps ++ qs → IsLed g h x y ps → IsLed h k y z qs → IsLed g k x z plans
+led_both g h k x y z ps qs plans all a b =
+    let one : entries_in plans ≡ entries_in ps ++ entries_in qs = ap (λ (t : List PhasePlan). entries_in t) all ∙ entries_in-append ps qs in
+    record {
+      graph = ap (λ (es : List Entry). points.graph_after g es) one ∙ history.graph_after-append g (entries_in ps) (entries_in qs) ∙ ap (λ (t : GraphShape). points.graph_after t (entries_in qs)) a.graph ∙ b.graph;
+      levels = ap (λ (es : List Entry). points.levels_after x es) one ∙ history.levels_after-append x (entries_in ps) (entries_in qs) ∙ ap (λ (t : List ℕ). points.levels_after t (entries_in qs)) a.levels ∙ b.levels;
+    }
+
+led_over : (limit : ℕ) (s t : State) (c : Cleaned) (plans : List PhasePlan) → IsSound limit s → IsCleaning s.graph c → IsAfterPhases s c t plans → IsLed s.graph t.graph s.levels t.levels plans
+led_over limit s t c plans sound cleaning a =
+    let k = at_state limit s sound in
+    let f = fits s.graph c sound.graph cleaning in
+    let middle = after_lowered s.profile s.graph c.removed s.levels a.after.levels.between k a.after.levels.lowered in
+    let end = at_after s.profile s.graph c s.levels t.levels k f a.after.levels in
+    let here = vertices-without_edges s.graph c.removed in
+    let same = vertices-with_edges (without_edges s.graph c.removed) c.added in
+    let out = led_out s.profile (s.phases + 1) c.removed s.levels a.after.levels.between s.graph a.phases.leaving sound.graph k.both.sized (middle.both.sized ∙ here) f.removed_ascend f.removed_present a.after.levels.lowered a.phases.deletion in
+    let in_again = led_in s.profile (s.phases + phases_for c.removed + 1) c.added a.after.levels.between t.levels (without_edges s.graph c.removed) a.phases.coming middle.graph middle.both.sized (end.both.sized ∙ same) (ascend_later s.graph c f) a.after.levels.raised a.phases.insertion in
+    rw a.after.graph (led_both s.graph (without_edges s.graph c.removed) (graph_after s.graph c) s.levels a.after.levels.between t.levels a.phases.leaving a.phases.coming plans a.phases.all out in_again)
+
+pub phases_lead_over : PhasesLeadOver
+phases_lead_over = record {
+  graph = λ limit s t c plans sound cleaning a. (led_over limit s t c plans sound cleaning a).graph;
+  levels = λ limit s t c plans sound cleaning a. (led_over limit s t c plans sound cleaning a).levels;
+}
+
+pub phases_lead_on : PhasesLeadOn
+phases_lead_on limit n past s t c plans sound cleaning a is =
+    let led = led_over limit s t c plans sound cleaning a in
+    record {
+      graph = history.entries_lead_on.graph n past (entries_in plans) ∙ ap (λ (h : GraphShape). points.graph_after h (entries_in plans)) is.graph ∙ led.graph;
+      levels = history.entries_lead_on.levels n past (entries_in plans) ∙ ap (λ (x : List ℕ). points.levels_after x (entries_in plans)) is.levels ∙ led.levels;
+    }

@@ -1,0 +1,5 @@
+use Rattle.kc_engine.proofs.PhaseLaw as law
+use Rattle.kc_engine.proofs.laws.phases_are_well_formed.Goals as goal
+
+pub returns : goal.returns
+returns c = law.phases_are_well_formed

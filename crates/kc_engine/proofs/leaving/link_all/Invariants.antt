@@ -1,0 +1,10 @@
+use Rattle.std.proofs.Common.{◌≡◌, drop}
+use Rattle.kc_graph.specs.Shape.{with_edges}
+use Rattle.kc_graph.specs.Changes.{CanAdd}
+use Rattle.kc_engine.proofs.leaving.link_all.Given as goal
+
+abbrev pub invariant-loop-e : goal.invariant-loop-e
+invariant-loop-e g l =
+    CanAdd l.adj.graph (drop l.e-index l.edges)
+    × (with_edges l.adj.graph (drop l.e-index l.edges) ≡ with_edges l.initial.adj.graph l.edges)
+    × (l.adj.levels ≡ l.initial.adj.levels)

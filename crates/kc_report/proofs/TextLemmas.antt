@@ -1,0 +1,103 @@
+-- Texts that are written one after another, and the lines of phases and groups as they are put together.
+use Rattle.std.proofs.Common.{ℕ, suc, zero, ◌+◌, ◌<◌, ◌≡◌, List, [], ◌∷◌, ◌++◌, length, get_or, take, map, ap, sym, ◌∙◌, arith, append_assoc, add-one, rules, subst}
+use Rattle.std.specs.Prelude.{Option, Some, decimal, codes, All, IsSome}
+use Rattle.std.specs.List.{join_with_byte, flat_map}
+use Rattle.std.specs.Io.KnownBytes.{append_known}
+use Rattle.std.proofs.lemmas.List.{append-nil}
+use Rattle.std.proofs.lemmas.List.Elements.{All-cons, All-nil}
+use Rattle.kc_text.specs.Writing.{IsPrefix}
+use Rattle.kc_text.proofs.Known.{append_twice, prefix_longer, prefix_then}
+use Rattle.kc_history.specs.declared.entries.Entry.{Entry}
+use Rattle.kc_history.specs.declared.moves.Move.{Move}
+use Rattle.kc_groups.specs.declared.plans.PhasePlan.{PhasePlan}
+use Rattle.kc_groups.specs.WellFormed.{IsWellFormed}
+use Rattle.kc_report.specs.Lines.{line_of, direction_word, phase_line, member_word, label_word, group_line}
+
+-- the texts of a list, split behind the one at place i
+record IsSplit {A : Type 0} (f : A → List ℕ) (xs : List A) (i : ℕ) (d : A) : Type 0 where
+  behind : List ℕ
+  here : flat_map f (take (suc i) xs) ≡ flat_map f (take i xs) ++ f (get_or xs i d)
+  all : flat_map f xs ≡ flat_map f (take (suc i) xs) ++ behind
+
+split_at : {A : Type 0} (f : A → List ℕ) (xs : List A) (i : ℕ) (d : A) → i < length xs → IsSplit f xs i d
+split_at f [] i d h = absurd (omega arith)
+split_at f (x ∷ xs) zero d h = record { behind = flat_map f xs; here = append-nil (f x); all = ap (λ (t : List ℕ). t ++ flat_map f xs) (sym (append-nil (f x))) }
+split_at f (x ∷ xs) (suc i) d h =
+    let s = split_at f xs i d (omega arith) in
+    record {
+      behind = s.behind;
+      here = ap (λ (t : List ℕ). f x ++ t) s.here ∙ sym (append_assoc (f x) (flat_map f (take i xs)) (f (get_or xs i d)));
+      all = ap (λ (t : List ℕ). f x ++ t) s.all ∙ sym (append_assoc (f x) (flat_map f (take (suc i) xs)) s.behind);
+    }
+
+-- one more text was written
+pub texts_more : {A : Type 0} (f : A → List ℕ) (xs : List A) (i : ℕ) (d x : A) (before now later : Option (List ℕ)) → i < length xs → x ≡ get_or xs i d → now ≡ append_known before (flat_map f (take i xs)) → later ≡ append_known now (f x) → later ≡ append_known before (flat_map f (take (i + 1) xs))
+texts_more f xs i d x before now later h is e t =
+    let s = split_at f xs i d h in
+    rw (add-one, s.here) (append_twice before now later (flat_map f (take i xs)) (f (get_or xs i d)) e (t ∙ ap (λ y. append_known now (f y)) is))
+
+-- some texts were written, and a prefix of the next
+pub texts_prefix : {A : Type 0} (f : A → List ℕ) (xs : List A) (i : ℕ) (d x : A) (before now later : Option (List ℕ)) → i < length xs → x ≡ get_or xs i d → now ≡ append_known before (flat_map f (take i xs)) → IsPrefix now later (f x) → IsPrefix before later (flat_map f xs)
+texts_prefix f xs i d x before now later h is e t =
+    let s = split_at f xs i d h in
+    let next = subst (λ y. IsPrefix now later (f y)) is t in
+    rw s.all (prefix_longer before later (flat_map f (take (suc i) xs)) s.behind (rw s.here (prefix_then before now later (flat_map f (take i xs)) (f (get_or xs i d)) e next)))
+
+-- one more member was put together
+pub members_more : (f : Move → List ℕ) (xs : List Move) (i : ℕ) (d : Move) (old buffer more : List ℕ) → i < length xs → buffer ≡ old ++ flat_map f (take i xs) → more ≡ buffer ++ f (get_or xs i d) → more ≡ old ++ flat_map f (take (i + 1) xs)
+members_more f xs i d old buffer more h e t =
+    let s = split_at f xs i d h in
+    rw (add-one, s.here) (t ∙ ap (λ (b : List ℕ). b ++ f (get_or xs i d)) e ∙ append_assoc old (flat_map f (take i xs)) (f (get_or xs i d)))
+
+member_filled : (m : Move) (old a b : List ℕ) → a ≡ (old ++ codes " ") ++ decimal m.vertex → b ≡ (a ++ codes ":") ++ decimal m.new → b ≡ old ++ 32 ∷ member_word m
+member_filled m old a b ea eb = rw (eb, ea) (simp append_assoc)
+
+-- one more member was put together, in two parts
+pub member_at : (xs : List Move) (i : ℕ) (d m : Move) (old buffer a b : List ℕ) → i < length xs → m ≡ get_or xs i d → buffer ≡ old ++ flat_map (λ (k : Move). 32 ∷ member_word k) (take i xs)
+    → a ≡ (buffer ++ codes " ") ++ decimal m.vertex → b ≡ (a ++ codes ":") ++ decimal m.new → b ≡ old ++ flat_map (λ (k : Move). 32 ∷ member_word k) (take (i + 1) xs)
+member_at xs i d m old buffer a b h is e ea eb =
+    members_more (λ (k : Move). 32 ∷ member_word k) xs i d old buffer b h e (member_filled m buffer a b ea eb ∙ ap (λ (k : Move). buffer ++ 32 ∷ member_word k) is)
+
+-- words that are joined, each but the first with its blank
+joined : {A : Type 0} (word : List ℕ) (f : A → List ℕ) (xs : List A) → join_with_byte 32 (word ∷ map f xs) ≡ word ++ flat_map (λ x. 32 ∷ f x) xs
+joined word f [] = sym (append-nil word)
+joined word f (x ∷ xs) = ap (λ (t : List ℕ). word ++ 32 ∷ t) (joined (f x) f xs)
+
+phase_regrouped : (p b r q n s e : List ℕ) → ((((p ++ s) ++ b) ++ ((s ++ r) ++ (s ++ (q ++ s)))) ++ n) ++ e ≡ (p ++ (s ++ (b ++ (s ++ (r ++ (s ++ (q ++ (s ++ n)))))))) ++ e
+phase_regrouped p b r q n s e = simp append_assoc
+
+group_regrouped : (p b l m s e : List ℕ) → (((((p ++ s) ++ b) ++ s) ++ l) ++ m) ++ e ≡ (p ++ (s ++ (b ++ (s ++ (l ++ m))))) ++ e
+group_regrouped p b l m s e = simp append_assoc
+
+phase_parts : (phase quiet : ℕ) (direction old a word b : List ℕ) → old ≡ [] → a ≡ (old ++ codes "phase ") ++ decimal phase → word ≡ (codes " " ++ direction) ++ codes " quiet " → b ≡ (a ++ word) ++ decimal quiet
+    → b ++ 10 ∷ [] ≡ line_of (codes "phase" ∷ decimal phase ∷ direction ∷ codes "quiet" ∷ decimal quiet ∷ [])
+phase_parts phase quiet direction old a word b z ea ew eb = rw (eb, ew, ea, z) (phase_regrouped (codes "phase") (decimal phase) direction (codes "quiet") (decimal quiet) (32 ∷ []) (10 ∷ []))
+
+pub phase_filled : (plan : PhasePlan) (quiet : ℕ) (old a word b : List ℕ) → old ≡ [] → quiet ≡ length plan.quiet.edges → a ≡ (old ++ codes "phase ") ++ decimal plan.quiet.phase
+    → word ≡ (codes " " ++ direction_word plan.quiet.add) ++ codes " quiet " → b ≡ (a ++ word) ++ decimal quiet → b ++ 10 ∷ [] ≡ phase_line plan
+phase_filled plan quiet old a word b z eq ea ew eb =
+    phase_parts plan.quiet.phase quiet (direction_word plan.quiet.add) old a word b z ea ew eb
+    ∙ ap (λ (n : ℕ). line_of (codes "phase" ∷ decimal plan.quiet.phase ∷ direction_word plan.quiet.add ∷ codes "quiet" ∷ decimal n ∷ [])) eq
+
+group_parts : (phase label : ℕ) (members words old a b d : List ℕ) → old ≡ [] → a ≡ (old ++ codes "group ") ++ decimal phase → b ≡ (a ++ codes " ") ++ decimal label → d ≡ b ++ members → words ≡ decimal label ++ members
+    → d ++ 10 ∷ [] ≡ (codes "group" ++ 32 ∷ (decimal phase ++ 32 ∷ words)) ++ 10 ∷ []
+group_parts phase label members words old a b d z ea eb ed ew = rw (ed, eb, ea, z, ew) (group_regrouped (codes "group") (decimal phase) (decimal label) members (32 ∷ []) (10 ∷ []))
+
+pub group_filled : (group : Entry) (label : ℕ) (old a b d : List ℕ) → old ≡ [] → group.label ≡ Some label → a ≡ (old ++ codes "group ") ++ decimal group.phase → b ≡ (a ++ codes " ") ++ decimal label
+    → d ≡ b ++ flat_map (λ (m : Move). 32 ∷ member_word m) group.moves → d ++ 10 ∷ [] ≡ group_line group
+group_filled group label old a b d z el ea eb ed =
+    let words : join_with_byte 32 (label_word group.label ∷ map member_word group.moves) ≡ decimal label ++ flat_map (λ (m : Move). 32 ∷ member_word m) group.moves =
+    ap (λ (o : Option ℕ). join_with_byte 32 (label_word o ∷ map member_word group.moves)) el ∙ joined (decimal label) member_word group.moves in
+    group_parts group.phase label (flat_map (λ (m : Move). 32 ∷ member_word m) group.moves) (join_with_byte 32 (label_word group.label ∷ map member_word group.moves)) old a b d z ea eb ed words
+
+-- each group of a well formed plan has a label
+labels_there : (groups : List Entry) (labels : List ℕ) → map (λ (e : Entry). e.label) groups ≡ map Some labels → All (λ (e : Entry). IsSome e.label) groups
+labels_there [] labels e = All-nil (λ (e : Entry). IsSome e.label)
+labels_there (g ∷ gs) [] e = absurd cc
+labels_there (g ∷ gs) (l ∷ ls) e =
+    let first : g.label ≡ Some l = cc in
+    let later : map (λ (e : Entry). e.label) gs ≡ map Some ls = cc in
+    All-cons (λ (e : Entry). IsSome e.label) g gs (rw first (search rules)) (labels_there gs ls later)
+
+pub has_labels : (n : ℕ) (plan : PhasePlan) → IsWellFormed n plan → All (λ (e : Entry). IsSome e.label) plan.groups
+has_labels n plan w = labels_there plan.groups w.labels w.labels_are

@@ -1,0 +1,9 @@
+use Rattle.std.proofs.lemmas.Result.{on_ok_weaker}
+use Rattle.kc_report.proofs.TextLemmas.{group_filled}
+use Rattle.kc_report.proofs.phases.fill_group.Goals as goal
+
+pub returns : goal.returns
+returns c =
+    on_ok_weaker c.fill_members.result
+    (λ members. group_filled c.args.group.now c.unwrap.result _ _ _ _ c.requires.empty c.unwrap.ensures c.in_ok-fill_named.ensures c.in_ok-fill_named-2.ensures (rw c.as_slice.ensures at members))
+    c.fill_members.ensures

@@ -1,0 +1,88 @@
+ghost use Rattle.std.specs.Prelude.{◌≡◌, [], ◌∷◌, ◌++◌, OnOk};
+ghost use Rattle.kc_text.specs.Writing.{Appends, WriteCause};
+ghost use Rattle.kc_report.specs.Buffer.{IsCleared};
+ghost use Rattle.kc_report.specs.Lines.{exact_magic_line, exact_head_text, coreness_line};
+
+use crate::fill::fill_named;
+use crate::head::write_vertices;
+use kc_levels::Estimate;
+use kc_text::{LineBuf, SendFault, Sink};
+use std::alloc::{AllocError, Global};
+
+// Writes the first line.
+fn write_exact_magic<K: Sink>(
+    alloc: Global,
+    buf: &mut LineBuf,
+    sink: &mut K,
+) -> Result<(), SendFault>
+    requires { buf.old ≡ [] }
+    ensures text { Appends (K.taken sink.old) (K.taken sink.new) exact_magic_line result }
+    ensures buffer { IsCleared buf.new result }
+    ensures cause { WriteCause (K.faults sink.old) (K.faults sink.new) result }
+{
+    match buf.text(alloc, b"kcore-exact 1") {
+        Ok(()) => buf.send(alloc, sink),
+        Err(fault) => Err(SendFault::Memory(fault)),
+    }
+}
+
+/// Writes the two lines ahead of the vertices of an exact text, for `n` vertices (`exact_head_text`), one after the
+/// other; any number is written.
+///
+/// After `WriteFault`, which only a failed write gives, and after `Memory` the sink took a prefix of the two lines. The
+/// second isn't tried where the first fails.
+pub fn write_exact_head<K: Sink>(
+    alloc: Global,
+    buf: &mut LineBuf,
+    sink: &mut K,
+    n: u32,
+) -> Result<(), SendFault>
+    requires { buf.old ≡ [] }
+    ensures text { Appends (K.taken sink.old) (K.taken sink.new) (exact_head_text n) result }
+    ensures buffer { IsCleared buf.new result }
+    ensures cause { WriteCause (K.faults sink.old) (K.faults sink.new) result }
+{
+    write_exact_magic(alloc, buf, sink)?;
+    write_vertices(alloc, buf, sink, n)
+}
+
+fn fill_coreness(
+    alloc: Global,
+    buf: &mut LineBuf,
+    v: u32,
+    coreness: u32,
+    estimate: Estimate,
+) -> Result<(), AllocError>
+    requires { buf.old ≡ [] }
+    ensures { OnOk result (buf.new ++ 10 ∷ [] ≡ coreness_line v coreness estimate) }
+{
+    fill_named(alloc, buf, b"vertex ", v)?;
+    fill_named(alloc, buf, b" coreness ", coreness)?;
+    fill_named(alloc, buf, b" low ", estimate.lo)?;
+    fill_named(alloc, buf, b" est ", estimate.est)?;
+    fill_named(alloc, buf, b" high ", estimate.hi)
+}
+
+/// Writes the line of vertex `v` in an exact text (`coreness_line`): its coreness, and the bounds and the estimate of it
+/// for which its level stands.
+///
+/// Any numbers are written: that they are those of `v` is the caller's part. After `WriteFault`, which only a failed
+/// write gives, and after `Memory` the sink took a prefix of the line.
+pub fn write_coreness<K: Sink>(
+    alloc: Global,
+    buf: &mut LineBuf,
+    sink: &mut K,
+    v: u32,
+    coreness: u32,
+    estimate: Estimate,
+) -> Result<(), SendFault>
+    requires { buf.old ≡ [] }
+    ensures text { Appends (K.taken sink.old) (K.taken sink.new) (coreness_line v coreness estimate) result }
+    ensures buffer { IsCleared buf.new result }
+    ensures cause { WriteCause (K.faults sink.old) (K.faults sink.new) result }
+{
+    match fill_coreness(alloc, buf, v, coreness, estimate) {
+        Ok(()) => buf.send(alloc, sink),
+        Err(fault) => Err(SendFault::Memory(fault)),
+    }
+}
