@@ -23,11 +23,15 @@ done
 [ $? = 0 ] && cmp -s "$out" karate_exact.txt || wrong "karate.kc: another exact text than in karate_exact.txt"
 
 # A text that can't be written: the device is full.
-for words in "run 1" exact; do
-  "$program" $words <path.kc >/dev/full 2>"$err"
-  exited=$?
-  [ $exited = 4 ] && [ ! -s "$err" ] || wrong "path.kc: $words to a full device: exit number $exited"
-done
+if [ -c /dev/full ]; then
+  for words in "run 1" exact; do
+    "$program" $words <path.kc >/dev/full 2>"$err"
+    exited=$?
+    [ $exited = 4 ] && [ ! -s "$err" ] || wrong "path.kc: $words to a full device: exit number $exited"
+  done
+else
+  echo "a full device isn't tried: there is no /dev/full" >&2
+fi
 
 # Any number of workers writes the same.
 "$program" run 3 <karate_batches.kc | cmp -s - karate_batches.txt || wrong "karate_batches.kc: another text with 3 workers"
