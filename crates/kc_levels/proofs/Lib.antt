@@ -12,3 +12,4 @@ pub mod LoweredLaw
 pub mod BothKept
 pub mod BetweenLaw
 pub mod FitLaws
+pub mod SweepLaw

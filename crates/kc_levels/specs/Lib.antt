@@ -4,3 +4,4 @@ pub mod LevelList
 pub mod Moved
 pub mod Laws
 pub mod Between
+pub mod Sweep

@@ -2,6 +2,7 @@
 
 ghost use Rattle.kc_levels.specs.Laws.{FirstProfileBegins, EstimateIsNear, RaisedIsOneList, TopIsRaisable, LesserIsRaisable, LoweredIsOneList, ZerosAreLowerable, GreaterIsLowerable, InsertionKeepsBoth, DeletionKeepsBoth, SequencesRise, HeightIsLeast, LastGroupIsLeast, NoneBreaksBoth};
 ghost use Rattle.kc_levels.specs.Between.{BetweenMeetsBoth};
+ghost use Rattle.kc_levels.specs.Sweep.{SweptIsRaised};
 
 /// The first numbers of each sequence of profile 1.
 pub fn profile_one_begins()
@@ -48,4 +49,10 @@ pub fn thresholds_fit()
 /// differs in these two is as in one of them. So they hold at every point of a phase that takes effect part by part.
 pub fn between_meets_both()
     ensures { BetweenMeetsBoth }
+{}
+
+/// The swept lists are the raised ones: above each level stand just the vertices that were above it before, and those that
+/// have more neighbours among the vertices on that level or above than its group allows.
+pub fn swept_is_raised()
+    ensures { SweptIsRaised }
 {}

@@ -10,8 +10,9 @@ const LEAST_PIECE: usize = 16_384;
 
 /// The rounds of one phase, one after the other, with the workers that they may use.
 ///
-/// The first round that has candidates is cut into as many pieces as there are workers. In later rounds a short list goes to
-/// fewer workers, down to one, since a thread costs more than the tests that it would take over. No answer depends on it.
+/// The first round that has candidates goes to all workers: `filter_round` cuts it into as many pieces, or fewer where there
+/// are few candidates. In later rounds a short list goes to fewer workers, down to one, since a thread costs more than the
+/// tests that it would take over. No answer depends on it.
 #[derive(Drop)]
 pub struct Rounds<'a, R, G> {
     rt: &'a R,

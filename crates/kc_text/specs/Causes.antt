@@ -1,5 +1,5 @@
 -- When a fault may be answered: causes, on the count of faults of a source or sink before a call and after it.
-use Rattle.std.specs.Prelude.{ℕ, ◌+◌, ◌-◌, ◌^◌, ◌≤◌, ◌≡◌, min, Result, Ok, Err}
+use Rattle.std.specs.Prelude.{Bool, ℕ, ◌+◌, ◌-◌, ◌^◌, ◌≤◌, ◌≡◌, min, Result, Ok, Err}
 use Rattle.kc_text.specs.declared.line.LineFault.{LineFault}
 use Rattle.kc_text.specs.declared.line.LineFault.TheVariants.{ReadFault, Memory}
 
@@ -18,3 +18,8 @@ abbrev pub OnReadFault : {T : Type 0} → Result T LineFault → Type 0 → Type
 OnReadFault (Err ReadFault) P = P
 OnReadFault (Err (Memory _)) P = Unit {0}
 OnReadFault (Ok _) P = Unit {0}
+
+-- what contracts see of a sink over a writer: its count of faults, and whether the writer was flushed since the last write
+pub record Outlet : Type 0 where
+  pub faults : ℕ
+  pub is_flushed : Bool

@@ -1,7 +1,7 @@
 -- The command lines, and what each command writes for the bytes that it reads.
 use Rattle.std.specs.Prelude.{ℕ, ◌≡◌, ◌≤◌, nat_le, Bool, true, false, ◌&&◌, List, [], ◌∷◌, Option, Some, None, if◌then◌else◌, codes, ◌⊎◌}
 use Rattle.std.specs.Str.{bytes_eq}
-use Rattle.kc_text.specs.Causes.{Rose}
+use Rattle.kc_text.specs.Causes.{Rose, Outlet}
 use Rattle.kc_text.specs.Numbers.{number_of}
 use Rattle.kcore.specs.declared.command.Command.{Command}
 use Rattle.kcore.specs.declared.command.Command.TheVariants.{Run, Exact}
@@ -82,6 +82,7 @@ unflushed Done = WriteFault
 unflushed Refused = WriteFault
 unflushed status = status
 
--- the program ends as its command did where the flush leaves the output's count of faults as it was; else the count rose
-abbrev pub EndsAs : Status → Status → ℕ → ℕ → Type 0
-EndsAs status ended before now = ((ended ≡ status) × (now ≡ before)) ⊎ ((ended ≡ unflushed status) × Rose before now)
+-- the program ends as its command did where the output was flushed and its count of faults is as it was; else the count rose
+abbrev pub EndsAs : Status → Status → Outlet → Outlet → Type 0
+EndsAs status ended before now =
+    ((ended ≡ status) × (now ≡ record before { is_flushed = true })) ⊎ ((ended ≡ unflushed status) × Rose before.faults now.faults)

@@ -138,7 +138,7 @@ fn exact_header<R: Threads + Sync, S: Source, K: Sink, G: Gate + Sync>(
 
 /// Reads a batch input, applies its batches in turn and writes the exact text behind the notes of the refused ones. Says
 /// whether something was refused.
-pub fn exact_one<R: Threads + Sync, S: Source, K: Sink, G: Gate + Sync>(
+pub fn exact_input<R: Threads + Sync, S: Source, K: Sink, G: Gate + Sync>(
     rt: &R,
     alloc: Global,
     src: &mut S,

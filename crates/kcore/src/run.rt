@@ -204,7 +204,7 @@ fn run_header<R: Threads + Sync, S: Source, K: Sink, G: Gate + Sync>(
 }
 
 /// Reads a batch input, applies its batches in turn and writes the text of the run. Says whether something was refused.
-pub fn run_one<R: Threads + Sync, S: Source, K: Sink, G: Gate + Sync>(
+pub fn run_input<R: Threads + Sync, S: Source, K: Sink, G: Gate + Sync>(
     rt: &R,
     alloc: Global,
     workers: u32,

@@ -4,8 +4,8 @@ ghost use Rattle.kcore.specs.Commands.{command_of, Answers, Holds, HasCause};
 ghost use Rattle.kcore.specs.Stops.{status_of};
 
 use crate::command::Command;
-use crate::exact::exact_one;
-use crate::run::run_one;
+use crate::exact::exact_input;
+use crate::run::run_input;
 use crate::status::Status;
 use crate::stop::Stop;
 use kc_rounds::Gate;
@@ -60,9 +60,9 @@ pub fn run_command<R: Threads + Sync, S: Source + Send, K: Sink + Send, G: Gate 
 {
     match Command::from_words(words) {
         Some(Command::Run { workers }) => {
-            status_of(run_one(rt, alloc, workers, input, output, gate))
+            status_of(run_input(rt, alloc, workers, input, output, gate))
         }
-        Some(Command::Exact) => status_of(exact_one(rt, alloc, input, output, gate)),
+        Some(Command::Exact) => status_of(exact_input(rt, alloc, input, output, gate)),
         None => Status::Usage,
     }
 }

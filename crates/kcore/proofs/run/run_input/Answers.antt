@@ -4,7 +4,7 @@ use Rattle.kc_batch.specs.Kept.{kept_left}
 use Rattle.kc_batch.proofs.InputLemmas.{told_input, told_accepted, told_refused}
 use Rattle.kcore.proofs.Texts.{run_of_header, header_refused, header_refused_prefix, writes_nothing}
 use Rattle.kcore.specs.declared.stop.Stop.TheVariants.{ReadFault, Memory}
-use Rattle.kcore.proofs.run.run_one.Goals as goal
+use Rattle.kcore.proofs.run.run_input.Goals as goal
 
 pub returns-in_err-reader-clause-text : goal.returns-in_err-reader-clause-text
 returns-in_err-reader-clause-text g c =

@@ -4,7 +4,7 @@ use Rattle.kc_batch.specs.Kept.{kept_left}
 use Rattle.kc_batch.proofs.InputLemmas.{told_input, told_accepted, told_refused}
 use Rattle.kcore.proofs.ExactTexts.{exact_of_header, exact_header_refused, exact_header_refused_prefix, exact_writes_nothing}
 use Rattle.kcore.specs.declared.stop.Stop.TheVariants.{ReadFault, Memory}
-use Rattle.kcore.proofs.exact.exact_one.Goals as goal
+use Rattle.kcore.proofs.exact.exact_input.Goals as goal
 
 pub returns-in_err-reader-clause-text : goal.returns-in_err-reader-clause-text
 returns-in_err-reader-clause-text g c =
