@@ -17,11 +17,10 @@ use Rattle.kc_groups.specs.declared.plans.PhasePlan.{PhasePlan}
 use Rattle.kc_groups.specs.Links.{AreLabels}
 use Rattle.kc_groups.specs.Labels.{AreJoined, AreRooted}
 use Rattle.kc_groups.specs.Entries.{labels_below, group_entry, quiet_entry, ends_at, is_quiet, entries_of, AreEntries}
-use Rattle.kc_groups.specs.Dealing.{edge_label}
 use Rattle.kc_groups.specs.Laws.{IsPhase, PointsLieBetween}
 use Rattle.kc_groups.proofs.LabelLaw.{labels_joined}
 use Rattle.kc_groups.proofs.ListLemmas.{labels_rise}
-use Rattle.kc_groups.proofs.DealingLemmas.{edge_joined, rooted, IsAt, is_at, ends_yes, ends_no, label_root}
+use Rattle.kc_groups.proofs.EndLemmas.{edge_label, edge_joined, rooted, IsAt, is_at, ends_yes, ends_no, label_root}
 use Rattle.kc_groups.proofs.EdgesLaw.{present_in}
 use Rattle.kc_groups.proofs.LeadLaw.{AreOnTheWay, groups_lead, any_has, plan_toward, added, removed}
 

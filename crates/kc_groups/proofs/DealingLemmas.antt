@@ -1,30 +1,20 @@
 -- How moves and edges come into the entries of their labels, over plain lists.
-use Rattle.std.proofs.Common.{ℕ, suc, zero, ◌+◌, ◌≤◌, ◌<◌, ◌≡◌, ◌≢◌, ◌⊎◌, inl, inr, Bool, true, false, cond, ◌&&◌, not, List, [], ◌∷◌, ◌++◌, length, get_or, set, map, filter, take, refl, ap, sym, ◌∙◌, arith, add-one, append-nil}
+use Rattle.std.proofs.Common.{ℕ, suc, zero, ◌+◌, ◌≤◌, ◌<◌, ◌≡◌, ◌≢◌, ◌⊎◌, inl, inr, Bool, true, false, cond, eqb, ◌&&◌, not, List, [], ◌∷◌, ◌++◌, length, get_or, set, map, filter, take, refl, ap, sym, ◌∙◌, arith, add-one, append-nil}
+use Rattle.std.specs.Prelude.{Some, All}
 use Rattle.std.proofs.lemmas.Bool.{cases_eq, cases_lt}
 use Rattle.std.proofs.lemmas.Bool.Decides.{nat_tests}
-use Rattle.std.proofs.lemmas.List.{length-set, get_or-set_same, get_or-set_other, length_push, get_or_push, get_or_append_left}
+use Rattle.std.proofs.lemmas.List.{length-set, length-map, map_push, get_or-map, get_or-set_same, get_or-set_other, length_push, get_or_push, get_or_append_left, get_or_default, same_lists}
 use Rattle.std.proofs.lemmas.List.Elements.{filter_more}
-use Rattle.std.specs.Prelude.{Some}
-use Rattle.kc_graph.specs.Shape.{GraphShape, Pair, IsGraph, has_edge}
-use Rattle.kc_graph.proofs.EdgeLemmas.{edge_inside, joined_in_order}
+use Rattle.kc_graph.specs.Shape.{Pair}
 use Rattle.kc_levels.specs.Moved.{is_moved}
+use Rattle.kc_history.specs.declared.moves.Move.{Move}
 use Rattle.kc_history.specs.declared.entries.Entry.{Entry}
-use Rattle.kc_groups.specs.Links.{AreLabels}
-use Rattle.kc_groups.specs.Labels.{AreJoined, AreRooted}
-use Rattle.kc_groups.specs.Entries.{labels_below, moves_below, move_of, group_entry, ends_at, is_quiet}
-use Rattle.kc_groups.specs.Dealing.{moved_entry, ArePlaces, IsJoined, edge_label}
+use Rattle.kc_groups.specs.Labels.{AreRooted}
+use Rattle.kc_groups.specs.Entries.{labels_below, moves_below, move_of, pushed_if, group_entry, ends_at, is_quiet}
+use Rattle.kc_groups.specs.Dealing.{empty_entry, with_moves, with_edges, ArePlaces, AreDealt, IsPlaced, IsPlacedEdge, edge_place, is_unplaced}
+use Rattle.kc_groups.proofs.EndLemmas.{IsAt, IsJoined, ends_yes, ends_no}
 
-same_map : {A : Type 0} (f h : ℕ → A) (rs : List ℕ) → ((i : ℕ) → i < length rs → h (get_or rs i 0) ≡ f (get_or rs i 0)) → map f rs ≡ map h rs
-same_map f h [] same = refl
-same_map f h (r ∷ rs) same = ap (λ x. x ∷ map f rs) (sym (same 0 (omega arith))) ∙ ap (λ xs. h r ∷ xs) (same_map f h rs (λ i lt. same (suc i) (omega arith)))
-
--- one element of a map changes
-pub set_map : {A : Type 0} (f h : ℕ → A) (rs : List ℕ) (p : ℕ) → p < length rs → ((i : ℕ) → i < length rs → i ≢ p → h (get_or rs i 0) ≡ f (get_or rs i 0)) → set (map f rs) p (h (get_or rs p 0)) ≡ map h rs
-set_map f h [] p inside other = absurd (omega arith)
-set_map f h (r ∷ rs) zero inside other = ap (λ xs. h r ∷ xs) (same_map f h rs (λ i lt. other (suc i) (omega arith) (omega arith)))
-set_map f h (r ∷ rs) (suc p) inside other =
-    ap (λ x. x ∷ set (map f rs) p (h (get_or rs p 0))) (sym (other 0 (omega arith) (omega arith)))
-    ∙ ap (λ xs. h r ∷ xs) (set_map f h rs p (omega arith) (λ i lt ne. other (suc i) (omega arith) (omega arith)))
+-- Places
 
 pub labels-more : (labels : List ℕ) (k : ℕ) → get_or labels k 0 ≡ k → labels_below labels (k + 1) ≡ labels_below labels k ++ k ∷ []
 labels-more labels k e = rw add-one (grind (arith, nat_tests, e))
@@ -32,50 +22,141 @@ labels-more labels k e = rw add-one (grind (arith, nat_tests, e))
 pub labels-same : (labels : List ℕ) (k : ℕ) → get_or labels k 0 ≢ k → labels_below labels (k + 1) ≡ labels_below labels k
 labels-same labels k ne = rw add-one (grind (arith, nat_tests, ne))
 
-pub places_none : (labels places : List ℕ) → length places ≡ length labels → ArePlaces labels [] places 0
-places_none labels places sized = record {
+pub places_none : (n : ℕ) (labels : List ℕ) → length labels ≡ n → ArePlaces n labels [] labels 0
+places_none n labels sized = record {
   sized = sized;
   few = omega arith;
   low = λ i h. absurd (omega arith);
-  at = λ l h e. absurd (omega arith);
+  at = λ v h e. absurd (omega arith);
+  none = λ v h e. absurd (omega arith);
   back = λ i h. absurd (omega arith);
+  rest = λ v h lt. refl;
 }
 
-pub places_more : (labels roots places : List ℕ) (k : ℕ) → ArePlaces labels roots places k → k < length labels → get_or labels k 0 ≡ k → ArePlaces labels (roots ++ k ∷ []) (set places k (length roots)) (k + 1)
-places_more labels roots places k p h e = record {
-  sized = length-set places k (length roots) ∙ p.sized;
-  few = omega (arith, length_push roots k, p.few);
-  low = λ i lt. elim (cases_lt i (length roots)) [
-    | inl old ↦ omega (arith, get_or_append_left roots (k ∷ []) 0 i old, p.low i old)
-    | inr new ↦ omega (arith, get_or_push roots k 0 i (omega (arith, length_push roots k)))
-  ];
-  at = λ l lt el. elim (cases_eq l k) [
-    | inl same ↦
-        let place : get_or (set places k (length roots)) l 0 ≡ length roots = ap (λ u. get_or (set places k (length roots)) u 0) same ∙ get_or-set_same places k (length roots) 0 (omega (arith, p.sized)) in
-        (omega (arith, length_push roots k), ap (λ u. get_or (roots ++ k ∷ []) u 0) place ∙ get_or_push roots k 0 (length roots) refl ∙ sym same)
-    | inr ne ↦
-        let old = p.at l (omega arith) el in
-        let place : get_or (set places k (length roots)) l 0 ≡ get_or places l 0 = get_or-set_other places k l (length roots) 0 ne in
-        (omega (arith, length_push roots k, old.0), ap (λ u. get_or (roots ++ k ∷ []) u 0) place ∙ get_or_append_left roots (k ∷ []) 0 (get_or places l 0) old.0 ∙ old.1)
-  ];
-  back = λ i lt. elim (cases_lt i (length roots)) [
-    | inl old ↦
-        let low = p.low i old in
-        ap (λ u. get_or (set places k (length roots)) u 0) (get_or_append_left roots (k ∷ []) 0 i old) ∙ get_or-set_other places k (get_or roots i 0) (length roots) 0 (omega arith) ∙ p.back i old
-    | inr new ↦
-        let last : length roots ≡ i = omega (arith, length_push roots k) in
-        ap (λ u. get_or (set places k (length roots)) u 0) (get_or_push roots k 0 i last) ∙ get_or-set_same places k (length roots) 0 (omega (arith, p.sized)) ∙ last
-  ];
-}
+module _ (n : ℕ) (labels places : List ℕ) (k : ℕ) (inside : k < n) where
+  -- a vertex that is its own label opens an entry
+  pub places_more : (roots : List ℕ) → ArePlaces n labels roots places k → get_or labels k 0 ≡ k → ArePlaces n labels (roots ++ k ∷ []) (set places k (length roots)) (k + 1)
+  places_more roots p e = record {
+    sized = length-set places k (length roots) ∙ p.sized;
+    few = omega (arith, length_push roots k, p.few);
+    low = λ i lt. elim (cases_lt i (length roots)) [
+      | inl old ↦ omega (arith, get_or_append_left roots (k ∷ []) 0 i old, p.low i old)
+      | inr new ↦ omega (arith, get_or_push roots k 0 i (omega (arith, length_push roots k)))
+    ];
+    at = λ l lt el. elim (cases_eq l k) [
+      | inl same ↦
+          let place : get_or (set places k (length roots)) l 0 ≡ length roots = ap (λ u. get_or (set places k (length roots)) u 0) same ∙ get_or-set_same places k (length roots) 0 (omega (arith, p.sized)) in
+          (omega (arith, length_push roots k), ap (λ u. get_or (roots ++ k ∷ []) u 0) place ∙ get_or_push roots k 0 (length roots) refl ∙ sym e ∙ ap (λ u. get_or labels u 0) (sym same))
+      | inr ne ↦
+          let old = p.at l (omega arith) el in
+          let place : get_or (set places k (length roots)) l 0 ≡ get_or places l 0 = get_or-set_other places k l (length roots) 0 ne in
+          (omega (arith, length_push roots k, old.0), ap (λ u. get_or (roots ++ k ∷ []) u 0) place ∙ get_or_append_left roots (k ∷ []) 0 (get_or places l 0) old.0 ∙ old.1)
+    ];
+    none = λ l lt el. elim (cases_eq l k) [
+      | inl same ↦ absurd (omega (arith, ap (λ u. get_or labels u 0) same))
+      | inr ne ↦ get_or-set_other places k l (length roots) 0 ne ∙ p.none l (omega arith) el
+    ];
+    back = λ i lt. elim (cases_lt i (length roots)) [
+      | inl old ↦
+          let low = p.low i old in
+          ap (λ u. get_or (set places k (length roots)) u 0) (get_or_append_left roots (k ∷ []) 0 i old) ∙ get_or-set_other places k (get_or roots i 0) (length roots) 0 (omega arith) ∙ p.back i old
+      | inr new ↦
+          let last : length roots ≡ i = omega (arith, length_push roots k) in
+          ap (λ u. get_or (set places k (length roots)) u 0) (get_or_push roots k 0 i last) ∙ get_or-set_same places k (length roots) 0 (omega (arith, p.sized)) ∙ last
+    ];
+    rest = λ l le lt. get_or-set_other places k l (length roots) 0 (omega arith) ∙ p.rest l (omega arith) lt;
+  }
 
-pub places_past : (labels roots places : List ℕ) (k : ℕ) → ArePlaces labels roots places k → get_or labels k 0 ≢ k → ArePlaces labels roots places (k + 1)
-places_past labels roots places k p ne = record {
+  -- any other that moves takes the place of its label
+  pub places_join : (roots : List ℕ) → ArePlaces n labels roots places k → get_or labels k 0 < k → get_or labels (get_or labels k 0) 0 ≡ get_or labels k 0 → ArePlaces n labels roots (set places k (get_or places (get_or labels k 0) 0)) (k + 1)
+  places_join roots p under root =
+      let q = get_or places (get_or labels k 0) 0 in
+      let to = p.at (get_or labels k 0) under (omega (arith, root)) in
+      record {
+        sized = length-set places k q ∙ p.sized;
+        few = omega (arith, p.few);
+        low = λ i lt. omega (arith, p.low i lt);
+        at = λ l lt el. elim (cases_eq l k) [
+          | inl same ↦
+              let place : get_or (set places k q) l 0 ≡ q = ap (λ u. get_or (set places k q) u 0) same ∙ get_or-set_same places k q 0 (omega (arith, p.sized)) in
+              (omega (arith, place, to.0), ap (λ u. get_or roots u 0) place ∙ to.1 ∙ root ∙ ap (λ u. get_or labels u 0) (sym same))
+          | inr ne ↦
+              let old = p.at l (omega arith) el in
+              let place : get_or (set places k q) l 0 ≡ get_or places l 0 = get_or-set_other places k l q 0 ne in
+              (omega (arith, place, old.0), ap (λ u. get_or roots u 0) place ∙ old.1)
+        ];
+        none = λ l lt el. elim (cases_eq l k) [
+          | inl same ↦ absurd (omega (arith, ap (λ u. get_or labels u 0) same))
+          | inr ne ↦ get_or-set_other places k l q 0 ne ∙ p.none l (omega arith) el
+        ];
+        back = λ i lt. let low = p.low i lt in get_or-set_other places k (get_or roots i 0) q 0 (omega arith) ∙ p.back i lt;
+        rest = λ l le lt. get_or-set_other places k l q 0 (omega arith) ∙ p.rest l (omega arith) lt;
+      }
+
+  -- a vertex that stays keeps no place
+  pub places_past : (roots : List ℕ) → ArePlaces n labels roots places k → get_or labels k 0 ≡ n → ArePlaces n labels roots places (k + 1)
+  places_past roots p e = record {
+    sized = p.sized;
+    few = omega (arith, p.few);
+    low = λ i h. omega (arith, p.low i h);
+    at = λ l lt el. elim (cases_eq l k) [ inl same ↦ absurd (omega (arith, ap (λ u. get_or labels u 0) same)) | inr ne ↦ p.at l (omega arith) el ];
+    none = λ l lt el. elim (cases_eq l k) [ inl same ↦ ap (λ u. get_or places u 0) same ∙ p.rest k (omega arith) inside ∙ e | inr ne ↦ p.none l (omega arith) el ];
+    back = p.back;
+    rest = λ l le lt. p.rest l (omega arith) lt;
+  }
+
+-- entries are opened and places kept for the labels below k
+abbrev pub IsOpening : ℕ → Bool → ℕ → List ℕ → List Entry → List ℕ → ℕ → Type 0
+IsOpening phase add n labels entries places k = (entries ≡ map (empty_entry phase add) (labels_below labels k)) × ArePlaces n labels (labels_below labels k) places k
+
+pub opening_first : (phase : ℕ) (add : Bool) (n : ℕ) (labels : List ℕ) (entries : List Entry) → length labels ≡ n → entries ≡ [] → IsOpening phase add n labels entries labels 0
+opening_first phase add n labels entries sized none = (none, places_none n labels sized)
+
+module _ (phase : ℕ) (add : Bool) (n : ℕ) (labels : List ℕ) (entries : List Entry) (places : List ℕ) (moved : ℕ → Bool) (r : AreRooted n moved labels) where
+  pub opening_past : (k : ℕ) → k < n → moved k ≡ false → IsOpening phase add n labels entries places k → IsOpening phase add n labels entries places (k + 1)
+  opening_past k h still o =
+      let none : get_or labels k 0 ≡ n = r.none k h still in
+      rw (labels-same labels k (λ e. absurd (omega (arith, none)))) (o.0, places_past n labels places k h (labels_below labels k) o.1 none)
+
+  module _ (k : ℕ) (h : k < n) (m : moved k ≡ true) (o : IsOpening phase add n labels entries places k) where
+    -- a vertex that is its own label opens an entry
+    pub opening_more : get_or labels k 0 ≡ k → IsOpening phase add n labels (entries ++ empty_entry phase add k ∷ []) (set places k (length entries)) (k + 1)
+    opening_more e =
+        let count : length entries ≡ length (labels_below labels k) = ap (λ (es : List Entry). length es) o.0 ∙ length-map (labels_below labels k) (empty_entry phase add) in
+        rw (labels-more labels k e, count)
+        (ap (λ (es : List Entry). es ++ empty_entry phase add k ∷ []) o.0 ∙ sym (map_push (empty_entry phase add) (labels_below labels k) k), places_more n labels places k h (labels_below labels k) o.1 e)
+
+    -- any other that moves takes the place of its label
+    pub opening_join : get_or labels k 0 ≢ k → IsOpening phase add n labels entries (set places k (get_or places (get_or labels k 0) 0)) (k + 1)
+    opening_join ne =
+        let under : get_or labels k 0 < k = omega (arith, r.low k h m, ne) in
+        rw (labels-same labels k ne) (o.0, places_join n labels places k h (labels_below labels k) o.1 under (r.root k h m).1)
+
+pub placed : (n : ℕ) (moved : ℕ → Bool) (labels roots places : List ℕ) → ArePlaces n labels roots places n → AreRooted n moved labels → IsPlaced n moved places (length roots)
+placed n moved labels roots places p r = record {
   sized = p.sized;
-  few = omega (arith, p.few);
-  low = λ i h. omega (arith, p.low i h);
-  at = λ l lt el. elim (cases_eq l k) [ inl same ↦ absurd (ne (ap (λ u. get_or labels u 0) (sym same) ∙ el ∙ same)) | inr other ↦ p.at l (omega arith) el ];
-  back = p.back;
+  at = λ v h m. (p.at v h (r.root v h m).0).0;
+  none = λ v h m. omega (arith, p.none v h (omega (arith, r.none v h m)), p.few);
 }
+
+-- What is done to each entry
+
+dealt_at : (f h : ℕ → Entry → Entry) (old es : List Entry) (q : ℕ) (t : Entry) → AreDealt f old es → q < length old → ((d : Entry) → t ≡ h q (get_or old q d)) → ((p : ℕ) → p < length old → p ≢ q → (u : Entry) → h p u ≡ f p u) → AreDealt h old (set es q t)
+dealt_at f h old es q t a inside here other = record {
+  sized = length-set es q t ∙ a.sized;
+  each = λ p d lt. elim (cases_eq p q) [
+    | inl same ↦ rw same (get_or-set_same es q t d (omega (arith, a.sized)) ∙ here d)
+    | inr ne ↦ get_or-set_other es q p t d ne ∙ a.each p d lt ∙ sym (other p lt ne (get_or old p d))
+  ];
+}
+
+dealt_same : (f h : ℕ → Entry → Entry) (old es : List Entry) → AreDealt f old es → ((p : ℕ) → p < length old → (u : Entry) → h p u ≡ f p u) → AreDealt h old es
+dealt_same f h old es a same = record { sized = a.sized; each = λ p d lt. a.each p d lt ∙ sym (same p lt (get_or old p d)) }
+
+dealt_first : (f : ℕ → Entry → Entry) (old : List Entry) → ((p : ℕ) (d : Entry) → p < length old → f p (get_or old p d) ≡ get_or old p d) → AreDealt f old old
+dealt_first f old same = record { sized = refl; each = λ p d lt. sym (same p d lt) }
+
+-- Moves
 
 moves-more : (labels x y : List ℕ) (l k : ℕ) → get_or labels k 0 ≡ l → moves_below labels x y l (k + 1) ≡ moves_below labels x y l k ++ move_of x y k ∷ []
 moves-more labels x y l k e = rw add-one (grind (arith, nat_tests, e))
@@ -83,104 +164,187 @@ moves-more labels x y l k e = rw add-one (grind (arith, nat_tests, e))
 moves-same : (labels x y : List ℕ) (l k : ℕ) → get_or labels k 0 ≢ l → moves_below labels x y l (k + 1) ≡ moves_below labels x y l k
 moves-same labels x y l k ne = rw add-one (grind (arith, nat_tests, ne))
 
--- the move of k comes into the entry of its label
-pub deal_move : (phase : ℕ) (add : Bool) (labels x y roots places : List ℕ) (n k : ℕ) → ArePlaces labels roots places n → get_or labels k 0 < n → get_or labels (get_or labels k 0) 0 ≡ get_or labels k 0 → set (map (moved_entry phase add x y labels k) roots) (get_or places (get_or labels k 0) 0) (record { phase = phase; label = Some (get_or labels k 0); add = add; moves = moves_below labels x y (get_or labels k 0) k ++ move_of x y k ∷ []; edges = [] }) ≡ map (moved_entry phase add x y labels (k + 1)) roots
-deal_move phase add labels x y roots places n k p low root =
-    let at = p.at (get_or labels k 0) low root in
-    let here : moved_entry phase add x y labels (k + 1) (get_or roots (get_or places (get_or labels k 0) 0) 0) ≡ record { phase = phase; label = Some (get_or labels k 0); add = add; moves = moves_below labels x y (get_or labels k 0) k ++ move_of x y k ∷ []; edges = [] } =
-    ap (moved_entry phase add x y labels (k + 1)) at.1 ∙ ap (λ ms. record { phase = phase; label = Some (get_or labels k 0); add = add; moves = ms; edges = [] }) (moves-more labels x y (get_or labels k 0) k refl) in
-    ap (λ e. set (map (moved_entry phase add x y labels k) roots) (get_or places (get_or labels k 0) 0) e) (sym here)
-    ∙ set_map (moved_entry phase add x y labels k) (moved_entry phase add x y labels (k + 1)) roots (get_or places (get_or labels k 0) 0) at.0
-    (λ i lt ne. ap (λ ms. record { phase = phase; label = Some (get_or roots i 0); add = add; moves = ms; edges = [] }) (moves-same labels x y (get_or roots i 0) k (λ e. ne (sym (p.back i lt) ∙ ap (λ u. get_or places u 0) (sym e)))))
+pub moves_first : (places x y : List ℕ) (old : List Entry) → All (λ (e : Entry). e.moves ≡ []) old → AreDealt (with_moves places x y 0) old old
+moves_first places x y old none = dealt_first (with_moves places x y 0) old (λ p d lt. ap (λ ms. record (get_or old p d) { moves = ms }) (sym (none p d lt)))
 
--- a vertex without a label comes into no entry
-pub deal_none : (phase : ℕ) (add : Bool) (labels x y roots places : List ℕ) (n k : ℕ) → ArePlaces labels roots places n → n ≤ get_or labels k 0 → map (moved_entry phase add x y labels k) roots ≡ map (moved_entry phase add x y labels (k + 1)) roots
-deal_none phase add labels x y roots places n k p none =
-    same_map (moved_entry phase add x y labels k) (moved_entry phase add x y labels (k + 1)) roots
-    (λ i lt. ap (λ ms. record { phase = phase; label = Some (get_or roots i 0); add = add; moves = ms; edges = [] }) (moves-same labels x y (get_or roots i 0) k (λ e. absurd (omega (arith, p.low i lt)))))
-
--- an entry with an edge put at the end of its edges
-pub pushed_edge : (t u : Entry) (d e : Pair) → t ≡ u → d ≡ e → record t { edges = t.edges ++ d ∷ [] } ≡ record u { edges = u.edges ++ e ∷ [] }
-pushed_edge t u d e same item = ap (λ (w : Entry). record w { edges = w.edges ++ d ∷ [] }) same ∙ ap (λ (f : Pair). record u { edges = u.edges ++ f ∷ [] }) item
-
--- which groups an edge is at
-pub record IsAt (n label a b : ℕ) : Type 0 where
-  pub first : (a ≡ label) ⊎ (a ≡ n)
-  pub second : (b ≡ label) ⊎ (b ≡ n)
-  pub either : (a ≡ label) ⊎ (b ≡ label)
-
-pub is_at : (n : ℕ) (x y labels : List ℕ) (e : Pair) → AreRooted n (is_moved x y) labels → IsJoined n x y labels e → IsAt n (edge_label x y labels e) (get_or labels e.0 0) (get_or labels e.1 0)
-is_at n x y labels e r j = go (is_moved x y e.0) (is_moved x y e.1) refl refl
+-- the move of k comes into the entry at its place
+pub deal_move : (places x y : List ℕ) (k : ℕ) (old es : List Entry) (t : Entry) → AreDealt (with_moves places x y k) old es → get_or places k 0 < length old → t ≡ get_or es (get_or places k 0) t → AreDealt (with_moves places x y (k + 1)) old (set es (get_or places k 0) (record t { moves = t.moves ++ move_of x y k ∷ [] }))
+deal_move places x y k old es t a inside read =
+    let q = get_or places k 0 in
+    dealt_at (with_moves places x y k) (with_moves places x y (k + 1)) old es q (record t { moves = t.moves ++ move_of x y k ∷ [] }) a inside
+    (λ d.
+    let was : t ≡ with_moves places x y k q (get_or old q d) = read_at es q t d (omega (arith, a.sized)) read ∙ a.each q d inside in
+    ap (λ (u : Entry). record u { moves = u.moves ++ move_of x y k ∷ [] }) was ∙ ap (λ ms. record (get_or old q d) { moves = ms }) (sym (moves-more places x y q k refl)))
+    (λ p lt ne u. ap (λ ms. record u { moves = ms }) (moves-same places x y p k (λ e. ne (sym e))))
   where
-    go : (a b : Bool) → is_moved x y e.0 ≡ a → is_moved x y e.1 ≡ b → IsAt n (cond a (get_or labels e.0 0) (get_or labels e.1 0)) (get_or labels e.0 0) (get_or labels e.1 0)
-    go true true ea eb = record { first = inl refl; second = inl (j.one ea eb); either = inl refl }
-    go true false ea eb = record { first = inl refl; second = inr (r.none e.1 j.inside eb); either = inl refl }
-    go false b ea eb = record { first = inr (r.none e.0 (omega (arith, j.order, j.inside)) ea); second = inl refl; either = inr refl }
+    read_at : (es : List Entry) (q : ℕ) (t d : Entry) → q < length es → t ≡ get_or es q t → t ≡ get_or es q d
+    read_at es q t d h e = e ∙ get_or_default es q t d h
 
-pub ends_yes : (n label : ℕ) (labels : List ℕ) (e : Pair) → IsAt n label (get_or labels e.0 0) (get_or labels e.1 0) → ends_at labels label e ≡ true
-ends_yes n label labels e at = grind (arith, nat_tests, at.either)
+-- a vertex without a place comes into no entry
+pub deal_none : (places x y : List ℕ) (k : ℕ) (old es : List Entry) → AreDealt (with_moves places x y k) old es → length old ≤ get_or places k 0 → AreDealt (with_moves places x y (k + 1)) old es
+deal_none places x y k old es a none =
+    dealt_same (with_moves places x y k) (with_moves places x y (k + 1)) old es a (λ p lt u. ap (λ ms. record u { moves = ms }) (moves-same places x y p k (λ e. absurd (omega arith))))
 
-pub ends_no : (n label l : ℕ) (labels : List ℕ) (e : Pair) → IsAt n label (get_or labels e.0 0) (get_or labels e.1 0) → l < n → l ≢ label → ends_at labels l e ≡ false
-ends_no n label l labels e at low ne = grind (arith, nat_tests, at.first, at.second)
+-- Edges
 
--- the label of the edge is a label, or no end of it moved
-pub label_root : (n : ℕ) (x y labels : List ℕ) (e : Pair) → AreRooted n (is_moved x y) labels → IsJoined n x y labels e → edge_label x y labels e < n → (get_or labels (edge_label x y labels e) 0 ≡ edge_label x y labels e) × (is_quiet x y e ≡ false)
-label_root n x y labels e r j = go (is_moved x y e.0) (is_moved x y e.1) refl refl
+-- what the place of an edge tells
+pub record IsTold (n m place : ℕ) (unplaced : Bool) : Type 0 where
+  pub low : place < n → (place < m) × (unplaced ≡ false)
+  pub high : n ≤ place → unplaced ≡ true
+
+pub placed_at : (n m : ℕ) (places : List ℕ) (e : Pair) → IsPlacedEdge n m places e → m ≤ n → IsAt n (edge_place n places e) (get_or places e.0 0) (get_or places e.1 0) × IsTold n m (edge_place n places e) (is_unplaced n places e)
+placed_at n m places e j few = go (eqb (get_or places e.0 0) n) (eqb (get_or places e.1 0) n) refl refl
   where
-    go : (a b : Bool) → is_moved x y e.0 ≡ a → is_moved x y e.1 ≡ b → cond a (get_or labels e.0 0) (get_or labels e.1 0) < n → (get_or labels (cond a (get_or labels e.0 0) (get_or labels e.1 0)) 0 ≡ cond a (get_or labels e.0 0) (get_or labels e.1 0)) × (not a && not b ≡ false)
-    go true b ea eb low = ((r.root e.0 (omega (arith, j.order, j.inside)) ea).1, refl)
-    go false true ea eb low = ((r.root e.1 j.inside eb).1, refl)
-    go false false ea eb low = absurd (omega (arith, r.none e.1 j.inside eb))
+    go : (s t : Bool) → eqb (get_or places e.0 0) n ≡ s → eqb (get_or places e.1 0) n ≡ t → IsAt n (cond s (get_or places e.1 0) (get_or places e.0 0)) (get_or places e.0 0) (get_or places e.1 0) × IsTold n m (cond s (get_or places e.1 0) (get_or places e.0 0)) (s && t)
+    go true true ea eb = (
+      record { first = inr (grind (arith, nat_tests, ea)); second = inl refl; either = inr refl },
+      record { low = λ lt. absurd (grind (arith, nat_tests, eb, lt)); high = λ le. refl },
+    )
+    go true false ea eb = (
+      record { first = inr (grind (arith, nat_tests, ea)); second = inl refl; either = inr refl },
+      record { low = λ lt. (elim j.second [ inl low ↦ low | inr none ↦ absurd (omega arith) ], refl); high = λ le. elim j.second [ inl low ↦ absurd (omega arith) | inr none ↦ absurd (grind (arith, nat_tests, eb, none)) ] },
+    )
+    go false t ea eb =
+        let low : get_or places e.0 0 < m = elim j.first [ inl low ↦ low | inr none ↦ absurd (grind (arith, nat_tests, ea, none)) ] in (
+          record { first = inl refl; second = elim j.second [ inl other ↦ inl (j.one (omega arith) (omega arith)) | inr none ↦ inr none ]; either = inl refl },
+          record { low = λ lt. (low, refl); high = λ le. absurd (omega arith) },
+        )
 
-pub label_none : (n : ℕ) (x y labels : List ℕ) (e : Pair) → AreRooted n (is_moved x y) labels → IsJoined n x y labels e → n ≤ edge_label x y labels e → is_quiet x y e ≡ true
-label_none n x y labels e r j = go (is_moved x y e.0) (is_moved x y e.1) refl refl
-  where
-    go : (a b : Bool) → is_moved x y e.0 ≡ a → is_moved x y e.1 ≡ b → n ≤ cond a (get_or labels e.0 0) (get_or labels e.1 0) → not a && not b ≡ true
-    go true b ea eb high = absurd (omega (arith, (r.root e.0 (omega (arith, j.order, j.inside)) ea).0))
-    go false true ea eb high = absurd (omega (arith, (r.root e.1 j.inside eb).0))
-    go false false ea eb high = refl
+module _ (n : ℕ) (places : List ℕ) (edges : List Pair) (i : ℕ) (d : Pair) (old es : List Entry) (few : length old ≤ n) (inside : i < length edges) (j : IsPlacedEdge n (length old) places (get_or edges i d)) where
+  abbrev item : Pair
+  item = get_or edges i d
 
-module _ (phase : ℕ) (add : Bool) (n : ℕ) (x y labels roots places : List ℕ) (edges : List Pair) (i : ℕ) (d : Pair) (p : ArePlaces labels roots places n) (r : AreRooted n (is_moved x y) labels) (inside : i < length edges) (j : IsJoined n x y labels (get_or edges i d)) where
-  abbrev label : ℕ
-  label = edge_label x y labels (get_or edges i d)
+  abbrev place : ℕ
+  place = edge_place n places (get_or edges i d)
 
   filtered : (t : Pair → Bool) (b : Bool) → t (get_or edges i d) ≡ b → filter t (take (i + 1) edges) ≡ filter t (take i edges) ++ cond b (get_or edges i d ∷ []) []
   filtered t b e = filter_more t edges i d inside ∙ ap (λ c. filter t (take i edges) ++ cond c (get_or edges i d ∷ []) []) e
 
-  entry_same : (l : ℕ) → l < n → l ≢ label → group_entry phase add (take (i + 1) edges) x y labels n l ≡ group_entry phase add (take i edges) x y labels n l
-  entry_same l low ne =
-      ap (λ es. record { phase = phase; label = Some l; add = add; moves = moves_below labels x y l n; edges = es })
-      (filtered (ends_at labels l) false (ends_no n label l labels (get_or edges i d) (is_at n x y labels (get_or edges i d) r j) low ne) ∙ append-nil (filter (ends_at labels l) (take i edges)))
+  same_edges : (p : ℕ) → p < length old → p ≢ place → (u : Entry) → with_edges places (take (i + 1) edges) p u ≡ with_edges places (take i edges) p u
+  same_edges p lt ne u = ap (λ ps. record u { edges = ps }) (filtered (ends_at places p) false (ends_no n place p places item (placed_at n (length old) places item j few).0 (omega arith) ne) ∙ append-nil (filter (ends_at places p) (take i edges)))
 
-  pub deal_edge : edge_label x y labels (get_or edges i d) < n → set (map (group_entry phase add (take i edges) x y labels n) roots) (get_or places (edge_label x y labels (get_or edges i d)) 0) (record { phase = phase; label = Some (edge_label x y labels (get_or edges i d)); add = add; moves = moves_below labels x y (edge_label x y labels (get_or edges i d)) n; edges = filter (ends_at labels (edge_label x y labels (get_or edges i d))) (take i edges) ++ get_or edges i d ∷ [] }) ≡ map (group_entry phase add (take (i + 1) edges) x y labels n) roots
-  deal_edge low =
-      let at = p.at label low (label_root n x y labels (get_or edges i d) r j low).0 in
-      let here : group_entry phase add (take (i + 1) edges) x y labels n (get_or roots (get_or places label 0) 0) ≡ record { phase = phase; label = Some label; add = add; moves = moves_below labels x y label n; edges = filter (ends_at labels label) (take i edges) ++ get_or edges i d ∷ [] } =
-      ap (group_entry phase add (take (i + 1) edges) x y labels n) at.1 ∙ ap (λ es. record { phase = phase; label = Some label; add = add; moves = moves_below labels x y label n; edges = es })
-      (filtered (ends_at labels label) true (ends_yes n label labels (get_or edges i d) (is_at n x y labels (get_or edges i d) r j))) in
-      ap (λ e. set (map (group_entry phase add (take i edges) x y labels n) roots) (get_or places label 0) e) (sym here)
-      ∙ set_map (group_entry phase add (take i edges) x y labels n) (group_entry phase add (take (i + 1) edges) x y labels n) roots (get_or places label 0) at.0
-      (λ k lt ne. entry_same (get_or roots k 0) (p.low k lt) (λ e. ne (sym (p.back k lt) ∙ ap (λ u. get_or places u 0) e)))
+  pub deal_edge : (t : Entry) → AreDealt (with_edges places (take i edges)) old es → edge_place n places (get_or edges i d) < n → t ≡ get_or es (edge_place n places (get_or edges i d)) t → AreDealt (with_edges places (take (i + 1) edges)) old (set es (edge_place n places (get_or edges i d)) (record t { edges = t.edges ++ get_or edges i d ∷ [] }))
+  deal_edge t a low read =
+      let told = placed_at n (length old) places item j few in
+      let here : place < length old = (told.1.low low).0 in
+      dealt_at (with_edges places (take i edges)) (with_edges places (take (i + 1) edges)) old es place (record t { edges = t.edges ++ item ∷ [] }) a here
+      (λ u.
+      let was : t ≡ with_edges places (take i edges) place (get_or old place u) = read ∙ get_or_default es place t u (omega (arith, a.sized)) ∙ a.each place u here in
+      ap (λ (v : Entry). record v { edges = v.edges ++ item ∷ [] }) was ∙ ap (λ ps. record (get_or old place u) { edges = ps }) (sym (filtered (ends_at places place) true (ends_yes n place places item told.0))))
+      same_edges
 
-  pub deal_edge_quiet : n ≤ edge_label x y labels (get_or edges i d) → map (group_entry phase add (take i edges) x y labels n) roots ≡ map (group_entry phase add (take (i + 1) edges) x y labels n) roots
-  deal_edge_quiet high =
-      same_map (group_entry phase add (take i edges) x y labels n) (group_entry phase add (take (i + 1) edges) x y labels n) roots
-      (λ k lt. let low : get_or roots k 0 < n = p.low k lt in entry_same (get_or roots k 0) low (λ e. absurd (omega arith)))
+  pub deal_edge_quiet : AreDealt (with_edges places (take i edges)) old es → n ≤ edge_place n places (get_or edges i d) → AreDealt (with_edges places (take (i + 1) edges)) old es
+  deal_edge_quiet a high = dealt_same (with_edges places (take i edges)) (with_edges places (take (i + 1) edges)) old es a (λ p lt u. same_edges p lt (omega arith) u)
 
-  pub quiet_same : edge_label x y labels (get_or edges i d) < n → filter (is_quiet x y) (take (i + 1) edges) ≡ filter (is_quiet x y) (take i edges)
-  quiet_same low = filtered (is_quiet x y) false (label_root n x y labels (get_or edges i d) r j low).1 ∙ append-nil (filter (is_quiet x y) (take i edges))
+  pub quiet_same : edge_place n places (get_or edges i d) < n → filter (is_unplaced n places) (take (i + 1) edges) ≡ filter (is_unplaced n places) (take i edges)
+  quiet_same low = filtered (is_unplaced n places) false ((placed_at n (length old) places item j few).1.low low).1 ∙ append-nil (filter (is_unplaced n places) (take i edges))
 
-  pub quiet_more : n ≤ edge_label x y labels (get_or edges i d) → filter (is_quiet x y) (take (i + 1) edges) ≡ filter (is_quiet x y) (take i edges) ++ get_or edges i d ∷ []
-  quiet_more high = filtered (is_quiet x y) true (label_none n x y labels (get_or edges i d) r j high)
+  pub quiet_more : n ≤ edge_place n places (get_or edges i d) → filter (is_unplaced n places) (take (i + 1) edges) ≡ filter (is_unplaced n places) (take i edges) ++ get_or edges i d ∷ []
+  quiet_more high = filtered (is_unplaced n places) true ((placed_at n (length old) places item j few).1.high high)
 
-pub edge_joined : (g : GraphShape) (x y labels : List ℕ) (e : Pair) → IsGraph g → AreJoined g (is_moved x y) labels → has_edge e g.edges ≡ true → IsJoined g.vertices x y labels e
-edge_joined g x y labels e graph joined h =
-    let bounds = edge_inside g.vertices 0 0 e g.edges graph h in
-    record {
-      order = bounds.0;
-      inside = bounds.1;
-      one = λ a b. joined.one e.0 e.1 (omega (arith, bounds.0, bounds.1)) (record { from = a; to = b; edge = joined_in_order g.vertices 0 0 e.0 e.1 g.edges graph (omega (arith, bounds.0)) ∙ h });
-    }
+-- an entry with an edge put at the end of its edges
+pub pushed_edge : (t : Entry) (d e : Pair) → d ≡ e → record t { edges = t.edges ++ d ∷ [] } ≡ record t { edges = t.edges ++ e ∷ [] }
+pushed_edge t d e item = ap (λ (f : Pair). record t { edges = t.edges ++ f ∷ [] }) item
 
-pub rooted : (g : GraphShape) (x y labels : List ℕ) → AreLabels g (is_moved x y) labels → AreJoined g (is_moved x y) labels → AreRooted g.vertices (is_moved x y) labels
-rooted g x y labels l j = record { sized = l.sized; root = j.root; none = l.none }
+-- From places to labels
+
+filter_same : {A : Type 0} (p q : A → Bool) (xs : List A) → All (λ x. p x ≡ q x) xs → filter p xs ≡ filter q xs
+filter_same p q [] same = refl
+filter_same p q (x ∷ xs) same = go (p x) (q x) (same 0 x (omega arith)) (filter_same p q xs (λ k d h. same (suc k) d (omega arith)))
+  where
+    go : (a b : Bool) → a ≡ b → filter p xs ≡ filter q xs → cond a (x ∷ filter p xs) (filter p xs) ≡ cond b (x ∷ filter q xs) (filter q xs)
+    go a b e rest = rw (e, rest) refl
+
+moves_same : (labels others x y : List ℕ) (l o k : ℕ) → ((v : ℕ) → v < k → eqb (get_or labels v 0) l ≡ eqb (get_or others v 0) o) → moves_below labels x y l k ≡ moves_below others x y o k
+moves_same labels others x y l o zero same = refl
+moves_same labels others x y l o (suc k) same = go (eqb (get_or labels k 0) l) (eqb (get_or others k 0) o) (same k (omega arith)) (moves_same labels others x y l o k (λ v h. same v (omega arith)))
+  where
+    go : (a b : Bool) → a ≡ b → moves_below labels x y l k ≡ moves_below others x y o k → pushed_if a (move_of x y k) (moves_below labels x y l k) ≡ pushed_if b (move_of x y k) (moves_below others x y o k)
+    go a b e rest = rw (e, rest) refl
+
+abbrev entry_with : ℕ → Bool → ℕ → List Move → List Pair → Entry
+entry_with phase add l ms ps = record { phase = phase; label = Some l; add = add; moves = ms; edges = ps }
+
+same_entry : (phase : ℕ) (add : Bool) (l : ℕ) (ms ns : List Move) (ps qs : List Pair) → ms ≡ ns → ps ≡ qs → entry_with phase add l ms ps ≡ entry_with phase add l ns qs
+same_entry phase add l ms ns ps qs moves edges = ap (λ us. entry_with phase add l us ps) moves ∙ ap (λ us. entry_with phase add l ns us) edges
+
+same_test : (a l b o : ℕ) → (a ≡ l → b ≡ o) → (b ≡ o → a ≡ l) → eqb a l ≡ eqb b o
+same_test a l b o to back = elim (cases_eq a l) [
+  | inl e ↦ grind (arith, nat_tests, e, to e)
+  | inr ne ↦ let other : b ≢ o = λ e. ne (back e) in grind (arith, nat_tests, ne, other)
+]
+
+module _ (n : ℕ) (labels roots places : List ℕ) (p : ArePlaces n labels roots places n) where
+  -- a vertex has place i exactly where its label stands there
+  same_place : (i v : ℕ) → i < length roots → v < n → eqb (get_or places v 0) i ≡ eqb (get_or labels v 0) (get_or roots i 0)
+  same_place i v inside h = elim (cases_lt (get_or labels v 0) n) [
+    | inl low ↦
+        let at = p.at v h low in
+        same_test (get_or places v 0) i (get_or labels v 0) (get_or roots i 0)
+        (λ e. sym at.1 ∙ ap (λ u. get_or roots u 0) e)
+        (λ e. sym (p.back (get_or places v 0) at.0) ∙ ap (λ u. get_or places u 0) (at.1 ∙ e) ∙ p.back i inside)
+    | inr high ↦
+        let none = p.none v h high in
+        same_test (get_or places v 0) i (get_or labels v 0) (get_or roots i 0)
+        (λ e. absurd (omega (arith, p.few)))
+        (λ e. absurd (omega (arith, p.low i inside)))
+  ]
+
+  pub groups_are : (phase : ℕ) (add : Bool) (x y : List ℕ) (edges : List Pair) (opened moved dealt : List Entry) → All (λ (e : Pair). (e.0 < n) × (e.1 < n)) edges → opened ≡ map (empty_entry phase add) roots → AreDealt (with_moves places x y n) opened moved → AreDealt (with_edges places edges) moved dealt → dealt ≡ map (group_entry phase add edges x y labels n) roots
+  groups_are phase add x y edges opened moved dealt inside is m e =
+      let long : length opened ≡ length roots = ap (λ (es : List Entry). length es) is ∙ length-map roots (empty_entry phase add) in
+      let sized : length dealt ≡ length roots = e.sized ∙ m.sized ∙ long in
+      same_lists dealt (map (group_entry phase add edges x y labels n) roots) (sized ∙ sym (length-map roots (group_entry phase add edges x y labels n)))
+      (λ i d h.
+      let low : i < length roots = omega (arith, sized) in
+      let was : get_or opened i d ≡ empty_entry phase add (get_or roots i 0) = ap (λ (es : List Entry). get_or es i d) is ∙ get_or-map (empty_entry phase add) roots i 0 d low in
+      let made : get_or dealt i d ≡ with_edges places edges i (with_moves places x y n i (empty_entry phase add (get_or roots i 0))) =
+      e.each i d (omega (arith, m.sized, long)) ∙ ap (with_edges places edges i) (m.each i d (omega (arith, long)) ∙ ap (with_moves places x y n i) was) in
+      let moves : moves_below places x y i n ≡ moves_below labels x y (get_or roots i 0) n = moves_same places labels x y i (get_or roots i 0) n (λ v at. same_place i v low at) in
+      let ends : filter (ends_at places i) edges ≡ filter (ends_at labels (get_or roots i 0)) edges =
+      filter_same (ends_at places i) (ends_at labels (get_or roots i 0)) edges (λ k t at. either i (get_or edges k t) (same_place i (get_or edges k t).0 low (inside k t at).0) (same_place i (get_or edges k t).1 low (inside k t at).1)) in
+      let is_entry : get_or dealt i d ≡ group_entry phase add edges x y labels n (get_or roots i 0) =
+      made ∙ same_entry phase add (get_or roots i 0) (moves_below places x y i n) (moves_below labels x y (get_or roots i 0) n) (filter (ends_at places i) edges) (filter (ends_at labels (get_or roots i 0)) edges) moves ends in
+      is_entry ∙ sym (get_or-map (group_entry phase add edges x y labels n) roots i 0 d low))
+    where
+      either : (i : ℕ) (e : Pair) → eqb (get_or places e.0 0) i ≡ eqb (get_or labels e.0 0) (get_or roots i 0) → eqb (get_or places e.1 0) i ≡ eqb (get_or labels e.1 0) (get_or roots i 0) → ends_at places i e ≡ ends_at labels (get_or roots i 0) e
+      either i e first second = rw (first, second) refl
+
+  module _ (x y : List ℕ) (r : AreRooted n (is_moved x y) labels) where
+    unplaced : (v : ℕ) → v < n → eqb (get_or places v 0) n ≡ not (is_moved x y v)
+    unplaced v h = go (is_moved x y v) refl
+      where
+        go : (b : Bool) → is_moved x y v ≡ b → eqb (get_or places v 0) n ≡ not b
+        go true m = let low : get_or places v 0 < n = omega (arith, (p.at v h (r.root v h m).0).0, p.few) in grind (arith, nat_tests, low)
+        go false m = let none : get_or places v 0 ≡ n = p.none v h (omega (arith, r.none v h m)) in grind (arith, nat_tests, none)
+
+    pub quiet_are : (edges : List Pair) → All (λ (e : Pair). (e.0 < n) × (e.1 < n)) edges → filter (is_unplaced n places) edges ≡ filter (is_quiet x y) edges
+    quiet_are edges inside = filter_same (is_unplaced n places) (is_quiet x y) edges (λ k t at. both (get_or edges k t) (unplaced (get_or edges k t).0 (inside k t at).0) (unplaced (get_or edges k t).1 (inside k t at).1))
+      where
+        both : (e : Pair) → eqb (get_or places e.0 0) n ≡ not (is_moved x y e.0) → eqb (get_or places e.1 0) n ≡ not (is_moved x y e.1) → is_unplaced n places e ≡ is_quiet x y e
+        both e first second = rw (first, second) refl
+
+    -- the places of an edge in which linked ends have one label
+    pub edge_placed : (e : Pair) → IsJoined n x y labels e → IsPlacedEdge n (length roots) places e
+    edge_placed e j =
+        let first : e.0 < n = omega (arith, j.order, j.inside) in
+        record {
+          order = j.order;
+          inside = j.inside;
+          first = some e.0 first;
+          second = some e.1 j.inside;
+          one = λ a b. sym (p.back (get_or places e.1 0) (at e.1 j.inside b).0) ∙ ap (λ u. get_or places u 0) ((at e.1 j.inside b).1 ∙ j.one (moves e.0 first a) (moves e.1 j.inside b) ∙ sym (at e.0 first a).1) ∙ p.back (get_or places e.0 0) (at e.0 first a).0;
+        }
+      where
+        some : (v : ℕ) → v < n → (get_or places v 0 < length roots) ⊎ (get_or places v 0 ≡ n)
+        some v h = elim (cases_lt (get_or labels v 0) n) [ inl low ↦ inl (p.at v h low).0 | inr high ↦ inr (p.none v h high) ]
+
+        at : (v : ℕ) → v < n → get_or places v 0 < n → (get_or places v 0 < length roots) × (get_or roots (get_or places v 0) 0 ≡ get_or labels v 0)
+        at v h low = elim (cases_lt (get_or labels v 0) n) [ inl is ↦ p.at v h is | inr high ↦ absurd (omega (arith, p.none v h high)) ]
+
+        moves : (v : ℕ) → v < n → get_or places v 0 < n → is_moved x y v ≡ true
+        moves v h low = go (is_moved x y v) refl
+          where
+            go : (b : Bool) → is_moved x y v ≡ b → b ≡ true
+            go true m = refl
+            go false m = absurd (omega (arith, p.none v h (omega (arith, r.none v h m))))

@@ -12,12 +12,11 @@ use Rattle.kc_graph.proofs.EdgeListLemmas.{has_edge-filter, edge_is}
 use Rattle.kc_levels.specs.Moved.{is_moved}
 use Rattle.kc_history.specs.declared.entries.Entry.{Entry}
 use Rattle.kc_groups.specs.Entries.{labels_below, group_entry, quiet_entry, ends_at, is_quiet}
-use Rattle.kc_groups.specs.Dealing.{IsJoined, edge_label}
 use Rattle.kc_groups.specs.Laws.{EdgesAreDealtOnce}
 use Rattle.kc_groups.specs.Labels.{AreRooted}
 use Rattle.kc_groups.proofs.LabelLaw.{labels_joined}
 use Rattle.kc_groups.proofs.ListLemmas.{labels_rise, has_label}
-use Rattle.kc_groups.proofs.DealingLemmas.{edge_joined, rooted, is_at, ends_yes, ends_no, label_root, label_none}
+use Rattle.kc_groups.proofs.EndLemmas.{IsJoined, edge_label, edge_joined, rooted, is_at, ends_yes, ends_no, label_root, label_none}
 
 pub counted : (p : Entry → Bool) (b : Bool) (e : Entry) (es : List Entry) → p e ≡ b → count_by p (e ∷ es) ≡ cond b 1 0 + count_by p es
 counted p b e es h = count_by-cons p e es ∙ ap (λ (t : Bool). cond t 1 0 + count_by p es) h

@@ -1,5 +1,8 @@
 pub mod FloodLemmas
+pub mod MovedLemmas
+pub mod EndLemmas
 pub mod DealingLemmas
+pub mod PlanLemmas
 pub mod LabelLaw
 pub mod ListLemmas
 pub mod PlanLaw

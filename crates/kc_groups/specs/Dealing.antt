@@ -1,32 +1,54 @@
 -- How moves and edges are dealt to the entries of their labels.
-use Rattle.std.specs.Prelude.{ℕ, ◌≤◌, ◌<◌, ◌≡◌, Bool, true, cond, List, [], Some, length, get_or}
+use Rattle.std.specs.Prelude.{ℕ, ◌≤◌, ◌<◌, ◌≡◌, ◌==◌, ◌&&◌, ◌⊎◌, Bool, true, false, cond, List, [], Some, length, get_or, filter}
 use Rattle.kc_graph.specs.Shape.{Pair}
-use Rattle.kc_levels.specs.Moved.{is_moved}
 use Rattle.kc_history.specs.declared.entries.Entry.{Entry}
-use Rattle.kc_groups.specs.Entries.{moves_below}
+use Rattle.kc_groups.specs.Entries.{moves_below, ends_at}
 
 -- an entry of the label l that nothing was dealt to
 abbrev pub empty_entry : ℕ → Bool → ℕ → Entry
 empty_entry phase add l = record { phase = phase; label = Some l; add = add; moves = []; edges = [] }
 
--- the same with the moves of the vertices below k
-abbrev pub moved_entry : ℕ → Bool → List ℕ → List ℕ → List ℕ → ℕ → ℕ → Entry
-moved_entry phase add x y labels k l = record { phase = phase; label = Some l; add = add; moves = moves_below labels x y l k; edges = [] }
-
--- where each label below k stands in a list of labels
-pub record ArePlaces (labels roots places : List ℕ) (k : ℕ) : Type 0 where
-  pub sized : length places ≡ length labels
+-- where the label of each vertex below k stands in the list of the labels below k; the others still have their labels
+pub record ArePlaces (n : ℕ) (labels roots places : List ℕ) (k : ℕ) : Type 0 where
+  pub sized : length places ≡ n
   pub few : length roots ≤ k
   pub low : (i : ℕ) → i < length roots → get_or roots i 0 < k
-  pub at : (l : ℕ) → l < k → get_or labels l 0 ≡ l → (get_or places l 0 < length roots) × (get_or roots (get_or places l 0) 0 ≡ l)
+  pub at : (v : ℕ) → v < k → get_or labels v 0 < n → (get_or places v 0 < length roots) × (get_or roots (get_or places v 0) 0 ≡ get_or labels v 0)
+  pub none : (v : ℕ) → v < k → n ≤ get_or labels v 0 → get_or places v 0 ≡ n
   pub back : (i : ℕ) → i < length roots → get_or places (get_or roots i 0) 0 ≡ i
+  pub rest : (v : ℕ) → k ≤ v → v < n → get_or places v 0 ≡ get_or labels v 0
 
--- the ends of an edge have one label where both move
-pub record IsJoined (n : ℕ) (x y labels : List ℕ) (e : Pair) : Type 0 where
+-- each of n vertices that moves has one of m places, and no other vertex has one
+pub record IsPlaced (n : ℕ) (moved : ℕ → Bool) (places : List ℕ) (m : ℕ) : Type 0 where
+  pub sized : length places ≡ n
+  pub at : (v : ℕ) → v < n → moved v ≡ true → get_or places v 0 < m
+  pub none : (v : ℕ) → v < n → moved v ≡ false → m ≤ get_or places v 0
+
+-- something was done to each entry, by its place in the list
+pub record AreDealt (f : ℕ → Entry → Entry) (old new : List Entry) : Type 0 where
+  pub sized : length new ≡ length old
+  pub each : (p : ℕ) (d : Entry) → p < length old → get_or new p d ≡ f p (get_or old p d)
+
+-- the entry with the moves of the vertices below k whose place is p
+abbrev pub with_moves : List ℕ → List ℕ → List ℕ → ℕ → ℕ → Entry → Entry
+with_moves places x y k p e = record e { moves = moves_below places x y p k }
+
+-- the entry with the edges that have an end whose place is p
+abbrev pub with_edges : List ℕ → List Pair → ℕ → Entry → Entry
+with_edges places edges p e = record e { edges = filter (ends_at places p) edges }
+
+-- each end of the edge has one of m places or n for none, and both have the same if both have one
+pub record IsPlacedEdge (n m : ℕ) (places : List ℕ) (e : Pair) : Type 0 where
   pub order : e.0 < e.1
   pub inside : e.1 < n
-  pub one : is_moved x y e.0 ≡ true → is_moved x y e.1 ≡ true → get_or labels e.1 0 ≡ get_or labels e.0 0
+  pub first : (get_or places e.0 0 < m) ⊎ (get_or places e.0 0 ≡ n)
+  pub second : (get_or places e.1 0 < m) ⊎ (get_or places e.1 0 ≡ n)
+  pub one : get_or places e.0 0 < n → get_or places e.1 0 < n → get_or places e.1 0 ≡ get_or places e.0 0
 
--- the label of an end that moves, if there is one
-abbrev pub edge_label : List ℕ → List ℕ → List ℕ → Pair → ℕ
-edge_label x y labels e = cond (is_moved x y e.0) (get_or labels e.0 0) (get_or labels e.1 0)
+-- the place of an end that has one, if there is one
+abbrev pub edge_place : ℕ → List ℕ → Pair → ℕ
+edge_place n places e = cond (get_or places e.0 0 == n) (get_or places e.1 0) (get_or places e.0 0)
+
+-- whether no end of the edge has a place
+abbrev pub is_unplaced : ℕ → List ℕ → Pair → Bool
+is_unplaced n places e = (get_or places e.0 0 == n) && (get_or places e.1 0 == n)

@@ -1,8 +1,15 @@
--- What flooding from the least vertex of each group keeps.
-use Rattle.std.specs.Prelude.{ℕ, ◌+◌, ◌≤◌, ◌<◌, ◌≡◌, ◌==◌, ◌⊎◌, Bool, true, false, List, ◌∷◌, length, get_or, count_by}
+-- The vertices that move, and what flooding from the least vertex of each group keeps.
+use Rattle.std.specs.Prelude.{ℕ, ◌+◌, ◌≤◌, ◌<◌, ◌≡◌, ◌==◌, ◌⊎◌, Bool, true, false, List, [], ◌∷◌, length, get_or, count_by}
+use Rattle.std.proofs.Common.{suc, zero}
 use Rattle.kc_graph.specs.Numbers.{has_number}
 use Rattle.kc_graph.specs.Shape.{GraphShape}
 use Rattle.kc_groups.specs.Links.{AreLinked, Path}
+use Rattle.kc_groups.specs.Entries.{pushed_if}
+
+-- the vertices below k that move, ascending
+abbrev pub moved_below : (ℕ → Bool) → ℕ → List ℕ
+moved_below moved zero = []
+moved_below moved (suc k) = pushed_if (moved k) k (moved_below moved k)
 
 -- a vertex v that was given the label l
 pub record IsMarked (g : GraphShape) (moved : ℕ → Bool) (v l : ℕ) : Type 0 where
@@ -35,8 +42,9 @@ pub record AreJoined (g : GraphShape) (moved : ℕ → Bool) (labels : List ℕ)
   pub root : (v : ℕ) → v < g.vertices → moved v ≡ true → (get_or labels v 0 < g.vertices) × (get_or labels (get_or labels v 0) 0 ≡ get_or labels v 0)
   pub one : (v w : ℕ) → v < g.vertices → AreLinked g moved v w → get_or labels w 0 ≡ get_or labels v 0
 
--- the same apart from the graph, where no other vertex has a label
+-- the same apart from the graph: a label is at most its vertex, and a vertex that stays has none
 pub record AreRooted (n : ℕ) (moved : ℕ → Bool) (labels : List ℕ) : Type 0 where
   pub sized : length labels ≡ n
   pub root : (v : ℕ) → v < n → moved v ≡ true → (get_or labels v 0 < n) × (get_or labels (get_or labels v 0) 0 ≡ get_or labels v 0)
+  pub low : (v : ℕ) → v < n → moved v ≡ true → get_or labels v 0 ≤ v
   pub none : (v : ℕ) → v < n → moved v ≡ false → get_or labels v 0 ≡ n

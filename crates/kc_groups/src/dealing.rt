@@ -1,115 +1,105 @@
 // The moves and edges of a phase, dealt to the entries of their labels.
-ghost use Rattle.std.specs.Prelude.{◌≡◌, ℕ, ◌<◌, ◌≤◌, [], OnOk, All, map, filter, length, slice_index};
+ghost use Rattle.std.specs.Prelude.{◌≡◌, ℕ, ◌<◌, ◌≤◌, [], OnOk, All, map, filter, length};
 ghost use Rattle.kc_levels.specs.Moved.{is_moved};
-ghost use Rattle.kc_groups.specs.Labels.{AreRooted};
-ghost use Rattle.kc_groups.specs.Entries.{group_entry, labels_below, is_quiet};
-ghost use Rattle.kc_groups.specs.Dealing.{empty_entry, moved_entry, ArePlaces, edge_label, IsJoined};
+ghost use Rattle.kc_groups.specs.Labels.{AreRooted, moved_below};
+ghost use Rattle.kc_groups.specs.Entries.{labels_below};
+ghost use Rattle.kc_groups.specs.Dealing.{empty_entry, with_moves, with_edges, ArePlaces, AreDealt, IsPlaced, IsPlacedEdge, edge_place, is_unplaced};
 
-use crate::flooding::is_moved;
 use kc_graph::{Edge, Edges, MAX_VERTICES};
 use kc_history::{Entry, Move};
-use kc_levels::Levels;
 use std::alloc::{AllocError, Global};
 
-// An empty entry for each label, labels ascending, and the place of each.
+// An empty entry for each label, labels ascending. Turns the label of each vertex that moves into the place of its entry: a
+// label is the least vertex of its group, so that its own place is there before another vertex asks for it.
 pub(crate) fn open_groups(
     alloc: Global,
     phase: u32,
     add: bool,
-    labels: &[u32],
+    before: &[u16],
+    after: &[u16],
+    moved: &[u32],
     places: &mut Vec<u32>,
     entries: &mut Vec<Entry>,
 ) -> Result<(), AllocError>
-    requires small { length labels.now ≤ MAX_VERTICES }
-    requires places { length places.old.items ≡ length labels.now }
+    requires small { length before.now ≤ MAX_VERTICES }
+    requires moved { moved.now ≡ moved_below (is_moved before.now after.now) (length before.now) }
+    requires rooted { AreRooted (length before.now) (is_moved before.now after.now) places.old.items }
     requires entries { entries.old.items ≡ [] }
-    ensures entries { OnOk result (entries.new.items ≡ map (empty_entry phase add) (labels_below labels.now (length labels.now))) }
-    ensures places { OnOk result (ArePlaces labels.now (labels_below labels.now (length labels.now)) places.new.items (length labels.now)) }
+    ensures entries { OnOk result (entries.new.items ≡ map (empty_entry phase add) (labels_below places.old.items (length before.now))) }
+    ensures places { OnOk result (ArePlaces (length before.now) places.old.items (labels_below places.old.items (length before.now)) places.new.items (length before.now)) }
 {
-    for v in 0..labels.len() as u32 {
-        if labels[v as usize] == v {
-            places[v as usize] = entries.len() as u32;
-            entries.push(Entry::new(alloc, phase, Some(v), add))?;
+    for v in moved {
+        let label = places[*v as usize];
+        if label == *v {
+            places[*v as usize] = entries.len() as u32;
+            entries.push(Entry::new(alloc, phase, Some(*v), add))?;
+        } else {
+            places[*v as usize] = places[label as usize];
         }
     }
     Ok(())
 }
 
-// Puts the move of each vertex that moves into the entry of its label.
+// Puts the move of each vertex that moves at the end of the entry at its place.
 pub(crate) fn deal_moves(
-    phase: u32,
-    add: bool,
-    before: &Levels,
-    after: &Levels,
-    labels: &[u32],
+    before: &[u16],
+    after: &[u16],
+    moved: &[u32],
     places: &[u32],
     entries: &mut Vec<Entry>,
 ) -> Result<(), AllocError>
-    requires small { length labels.now ≤ MAX_VERTICES }
-    requires before { length before.now ≡ length labels.now }
-    requires after { length after.now ≡ length labels.now }
-    requires places { ArePlaces labels.now (labels_below labels.now (length labels.now)) places.now (length labels.now) }
-    requires roots { (v : ℕ) → v < length labels.now → slice_index labels.now v < length labels.now → slice_index labels.now (slice_index labels.now v) ≡ slice_index labels.now v }
-    requires entries { entries.old.items ≡ map (empty_entry phase add) (labels_below labels.now (length labels.now)) }
-    ensures { OnOk result (entries.new.items ≡ map (moved_entry phase add before.now after.now labels.now (length labels.now)) (labels_below labels.now (length labels.now))) }
+    requires same { length after.now ≡ length before.now }
+    requires moved { moved.now ≡ moved_below (is_moved before.now after.now) (length before.now) }
+    requires placed { IsPlaced (length before.now) (is_moved before.now after.now) places.now (length entries.old.items) }
+    requires empty { All (λ e. e.moves ≡ []) entries.old.items }
+    ensures { OnOk result (AreDealt (with_moves places.now before.now after.now (length before.now)) entries.old.items entries.new.items) }
 {
-    let n = labels.len() as u32;
-    for v in 0..n {
-        let label = labels[v as usize];
-        if label < n {
-            let m = Move {
-                vertex: v,
-                old: before.get(v),
-                new: after.get(v),
-            };
-            entries[places[label as usize] as usize].push_move(m)?;
-        }
+    for v in moved {
+        let m = Move {
+            vertex: *v,
+            old: before[*v as usize],
+            new: after[*v as usize],
+        };
+        entries[places[*v as usize] as usize].push_move(m)?;
     }
     Ok(())
 }
 
-// The label of an end of the edge that moves, if there is one. Else the number of vertices.
-fn label_at(before: &Levels, after: &Levels, labels: &[u32], e: Edge) -> u32
-    requires inside { e.1 < length labels.now }
-    requires before { length before.now ≡ length labels.now }
-    requires after { length after.now ≡ length labels.now }
-    ensures { result ≡ edge_label before.now after.now labels.now e }
+// The place of an end of the edge that moves, if there is one. Else the number of vertices.
+fn place_at(places: &[u32], e: Edge) -> u32
+    requires small { length places.now ≤ MAX_VERTICES }
+    requires order { e.0 < e.1 }
+    requires inside { e.1 < length places.now }
+    ensures { result ≡ edge_place (length places.now) places.now e }
 {
-    if is_moved(before, after, e.a) {
-        labels[e.a as usize]
+    let place = places[e.a as usize];
+    if place == places.len() as u32 {
+        places[e.b as usize]
     } else {
-        labels[e.b as usize]
+        place
     }
 }
 
-// Puts each edge into the entry of its label, or among the quiet ones.
+// Puts each edge into the entry at its place, or among the quiet ones.
 pub(crate) fn deal_edges(
-    phase: u32,
-    add: bool,
-    before: &Levels,
-    after: &Levels,
-    labels: &[u32],
     places: &[u32],
     edges: &[Edge],
     quiet: &mut Edges,
     entries: &mut Vec<Entry>,
 ) -> Result<(), AllocError>
-    requires small { length labels.now ≤ MAX_VERTICES }
-    requires before { length before.now ≡ length labels.now }
-    requires after { length after.now ≡ length labels.now }
-    requires places { ArePlaces labels.now (labels_below labels.now (length labels.now)) places.now (length labels.now) }
-    requires rooted { AreRooted (length labels.now) (is_moved before.now after.now) labels.now }
-    requires joined { All (IsJoined (length labels.now) before.now after.now labels.now) edges.now }
+    requires small { length places.now ≤ MAX_VERTICES }
+    requires few { length entries.old.items ≤ length places.now }
+    requires placed { All (IsPlacedEdge (length places.now) (length entries.old.items) places.now) edges.now }
     requires quiet { quiet.old ≡ [] }
-    requires entries { entries.old.items ≡ map (moved_entry phase add before.now after.now labels.now (length labels.now)) (labels_below labels.now (length labels.now)) }
-    ensures quiet { OnOk result (quiet.new ≡ filter (is_quiet before.now after.now) edges.now) }
-    ensures entries { OnOk result (entries.new.items ≡ map (group_entry phase add edges.now before.now after.now labels.now (length labels.now)) (labels_below labels.now (length labels.now))) }
+    requires empty { All (λ e. e.edges ≡ []) entries.old.items }
+    ensures quiet { OnOk result (quiet.new ≡ filter (is_unplaced (length places.now) places.now) edges.now) }
+    ensures entries { OnOk result (AreDealt (with_edges places.now edges.now) entries.old.items entries.new.items) }
 {
-    let n = labels.len() as u32;
+    let n = places.len() as u32;
     for e in edges {
-        let label = label_at(before, after, labels, *e);
-        if label < n {
-            entries[places[label as usize] as usize].push_edge(*e)?;
+        let place = place_at(places, *e);
+        if place < n {
+            entries[place as usize].push_edge(*e)?;
         } else {
             quiet.push(*e)?;
         }

@@ -1,27 +1,18 @@
 // The label of each vertex that moves, by flooding.
 ghost use Rattle.std.specs.Prelude.{◌≡◌, ℕ, ◌+◌, ◌<◌, ◌≤◌, ◌∷◌, [], OnOk, IfOk, true, length, slice_index};
 ghost use Rattle.kc_levels.specs.Moved.{is_moved};
-ghost use Rattle.kc_groups.specs.Labels.{AreJoined, IsFlooding, unlabelled};
+ghost use Rattle.kc_groups.specs.Labels.{AreJoined, IsFlooding, moved_below, unlabelled};
 ghost use Rattle.kc_groups.specs.Links.{AreLabels};
 
+use crate::moved::is_moved;
 use kc_graph::Graph;
-use kc_levels::Levels;
 use std::alloc::{AllocError, Global};
-
-// Whether v moves.
-pub(crate) fn is_moved(before: &Levels, after: &Levels, v: u32) -> bool
-    requires vertex { v < length before.now }
-    requires same { length after.now ≡ length before.now }
-    ensures { result ≡ is_moved before.now after.now v }
-{
-    before.get(v) != after.get(v)
-}
 
 // Gives the label to the vertices that v is linked to and that have none yet, and lets them wait.
 fn follow(
     graph: &Graph,
-    before: &Levels,
-    after: &Levels,
+    before: &[u16],
+    after: &[u16],
     labels: &mut Vec<u32>,
     stack: &mut Vec<u32>,
     label: u32,
@@ -39,7 +30,7 @@ fn follow(
 {
     let n = graph.vertices();
     for w in graph.neighbours(v) {
-        if labels[*w as usize] == n && is_moved(before, after, *w) {
+        if is_moved(before, after, *w) && labels[*w as usize] == n {
             labels[*w as usize] = label;
             stack.push(*w)?;
         }
@@ -50,8 +41,8 @@ fn follow(
 // Gives the label to its own vertex and to all that links reach from there.
 fn flood(
     graph: &Graph,
-    before: &Levels,
-    after: &Levels,
+    before: &[u16],
+    after: &[u16],
     labels: &mut Vec<u32>,
     stack: &mut Vec<u32>,
     label: u32,
@@ -74,25 +65,27 @@ fn flood(
     Ok(())
 }
 
-// A label for each vertex that moves, and the number of vertices for the others. One pass over the vertices, and one over the
-// neighbours of each that moves.
+// A label for each vertex that moves, and the number of vertices for the others. Past filling the table, one pass over the
+// vertices that move and over the neighbours of each.
 pub(crate) fn label_all(
     alloc: Global,
     graph: &Graph,
-    before: &Levels,
-    after: &Levels,
+    before: &[u16],
+    after: &[u16],
+    moved: &[u32],
 ) -> Result<Vec<u32>, AllocError>
     requires before { length before.now ≡ graph.now.vertices }
     requires after { length after.now ≡ graph.now.vertices }
+    requires moved { moved.now ≡ moved_below (is_moved before.now after.now) graph.now.vertices }
     ensures joined { IfOk result (λ labels. AreJoined graph.now (is_moved before.now after.now) labels.items) }
     ensures labels { IfOk result (λ labels. AreLabels graph.now (is_moved before.now after.now) labels.items) }
 {
     let n = graph.vertices();
     let mut labels = vec![in alloc; n; n as usize]?;
     let mut stack = Vec::new(alloc);
-    for v in 0..n {
-        if labels[v as usize] == n && is_moved(before, after, v) {
-            flood(graph, before, after, &mut labels, &mut stack, v)?;
+    for v in moved {
+        if labels[*v as usize] == n {
+            flood(graph, before, after, &mut labels, &mut stack, *v)?;
         }
     }
     Ok(labels)

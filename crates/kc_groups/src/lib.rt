@@ -9,6 +9,7 @@
 mod dealing;
 mod flooding;
 pub mod laws;
+mod moved;
 mod planning;
 mod plans;
 

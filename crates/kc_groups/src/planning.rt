@@ -8,6 +8,7 @@ ghost use Rattle.kc_groups.specs.WellFormed.{AreSmall, IsWellFormed};
 use crate::PhasePlan;
 use crate::dealing::{deal_edges, deal_moves, open_groups};
 use crate::flooding::label_all;
+use crate::moved::moved_vertices;
 use kc_graph::{Edge, Edges, Graph};
 use kc_history::{Entries, Entry};
 use kc_levels::Levels;
@@ -19,7 +20,8 @@ use std::alloc::{AllocError, Global};
 /// `graph` has every edge that is there before or after the phase: it is the graph after an insertion, and the graph before a
 /// deletion. The edges ascend and are in it.
 ///
-/// One pass over the vertices, the edges, and the neighbours of the vertices that move. The error is want of memory.
+/// One pass over the levels of all vertices, and a table with a number for each. Then only the vertices that move, their
+/// neighbours and the edges of the phase. The error is want of memory.
 pub fn plan_phase(
     alloc: Global,
     phase: u32,
@@ -39,23 +41,25 @@ pub fn plan_phase(
     ensures well_formed { AreSmall before.now → AreSmall after.now → IfOk result (IsWellFormed graph.now.vertices) }
 {
     let n = graph.vertices();
-    let labels = label_all(alloc, graph, before, after)?;
-    let mut places = vec![in alloc; 0u32; n as usize]?;
+    let before = before.as_slice();
+    let after = after.as_slice();
+    let moved = moved_vertices(alloc, n, before, after)?;
+    // Labels at first. `open_groups` puts places in their stead.
+    let mut places = label_all(alloc, graph, before, after, &moved)?;
     let mut groups = Vec::new(alloc);
     let mut quiet = Entry::new(alloc, phase, None, add);
-    open_groups(alloc, phase, add, &labels, &mut places, &mut groups)?;
-    deal_moves(phase, add, before, after, &labels, &places, &mut groups)?;
-    deal_edges(
+    open_groups(
+        alloc,
         phase,
         add,
         before,
         after,
-        &labels,
-        &places,
-        edges,
-        &mut quiet.edges,
+        &moved,
+        &mut places,
         &mut groups,
     )?;
+    deal_moves(before, after, &moved, &places, &mut groups)?;
+    deal_edges(&places, edges, &mut quiet.edges, &mut groups)?;
     Ok(PhasePlan {
         quiet,
         groups: Entries::from_vec(groups),

@@ -234,3 +234,33 @@ fn a_rise_that_sets_off_another_is_in_its_group(rt: HostRuntime) -> Result<(), F
     check_group(&rt, &plan, 0, 0, &[(0, 1, 2), (3, 0, 1)], &added);
     Ok(())
 }
+
+// More levels than are compared at once, and a move at each end of such a run and at the last vertex.
+#[test]
+fn groups_far_apart_rise(rt: HostRuntime) -> Result<(), Fail> {
+    let added = [edge(31, 32), edge(63, 69)];
+    let mut after = [0; 70];
+    after[31] = 1;
+    after[32] = 1;
+    after[63] = 1;
+    after[69] = 1;
+    let plan = plan(&rt, rt.alloc(), true, &added, &[], &[0; 70], &after)?;
+    check_quiet(&rt, &plan, true, &[], 2);
+    check_group(
+        &rt,
+        &plan,
+        0,
+        31,
+        &[(31, 0, 1), (32, 0, 1)],
+        &[edge(31, 32)],
+    );
+    check_group(
+        &rt,
+        &plan,
+        1,
+        63,
+        &[(63, 0, 1), (69, 0, 1)],
+        &[edge(63, 69)],
+    );
+    Ok(())
+}

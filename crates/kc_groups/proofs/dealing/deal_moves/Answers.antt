@@ -1,31 +1,56 @@
-use Rattle.std.proofs.Common.{◌≡◌, ◌<◌, List, length, ap, ◌∙◌, arith, get_or}
-use Rattle.std.proofs.lemmas.List.{length-map, get_or_read, get_or-map}
-use Rattle.kc_history.specs.declared.entries.Entry.{Entry}
-use Rattle.kc_groups.specs.Entries.{labels_below}
-use Rattle.kc_groups.specs.Dealing.{moved_entry}
-use Rattle.kc_groups.proofs.DealingLemmas.{deal_move, deal_none}
+use Rattle.std.proofs.Common.{◌<◌, ◌∷◌, ◌++◌, [], length, get_or, set, arith}
+use Rattle.kc_levels.specs.Moved.{is_moved}
+use Rattle.kc_groups.specs.Entries.{move_of}
+use Rattle.kc_groups.specs.Dealing.{with_moves, AreDealt}
+use Rattle.kc_groups.proofs.DealingLemmas.{moves_first, deal_move, deal_none}
+use Rattle.kc_groups.proofs.MovedLemmas.{moved_at, moved_this, moved_first, moved_next}
 use Rattle.kc_groups.proofs.dealing.deal_moves.Goals as goal
-use Rattle.kc_groups.proofs.dealing.deal_moves.Goals.{then-label-n+in_ok-push_move, else-label-n}
+
+pub loop-v-init : goal.loop-v-init
+loop-v-init c =
+    let x = c.args.before.now in
+    let y = c.args.after.now in
+    let es = c.args.entries.now.items in
+    moved_first (is_moved x y) (length x) c.args.moved.now c.requires.moved (λ k. AreDealt (with_moves c.args.places.now x y k) es es)
+    (λ k h still a. deal_none c.args.places.now x y k es es a (c.requires.placed.none k h still))
+    (moves_first c.args.places.now x y es c.requires.empty)
+
+pub bounds-before-v : goal.bounds-before-v
+bounds-before-v c = (moved_at (is_moved c.args.before.now c.args.after.now) (length c.args.before.now) c.args.moved.now c.requires.moved c.loop-v.v-index (omega arith)).0
+
+pub bounds-after-v : goal.bounds-after-v
+bounds-after-v c =
+    let h : get_or c.args.moved.now c.loop-v.v-index 0 < length c.args.before.now = (moved_at (is_moved c.args.before.now c.args.after.now) (length c.args.before.now) c.args.moved.now c.requires.moved c.loop-v.v-index (omega arith)).0 in
+    omega (arith, h, c.requires.same)
+
+pub bounds-places-v : goal.bounds-places-v
+bounds-places-v c =
+    let h : get_or c.args.moved.now c.loop-v.v-index 0 < length c.args.before.now = (moved_at (is_moved c.args.before.now c.args.after.now) (length c.args.before.now) c.args.moved.now c.requires.moved c.loop-v.v-index (omega arith)).0 in
+    omega (arith, h, c.requires.placed.sized)
+
+pub index_mut-requires : goal.index_mut-requires
+index_mut-requires c =
+    let at = moved_at (is_moved c.args.before.now c.args.after.now) (length c.args.before.now) c.args.moved.now c.requires.moved c.loop-v.v-index (omega arith) in
+    omega (arith, c.requires.placed.at _ at.0 at.1, c.loop-v.invariant.sized)
 
 pub loop-v-preserved : goal.loop-v-preserved
 loop-v-preserved c =
-    let roots = labels_below c.args.labels.now (length c.args.labels.now) in
-    elim c.if-label-n.branch [
-      | then-label-n+in_ok-push_move w ↦
-          let k = c.loop-v.v in
-          let labels = c.args.labels.now in
-          let label = get_or c.args.labels.now c.loop-v.v 0 in
-          let place = get_or c.args.places.now (get_or c.args.labels.now c.loop-v.v 0) 0 in
-          let f = moved_entry c.args.phase c.args.add c.args.before.now c.args.after.now c.args.labels.now c.loop-v.v in
-          let low : get_or c.args.labels.now c.loop-v.v 0 < length c.args.labels.now = omega arith in
-          let root : get_or labels label 0 ≡ label = c.requires.roots k (omega arith) low in
-          let at = c.requires.places.at label low root in
-          let long : length c.loop-v.entries.items ≡ length roots = ap (λ (es : List Entry). length es) c.loop-v.invariant ∙ length-map roots f in
-          let read : w.index_mut.result.now ≡ f label =
-          get_or_read c.loop-v.entries.items place w.index_mut.result.now (omega (arith, at.0, long)) w.index_mut.ensures.value (f 0)
-          ∙ ap (λ (es : List Entry). get_or es place (f 0)) c.loop-v.invariant ∙ get_or-map f roots place 0 (f 0) at.0 ∙ ap f at.1 in
-          rw (w.entries-is, w.in_ok-push_move.ensures.ok, read, c.loop-v.invariant, w.get.ensures, w.get-then-label-n.ensures)
-          (deal_move c.args.phase c.args.add labels c.args.before.now c.args.after.now roots c.args.places.now (length labels) k c.requires.places low root)
-      | else-label-n w ↦
-          rw (w.entries-is) (c.loop-v.invariant ∙ deal_none c.args.phase c.args.add c.args.labels.now c.args.before.now c.args.after.now roots c.args.places.now (length c.args.labels.now) c.loop-v.v c.requires.places (omega arith))
-    ]
+    let x = c.args.before.now in
+    let y = c.args.after.now in
+    let n = length c.args.before.now in
+    let m = is_moved x y in
+    let items = c.args.moved.now in
+    let i = c.loop-v.v-index in
+    let v = get_or c.args.moved.now c.loop-v.v-index 0 in
+    let places = c.args.places.now in
+    let old = c.args.entries.now.items in
+    let es = c.loop-v.entries.items in
+    let inside : c.loop-v.v-index < length c.args.moved.now = omega arith in
+    let at = moved_at m n items c.requires.moved i inside in
+    let a = moved_this m n items c.requires.moved (λ k. AreDealt (with_moves places x y k) old es) i inside c.loop-v.invariant in
+    let t = c.index_mut.result.now in
+    let new = set es (get_or places v 0) (record t { moves = t.moves ++ move_of x y v ∷ [] }) in
+    rw (c.in_ok-push_move.ensures.ok)
+    (moved_next m n items c.requires.moved (λ k. AreDealt (with_moves places x y k) old new)
+    (λ k h still a. deal_none places x y k old new a (c.requires.placed.none k h still)) i inside
+    (deal_move places x y v old es t a (c.requires.placed.at v at.0 at.1) c.index_mut.ensures.value))
