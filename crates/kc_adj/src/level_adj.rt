@@ -1,13 +1,12 @@
-ghost use Rattle.std.specs.Prelude.{◌≡◌, ◌+◌, ◌-◌, ◌<◌, ◌≤◌, ◌++◌, ◌↔◌, [], IsTrue, OnOk, OnErr, IfOk, true, false, length, replicate, slice_index, slice_set};
+ghost use Rattle.std.specs.Prelude.{◌≡◌, ◌+◌, ◌-◌, ◌<◌, ◌≤◌, ◌↔◌, [], IsTrue, OnOk, OnErr, IfOk, true, false, length, replicate, slice_index, slice_set};
 ghost use Rattle.kc_graph.specs.Shape.{IsGraph, neighbours_of, has_edge, with_edge, without_edge};
 ghost use Rattle.kc_levels.specs.Thresholds.{top_level};
 ghost use Rattle.kc_levels.specs.LevelList.{at_least, MeetsLower, IsDesired};
-ghost use Rattle.kc_adj.specs.LeveledGraph.{LeveledGraph};
-ghost use Rattle.kc_adj.specs.Crossing.{crossed};
+ghost use Rattle.kc_adj.specs.LeveledGraph.{LeveledGraph, IsCounted};
 
 use crate::counts::Counts;
 use crate::steps::Steps;
-use crate::{crossings, desired, links, moves};
+use crate::{desired, links, moves};
 use kc_graph::{Edge, Graph, MAX_EDGES, MAX_VERTICES};
 use kc_levels::{Levels, Thresholds};
 use std::alloc::{AllocError, Global};
@@ -19,7 +18,7 @@ use std::sync::ledger::Ledger;
 ///
 /// Contracts see it as a `LeveledGraph`: the graph and the list of the levels. A level is 0 to 65,535.
 ///
-/// Besides the graph it takes 10 bytes a vertex. `link`, `unlink`, `rise`, `rise_crossing`, `lift` and `fall` count one step
+/// Besides the graph it takes 10 bytes a vertex. `link`, `unlink`, `rise`, `lift` and `fall` count one step
 /// for themselves, and one for each half-edge that they visit: a neighbour of the vertex that moves, or an end of the edge.
 #[derive(Drop)]
 pub struct LevelAdj {
@@ -90,6 +89,14 @@ impl LevelAdj {
     {
         let _n = self.graph.vertices();
         self.counts.own[v as usize]
+    }
+
+    /// For each vertex, how many of its neighbours are on its level or above: what `at_least_own` gives, for loops that read or
+    /// copy many of them.
+    pub fn own_counts(&self) -> &[u32]
+        ensures { IsCounted self.now.graph self.now.levels 0 result.now }
+    {
+        &self.counts.own
     }
 
     /// How many neighbours of `v` are on the level below its own or above (`at_least`); on level 0 all are counted, so this
@@ -192,43 +199,6 @@ impl LevelAdj {
     {
         let to = self.level(v) + 1;
         self.lift(v, to, steps);
-    }
-
-    /// Puts `v` one level up, as `rise` does, and appends to `crossing` the neighbours that this takes over a bound, in
-    /// ascending order: those on v's new level that now have exactly `most + 1` neighbours there or above (`crossed`).
-    ///
-    /// Where `most` is what the new level's group allows, these are all the vertices besides `v` that begin to break the upper
-    /// invariant by it (`laws::rise_breaks_crossed`).
-    ///
-    /// One pass over its neighbours. Counts a step for each of them, and one more. Makes room in `crossing` for as many more
-    /// numbers as `v` has neighbours, so one list should serve for many rises. That comes before anything else: the error is
-    /// want of memory, and all is then unchanged.
-    pub fn rise_crossing<L: Ledger>(
-        &mut self,
-        _alloc: Global,
-        v: u32,
-        most: u32,
-        crossing: &mut Vec<u32>,
-        steps: &mut Steps<L>,
-    ) -> Result<(), AllocError>
-        requires vertex { v < self.old.graph.vertices }
-        requires room { slice_index self.old.levels v < 65535 }
-        ensures ok { OnOk result (self.new ≡ record self.old { levels = slice_set self.old.levels v (slice_index self.old.levels v + 1) }) }
-        ensures crossing { OnOk result (crossing.new.items ≡ crossing.old.items ++ crossed self.new.graph self.new.levels v most) }
-        ensures cost { OnOk result (steps.new ≡ steps.old + (length (neighbours_of v self.old.graph.edges) + 1)) }
-        ensures err { OnErr result (self.new ≡ self.old) }
-        ensures crossing_kept { OnErr result (crossing.new.items ≡ crossing.old.items) }
-        ensures steps_kept { OnErr result (steps.new ≡ steps.old) }
-    {
-        crossings::rise_crossing(
-            &self.graph,
-            &mut self.levels,
-            &mut self.counts,
-            v,
-            most,
-            crossing,
-            steps,
-        )
     }
 
     /// Puts `v` up to the level `to`, which is at least its own. Takes no memory.

@@ -6,9 +6,7 @@
 #![tactic(auto)]
 
 mod counts;
-mod crossings;
 mod desired;
-pub mod laws;
 mod level_adj;
 mod links;
 mod moves;

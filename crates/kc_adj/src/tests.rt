@@ -217,58 +217,6 @@ fn counts_and_desired_levels(rt: HostRuntime) -> Result<(), Fail> {
     Ok(())
 }
 
-// Three leaves of 0 on level 1, of which 1 and 2 are neighbours too. Then 0 rises to level 1, where `most` are allowed.
-fn check_crossing<L: Ledger>(
-    rt: &impl Abort,
-    alloc: Global,
-    most: u32,
-    want: &[u32],
-    blank: Blank,
-) -> Result<(), Fail>
-    requires name { blank.name ≡ L.name }
-    requires parts { blank.parts ≡ L.parts }
-    requires positive { 0 < blank.parts }
-{
-    let mut steps = Steps::<L>::new(blank);
-    let mut adj = LevelAdj::new(alloc, 5)?;
-    for one in [
-        Link(0, 1),
-        Link(0, 2),
-        Link(0, 3),
-        Link(1, 2),
-        Rise(1),
-        Rise(2),
-        Rise(3),
-    ] {
-        apply(rt, alloc, &mut adj, one, &mut steps)?;
-    }
-    let mut crossing = vec![in alloc; 4]?;
-    assert!(rt; 0 < adj.graph().vertices());
-    assert!(rt; adj.level(0) < 65535);
-    let risen = adj.rise_crossing(alloc, 0, most, &mut crossing, &mut steps);
-    assert!(rt; 0 < adj.graph().vertices());
-    match risen {
-        Ok(()) => {
-            assert_eq!(rt; adj.level(0), 1);
-            assert_eq!(rt; adj.at_least_own(0), 3);
-            assert_eq!(rt; crossing.as_slice(), want, "over {most}");
-        }
-        Err(_) => {
-            assert_eq!(rt; adj.level(0), 0);
-            assert_eq!(rt; adj.at_least_own(0), 3);
-            assert_eq!(rt; crossing.as_slice(), [4].as_slice());
-        }
-    }
-    Ok(())
-}
-
-#[test]
-fn neighbours_over_a_bound(rt: HostRuntime) -> Result<(), Fail> {
-    check_crossing::<Brand>(&rt, rt.alloc(), 0, &[4, 3], Blank::new(1))?;
-    check_crossing::<Brand>(&rt, rt.alloc(), 1, &[4, 1, 2], Blank::new(1))?;
-    check_crossing::<Brand>(&rt, rt.alloc(), 2, &[4], Blank::new(1))
-}
-
 // The graph is as before where memory for an edge is refused, which a run with few allocations shows.
 fn check_link<L: Ledger>(rt: &impl Abort, alloc: Global, blank: Blank) -> Result<(), Fail>
     requires name { blank.name ≡ L.name }

@@ -1,4 +1,11 @@
 pub mod Buckets
-pub mod Reaching
 pub mod Linking
-pub mod LevelRounds
+pub mod Flips
+pub mod Lifting
+pub mod Efforts
+pub mod Stepping
+pub mod Leaving
+pub mod Parting
+pub mod Arriving
+pub mod Beginning
+pub mod Sweeps

@@ -16,7 +16,7 @@ pub record IsLinking (p : Profile) (a b : LeveledGraph) (es rest : List Pair) (q
   pub graph : with_edges b.graph rest ≡ with_edges a.graph es
   pub vertices : b.graph.vertices ≡ a.graph.vertices
   pub levels : b.levels ≡ a.levels
-  pub queued : IsQueued p b.graph b.levels 0 queue
+  pub queued : IsQueued p b.graph b.levels queue
 
 linking_more : (p : Profile) (a b c : LeveledGraph) (es rest : List Pair) (e : Pair) (queue low_filed both_filed : List (List ℕ)) → IsCapped p a.graph.vertices a.levels → IsLinking p a b es (e ∷ rest) queue → e.0 < e.1 → c ≡ record b { graph = with_edge b.graph e } → low_filed ≡ set queue (get_or c.levels e.0 0) (get_or queue (get_or c.levels e.0 0) [] ++ e.0 ∷ []) → both_filed ≡ set low_filed (get_or c.levels e.1 0) (get_or low_filed (get_or c.levels e.1 0) [] ++ e.1 ∷ []) → IsLinking p a c es rest both_filed
 linking_more p a b c es rest e queue low_filed both_filed capped s order linked low both = record {

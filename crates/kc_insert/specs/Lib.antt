@@ -1,4 +1,6 @@
 pub mod Effort
 pub mod BucketQueue
-pub mod Reached
+pub mod Meetings
+pub mod Counting
+pub mod Sweeping
 pub mod Round

@@ -28,7 +28,7 @@ pub fn link_edges<L: Ledger>(
     requires addable { CanAdd adj.old.graph added.now }
     ensures graph { OnOk result (adj.new.graph ≡ with_edges adj.old.graph added.now) }
     ensures levels { OnOk result (adj.new.levels ≡ adj.old.levels) }
-    ensures queued { IfOk result (λ queue. IsQueued th.now.profile adj.new.graph adj.new.levels 0 queue) }
+    ensures queued { IfOk result (λ queue. IsQueued th.now.profile adj.new.graph adj.new.levels queue) }
     ensures cost { OnOk result (steps.new ≡ steps.old + 3 * length added.now) }
 {
     let mut queue = BucketQueue::new(alloc, th.top() + 1)?;

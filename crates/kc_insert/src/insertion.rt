@@ -6,10 +6,10 @@ ghost use Rattle.kc_levels.specs.Moved.{moved_count};
 ghost use Rattle.kc_insert.specs.Effort.{effort};
 
 use crate::filling::link_edges;
-use crate::raising::raise_queued;
+use crate::sweeping::raise_queued;
 use kc_adj::{LevelAdj, Steps};
 use kc_graph::{Edge, MAX_EDGES};
-use kc_levels::{Thresholds, moved_count};
+use kc_levels::Thresholds;
 use kc_rounds::{Gate, Rounds};
 use std::alloc::{AllocError, Global};
 use std::sync::ledger::Ledger;
@@ -30,17 +30,19 @@ pub struct Tally {
 /// to 64. The error is want of memory; graph and levels are then unspecified.
 ///
 /// Counts at most 4 steps for each edge, and for each vertex, times the levels that it rises by, three for each neighbour that
-/// it has after the phase and one more (`effort`).
+/// it has after the phase and one more (`effort`). A vertex that rises costs at most three passes over its neighbours, however
+/// far it rises: one where it begins to, and two where it stays, of which one puts it on its new level in `adj`.
 ///
-/// Goes through the levels once, from the lowest up. Each level is a round: those of its waiting vertices that have to rise are
-/// found by up to `workers` threads (`Rounds`), and rise one after the other. The answer doesn't depend on `workers` nor on
-/// what the gate does. The first round with candidates is cut into as many pieces as there are workers, later short ones into
-/// fewer.
+/// Goes through the levels once, from the lowest up. Each level is a round: those have to rise from it who count more neighbours
+/// there or above than its group allows. Up to `workers` threads (`Rounds`) find them, among those who came up to the level and
+/// then among those who stood on it and had an edge come in or a neighbour come up. The answer doesn't depend on `workers` nor
+/// on what the gate does. The first list that isn't empty is cut into as many pieces as there are workers, or fewer where it is
+/// short, and later short ones into fewer.
 ///
-/// A vertex is looked at in O(1), and only where an edge came in at it, it rose, or a neighbour's rise took it over its bound;
-/// a rise by one level is one pass over the neighbours. A round takes memory for its waiting vertices that rise. Besides there
-/// are one pass over an empty bucket for each level up to the top, and one over all vertices before, for a copy of the levels,
-/// and one after.
+/// Besides its passes a vertex that rises costs a few looks on each level on its way, and at most two looks, which count no
+/// steps, for each neighbour that stood above it when it began. Takes memory for a copy of the levels and of one count a
+/// vertex, two lists for each level up to the top, the vertices that wait or rose, and 8 bytes for each such neighbour. So a
+/// phase has one pass over all vertices and one over all levels; all else depends on the edges and on who rises.
 pub fn insert_rounds<R: Threads + Sync, G: Gate + Sync, L: Ledger>(
     rt: &R,
     alloc: Global,
@@ -64,13 +66,8 @@ pub fn insert_rounds<R: Threads + Sync, G: Gate + Sync, L: Ledger>(
     ensures cost { let rises = effort adj.new.graph adj.old.levels adj.new.levels adj.new.graph.vertices in
         OnOk result (steps.new ≤ steps.old + (4 * length added.now + rises)) }
 {
-    let _n = adj.graph().vertices();
-    let before = adj.levels().copy(alloc)?;
-    let mut queue = link_edges(alloc, th, adj, added, steps)?;
+    let queue = link_edges(alloc, th, adj, added, steps)?;
     let mut rounds = Rounds::new(rt, alloc, gate, workers);
-    raise_queued(&mut rounds, alloc, th, adj, &mut queue, steps)?;
-    let after = adj.levels();
-    Ok(Tally {
-        moves: moved_count(&before, after),
-    })
+    let moves = raise_queued(&mut rounds, alloc, th, adj, queue, steps)?;
+    Ok(Tally { moves })
 }

@@ -5,8 +5,8 @@ use std::alloc::{AllocError, Global};
 use std::thread::Threads;
 
 // A list is cut into no piece shorter than this, but in a phase's first round: to start a thread and to join it costs as much
-// as some thousands of tests.
-const LEAST_PIECE: usize = 16_384;
+// as some tens of thousands of tests.
+const LEAST_PIECE: usize = 131_072;
 
 /// The rounds of one phase, one after the other, with the workers that they may use.
 ///

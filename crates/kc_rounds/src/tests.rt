@@ -166,7 +166,7 @@ fn later_short_rounds_have_one_piece(rt: HostRuntime) -> Result<(), Fail> {
         assert_eq!(rt; rounds.movers(candidates, &Odd)?.as_slice(), kept);
         assert_eq!(rt; gate.pieces.load(SeqCst), pieces);
     }
-    let long = vec![in rt.alloc(); 4; 40_000]?;
+    let long = vec![in rt.alloc(); 4; 300_000]?;
     assert!(rt; rounds.movers(&long, &Odd)?.is_empty());
     assert_eq!(rt; gate.pieces.load(SeqCst), 0x010203);
     Ok(())

@@ -1,0 +1,149 @@
+-- What a step adds to the steps that a sweep may take, and to the number of vertices that rose.
+use Rattle.std.proofs.Common.{ℕ, suc, zero, ◌+◌, ◌-◌, ◌*◌, ◌≤◌, ◌<◌, ◌≡◌, ◌≢◌, inl, inr, Bool, true, false, cond, not, eqb, ◌&&◌, List, [], ◌∷◌, ◌++◌, length, get_or, set, filter, refl, ap, sym, ◌∙◌, arith, subst}
+use Rattle.std.proofs.lemmas.Bool.{cases_eq, cases_Bool, true≢false}
+use Rattle.std.proofs.lemmas.Bool.Decides.{nat_tests}
+use Rattle.std.proofs.lemmas.List.{length-set, get_or-set_same, get_or-set_other}
+use Rattle.kc_graph.specs.Numbers.{has_number, count_below}
+use Rattle.kc_graph.specs.Shape.{GraphShape, neighbours_of}
+use Rattle.kc_graph.proofs.CountLemmas.{count_below_agree}
+use Rattle.kc_graph.proofs.NumberLemmas.{has_number-append}
+use Rattle.kc_levels.specs.Moved.{is_moved, moved_count}
+use Rattle.kc_insert.specs.Effort.{effort}
+use Rattle.kc_insert.specs.Round.{is_over}
+use Rattle.kc_insert.specs.Meetings.{AreDistinct}
+use Rattle.kc_insert.specs.Counting.{degrees, steps_on}
+use Rattle.kc_insert.specs.Sweeping.{all_at}
+use Rattle.kc_insert.proofs.Buckets.{has_number-filter}
+use Rattle.kc_insert.proofs.Lifting.{all_at_here, all_at_other}
+
+pub effort_none : (g : GraphShape) (x : List ℕ) (n : ℕ) → effort g x x n ≡ 0
+effort_none g x zero = refl
+effort_none g x (suc n) = rw (effort_none g x n) (plain (get_or x n 0) (3 * length (neighbours_of n g.edges) + 1))
+  where
+    plain : (k c : ℕ) → 0 + (k - k) * c ≡ 0
+    plain k c = grind arith
+
+effort_other : (g : GraphShape) (x y : List ℕ) (v l n : ℕ) → n ≤ v → effort g x (set y v l) n ≡ effort g x y n
+effort_other g x y v l zero le = refl
+effort_other g x y v l (suc n) le =
+    ap (λ k. effort g x (set y v l) n + (k - get_or x n 0) * (3 * length (neighbours_of n g.edges) + 1)) (get_or-set_other y v n l 0 (omega arith))
+    ∙ ap (λ m. m + (get_or y n 0 - get_or x n 0) * (3 * length (neighbours_of n g.edges) + 1)) (effort_other g x y v l n (omega arith))
+
+-- what one rise adds
+effort_rise : (g : GraphShape) (x y : List ℕ) (v n : ℕ) → v < length y → v < n → get_or x v 0 ≤ get_or y v 0 → effort g x (set y v (get_or y v 0 + 1)) n ≡ effort g x y n + (3 * length (neighbours_of v g.edges) + 1)
+effort_rise g x y v zero inside h le = absurd (omega arith)
+effort_rise g x y v (suc n) inside h le = elim (cases_eq v n) [
+  | inl e ↦
+      subst (λ u. effort g x (set y v (get_or y v 0 + 1)) n + (get_or (set y v (get_or y v 0 + 1)) u 0 - get_or x u 0) * (3 * length (neighbours_of u g.edges) + 1) ≡ (effort g x y n + (get_or y u 0 - get_or x u 0) * (3 * length (neighbours_of u g.edges) + 1)) + (3 * length (neighbours_of v g.edges) + 1)) e
+      (plain _ _ _ _ _ _ (effort_other g x y v (get_or y v 0 + 1) n (omega arith)) (get_or-set_same y v (get_or y v 0 + 1) 0 inside) le)
+  | inr ne ↦
+      ap (λ k. effort g x (set y v (get_or y v 0 + 1)) n + (k - get_or x n 0) * (3 * length (neighbours_of n g.edges) + 1)) (get_or-set_other y v n (get_or y v 0 + 1) 0 (λ e. ne (sym e)))
+      ∙ swap _ _ _ _ (effort_rise g x y v n inside (omega arith) le)
+]
+  where
+    plain : (a b k y_ x_ c : ℕ) → a ≡ b → k ≡ y_ + 1 → x_ ≤ y_ → a + (k - x_) * c ≡ (b + (y_ - x_) * c) + c
+    plain a b k y_ x_ c e f le =
+        let one : k - x_ ≡ (y_ - x_) + 1 = omega arith in
+        rw (e, one) (grind arith)
+
+    swap : (a b c d : ℕ) → a ≡ b + c → a + d ≡ (b + d) + c
+    swap a b c d e = omega arith
+
+-- what the rises of several vertices of one level add
+pub effort_up : (g : GraphShape) (x y vs : List ℕ) (l n : ℕ) → AreDistinct vs → ((v : ℕ) → has_number v vs ≡ true → (v < n) × (v < length y) × (get_or y v 0 ≡ l) × (get_or x v 0 ≤ l)) → effort g x (all_at y vs (l + 1)) n ≡ effort g x y n + (3 * degrees g vs + length vs)
+effort_up g x y [] l n distinct all = omega arith
+effort_up g x y (v ∷ vs) l n distinct all =
+    let here = all v (grind (arith, nat_tests)) in
+    let one : effort g x (set y v (l + 1)) n ≡ effort g x y n + (3 * length (neighbours_of v g.edges) + 1) = subst (λ k. effort g x (set y v (k + 1)) n ≡ effort g x y n + (3 * length (neighbours_of v g.edges) + 1)) here.2 (effort_rise g x y v n here.1 here.0 (omega (arith, here.2, here.3))) in
+    let more = effort_up g x (set y v (l + 1)) vs l n distinct.1 (λ u there.
+    let that = all u (grind (arith, nat_tests, there)) in
+    let other : u ≢ v = λ e. true≢false (sym there ∙ ap (λ t. has_number t vs) e ∙ distinct.0) in
+    (that.0, rw (length-set y v (l + 1)) that.1, get_or-set_other y v u (l + 1) 0 other ∙ that.2, that.3)) in
+    omega (arith, one, more)
+
+-- a test that holds at one number more
+count_below_one : (n v : ℕ) (p q : ℕ → Bool) → v < n → p v ≡ false → q v ≡ true → ((u : ℕ) → u ≢ v → p u ≡ q u) → count_below n q ≡ count_below n p + 1
+count_below_one zero v p q h no_ yes_ same = absurd (omega (arith, h))
+count_below_one (suc n) v p q h no_ yes_ same = elim (cases_eq n v) [
+  | inl e ↦
+      let rest : count_below n p ≡ count_below n q = count_below_agree n p q (λ k lt. same k (λ f. absurd (omega (arith, lt, f, e)))) in
+      let one : ◌≡◌ {A = ℕ} (cond (q n) 1 0) 1 = ap (λ k. cond (q k) 1 0) e ∙ ap (λ b. cond b 1 0) yes_ in
+      let none : ◌≡◌ {A = ℕ} (cond (p n) 1 0) 0 = ap (λ k. cond (p k) 1 0) e ∙ ap (λ b. cond b 1 0) no_ in
+      omega (arith, rest, one, none)
+  | inr ne ↦
+      let rest = count_below_one n v p q (omega (arith, h, ne)) no_ yes_ same in
+      let here : ◌≡◌ {A = ℕ} (cond (p n) 1 0) (cond (q n) 1 0) = ap (λ b. cond b 1 0) (same n ne) in
+      omega (arith, rest, here)
+]
+
+-- vertices that begin to rise
+pub moved_up : (n : ℕ) (x y vs : List ℕ) (l : ℕ) → AreDistinct vs → ((v : ℕ) → has_number v vs ≡ true → (v < n) × (v < length y) × (get_or y v 0 ≡ l) × (get_or x v 0 ≡ l)) → moved_count n x (all_at y vs (l + 1)) ≡ moved_count n x y + length vs
+moved_up n x y [] l distinct all = omega arith
+moved_up n x y (v ∷ vs) l distinct all =
+    let here = all v (grind (arith, nat_tests)) in
+    let new : get_or (set y v (l + 1)) v 0 ≡ l + 1 = get_or-set_same y v (l + 1) 0 here.1 in
+    let one : moved_count n x (set y v (l + 1)) ≡ moved_count n x y + 1 = count_below_one n v (is_moved x y) (is_moved x (set y v (l + 1))) here.0 (grind (arith, nat_tests, here.2, here.3)) (grind (arith, nat_tests, new, here.3)) (λ u ne. ap (λ k. not (eqb (get_or x u 0) k)) (sym (get_or-set_other y v u (l + 1) 0 ne))) in
+    let more = moved_up n x (set y v (l + 1)) vs l distinct.1 (λ u there.
+    let that = all u (grind (arith, nat_tests, there)) in
+    let other : u ≢ v = λ e. true≢false (sym there ∙ ap (λ t. has_number t vs) e ∙ distinct.0) in
+    (that.0, rw (length-set y v (l + 1)) that.1, get_or-set_other y v u (l + 1) 0 other ∙ that.2, that.3)) in
+    omega (arith, one, more)
+
+-- vertices that had risen before
+pub moved_on : (n : ℕ) (x y vs : List ℕ) (l : ℕ) → ((v : ℕ) → has_number v vs ≡ true → (v < length y) × (get_or y v 0 ≡ l) × (get_or x v 0 < l)) → moved_count n x (all_at y vs (l + 1)) ≡ moved_count n x y
+moved_on n x y vs l all = count_below_agree n (is_moved x (all_at y vs (l + 1))) (is_moved x y) (λ u h. elim (cases_Bool (has_number u vs)) [
+  | inl there ↦
+      let here = all u there in
+      let new = all_at_here y vs (l + 1) u here.0 there in
+      grind (arith, nat_tests, new, here.1, here.2)
+  | inr gone ↦ ap (λ k. not (eqb (get_or x u 0) k)) (all_at_other y vs (l + 1) u gone)
+])
+
+pub degrees-append : (g : GraphShape) (us vs : List ℕ) → degrees g (us ++ vs) ≡ degrees g us + degrees g vs
+degrees-append g [] vs = omega arith
+degrees-append g (u ∷ us) vs = omega (arith, degrees-append g us vs)
+
+-- those who stay on the level, and those who go on, are not more than all together
+pub fee_parts : (g : GraphShape) (z c vs : List ℕ) (l most : ℕ) → ((v : ℕ) → has_number v vs ≡ true → is_over c most v ≡ true → get_or z v 0 ≡ l + 1) → steps_on g z l vs + (2 * degrees g (filter (is_over c most) vs) + length (filter (is_over c most) vs)) ≤ 2 * degrees g vs + length vs
+fee_parts g z c [] l most up = omega arith
+fee_parts g z c (v ∷ vs) l most up =
+    let more = fee_parts g z c vs l most (λ u there over. up u (grind (arith, nat_tests, there)) over) in
+    elim (cases_Bool (is_over c most v)) [
+      | inl over ↦
+          let to : get_or z v 0 ≡ l + 1 = up v (grind (arith, nat_tests)) over in
+          let off : eqb (get_or z v 0) l ≡ false = grind (arith, nat_tests, to) in
+          let kept : filter (is_over c most) (v ∷ vs) ≡ v ∷ filter (is_over c most) vs = filter_yes over in
+          rw kept (rw off (omega (arith, more)))
+      | inr few ↦
+          let kept : filter (is_over c most) (v ∷ vs) ≡ filter (is_over c most) vs = filter_no few in
+          rw kept (elim (cases_Bool (eqb (get_or z v 0) l)) [ inl on ↦ rw on (omega (arith, more)) | inr off ↦ rw off (omega (arith, more)) ])
+    ]
+  where
+    filter_yes : is_over c most v ≡ true → filter (is_over c most) (v ∷ vs) ≡ v ∷ filter (is_over c most) vs
+    filter_yes over = grind (arith, nat_tests, over)
+
+    filter_no : is_over c most v ≡ false → filter (is_over c most) (v ∷ vs) ≡ filter (is_over c most) vs
+    filter_no few = grind (arith, nat_tests, few)
+
+pub distinct_filter : (test : ℕ → Bool) (vs : List ℕ) → AreDistinct vs → AreDistinct (filter test vs)
+distinct_filter test [] d = record {}
+distinct_filter test (v ∷ vs) d = elim (cases_Bool (test v)) [
+  | inl yes_ ↦ rw (keeps yes_) (none, distinct_filter test vs d.1)
+  | inr no_ ↦ rw (drops no_) (distinct_filter test vs d.1)
+]
+  where
+    keeps : test v ≡ true → filter test (v ∷ vs) ≡ v ∷ filter test vs
+    keeps e = grind (arith, nat_tests, e)
+
+    drops : test v ≡ false → filter test (v ∷ vs) ≡ filter test vs
+    drops e = grind (arith, nat_tests, e)
+
+    none : has_number v (filter test vs) ≡ false
+    none = has_number-filter v test vs ∙ ap (λ b. b && test v) d.0
+
+pub distinct_append : (us vs : List ℕ) → AreDistinct us → AreDistinct vs → ((u : ℕ) → has_number u us ≡ true → has_number u vs ≡ false) → AreDistinct (us ++ vs)
+distinct_append [] vs d e apart = e
+distinct_append (u ∷ us) vs d e apart = (
+  has_number-append u us vs ∙ grind (arith, nat_tests, d.0, apart u (grind (arith, nat_tests))),
+  distinct_append us vs d.1 e (λ w there. apart w (grind (arith, nat_tests, there))),
+)

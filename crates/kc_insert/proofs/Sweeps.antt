@@ -1,0 +1,86 @@
+-- How a sweep begins and ends.
+use Rattle.std.proofs.Common.{ℕ, suc, zero, ◌+◌, ◌≤◌, ◌<◌, ◌≡◌, inl, inr, true, false, List, [], length, get_or, replicate, refl, ap, sym, ◌∙◌, arith, subst}
+use Rattle.std.proofs.lemmas.Bool.{cases_lt, cases_eq, true≢false}
+use Rattle.std.proofs.lemmas.Bool.Decides.{nat_tests}
+use Rattle.std.proofs.lemmas.List.{length-replicate}
+use Rattle.kc_graph.specs.Numbers.{has_number, count_below}
+use Rattle.kc_graph.specs.Shape.{GraphShape, Pair, IsGraph, has_edge}
+use Rattle.kc_graph.proofs.CountLemmas.{count_below_agree, count_below-le}
+use Rattle.kc_levels.specs.declared.profile.Profile.{Profile}
+use Rattle.kc_levels.specs.Thresholds.{top_level}
+use Rattle.kc_levels.specs.LevelList.{IsCapped, IsRaised}
+use Rattle.kc_levels.specs.Moved.{is_moved, moved_count}
+use Rattle.kc_levels.proofs.Raising.{raising_first, raising_done, top_meets_upper}
+use Rattle.kc_adj.specs.LeveledGraph.{IsCounted}
+use Rattle.kc_insert.specs.BucketQueue.{IsQueued}
+use Rattle.kc_insert.specs.Meetings.{AreApart}
+use Rattle.kc_insert.specs.Sweeping.{IsSweeping, HaveCome}
+use Rattle.kc_insert.proofs.Buckets.{empty_bucket}
+use Rattle.kc_insert.proofs.Efforts.{effort_none}
+
+count_none : (n : ℕ) → count_below n (λ v. false) ≡ 0
+count_none zero = refl
+count_none (suc n) = omega (arith, count_none n)
+
+moved_none : (n : ℕ) (x : List ℕ) → moved_count n x x ≡ 0
+moved_none n x = count_below_agree n (is_moved x x) (λ v. false) (λ v h. grind (arith, nat_tests)) ∙ count_none n
+
+pub sweeping_first : (p : Profile) (n : ℕ) (g : GraphShape) (x y counts rising risen : List ℕ) (queue : List (List ℕ)) (meetings : List (List Pair)) → n ≡ g.vertices → length x ≡ g.vertices → IsCapped p g.vertices x → IsQueued p g x queue → y ≡ x → IsCounted g x 0 counts → rising ≡ [] → risen ≡ [] → meetings ≡ replicate (top_level p n + 1) [] → IsSweeping p g x 0 y counts rising risen queue meetings
+sweeping_first p n g x y counts rising risen queue meetings scale long capped q same counted none none_yet empty = rw (same, none, none_yet) (record {
+  start = long;
+  sized = long;
+  under = λ v h. omega arith;
+  capped = capped;
+  counted = counted;
+  still = λ v over. refl;
+  settled = λ v below. refl;
+  came = λ v there. absurd (true≢false (sym there));
+  all = λ v on before. absurd (omega (arith, before, on));
+  distinct = record {};
+  risen_in = λ v there. absurd (true≢false (sym there));
+  risen_all = λ v rose. absurd (omega (arith, rose));
+  buckets = q.sized;
+  waiting = q.waiting;
+  found = λ v h. elim (q.found v h) [ inl filed ↦ inr (inr (omega arith, refl, filed)) | inr meets ↦ inl meets ];
+  places = ap (λ (m : List (List Pair)). length m) empty ∙ length-replicate (top_level p n + 1) [] ∙ ap (λ m. top_level p m + 1) scale;
+  meet = record {
+    only = λ k v w le there. absurd (true≢false (sym there ∙ ap (has_edge (v, w)) (nothing k)));
+    once = λ k. subst AreApart (sym (nothing k)) (record {});
+    each = λ k v w at rises it. absurd (true≢false (sym rises));
+  };
+})
+  where
+    nothing : (k : ℕ) → get_or meetings k [] ≡ []
+    nothing k = ap (λ (m : List (List Pair)). get_or m k []) empty ∙ empty_bucket (top_level p n + 1) k
+
+pub come_first : (p : Profile) (g : GraphShape) (x y rising risen : List ℕ) (s : ℕ) → length x ≡ g.vertices → IsCapped p g.vertices x → y ≡ x → rising ≡ [] → risen ≡ [] → HaveCome p g x 0 x y rising risen s s
+come_first p g x y rising risen s long capped same none none_yet = rw (same, none, none_yet) (record {
+  raising = raising_first p g x long capped;
+  either = λ v. inl refl;
+  moved = moved_none g.vertices x;
+  cost = omega (arith, effort_none g x g.vertices);
+})
+
+-- no more vertices rose than there are
+pub few_risen : (p : Profile) (g : GraphShape) (x0 : List ℕ) (l : ℕ) (x y rising risen : List ℕ) (s t : ℕ) → HaveCome p g x0 l x y rising risen s t → length risen ≤ g.vertices
+few_risen p g x0 l x y rising risen s t r = omega (arith, r.moved, count_below-le g.vertices (is_moved x0 y))
+
+-- whoever is not yet on its new level in the graph came to the last level
+pub rising_last : (p : Profile) (g : GraphShape) (x : List ℕ) (l : ℕ) (y counts rising risen : List ℕ) (queue : List (List ℕ)) (meetings : List (List Pair)) → IsSweeping p g x l y counts rising risen queue meetings → (v : ℕ) → get_or x v 0 < get_or y v 0 → has_number v rising ≡ true
+rising_last p g x l y counts rising risen queue meetings s v rose = elim (cases_lt (get_or y v 0) l) [
+  | inl lt ↦ absurd (omega (arith, rose, s.settled v lt))
+  | inr ge ↦ elim (cases_eq (get_or y v 0) l) [
+    | inl on ↦ s.all v on (omega (arith, rose, on))
+    | inr ne ↦ absurd (omega (arith, rose, s.still v (omega (arith, ge, ne))))
+  ]
+]
+
+-- at the top nobody breaks the upper invariant
+pub sweeping_last : (p : Profile) (n : ℕ) (g : GraphShape) (x0 x : List ℕ) (l : ℕ) (y counts rising risen : List ℕ) (queue : List (List ℕ)) (meetings : List (List Pair)) (s0 t : ℕ) → IsGraph g → n ≡ g.vertices → top_level p n ≤ l → IsSweeping p g x l y counts rising risen queue meetings → HaveCome p g x0 l x y rising risen s0 t → IsRaised p g x0 y
+sweeping_last p n g x0 x l y counts rising risen queue meetings s0 t graph scale end s r =
+    let top : top_level p g.vertices ≤ l = rw scale at end in
+    raising_done p g x0 y r.raising (λ v h. elim (s.found v h) [
+      | inl meets ↦ meets
+      | inr (inl came) ↦ top_meets_upper p g y v graph h (omega (arith, came.0, top, s.capped v h))
+      | inr (inr waits) ↦ top_meets_upper p g y v graph h (omega (arith, waits.0, top, s.capped v h))
+    ])

@@ -1,0 +1,231 @@
+// One sweep over the levels, from the lowest up: on each those rise who have more neighbours there or above than their group
+// allows, whether they came up to it or have stood on it before.
+
+ghost use Rattle.std.specs.Prelude.{◌≡◌, ◌+◌, ◌*◌, ◌<◌, ◌≤◌, ℕ, true, All, IfOk, OnOk, filter, length, slice_index};
+ghost use Rattle.kc_graph.specs.Numbers.{has_number};
+ghost use Rattle.kc_graph.specs.Shape.{IsGraph};
+ghost use Rattle.kc_levels.specs.Thresholds.{top_level};
+ghost use Rattle.kc_levels.specs.LevelList.{IsBelow, IsCapped, IsRaised};
+ghost use Rattle.kc_levels.specs.Moved.{moved_count};
+ghost use Rattle.kc_insert.specs.BucketQueue.{IsQueued};
+ghost use Rattle.kc_insert.specs.Meetings.{AreDistinct};
+ghost use Rattle.kc_insert.specs.Counting.{degrees};
+ghost use Rattle.kc_insert.specs.Effort.{effort};
+ghost use Rattle.kc_insert.specs.Round.{is_over};
+ghost use Rattle.kc_insert.specs.Sweeping.{all_at, IsSweeping, HaveCome};
+
+use crate::bucket_queue::BucketQueue;
+use crate::counting::{begin, come_up, leave_behind, part};
+use crate::meetings::Meetings;
+use kc_adj::{LevelAdj, Steps};
+use kc_levels::{Levels, Thresholds};
+use kc_rounds::{Gate, RoundTest, Rounds};
+use std::alloc::{AllocError, Global};
+use std::sync::ledger::Ledger;
+use std::thread::Threads;
+
+/// How far a sweep has come.
+#[derive(Drop)]
+pub struct Sweep {
+    /// The levels by now. In the graph a vertex is put on its new level when it stays on it.
+    pub levels: Levels,
+    /// For each vertex, how many of its neighbours are on its level or above.
+    pub counts: Vec<u32>,
+    /// Those who came up to the level that the sweep is at.
+    pub rising: Vec<u32>,
+    /// All who rose.
+    pub risen: Vec<u32>,
+    /// Those who may have to rise from the level on which they stood before.
+    pub queue: BucketQueue,
+    /// Whom those who rise are still to meet.
+    pub meetings: Meetings,
+}
+
+// Tests whether a vertex counts more than `most` neighbours.
+#[derive(Drop)]
+struct Over<'a> {
+    counts: &'a Vec<u32>,
+    most: u32,
+}
+
+impl RoundTest for Over<'_> {
+    ghost use Rattle.std.specs.Prelude.{◌<◌, length};
+    ghost use Rattle.kc_insert.specs.Counting.{degrees};
+    ghost use Rattle.kc_insert.specs.Effort.{effort};
+    ghost use Rattle.kc_insert.specs.Round.{is_over};
+
+    ghost keeps = { λ test v. is_over test.counts.now.items test.most v };
+
+    ghost may_ask = { λ test v. v < length test.counts.now.items };
+
+    fn keep(&self, v: u32) -> bool {
+        self.counts[v as usize] > self.most
+    }
+}
+
+// The candidates that count more than `most` neighbours.
+fn movers<R: Threads + Sync, G: Gate + Sync>(
+    rounds: &mut Rounds<R, G>,
+    counts: &Vec<u32>,
+    most: u32,
+    candidates: &[u32],
+) -> Result<Vec<u32>, AllocError>
+    requires asked { All (λ v. v < length counts.now.items) candidates.now }
+    ensures { IfOk result (λ v. v.items ≡ filter (is_over counts.now.items most) candidates.now) }
+{
+    rounds.movers(candidates, &Over { counts, most })
+}
+
+// Puts each of the vertices on the next level.
+fn go_up(levels: &mut Levels, level: u16, vertices: &[u32])
+    requires small { level < 65535 }
+    requires below { (v : ℕ) → has_number v vertices.now ≡ true → v < length levels.old }
+    ensures { levels.new ≡ all_at levels.old vertices.now (level + 1) }
+{
+    for v in vertices {
+        levels.set(*v, level + 1);
+    }
+}
+
+// Puts each of the vertices on the next level, and gives them, each once. All are on this level.
+fn lift_off(
+    alloc: Global,
+    levels: &mut Levels,
+    level: u16,
+    vertices: &[u32],
+) -> Result<Vec<u32>, AllocError>
+    requires small { level < 65535 }
+    requires below { (v : ℕ) → has_number v vertices.now ≡ true → v < length levels.old }
+    requires here { (v : ℕ) → has_number v vertices.now ≡ true → slice_index levels.old v ≡ level }
+    ensures levels { IfOk result (λ r. levels.new ≡ all_at levels.old r.items (level + 1)) }
+    ensures same { IfOk result (λ r. (v : ℕ) → has_number v r.items ≡ has_number v vertices.now) }
+    ensures distinct { IfOk result (λ r. AreDistinct r.items) }
+{
+    let mut lifted = Vec::with_capacity(alloc, vertices.len())?;
+    for v in vertices {
+        if levels.get(*v) == level {
+            levels.set(*v, level + 1);
+            lifted.push(*v)?;
+        }
+    }
+    Ok(lifted)
+}
+
+// The round of a level: those of it who count more than their group allows rise to the next.
+//
+// One round is enough, since a rise changes no count of a vertex on this level or below. Those who had come to the level and
+// stay on it are put there in the graph. Of the steps that a riser may cost, two passes over its neighbours and one step more
+// are kept for the time when it stays (`HaveCome`).
+fn raise_level<R: Threads + Sync, G: Gate + Sync, L: Ledger>(
+    rounds: &mut Rounds<R, G>,
+    alloc: Global,
+    th: &Thresholds,
+    adj: &mut LevelAdj,
+    sweep: &mut Sweep,
+    level: u16,
+    steps: &mut Steps<L>,
+) -> Result<(), AllocError>
+    requires scale { th.now.vertices ≡ adj.old.graph.vertices }
+    requires graph { IsGraph adj.old.graph }
+    requires room { level < top_level th.now.profile th.now.vertices }
+    requires sweeping { IsSweeping th.now.profile adj.old.graph adj.old.levels level sweep.old.levels sweep.old.counts.items sweep.old.rising.items sweep.old.risen.items sweep.old.queue sweep.old.meetings }
+    ensures graph { OnOk result (adj.new.graph ≡ adj.old.graph) }
+    ensures sweeping { OnOk result (IsSweeping th.now.profile adj.old.graph adj.new.levels (level + 1) sweep.new.levels sweep.new.counts.items sweep.new.rising.items sweep.new.risen.items sweep.new.queue sweep.new.meetings) }
+    ensures come { OnOk result ((x : _) → (s : ℕ) → HaveCome th.now.profile adj.old.graph x level adj.old.levels sweep.old.levels sweep.old.rising.items sweep.old.risen.items s steps.old → HaveCome th.now.profile adj.old.graph x (level + 1) adj.new.levels sweep.new.levels sweep.new.rising.items sweep.new.risen.items s steps.new) }
+{
+    let most = th.high(th.group(level));
+    let above = th.high(th.group(level + 1));
+    let waiting = sweep.queue.take_all(alloc, level);
+    let mut going = movers(rounds, &sweep.counts, most, &sweep.rising)?;
+    let starting = movers(rounds, &sweep.counts, most, &waiting)?;
+    go_up(&mut sweep.levels, level, &going);
+    // Who waits may do so twice, and begins once.
+    let mut begun = lift_off(alloc, &mut sweep.levels, level, &starting)?;
+    let met = sweep.meetings.take_all(alloc, level);
+    leave_behind(adj, &sweep.levels, &mut sweep.counts, level, &met);
+    part(
+        adj,
+        &sweep.levels,
+        &mut sweep.counts,
+        level,
+        &sweep.rising,
+        steps,
+    );
+    come_up(
+        adj,
+        &sweep.levels,
+        &mut sweep.counts,
+        &mut sweep.queue,
+        level,
+        above,
+        sweep.meetings.on(level + 1),
+    )?;
+    begin(
+        adj,
+        &sweep.levels,
+        &mut sweep.counts,
+        &mut sweep.queue,
+        &mut sweep.meetings,
+        level,
+        above,
+        &begun,
+        steps,
+    )?;
+    sweep.risen.extend_from_slice(&begun)?;
+    going.append(&mut begun)?;
+    sweep.rising = going;
+    Ok(())
+}
+
+// Puts those who are still rising on their levels in the graph.
+fn lift_all<L: Ledger>(adj: &mut LevelAdj, levels: &Levels, risen: &[u32], steps: &mut Steps<L>)
+    requires sized { length levels.now ≡ adj.old.graph.vertices }
+    requires vertices { (v : ℕ) → has_number v risen.now ≡ true → v < adj.old.graph.vertices }
+    requires above { IsBelow adj.old.graph.vertices adj.old.levels levels.now }
+    requires all { (v : ℕ) → slice_index adj.old.levels v < slice_index levels.now v → has_number v risen.now ≡ true }
+    ensures value { adj.new ≡ record adj.old { levels = levels.now } }
+    ensures cost { steps.new ≡ steps.old + (degrees adj.old.graph risen.now + length risen.now) }
+{
+    let _levels = adj.levels();
+    for v in risen {
+        adj.lift(*v, levels.get(*v), steps);
+    }
+}
+
+/// Raises the levels to the raised list, where every vertex that breaks the upper invariant is in the queue, each in the bucket
+/// of its level, and gives the number of vertices that rose.
+///
+/// Goes through the levels once, from the lowest up; each is a round. A vertex that rises costs three passes over its
+/// neighbours, however far it rises, and a few looks at each level on its way. The error is want of memory; the levels of the
+/// graph are then unspecified.
+pub fn raise_queued<R: Threads + Sync, G: Gate + Sync, L: Ledger>(
+    rounds: &mut Rounds<R, G>,
+    alloc: Global,
+    th: &Thresholds,
+    adj: &mut LevelAdj,
+    queue: BucketQueue,
+    steps: &mut Steps<L>,
+) -> Result<u32, AllocError>
+    requires scale { th.now.vertices ≡ adj.old.graph.vertices }
+    requires capped { IsCapped th.now.profile adj.old.graph.vertices adj.old.levels }
+    requires queued { IsQueued th.now.profile adj.old.graph adj.old.levels queue }
+    ensures graph { OnOk result (adj.new.graph ≡ adj.old.graph) }
+    ensures raised { OnOk result (IsRaised th.now.profile adj.old.graph adj.old.levels adj.new.levels) }
+    ensures moves { IfOk result (λ moves. moves ≡ moved_count adj.old.graph.vertices adj.old.levels adj.new.levels) }
+    ensures cost { OnOk result (steps.new ≤ steps.old + effort adj.old.graph adj.old.levels adj.new.levels adj.old.graph.vertices) }
+{
+    let _n = adj.graph().vertices();
+    let mut sweep = Sweep {
+        levels: adj.levels().copy(alloc)?,
+        counts: adj.own_counts().to_vec(alloc)?,
+        rising: Vec::new(alloc),
+        risen: Vec::new(alloc),
+        queue,
+        meetings: Meetings::new(alloc, th.top() + 1)?,
+    };
+    for level in 0..th.top() {
+        raise_level(rounds, alloc, th, adj, &mut sweep, level, steps)?;
+    }
+    lift_all(adj, &sweep.levels, &sweep.rising, steps);
+    Ok(sweep.risen.len() as u32)
+}
