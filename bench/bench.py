@@ -1,11 +1,12 @@
 #!/usr/bin/env python3
 """Time and memory of `kcore run 1` and `kcore exact`, beside another program with the same command line.
 
-    bench/bench.py [--program PATH] [--other PATH] [--runs N] [--keep DIR] [--only NAME,NAME]
+    bench/bench.py [--program PATH] [--other PATH] [--runs N] [--keep DIR] [--only NAME,NAME] [--workers W,W]
 
 It makes its own inputs from fixed seeds, runs each program on each of them N times (5) with one worker, takes the best
-run, and prints seconds of processor time, peak memory, and the ratio of the two programs. It judges nothing: times on a
-shared machine are ratios at best.
+run, and prints seconds of processor time, peak memory, and the ratio of the two programs. With numbers of workers it runs
+the first program alone with each of them, by turns, and prints the seconds that pass in its best run, and their ratio to
+the first. It judges nothing: times on a shared machine are ratios at best.
 
 Whole runs, each with all its edges inserted:
 
@@ -18,6 +19,8 @@ Whole runs, each with all its edges inserted:
 - power1000, power100000, grid1000, grid100000     their edges in any order, in batches of so many
 - uniform-window, power-window, grid-window        half of the edges in any order in batches of 100,000, and then each batch
               takes the oldest 10,000 out and puts the next 10,000 in, until all have been there
+- long        8,000,000 edges between 1,048,576 vertices, each pair as likely as another, in batches of 1,000,000: the rounds
+              are long, so it shows best what workers bring
 - exact       2,000,000 edges between 262,144 vertices, each pair as likely as another, in two batches: the command `exact`
 
 Parts of a run, each the difference of two runs that differ in nothing else:
@@ -35,12 +38,13 @@ import random
 import subprocess
 import sys
 import tempfile
+import time
 
 WHOLE = (
     "uniform", "snap1000", "snap10000", "snap100000", "power", "grid",
     "power1000", "power100000", "grid1000", "grid100000",
     "uniform-window", "power-window", "grid-window",
-    "exact",
+    "long", "exact",
 )
 PARTS = ("read", "clean", "print", "three", "link+raise")
 SIDE = 707
@@ -138,10 +142,22 @@ def make_inputs(folder):
     write_input(folder, "grid-refused", n, [grid], last="stop")
     write_input(folder, "grid-twice", n, [grid, grid])
     write_input(folder, "grid-twice-refused", n, [grid, grid], last="stop")
+    write_long(folder)
     uniform = uniform_edges(1 << 18, 2_000_000, 13)
     write_input(folder, "exact", 1 << 18, [signed(uniform[:1_000_000]), signed(uniform[1_000_000:])])
     write_input(folder, "none", n, [])
     write_input(folder, "one", 1, [])
+
+
+def write_long(folder):
+    """Pairs by chance, some of which come twice."""
+    draw = random.Random(5)
+    bits, size = 20, 1_000_000
+    with open(input_path(folder, "long"), "w") as file:
+        file.write(f"kcore 1\nvertices {1 << bits}\n")
+        for _ in range(8):
+            pairs = ((draw.getrandbits(bits), draw.getrandbits(bits)) for _ in range(size))
+            file.write("batch\n" + snap(pair for pair in pairs if pair[0] != pair[1]) + "end\n")
 
 
 def input_path(folder, name):
@@ -149,20 +165,36 @@ def input_path(folder, name):
 
 
 def run_once(program, words, path):
-    """Seconds of processor time and KiB of peak memory of one run."""
+    """Seconds of processor time, KiB of peak memory, and the seconds that pass, of one run."""
     with open(path, "rb") as source, open(os.devnull, "wb") as sink:
+        start = time.monotonic()
         child = subprocess.Popen([program, *words], stdin=source, stdout=sink, stderr=subprocess.DEVNULL)
         _, status, usage = os.wait4(child.pid, 0)
+        passed = time.monotonic() - start
         child.returncode = os.waitstatus_to_exitcode(status)
     if child.returncode not in (0, 1):
         sys.exit(f"{program} ended with {child.returncode} on {path}")
-    return usage.ru_utime + usage.ru_stime, usage.ru_maxrss
+    return usage.ru_utime + usage.ru_stime, usage.ru_maxrss, passed
 
 
 def best(program, folder, name, runs):
     words, path = WORDS.get(name, ["run", "1"]), input_path(folder, name)
     results = [run_once(program, words, path) for _ in range(runs)]
-    return min(seconds for seconds, _ in results), max(memory for _, memory in results)
+    return min(seconds for seconds, _, _ in results), max(memory for _, memory, _ in results)
+
+
+def compare_workers(program, folder, runs, names, workers):
+    print(f"{'row':<16}" + "".join(f"{'run ' + count:>14}{'ratio':>8}" for count in workers))
+    for name in names:
+        if name not in WHOLE or name in WORDS:
+            continue
+        path = input_path(folder, name)
+        best_of = dict.fromkeys(workers, float("inf"))
+        for _ in range(runs):
+            for count in workers:
+                best_of[count] = min(best_of[count], run_once(program, ["run", count], path)[2])
+        first = best_of[workers[0]]
+        print(f"{name:<16}" + "".join(f"{best_of[count]:>12.3f} s{best_of[count] / first:>8.2f}" for count in workers), flush=True)
 
 
 def measure(program, folder, runs, names):
@@ -193,6 +225,7 @@ def main():
     parser.add_argument("--runs", type=int, default=5)
     parser.add_argument("--keep", help="a folder for the inputs; those that are there are used again")
     parser.add_argument("--only", help="these rows alone, parted by commas")
+    parser.add_argument("--workers", help="numbers of workers to compare, parted by commas")
     options = parser.parse_args()
     names = options.only.split(",") if options.only else list(WHOLE + PARTS)
     if unknown := [name for name in names if name not in WHOLE + PARTS]:
@@ -202,7 +235,7 @@ def main():
         folder = options.keep or scratch
         os.makedirs(folder, exist_ok=True)
         # The input that came with the last row, and the last that is made.
-        if not all(os.path.exists(input_path(folder, name)) for name in ("exact", "one")):
+        if not all(os.path.exists(input_path(folder, name)) for name in ("long", "exact", "one")):
             print("making the inputs ..", flush=True)
             # In a process of its own: the memory of this one would count as that of the programs that it starts.
             maker = multiprocessing.Process(target=make_inputs, args=(folder,))
@@ -210,6 +243,11 @@ def main():
             maker.join()
             if maker.exitcode != 0:
                 sys.exit("the inputs couldn't be made")
+
+        if options.workers:
+            program = os.path.abspath(options.program)
+            compare_workers(program, folder, options.runs, names, options.workers.split(","))
+            return
 
         programs = [os.path.abspath(path) for path in (options.program, options.other) if path]
         tables = [measure(program, folder, options.runs, names) for program in programs]
