@@ -1,5 +1,5 @@
 // A writer of std as a sink.
-ghost use Rattle.std.specs.Prelude.{◌≡◌, OnErr, OnOk, true};
+ghost use Rattle.std.specs.Prelude.{◌≡◌, ◌<◌, ◌≤◌, length, IfOk, OnErr, OnOk, true, false};
 ghost use Rattle.kc_text.specs.Causes.{Rose};
 
 use crate::{Failed, Sink};
@@ -9,7 +9,7 @@ use std::marker::Model;
 /// A writer as a sink, as the program's standard output. It doesn't tell its bytes.
 ///
 /// Each error of the writer is a fault, and so is a write that takes nothing.
-/// A contract sees it as an `Outlet`: its count of faults, and whether the writer has handed on all bytes that it took.
+/// A contract sees it as an `Outlet`: its count of faults, and whether it was flushed since the last write.
 #[derive(Drop)]
 pub struct StdSink<W> {
     writer: W,
@@ -46,6 +46,7 @@ impl<W: Write + Drop> StdSink<W> {
     pub fn flush(&mut self) -> Result<(), Failed>
         ensures cause { OnErr result (Rose self.old.faults self.new.faults) }
         ensures flushed { OnOk result (self.new ≡ record self.old { is_flushed = true }) }
+        ensures kept { OnErr result (self.new.is_flushed ≡ self.old.is_flushed) }
     {
         if self.writer.flush().is_err() {
             self.faults = self.faults.saturating_add(1);
@@ -63,7 +64,17 @@ impl<W: Write + Drop> Sink for StdSink<W> {
 
     ghost faults = { λ s. s.faults };
 
-    fn write(&mut self, bytes: &[u8]) -> Result<usize, Failed> {
+    /// Hands bytes to the writer. Afterwards the sink isn't flushed, whatever the answer.
+    fn write(&mut self, bytes: &[u8]) -> Result<usize, Failed>
+        // As the trait has them.
+        ensures some { IfOk result (λ k. 0 < k) }
+        ensures bound { IfOk result (λ k. k ≤ length bytes.now) }
+        ensures cause { OnErr result (Rose self.old.faults self.new.faults) }
+        ensures quiet { OnOk result (self.new.faults ≡ self.old.faults) }
+
+        // And that it isn't flushed.
+        ensures unflushed { self.new.is_flushed ≡ false }
+    {
         self.is_flushed = false;
         match self.writer.write(bytes) {
             Ok(count) if count > 0 => Ok(count),
