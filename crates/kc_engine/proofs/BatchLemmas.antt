@@ -22,7 +22,7 @@ use Rattle.kc_history.specs.declared.limits.TheConstants.{MAX_PHASE}
 use Rattle.kc_engine.specs.declared.faults.EngineFault.{EngineFault}
 use Rattle.kc_engine.specs.declared.faults.EngineFault.TheVariants.{EdgeLimit, PhaseLimit}
 use Rattle.kc_engine.specs.States.{State, IsSound}
-use Rattle.kc_engine.specs.Batches.{IsCleaning, phases_of, edges_after, phases_after, refusal_of, AreLoweredIn, AreRaisedIn, graph_after, AreLevelsAfter, IsAfterBatch}
+use Rattle.kc_engine.specs.Batches.{IsCleaning, phases_of, edges_after, phases_after, refusal_of, AreLoweredIn, AreRaisedIn, graph_after_batch, AreLevelsAfter, IsAfterBatch}
 use Rattle.kc_engine.specs.Laws.{StartIsSound, BatchHasOneState, BatchKeepsSound, BatchKeepsBoth}
 
 zeros_capped : (p : Profile) (n : ℕ) → IsCapped p n (replicate n 0)
@@ -137,7 +137,7 @@ pub ascend_later : (g : GraphShape) (c : Cleaned) → FitsGraph g c → EdgesFro
 ascend_later g c f = rw (vertices-without_edges g c.removed) f.added_ascend
 
 -- what a batch leaves
-pub at_after : (p : Profile) (g : GraphShape) (c : Cleaned) (x y : List ℕ) → IsAt p g x → FitsGraph g c → AreLevelsAfter p g c x y → IsAt p (graph_after g c) y
+pub at_after : (p : Profile) (g : GraphShape) (c : Cleaned) (x y : List ℕ) → IsAt p g x → FitsGraph g c → AreLevelsAfter p g c x y → IsAt p (graph_after_batch g c) y
 at_after p g c x y k f a =
     after_raised p (without_edges g c.removed) c.added a.between y (after_lowered p g c.removed x a.between k a.lowered) (ascend_later g c f) a.raised
 
@@ -160,7 +160,7 @@ state_same t u a b c d = rw (a, b, c, d) refl
 pub batch_has_one_state : BatchHasOneState
 batch_has_one_state limit s c k cleaning =
     let one = one_after s.profile s.graph c s.levels (at_state limit s k) (fits s.graph c k.graph cleaning) in
-    let t : State = record { profile = s.profile; graph = graph_after s.graph c; levels = one.0; phases = phases_after s c } in (
+    let t : State = record { profile = s.profile; graph = graph_after_batch s.graph c; levels = one.0; phases = phases_after s c } in (
       t,
       (
         record { profile = refl; graph = refl; levels = one.1.0; phases = refl },
@@ -169,7 +169,7 @@ batch_has_one_state limit s c k cleaning =
     )
 
 -- how many edges there are behind a batch
-pub edges_behind : (g : GraphShape) (c : Cleaned) (limit : ℕ) → limit ≤ MAX_EDGES → FitsGraph g c → length g.edges - length c.removed + length c.added ≤ limit → length (graph_after g c).edges ≤ limit
+pub edges_behind : (g : GraphShape) (c : Cleaned) (limit : ℕ) → limit ≤ MAX_EDGES → FitsGraph g c → length g.edges - length c.removed + length c.added ≤ limit → length (graph_after_batch g c).edges ≤ limit
 edges_behind g c limit small f room =
     let longer = length-with_edges (without_edges g c.removed) c.added (f.can_add (omega (arith, small, room))) in
     omega (arith, longer, f.fewer_later, room)
@@ -193,16 +193,16 @@ batch_keeps_both limit s t c k cleaning a =
     rw (a.profile, a.graph) there.both
 
 -- the state behind the phases of a batch
-pub behind_phases : (s : State) (c : Cleaned) (g : GraphShape) (y : List ℕ) (count : ℕ) → g ≡ graph_after s.graph c → AreLevelsAfter s.profile s.graph c s.levels y → count ≡ phases_of c
+pub behind_phases : (s : State) (c : Cleaned) (g : GraphShape) (y : List ℕ) (count : ℕ) → g ≡ graph_after_batch s.graph c → AreLevelsAfter s.profile s.graph c s.levels y → count ≡ phases_of c
     → IsAfterBatch s c (record { profile = s.profile; graph = g; levels = y; phases = s.phases + count })
 behind_phases s c g y count graph moved counted = record { profile = refl; graph = graph; levels = moved; phases = ap (λ k. s.phases + k) counted }
 
-pub vertices_after : (g : GraphShape) (c : Cleaned) → (graph_after g c).vertices ≡ g.vertices
+pub vertices_after : (g : GraphShape) (c : Cleaned) → (graph_after_batch g c).vertices ≡ g.vertices
 vertices_after g c = vertices-with_edges (without_edges g c.removed) c.added ∙ vertices-without_edges g c.removed
 
 -- the sound state behind the phases of a batch that isn't refused
 pub sound_behind : (limit : ℕ) (s : State) (c : Cleaned) (g : GraphShape) (y : List ℕ) (count : ℕ) → limit ≤ MAX_EDGES → IsSound limit s → IsCleaning s.graph c → refusal_of limit s c ≡ None
-    → g ≡ graph_after s.graph c → AreLevelsAfter s.profile s.graph c s.levels y → count ≡ phases_of c
+    → g ≡ graph_after_batch s.graph c → AreLevelsAfter s.profile s.graph c s.levels y → count ≡ phases_of c
     → IsSound limit (record { profile = s.profile; graph = g; levels = y; phases = s.phases + count })
 sound_behind limit s c g y count small k cleaning none graph moved counted =
     batch_keeps_sound limit s (record { profile = s.profile; graph = g; levels = y; phases = s.phases + count }) c small k cleaning none (behind_phases s c g y count graph moved counted)

@@ -24,7 +24,7 @@ use Rattle.kc_groups.proofs.PlanLaw.{plan_is_one, plan_is_well_formed}
 use Rattle.kc_groups.proofs.LeadLaw.{entries_lead_over}
 use Rattle.kc_engine.specs.declared.plans.BatchPlan.{BatchPlan}
 use Rattle.kc_engine.specs.States.{State, IsSound}
-use Rattle.kc_engine.specs.Batches.{IsCleaning, phases_for, AreLoweredIn, AreRaisedIn, graph_after, AreLevelsAfter, IsAfterBatch, IsOnePhase, ArePhaseOf, ArePhases, IsPlanOf, IsAfterPhases, entries_in}
+use Rattle.kc_engine.specs.Batches.{IsCleaning, phases_for, AreLoweredIn, AreRaisedIn, graph_after_batch, AreLevelsAfter, IsAfterBatch, IsOnePhase, ArePhaseOf, ArePhases, IsPlanOf, IsAfterPhases, entries_in}
 use Rattle.kc_engine.specs.Laws.{PhasesAreOne, PhasesAreNumberedOn, PhasesAreWellFormed, PhasesLeadOver, PhasesLeadOn}
 use Rattle.kc_engine.proofs.BatchLemmas.{fits, IsAt, at_state, after_lowered, at_after, one_lowered, ascend_later, batch_has_one_state, vertices_after}
 use Rattle.kc_engine.proofs.RelinkLemmas.{deletion_is_phase, insertion_is_phase}
@@ -81,11 +81,11 @@ one_phase phase add (e ∷ es) x y g graph =
     )
 
 -- the phases of a batch at levels that are known
-one_list : (before : ℕ) (g : GraphShape) (c : Cleaned) (x between y : List ℕ) → IsGraph g → IsGraph (graph_after g c)
+one_list : (before : ℕ) (g : GraphShape) (c : Cleaned) (x between y : List ℕ) → IsGraph g → IsGraph (graph_after_batch g c)
     → (plans : List PhasePlan) × (ArePhases before g c x between y plans × ((others : List PhasePlan) → ArePhases before g c x between y others → others ≡ plans))
 one_list before g c x between y graph later =
     let leaving = one_phase (before + 1) false c.removed x between g graph in
-    let coming = one_phase (before + phases_for c.removed + 1) true c.added between y (graph_after g c) later in (
+    let coming = one_phase (before + phases_for c.removed + 1) true c.added between y (graph_after_batch g c) later in (
       leaving.0 ++ coming.0,
       (
         record { leaving = leaving.0; coming = coming.0; all = refl; deletion = leaving.1.0; insertion = coming.1.0 },
@@ -162,7 +162,7 @@ phases_are_numbered_on = record { count = count; number = number }
           ap (λ (ps : List PhasePlan). length ps) a.phases.all,
           length-append a.phases.leaving a.phases.coming,
           phase_count_is (s.phases + 1) false c.removed s.levels a.after.levels.between s.graph a.phases.leaving a.phases.deletion,
-          phase_count_is (s.phases + phases_for c.removed + 1) true c.added a.after.levels.between t.levels (graph_after s.graph c) a.phases.coming a.phases.insertion,
+          phase_count_is (s.phases + phases_for c.removed + 1) true c.added a.after.levels.between t.levels (graph_after_batch s.graph c) a.phases.coming a.phases.insertion,
           a.after.phases,
         )
 
@@ -173,7 +173,7 @@ phases_are_numbered_on = record { count = count; number = number }
         (one_number (s.phases + 1) false c.removed s.levels a.after.levels.between s.graph a.phases.leaving a.phases.deletion)
         (
         λ j h.
-        one_number (s.phases + phases_for c.removed + 1) true c.added a.after.levels.between t.levels (graph_after s.graph c) a.phases.coming a.phases.insertion j h
+        one_number (s.phases + phases_for c.removed + 1) true c.added a.after.levels.between t.levels (graph_after_batch s.graph c) a.phases.coming a.phases.insertion j h
         ∙ omega (arith, few)
         )
         i (rw a.phases.all at inside) in
@@ -200,7 +200,7 @@ well_formed p before g c x y plans few k f a phases =
     let second = small_levels p g.vertices a.between few (middle.both.sized ∙ here) (rw here at middle.capped) in
     let third = small_levels p g.vertices y few (end.both.sized ∙ there) (rw there at end.capped) in
     let leave = phase_well_formed (before + 1) false c.removed x a.between g phases.leaving k.both.sized (middle.both.sized ∙ here) first second phases.deletion in
-    let come = phase_well_formed (before + phases_for c.removed + 1) true c.added a.between y (graph_after g c) phases.coming (middle.both.sized ∙ here ∙ sym there) end.both.sized second third phases.insertion in
+    let come = phase_well_formed (before + phases_for c.removed + 1) true c.added a.between y (graph_after_batch g c) phases.coming (middle.both.sized ∙ here ∙ sym there) end.both.sized second third phases.insertion in
     rw phases.all (All-append (IsWellFormed g.vertices) phases.leaving phases.coming leave (rw there at come))
 
 pub well_formed_made : {E : Type 0} → (r : Result BatchPlan E) (p : Profile) (before : ℕ) (g : GraphShape) (c : Cleaned) (x y : List ℕ) → g.vertices ≤ MAX_VERTICES → IsAt p g x → FitsGraph g c → IfOk r (λ (b : BatchPlan). IsPlanOf p before g c x y b) → IfOk r (λ (b : BatchPlan). All (IsWellFormed g.vertices) b.phases)
@@ -274,7 +274,7 @@ led_over limit s t c plans sound cleaning a =
     let same = vertices-with_edges (without_edges s.graph c.removed) c.added in
     let out = led_out s.profile (s.phases + 1) c.removed s.levels a.after.levels.between s.graph a.phases.leaving sound.graph k.both.sized (middle.both.sized ∙ here) f.removed_ascend f.removed_present a.after.levels.lowered a.phases.deletion in
     let in_again = led_in s.profile (s.phases + phases_for c.removed + 1) c.added a.after.levels.between t.levels (without_edges s.graph c.removed) a.phases.coming middle.graph middle.both.sized (end.both.sized ∙ same) (ascend_later s.graph c f) a.after.levels.raised a.phases.insertion in
-    rw a.after.graph (led_both s.graph (without_edges s.graph c.removed) (graph_after s.graph c) s.levels a.after.levels.between t.levels a.phases.leaving a.phases.coming plans a.phases.all out in_again)
+    rw a.after.graph (led_both s.graph (without_edges s.graph c.removed) (graph_after_batch s.graph c) s.levels a.after.levels.between t.levels a.phases.leaving a.phases.coming plans a.phases.all out in_again)
 
 pub phases_lead_over : PhasesLeadOver
 phases_lead_over = record {

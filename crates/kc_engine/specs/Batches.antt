@@ -60,8 +60,8 @@ AreRaisedIn p g [] x y = y ≡ x
 AreRaisedIn p g (e ∷ es) x y = IsRaised p (with_edges g (e ∷ es)) x y
 
 -- the graph after the edges removed left and then those added came in
-abbrev pub graph_after : GraphShape → Cleaned → GraphShape
-graph_after g c = with_edges (without_edges g c.removed) c.added
+abbrev pub graph_after_batch : GraphShape → Cleaned → GraphShape
+graph_after_batch g c = with_edges (without_edges g c.removed) c.added
 
 -- the levels y after the batch at the levels x: first some edges leave, then some come in
 pub record AreLevelsAfter (p : Profile) (g : GraphShape) (c : Cleaned) (x y : List ℕ) : Type 0 where
@@ -77,7 +77,7 @@ moves_through n x y z = moved_count n x y + moved_count n y z
 -- t is the state s after this batch, which isn't refused
 pub record IsAfterBatch (s : State) (c : Cleaned) (t : State) : Type 0 where
   pub profile : t.profile ≡ s.profile
-  pub graph : t.graph ≡ graph_after s.graph c
+  pub graph : t.graph ≡ graph_after_batch s.graph c
   pub levels : AreLevelsAfter s.profile s.graph c s.levels t.levels
   pub phases : t.phases ≡ phases_after s c
 
@@ -100,7 +100,7 @@ pub record ArePhases (before : ℕ) (g : GraphShape) (c : Cleaned) (x between y 
   pub coming : List PhasePlan
   pub all : plans ≡ leaving ++ coming
   pub deletion : ArePhaseOf (before + 1) false c.removed x between g leaving
-  pub insertion : ArePhaseOf (before + phases_for c.removed + 1) true c.added between y (graph_after g c) coming
+  pub insertion : ArePhaseOf (before + phases_for c.removed + 1) true c.added between y (graph_after_batch g c) coming
 
 -- the plan of the batch, after which the levels are y: its phases, and how many moves there are in them
 pub record IsPlanOf (p : Profile) (before : ℕ) (g : GraphShape) (c : Cleaned) (x y : List ℕ) (plan : BatchPlan) : Type 0 where

@@ -6,7 +6,7 @@ ghost use Rattle.kc_graph.specs.CleaningLaws.{FitsGraph};
 ghost use Rattle.kc_levels.specs.LevelList.{MeetsUpper, MeetsLower, MeetsBoth, IsCapped};
 ghost use Rattle.kc_levels.specs.Moved.{moved_count};
 ghost use Rattle.kc_groups.specs.WellFormed.{IsWellFormed};
-ghost use Rattle.kc_engine.specs.Batches.{phases_for, phases_of, AreLoweredIn, AreRaisedIn, ArePhaseOf, IsPlanOf, graph_after};
+ghost use Rattle.kc_engine.specs.Batches.{phases_for, phases_of, AreLoweredIn, AreRaisedIn, ArePhaseOf, IsPlanOf, graph_after_batch};
 
 use crate::leaving::plan_removed;
 use crate::plans::BatchPlan;
@@ -141,7 +141,7 @@ pub(crate) fn run_phases<R: Threads + Sync, G: Gate + Sync>(
     requires few_edges { length adj.old.graph.edges ≤ MAX_EDGES }
     requires fits { FitsGraph adj.old.graph cleaned.now }
     requires room { length adj.old.graph.edges - length cleaned.now.removed + length cleaned.now.added ≤ MAX_EDGES }
-    ensures graph { OnOk result (adj.new.graph ≡ graph_after adj.old.graph cleaned.now) }
+    ensures graph { OnOk result (adj.new.graph ≡ graph_after_batch adj.old.graph cleaned.now) }
     ensures plan { IfOk result (λ plan. IsPlanOf th.now.profile before adj.old.graph cleaned.now adj.old.levels adj.new.levels plan) }
     ensures well_formed { IfOk result (λ plan. All (IsWellFormed adj.old.graph.vertices) plan.phases) }
 {

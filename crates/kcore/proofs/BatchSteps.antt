@@ -21,7 +21,7 @@ use Rattle.kc_groups.specs.declared.plans.PhasePlan.{PhasePlan}
 use Rattle.kc_groups.specs.Entries.{is_quiet}
 use Rattle.kc_groups.specs.WellFormed.{IsWellFormed}
 use Rattle.kc_engine.specs.States.{State, IsSound}
-use Rattle.kc_engine.specs.Batches.{phases_for, graph_after, ArePhaseOf, IsAfterPhases}
+use Rattle.kc_engine.specs.Batches.{phases_for, graph_after_batch, ArePhaseOf, IsAfterPhases}
 use Rattle.kc_engine.proofs.PhaseLaw.{phases_are_well_formed}
 use Rattle.kcore.specs.declared.report.Report.{Report}
 use Rattle.kcore.specs.Reports.{accepted_text, refused_text}
@@ -54,7 +54,7 @@ few_quiet s t items plans graph inside few a =
     rw a.phases.all
     (All-append (λ (p : PhasePlan). length p.quiet.edges < 4294967296) a.phases.leaving a.phases.coming
     (few_quiet_of (s.phases + 1) false c.removed s.levels a.after.levels.between s.graph a.phases.leaving a.phases.deletion (few_removed s.graph items graph inside few))
-    (few_quiet_of (s.phases + phases_for c.removed + 1) true c.added a.after.levels.between t.levels (graph_after s.graph c) a.phases.coming a.phases.insertion (few_added s.graph items graph inside few)))
+    (few_quiet_of (s.phases + phases_for c.removed + 1) true c.added a.after.levels.between t.levels (graph_after_batch s.graph c) a.phases.coming a.phases.insertion (few_added s.graph items graph inside few)))
 
 with_some : (n : ℕ) (plans : List PhasePlan) → All (IsWellFormed n) plans → All (λ (p : PhasePlan). (m : ℕ) × IsWellFormed m p) plans
 with_some n plans all = λ i d h. (n, all i d h)
