@@ -20,7 +20,9 @@ Whole runs, each with all its edges inserted:
 - uniform-window, power-window, grid-window        half of the edges in any order in batches of 100,000, and then each batch
               takes the oldest 10,000 out and puts the next 10,000 in, until all have been there
 - long        8,000,000 edges between 1,048,576 vertices, each pair as likely as another, in batches of 1,000,000: the rounds
-              are long, so it shows best what workers bring
+              are long
+- fours       999,996 edges, the complete graphs of 166,666 times four of 1,048,576 vertices, as SNAP text in one batch: the
+              rounds are long and many, and passes over neighbours short
 - exact       2,000,000 edges between 262,144 vertices, each pair as likely as another, in two batches: the command `exact`
 
 Parts of a run, each the difference of two runs that differ in nothing else:
@@ -44,7 +46,7 @@ WHOLE = (
     "uniform", "snap1000", "snap10000", "snap100000", "power", "grid",
     "power1000", "power100000", "grid1000", "grid100000",
     "uniform-window", "power-window", "grid-window",
-    "long", "exact",
+    "long", "fours", "exact",
 )
 PARTS = ("read", "clean", "print", "three", "link+raise")
 SIDE = 707
@@ -143,6 +145,7 @@ def make_inputs(folder):
     write_input(folder, "grid-twice", n, [grid, grid])
     write_input(folder, "grid-twice-refused", n, [grid, grid], last="stop")
     write_long(folder)
+    write_fours(folder)
     uniform = uniform_edges(1 << 18, 2_000_000, 13)
     write_input(folder, "exact", 1 << 18, [signed(uniform[:1_000_000]), signed(uniform[1_000_000:])])
     write_input(folder, "none", n, [])
@@ -158,6 +161,17 @@ def write_long(folder):
         for _ in range(8):
             pairs = ((draw.getrandbits(bits), draw.getrandbits(bits)) for _ in range(size))
             file.write("batch\n" + snap(pair for pair in pairs if pair[0] != pair[1]) + "end\n")
+
+
+def write_fours(folder):
+    draw = random.Random(3)
+    n = 1 << 20
+    vertices = list(range(n))
+    draw.shuffle(vertices)
+    fours = (vertices[i:i + 4] for i in range(0, 4 * 166_666, 4))
+    edges = [(four[i], four[j]) for four in fours for i in range(4) for j in range(i)]
+    draw.shuffle(edges)
+    write_input(folder, "fours", n, [snap(edges)])
 
 
 def input_path(folder, name):
@@ -235,7 +249,7 @@ def main():
         folder = options.keep or scratch
         os.makedirs(folder, exist_ok=True)
         # The input that came with the last row, and the last that is made.
-        if not all(os.path.exists(input_path(folder, name)) for name in ("long", "exact", "one")):
+        if not all(os.path.exists(input_path(folder, name)) for name in ("long", "fours", "exact", "one")):
             print("making the inputs ..", flush=True)
             # In a process of its own: the memory of this one would count as that of the programs that it starts.
             maker = multiprocessing.Process(target=make_inputs, args=(folder,))

@@ -5,7 +5,7 @@ use std::sync::ledger::{Blank, Book, Ledger, Share};
 
 /// How many steps were taken, from 0 on without a limit. Contracts see it as that number.
 ///
-/// It takes no bytes and no time when the program runs, and only `tick` changes it. The number is kept in the ledger `L`.
+/// It takes no bytes and no time when the program runs, and only `tick` and `add` change it. The number is kept in the ledger `L`.
 #[derive(Drop)]
 pub struct Steps<L: Ledger> {
     book: Book<L>,
@@ -37,5 +37,12 @@ impl<L: Ledger> Steps<L> {
         ensures { self.new ≡ self.old + 1 }
     {
         self.book.add(&mut self.share, 1);
+    }
+
+    /// Counts so many steps at once, as for a pass that threads made.
+    pub fn add(&mut self, count: usize)
+        ensures { self.new ≡ self.old + count }
+    {
+        self.book.add(&mut self.share, count as u64);
     }
 }

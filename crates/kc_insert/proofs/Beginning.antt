@@ -1,6 +1,6 @@
 -- The counts and the meetings while vertices of a level begin to rise.
-use Rattle.std.proofs.Common.{ℕ, suc, ◌+◌, ◌≤◌, ◌<◌, ◌≡◌, ◌≢◌, ◌⊎◌, inl, inr, Bool, true, false, cond, leb, ltb, eqb, ◌||◌, ◌&&◌, List, [], ◌∷◌, ◌++◌, length, get_or, set, drop, add-one, refl, ap, sym, ◌∙◌, arith, subst, append_assoc}
-use Rattle.std.specs.Prelude.{count_by, not}
+use Rattle.std.proofs.Common.{ℕ, suc, ◌+◌, ◌≤◌, ◌<◌, ◌≡◌, ◌≢◌, inl, inr, Bool, true, false, cond, leb, ltb, eqb, ◌||◌, ◌&&◌, List, [], ◌∷◌, ◌++◌, length, get_or, set, drop, add-one, refl, ap, sym, ◌∙◌, arith, subst, append_assoc}
+use Rattle.std.specs.Prelude.{count_by, filter, not}
 use Rattle.std.proofs.Math.Seq.{drop-cons}
 use Rattle.std.proofs.lemmas.Bool.{cases_eq, cases_Bool, true≢false}
 use Rattle.std.proofs.lemmas.Bool.Decides.{nat_tests}
@@ -8,13 +8,14 @@ use Rattle.std.proofs.lemmas.List.{length-set, get_or-set_same, get_or-set_other
 use Rattle.std.proofs.lemmas.List.Sums.{count_by-le-length}
 use Rattle.kc_graph.specs.Numbers.{has_number, RisesFrom}
 use Rattle.kc_graph.specs.Shape.{GraphShape, Pair, IsGraph, neighbours_of, has_edge}
-use Rattle.kc_graph.proofs.CountLemmas.{count_by-cons}
 use Rattle.kc_graph.proofs.NumberLemmas.{has_number_below, has_number_at}
-use Rattle.kc_graph.proofs.NeighbourLemmas.{fewer_neighbours, neighbours_rise, neighbours_both}
+use Rattle.kc_graph.proofs.NeighbourLemmas.{fewer_neighbours, neighbour_below, neighbours_rise, neighbours_both}
 use Rattle.kc_levels.specs.LevelList.{at_least}
 use Rattle.kc_insert.specs.Meetings.{AreApart, AreDistinct, IsMeeting, AreMeetings}
-use Rattle.kc_insert.specs.Counting.{is_next, sees_unlisted, degrees, AreSeen, AreWaiting, StillWait, AreNoted, HasBegun, HaveBegun, meetings_on}
+use Rattle.kc_insert.specs.Counting.{is_next, sees_unlisted, degrees, stood_above, AreSeen, AreWaiting, StillWait, AreNoted, HasBegun, HaveBegun, meetings_on}
 use Rattle.kc_insert.proofs.Flips.{count_agree, count_less}
+use Rattle.kc_insert.proofs.Buckets.{has_number-filter}
+use Rattle.kc_insert.proofs.Starting.{rises_filter, passes_at}
 use Rattle.kc_insert.proofs.Arriving.{IsNoting, noting_first, noting_met, noting_other}
 
 -- all of `items` that are on the level l + 1 count one more, but for those in `rest`
@@ -70,12 +71,11 @@ module _ (g : GraphShape) (x : List ℕ) (l v w : ℕ) (items rest : List ℕ) (
       test : (a : ℕ) → a ≡ k → ltb l k && eqb a k ≡ true
       test a e = grind (arith, nat_tests, above, e)
 
-  on_no : (k : ℕ) → (k ≤ l) ⊎ (get_or x w 0 ≢ k) → meetings_on g x l v k (w ∷ rest) ≡ meetings_on g x l v k rest
+  on_no : (k : ℕ) → get_or x w 0 ≢ k → meetings_on g x l v k (w ∷ rest) ≡ meetings_on g x l v k rest
   on_no k off = ap (λ b. cond b ((v, w) ∷ meetings_on g x l v k rest) (meetings_on g x l v k rest)) (test (get_or x w 0) off)
     where
-      test : (a : ℕ) → (k ≤ l) ⊎ (a ≢ k) → ltb l k && eqb a k ≡ false
-      test a (inl le) = grind (arith, nat_tests, le)
-      test a (inr ne) = grind (arith, nat_tests, ne)
+      test : (a : ℕ) → a ≢ k → ltb l k && eqb a k ≡ false
+      test a ne = grind (arith, nat_tests, ne)
 
   filed_met : l < get_or x w 0 → get_or x w 0 < length new → AreFiled g x l v items rest old (set new (get_or x w 0) (get_or new (get_or x w 0) [] ++ (v, w) ∷ []))
   filed_met above inside = record {
@@ -90,91 +90,62 @@ module _ (g : GraphShape) (x : List ℕ) (l v w : ℕ) (items rest : List ℕ) (
           ∙ s.filed k
       | inr ne ↦
           ap (λ (es : List Pair). es ++ meetings_on g x l v k rest) (get_or-set_other new (get_or x w 0) k (get_or new (get_or x w 0) [] ++ (v, w) ∷ []) [] ne)
-          ∙ ap (λ (es : List Pair). get_or new k [] ++ es) (sym (on_no k (inr (λ e. ne (sym e)))))
+          ∙ ap (λ (es : List Pair). get_or new k [] ++ es) (sym (on_no k (λ e. ne (sym e))))
           ∙ s.filed k
     ];
   }
 
-  filed_not : get_or x w 0 ≤ l → AreFiled g x l v items rest old new
-  filed_not under = record {
-    sized = s.sized;
-    filed = λ k. elim (cases_eq (get_or x w 0) k) [
-      | inl e ↦ ap (λ (es : List Pair). get_or new k [] ++ es) (sym (on_no k (inl (omega (arith, under, e))))) ∙ s.filed k
-      | inr ne ↦ ap (λ (es : List Pair). get_or new k [] ++ es) (sym (on_no k (inr ne))) ∙ s.filed k
-    ];
-  }
-
--- a test as a number
-pub above_one : (r l k a : ℕ) → k ≡ a → (ltb l k ≡ true → r ≡ 1) → (ltb l k ≡ false → r ≡ 0) → r ≡ cond (ltb l a) 1 0
-above_one r l k a is one none = elim (cases_Bool (ltb l k)) [
-  | inl above ↦ grind (arith, nat_tests, is, above, one above)
-  | inr under ↦ grind (arith, nat_tests, is, under, none under)
-]
-
--- v begins to rise, and the neighbours in `rest` are still to be looked at
-pub record IsBeginning (g : GraphShape) (x z : List ℕ) (l v most : ℕ) (items rest : List ℕ) (own : ℕ) (before counts : List ℕ) (first queue : List (List ℕ)) (old new : List (List Pair)) : Type 0 where
+-- v begins to rise, and of those in `items`, who stood above the level l, those in `rest` are still to be looked at
+pub record IsBeginning (g : GraphShape) (x : List ℕ) (l v most : ℕ) (items rest before counts : List ℕ) (first queue : List (List ℕ)) (old new : List (List Pair)) : Type 0 where
   pub low : ℕ
   pub rises : RisesFrom low rest
-  pub counted : own + count_by (λ w. leb (l + 1) (get_or z w 0)) rest ≡ count_by (λ w. leb (l + 1) (get_or z w 0)) items
   pub counts_more : CountMore g x l items rest before counts
   pub noting : IsNoting g.vertices x (l + 1) most counts first queue
   pub filing : AreFiled g x l v items rest old new
 
-pub beginning_first : (g : GraphShape) (x z : List ℕ) (l v most : ℕ) (items before : List ℕ) (first : List (List ℕ)) (old : List (List Pair)) → IsGraph g → items ≡ neighbours_of v g.edges → length before ≡ g.vertices → IsNoting g.vertices x (l + 1) most before first first → IsBeginning g x z l v most items items 0 before before first first old old
-beginning_first g x z l v most items before first old graph is sized s = record {
+pub beginning_first : (g : GraphShape) (x : List ℕ) (l v most : ℕ) (items before : List ℕ) (first : List (List ℕ)) (old : List (List Pair)) → IsGraph g → items ≡ stood_above g x l v → length before ≡ g.vertices → IsNoting g.vertices x (l + 1) most before first first → IsBeginning g x l v most items items before before first first old old
+beginning_first g x l v most items before first old graph is sized s = record {
   low = 0;
-  rises = rw is (neighbours_rise g.vertices v g.edges graph);
-  counted = omega arith;
+  rises = rw is (rises_filter (λ w. ltb l (get_or x w 0)) 0 (neighbours_of v g.edges) (neighbours_rise g.vertices v g.edges graph));
   counts_more = record { sized = sized; more = λ u. refl };
   noting = s;
   filing = record { sized = refl; filed = λ k. refl };
 }
 
+-- who is at a place of those who stood above the level
+pub stood_at : (g : GraphShape) (x : List ℕ) (l v i : ℕ) (items : List ℕ) → IsGraph g → items ≡ stood_above g x l v → i < length items → (get_or items i 0 < g.vertices) × (l < get_or x (get_or items i 0) 0)
+stood_at g x l v i items graph is inside = rw is (here (rw is at inside))
+  where
+    here : i < length (stood_above g x l v) → (get_or (stood_above g x l v) i 0 < g.vertices) × (l < get_or x (get_or (stood_above g x l v) i 0) 0)
+    here within =
+        let both = passes_at (λ w. ltb l (get_or x w 0)) (neighbours_of v g.edges) i within in (
+          neighbour_below g.vertices v (get_or (stood_above g x l v) i 0) g.edges graph both.0,
+          grind (arith, nat_tests, both.1),
+        )
+
 -- the step of a loop at place i
-module _ (g : GraphShape) (x z : List ℕ) (l v most i : ℕ) (items : List ℕ) (own : ℕ) (before counts : List ℕ) (first queue : List (List ℕ)) (old new : List (List Pair)) (at : i < length items) (low : get_or items i 0 < g.vertices) (s : IsBeginning g x z l v most items (drop i items) own before counts first queue old new) where
-  next : IsBeginning g x z l v most items (get_or items i 0 ∷ drop (suc i) items) own before counts first queue old new
+module _ (g : GraphShape) (x : List ℕ) (l v most i : ℕ) (items before counts : List ℕ) (first queue : List (List ℕ)) (old new : List (List Pair)) (at : i < length items) (low : get_or items i 0 < g.vertices) (above : l < get_or x (get_or items i 0) 0) (s : IsBeginning g x l v most items (drop i items) before counts first queue old new) where
+  next : IsBeginning g x l v most items (get_or items i 0 ∷ drop (suc i) items) before counts first queue old new
   next = rw (← drop-cons items i 0 at) s
 
-  counted_one : (one : ℕ) → one ≡ cond (ltb l (get_or z (get_or items i 0) 0)) 1 0 → own + one + count_by (λ w. leb (l + 1) (get_or z w 0)) (drop (suc i) items) ≡ count_by (λ w. leb (l + 1) (get_or z w 0)) items
-  counted_one one is = step one own (get_or z (get_or items i 0) 0) (count_by (λ w. leb (l + 1) (get_or z w 0)) (drop (suc i) items)) _ is (ap (λ m. own + m) (sym (count_by-cons (λ w. leb (l + 1) (get_or z w 0)) (get_or items i 0) (drop (suc i) items))) ∙ next.counted)
-    where
-      step : (o a k m b : ℕ) → o ≡ cond (ltb l k) 1 0 → a + (cond (leb (l + 1) k) 1 0 + m) ≡ b → a + o + m ≡ b
-      step o a k m b e f = elim (cases_Bool (ltb l k)) [
-        | inl yes_ ↦ grind (arith, nat_tests, e, f, yes_)
-        | inr no_ ↦ grind (arith, nat_tests, e, f, no_)
-      ]
-
-  -- its level is not above l
-  pub beginning_past : (one : ℕ) → one ≡ cond (ltb l (get_or z (get_or items i 0) 0)) 1 0 → get_or x (get_or items i 0) 0 ≤ l → IsBeginning g x z l v most items (drop (i + 1) items) (own + one) before counts first queue old new
-  beginning_past one is under = rw (add-one i) (record {
-    low = suc (get_or items i 0);
-    rises = next.rises.1;
-    counted = counted_one one is;
-    counts_more = more_not g x l (get_or items i 0) next.low items (drop (suc i) items) before counts next.rises next.counts_more (omega (arith, under));
-    noting = s.noting;
-    filing = filed_not g x l v (get_or items i 0) items (drop (suc i) items) old new next.filing under;
-  })
-
   -- it is above the level l + 1
-  pub beginning_over : (one : ℕ) → one ≡ cond (ltb l (get_or z (get_or items i 0) 0)) 1 0 → l < get_or x (get_or items i 0) 0 → get_or x (get_or items i 0) 0 ≢ l + 1 → get_or x (get_or items i 0) 0 < length old → IsBeginning g x z l v most items (drop (i + 1) items) (own + one) before counts first queue old (set new (get_or x (get_or items i 0) 0) (get_or new (get_or x (get_or items i 0) 0) [] ++ (v, get_or items i 0) ∷ []))
-  beginning_over one is above off inside = rw (add-one i) (record {
+  pub beginning_over : get_or x (get_or items i 0) 0 ≢ l + 1 → get_or x (get_or items i 0) 0 < length old → IsBeginning g x l v most items (drop (i + 1) items) before counts first queue old (set new (get_or x (get_or items i 0) 0) (get_or new (get_or x (get_or items i 0) 0) [] ++ (v, get_or items i 0) ∷ []))
+  beginning_over off inside = rw (add-one i) (record {
     low = suc (get_or items i 0);
     rises = next.rises.1;
-    counted = counted_one one is;
     counts_more = more_not g x l (get_or items i 0) next.low items (drop (suc i) items) before counts next.rises next.counts_more off;
     noting = s.noting;
     filing = filed_met g x l v (get_or items i 0) items (drop (suc i) items) old new next.filing above (omega (arith, inside, s.filing.sized));
   })
 
   -- it is on the level l + 1
-  pub beginning_next : (one : ℕ) → one ≡ cond (ltb l (get_or z (get_or items i 0) 0)) 1 0 → get_or x (get_or items i 0) 0 ≡ l + 1 → l + 1 < length first → get_or x (get_or items i 0) 0 < length old → IsBeginning g x z l v most items (drop (i + 1) items) (own + one) before (set counts (get_or items i 0) (get_or counts (get_or items i 0) 0 + 1)) first (cond (eqb (get_or counts (get_or items i 0) 0) most) (set queue (l + 1) (get_or queue (l + 1) [] ++ get_or items i 0 ∷ [])) queue) old (set new (get_or x (get_or items i 0) 0) (get_or new (get_or x (get_or items i 0) 0) [] ++ (v, get_or items i 0) ∷ []))
-  beginning_next one is on room inside = rw (add-one i) (record {
+  pub beginning_next : get_or x (get_or items i 0) 0 ≡ l + 1 → l + 1 < length first → get_or x (get_or items i 0) 0 < length old → IsBeginning g x l v most items (drop (i + 1) items) before (set counts (get_or items i 0) (get_or counts (get_or items i 0) 0 + 1)) first (cond (eqb (get_or counts (get_or items i 0) 0) most) (set queue (l + 1) (get_or queue (l + 1) [] ++ get_or items i 0 ∷ [])) queue) old (set new (get_or x (get_or items i 0) 0) (get_or new (get_or x (get_or items i 0) 0) [] ++ (v, get_or items i 0) ∷ []))
+  beginning_next on room inside = rw (add-one i) (record {
     low = suc (get_or items i 0);
     rises = next.rises.1;
-    counted = counted_one one is;
     counts_more = more_met g x l (get_or items i 0) next.low items (drop (suc i) items) before counts next.rises next.counts_more on low;
     noting = noting_met g.vertices x (l + 1) most (get_or items i 0) counts first queue low (omega (arith, low, s.counts_more.sized)) on room s.noting;
-    filing = filed_met g x l v (get_or items i 0) items (drop (suc i) items) old new next.filing (omega (arith, on)) (omega (arith, inside, s.filing.sized));
+    filing = filed_met g x l v (get_or items i 0) items (drop (suc i) items) old new next.filing above (omega (arith, inside, s.filing.sized));
   })
 
 -- no more than one was added to a count
@@ -184,34 +155,48 @@ few_more g x l w items rest before counts s few = step (get_or counts w 0) (get_
     step : (c b : ℕ) (p q : Bool) → c + cond p 1 0 ≡ b + cond q 1 0 → b < g.vertices → c ≤ g.vertices
     step c b p q e f = grind (arith, nat_tests, e, f)
 
--- v counts no more than all its neighbours
-pub few_own : (g : GraphShape) (z : List ℕ) (l v own : ℕ) (items rest : List ℕ) → IsGraph g → v < g.vertices → items ≡ neighbours_of v g.edges → own + count_by (λ w. leb (l + 1) (get_or z w 0)) rest ≡ count_by (λ w. leb (l + 1) (get_or z w 0)) items → own < g.vertices
-few_own g z l v own items rest graph h is e = omega (arith, e, count_by-le-length (λ w. leb (l + 1) (get_or z w 0)) items, rw (← is) at (fewer_neighbours g.vertices v g.edges graph h))
+-- the meetings with those who stood above the level are all meetings
+meetings_above : (g : GraphShape) (x : List ℕ) (l v k : ℕ) (ws : List ℕ) → meetings_on g x l v k (filter (λ w. ltb l (get_or x w 0)) ws) ≡ meetings_on g x l v k ws
+meetings_above g x l v k [] = refl
+meetings_above g x l v k (w ∷ ws) = elim (cases_Bool (ltb l (get_or x w 0))) [
+  | inl above ↦
+      ap (λ b. meetings_on g x l v k (cond b (w ∷ filter (λ w. ltb l (get_or x w 0)) ws) (filter (λ w. ltb l (get_or x w 0)) ws))) above
+      ∙ ap (λ (es : List Pair). cond (ltb l k && eqb (get_or x w 0) k) ((v, w) ∷ es) es) (meetings_above g x l v k ws)
+  | inr under ↦
+      ap (λ b. meetings_on g x l v k (cond b (w ∷ filter (λ w. ltb l (get_or x w 0)) ws) (filter (λ w. ltb l (get_or x w 0)) ws))) under
+      ∙ meetings_above g x l v k ws
+      ∙ ap (λ b. cond b ((v, w) ∷ meetings_on g x l v k ws) (meetings_on g x l v k ws)) (sym (none (get_or x w 0) under))
+]
+  where
+    none : (a : ℕ) → ltb l a ≡ false → ltb l k && eqb a k ≡ false
+    none a e = grind (arith, nat_tests, e)
 
 -- at the end
-module _ (g : GraphShape) (x z : List ℕ) (l v most i : ℕ) (items : List ℕ) (own : ℕ) (before counts : List ℕ) (first queue : List (List ℕ)) (old new : List (List Pair)) (end : length items ≤ i) (is : items ≡ neighbours_of v g.edges) (h : v < g.vertices) (s : IsBeginning g x z l v most items (drop i items) own before counts first queue old new) where
-  last : IsBeginning g x z l v most items [] own before counts first queue old new
+module _ (g : GraphShape) (x : List ℕ) (l v most i own : ℕ) (items before counts : List ℕ) (first queue : List (List ℕ)) (old new : List (List Pair)) (end : length items ≤ i) (is : items ≡ stood_above g x l v) (h : v < g.vertices) (s : IsBeginning g x l v most items (drop i items) before counts first queue old new) where
+  last : IsBeginning g x l v most items [] before counts first queue old new
   last = rw (drop_all i items end) at s
 
-  pub begun : HasBegun g x z l v before (set counts v own)
-  unfolding at_least
+  pub begun : HasBegun g x l v own before (set counts v own)
   begun = record {
     sized = length-set counts v own ∙ s.counts_more.sized;
-    own = get_or-set_same counts v own 0 (omega (arith, h, s.counts_more.sized)) ∙ none own _ last.counted ∙ ap (λ ws. count_by (λ w. leb (l + 1) (get_or z w 0)) ws) is;
-    more = λ u ne. get_or-set_other counts v u own 0 ne ∙ plain (get_or counts u 0) (is_next x l u) _ (last.counts_more.more u) ∙ ap (λ ws. get_or before u 0 + cond (is_next x l u && has_number u ws) 1 0) is;
+    own_count = get_or-set_same counts v own 0 (omega (arith, h, s.counts_more.sized));
+    more = λ u ne. get_or-set_other counts v u own 0 ne ∙ plain (get_or counts u 0) (is_next x l u) _ (last.counts_more.more u) ∙ ap (λ b. get_or before u 0 + cond b 1 0) (near u);
   }
     where
-      none : (a b : ℕ) → a + 0 ≡ b → a ≡ b
-      none a b e = omega (arith, e)
-
       plain : (c : ℕ) (p : Bool) (b : ℕ) → c + cond (p && false) 1 0 ≡ b → c ≡ b
       plain c p b e = grind (arith, nat_tests, e)
+
+      both : (a : ℕ) (p q : Bool) → p ≡ q && ltb l a → eqb a (l + 1) && p ≡ eqb a (l + 1) && q
+      both a p q e = grind (arith, nat_tests, e)
+
+      near : (u : ℕ) → is_next x l u && has_number u items ≡ is_next x l u && has_number u (neighbours_of v g.edges)
+      near u = both (get_or x u 0) (has_number u items) (has_number u (neighbours_of v g.edges)) (ap (has_number u) is ∙ has_number-filter u (λ w. ltb l (get_or x w 0)) (neighbours_of v g.edges))
 
   pub begun_noting : get_or x v 0 ≡ l → IsNoting g.vertices x (l + 1) most (set counts v own) first queue
   begun_noting on = noting_other g.vertices x (l + 1) most v own counts first queue (omega (arith, on)) s.noting
 
   pub begun_filed : (k : ℕ) → get_or new k [] ≡ get_or old k [] ++ meetings_on g x l v k (neighbours_of v g.edges)
-  begun_filed k = sym (append-nil (get_or new k [])) ∙ last.filing.filed k ∙ ap (λ ws. get_or old k [] ++ meetings_on g x l v k ws) is
+  begun_filed k = sym (append-nil (get_or new k [])) ∙ last.filing.filed k ∙ ap (λ ws. get_or old k [] ++ meetings_on g x l v k ws) is ∙ ap (λ (es : List Pair). get_or old k [] ++ es) (meetings_above g x l v k (neighbours_of v g.edges))
 
 -- which pairs the meetings of v on level k are
 has_edge-meetings_on : (g : GraphShape) (x : List ℕ) (l v k : ℕ) (ws : List ℕ) (a w : ℕ) → has_edge (a, w) (meetings_on g x l v k ws) ≡ (eqb a v && has_number w ws) && (ltb l k && eqb (get_or x w 0) k)
@@ -364,11 +349,11 @@ begun_but_first g x z l risers before s = record {
 }
 
 -- v begins
-begun_but_next : (g : GraphShape) (x z : List ℕ) (l v : ℕ) (risers rest before counts after : List ℕ) → IsGraph g → has_number v risers ≡ true → ((u : ℕ) → has_number u risers ≡ true → get_or x u 0 ≡ l) → get_or z v 0 ≡ l + 1 → has_number v rest ≡ false → HasBegun g x z l v counts after → HaveBegunBut g x z l risers (v ∷ rest) before counts → HaveBegunBut g x z l risers rest before after
+begun_but_next : (g : GraphShape) (x z : List ℕ) (l v : ℕ) (risers rest before counts after : List ℕ) → IsGraph g → has_number v risers ≡ true → ((u : ℕ) → has_number u risers ≡ true → get_or x u 0 ≡ l) → get_or z v 0 ≡ l + 1 → has_number v rest ≡ false → HasBegun g x l v (at_least g z v (l + 1)) counts after → HaveBegunBut g x z l risers (v ∷ rest) before counts → HaveBegunBut g x z l risers rest before after
 begun_but_next g x z l v risers rest before counts after graph listed begins up fresh one s = record {
   sized = one.sized;
   own = λ u h there none. elim (cases_eq u v) [
-    | inl e ↦ rw e one.own
+    | inl e ↦ rw e one.own_count
     | inr ne ↦ one.more u ne ∙ plus_none _ _ _ (not_next_of x l u (λ on. one_less (sym (begins u there) ∙ on))) ∙ s.own u h there (other_number u ne ∙ none)
   ];
   seen = λ w h on.
@@ -468,7 +453,7 @@ module _ (g : GraphShape) (x z : List ℕ) (l most i : ℕ) (risers before count
   pub degrees_next : degrees g (drop i risers) ≡ length (neighbours_of (get_or risers i 0) g.edges) + degrees g (drop (i + 1) risers)
   degrees_next = rw (add-one, drop-cons risers i 0 at) refl
 
-  pub are_beginning_next : (after : List ℕ) (queued : List (List ℕ)) (filed : List (List Pair)) → get_or z (get_or risers i 0) 0 ≡ l + 1 → HasBegun g x z l (get_or risers i 0) counts after → length queued ≡ length queue → AreWaiting g.vertices x (l + 1) queued → StillWait queue queued → AreNoted g.vertices x (l + 1) most after queued → length filed ≡ length new → ((k : ℕ) → get_or filed k [] ≡ get_or new k [] ++ meetings_on g x l (get_or risers i 0) k (neighbours_of (get_or risers i 0) g.edges)) → AreBeginning g x z l most risers (drop (i + 1) risers) before after first queued old filed
+  pub are_beginning_next : (after : List ℕ) (queued : List (List ℕ)) (filed : List (List Pair)) → get_or z (get_or risers i 0) 0 ≡ l + 1 → HasBegun g x l (get_or risers i 0) (at_least g z (get_or risers i 0) (l + 1)) counts after → length queued ≡ length queue → AreWaiting g.vertices x (l + 1) queued → StillWait queue queued → AreNoted g.vertices x (l + 1) most after queued → length filed ≡ length new → ((k : ℕ) → get_or filed k [] ≡ get_or new k [] ++ meetings_on g x l (get_or risers i 0) k (neighbours_of (get_or risers i 0) g.edges)) → AreBeginning g x z l most risers (drop (i + 1) risers) before after first queued old filed
   are_beginning_next after queued filed up one sized waiting still noted places pushed = rw (add-one i) (record {
     distinct = next_all.distinct.1;
     listed = λ u there. next_all.listed u (grind (arith, nat_tests, there));

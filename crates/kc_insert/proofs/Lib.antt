@@ -7,5 +7,6 @@ pub mod Stepping
 pub mod Leaving
 pub mod Parting
 pub mod Arriving
+pub mod Starting
 pub mod Beginning
 pub mod Sweeps

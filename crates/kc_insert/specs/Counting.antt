@@ -5,7 +5,7 @@
 -- - who goes on, from l, where it was not by x, to l + 1: it counts those no more that stay on l;
 -- - who begins, on l by x: it counts afresh;
 -- - who is on l + 1 by x: it counts those besides who came up to it.
-use Rattle.std.specs.Prelude.{ℕ, ◌+◌, ◌-◌, ◌*◌, ◌≤◌, ◌<◌, ◌≡◌, ◌≢◌, ◌==◌, ◌&&◌, ◌||◌, not, nat_lt, nat_le, cond, Bool, true, false, List, [], ◌∷◌, length, get_or, set, count_by}
+use Rattle.std.specs.Prelude.{ℕ, ◌+◌, ◌-◌, ◌*◌, ◌≤◌, ◌<◌, ◌≡◌, ◌≢◌, ◌==◌, ◌&&◌, ◌||◌, not, nat_lt, nat_le, cond, Bool, true, false, List, [], ◌∷◌, length, get_or, set, filter, count_by}
 use Rattle.kc_graph.specs.Numbers.{has_number}
 use Rattle.kc_graph.specs.Shape.{GraphShape, Pair, neighbours_of, has_edge}
 use Rattle.kc_levels.specs.LevelList.{at_least}
@@ -41,15 +41,19 @@ sees_arrived x z l rest w u = nat_le (l + 1) (get_or z u 0) && not ((get_or z u 
 abbrev pub sees_unlisted : List ℕ → ℕ → List ℕ → ℕ → ℕ → Bool
 sees_unlisted z l rest w u = nat_le (l + 1) (get_or z u 0) && not (has_number u rest)
 
+-- the neighbours of v that stood above level l before the sweep
+abbrev pub stood_above : GraphShape → List ℕ → ℕ → ℕ → List ℕ
+stood_above g x l v = filter (λ w. nat_lt l (get_or x w 0)) (neighbours_of v g.edges)
+
 -- one less for each neighbour of v in question
 pub record AreLess (g : GraphShape) (asked : ℕ → Bool) (v : ℕ) (before counts : List ℕ) : Type 0 where
   pub sized : length counts ≡ g.vertices
   pub less : (u : ℕ) → get_or counts u 0 ≡ get_or before u 0 - cond (asked u && has_number u (neighbours_of v g.edges)) 1 0
 
--- v begins to rise from level l: it counts afresh, and its neighbours on l + 1 count one more
-pub record HasBegun (g : GraphShape) (x z : List ℕ) (l v : ℕ) (before counts : List ℕ) : Type 0 where
+-- v begins to rise from level l: it counts so many neighbours, and its neighbours on l + 1 count one more
+pub record HasBegun (g : GraphShape) (x : List ℕ) (l v own : ℕ) (before counts : List ℕ) : Type 0 where
   pub sized : length counts ≡ g.vertices
-  pub own : get_or counts v 0 ≡ at_least g z v (l + 1)
+  pub own_count : get_or counts v 0 ≡ own
   pub more : (u : ℕ) → u ≢ v → get_or counts u 0 ≡ get_or before u 0 + cond (is_next x l u && has_number u (neighbours_of v g.edges)) 1 0
 
 -- those in the list begin to rise from level l: they count afresh, and their neighbours on l + 1 count all of them

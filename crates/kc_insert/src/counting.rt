@@ -1,21 +1,23 @@
 // How the counts follow when vertices of a level rise to the next: one pass over the neighbours of each that begins to rise, and
-// of each that stays behind, and one look at each meeting on the two levels.
+// of each that stays behind, and a look at each meeting on the two levels.
 //
 // `Counting` of the definitions says who counts whom. What it calls x are the levels in `adj`, where a riser stands on its old
 // level until it stays on a new one; what it calls z are those in `levels`, after the step.
 
-ghost use Rattle.std.specs.Prelude.{◌≡◌, ◌+◌, ◌<◌, ◌≤◌, ◌++◌, ◌∷◌, ◌==◌, ◌^◌, ◌||◌, Bool, ℕ, [], OnOk, cond, false, true, length, slice_index, slice_index_or, slice_set};
+ghost use Rattle.std.specs.Prelude.{◌≡◌, ◌+◌, ◌<◌, ◌≤◌, ◌++◌, ◌∷◌, ◌==◌, ◌^◌, ◌||◌, Bool, ℕ, [], OnOk, cond, drop, false, true, length, slice_index, slice_index_or, slice_set, take};
 ghost use Rattle.kc_graph.specs.Numbers.{has_number};
 ghost use Rattle.kc_graph.specs.Shape.{IsGraph, neighbours_of, has_edge};
 ghost use Rattle.kc_insert.specs.Meetings.{AreApart, AreDistinct, AreMeetings};
-ghost use Rattle.kc_insert.specs.Counting.{goes_on, is_next, AreSeen, sees_met, sees_listed, sees_arrived, sees_unlisted, steps_on, settled_at, degrees, MeetOn, AreWaiting, StillWait, AreNoted, AreLess, HasBegun, HaveBegun, meetings_on};
+ghost use Rattle.kc_insert.specs.Counting.{goes_on, is_next, AreSeen, sees_met, sees_listed, sees_arrived, sees_unlisted, steps_on, settled_at, degrees, stood_above, MeetOn, AreWaiting, StillWait, AreNoted, AreLess, HasBegun, HaveBegun, meetings_on};
 
 use crate::bucket_queue::BucketQueue;
 use crate::meetings::{Meeting, Meetings};
 use kc_adj::{LevelAdj, Steps};
 use kc_levels::Levels;
+use kc_rounds::{Gate, RoundGather, Rounds};
 use std::alloc::AllocError;
 use std::sync::ledger::Ledger;
+use std::thread::Threads;
 
 /// For each meeting on the level: where the riser goes on and the other stays, the riser counts one less.
 pub fn leave_behind(
@@ -164,64 +166,108 @@ pub fn come_up(
     Ok(())
 }
 
-// v begins to rise from the level: its neighbours on the next level count one more, its meetings are filed, and it counts afresh.
-fn begin_one<L: Ledger>(
+// What is gathered at a vertex that begins to rise from the level: how many of its neighbours are above the level, and which of
+// them stood there before the sweep.
+#[derive(Drop)]
+struct Beginning<'a> {
+    adj: &'a LevelAdj,
+    levels: &'a Levels,
+    level: u16,
+}
+
+impl RoundGather for Beginning<'_> {
+    ghost use Rattle.std.specs.Prelude.{◌≡◌, ◌+◌, ◌<◌, length};
+    ghost use Rattle.kc_levels.specs.LevelList.{at_least};
+    ghost use Rattle.kc_insert.specs.Counting.{stood_above};
+
+    ghost number = { λ what v. at_least what.adj.now.graph what.levels.now v (what.level + 1) };
+
+    ghost finds = { λ what v. stood_above what.adj.now.graph what.adj.now.levels what.level v };
+
+    ghost may_gather = { λ what v. (v < what.adj.now.graph.vertices) × (length what.levels.now ≡ what.adj.now.graph.vertices) };
+
+    fn room(&self, v: u32) -> usize {
+        self.adj.graph().neighbours(v).len()
+    }
+
+    fn gather(&self, v: u32, found: &mut Vec<u32>) -> Result<u32, AllocError> {
+        let _n = self.adj.graph().vertices();
+        let mut above = 0;
+        for w in self.adj.graph().neighbours(v) {
+            above += u32::from(self.levels.get(*w) > self.level);
+            if self.adj.level(*w) > self.level {
+                found.push(*w)?;
+            }
+        }
+        Ok(above)
+    }
+}
+
+// v begins to rise from the level: `own` of its neighbours are above the level now, and those in `above` stood there before. Of
+// these, who is on the next level counts one more, v's meetings with all of them are filed, and v counts afresh.
+fn begin_one(
     adj: &LevelAdj,
-    levels: &Levels,
     counts: &mut Vec<u32>,
     queue: &mut BucketQueue,
     meetings: &mut Meetings,
     level: u16,
     most: u32,
     v: u32,
-    steps: &mut Steps<L>,
+    own: u32,
+    above: &[u32],
 ) -> Result<(), AllocError>
     requires small { level < 65535 }
     requires graph { IsGraph adj.now.graph }
-    requires sized { length levels.now ≡ adj.now.graph.vertices }
     requires counts { length counts.old.items ≡ adj.now.graph.vertices }
     requires few { (u : ℕ) → u < adj.now.graph.vertices → slice_index adj.now.levels u ≡ level + 1 → slice_index counts.old.items u < adj.now.graph.vertices }
     requires vertex { v < adj.now.graph.vertices }
     requires begins { slice_index adj.now.levels v ≡ level }
+    requires above { above.now ≡ stood_above adj.now.graph adj.now.levels level v }
     requires room { level + 1 < length queue.old }
     requires places { (u : ℕ) → u < adj.now.graph.vertices → slice_index adj.now.levels u < length meetings.old }
     requires waiting { AreWaiting adj.now.graph.vertices adj.now.levels (level + 1) queue.old }
     requires noted { AreNoted adj.now.graph.vertices adj.now.levels (level + 1) most counts.old.items queue.old }
-    ensures begun { OnOk result (HasBegun adj.now.graph adj.now.levels levels.now level v counts.old.items counts.new.items) }
+    ensures begun { OnOk result (HasBegun adj.now.graph adj.now.levels level v own counts.old.items counts.new.items) }
     ensures sized { OnOk result (length queue.new ≡ length queue.old) }
     ensures waiting { OnOk result (AreWaiting adj.now.graph.vertices adj.now.levels (level + 1) queue.new) }
     ensures still { OnOk result (StillWait queue.old queue.new) }
     ensures noted { OnOk result (AreNoted adj.now.graph.vertices adj.now.levels (level + 1) most counts.new.items queue.new) }
     ensures places { OnOk result (length meetings.new ≡ length meetings.old) }
     ensures meetings { OnOk result ((k : ℕ) → slice_index_or meetings.new k [] ≡ slice_index_or meetings.old k [] ++ meetings_on adj.now.graph adj.now.levels level v k (neighbours_of v adj.now.graph.edges)) }
-    ensures cost { OnOk result (steps.new ≡ steps.old + length (neighbours_of v adj.now.graph.edges)) }
 {
     let _n = adj.graph().vertices();
-    let mut own = 0;
-    for w in adj.graph().neighbours(v) {
-        steps.tick();
-        own += u32::from(levels.get(*w) > level);
+    for w in above {
         let other = adj.level(*w);
-        if other > level {
-            if other == level + 1 {
-                meet(counts, queue, level + 1, most, *w)?;
-            }
-            meetings.file(
-                other,
-                Meeting {
-                    riser: v,
-                    other: *w,
-                },
-            )?;
+        if other == level + 1 {
+            meet(counts, queue, level + 1, most, *w)?;
         }
+        meetings.file(
+            other,
+            Meeting {
+                riser: v,
+                other: *w,
+            },
+        )?;
     }
     counts[v as usize] = own;
     Ok(())
 }
 
-/// Those in the list begin to rise from the level: each counts its neighbours above the level afresh, those of them on the next
-/// level count one more each and wait where they have more than `most`, and the meetings to come are filed.
-pub fn begin<L: Ledger>(
+// So many of the vertices, from this place on.
+fn run_of(vertices: &[u32], start: usize, count: usize) -> &[u32]
+    requires { start + count ≤ length vertices.now }
+    ensures { result.now ≡ take count (drop start vertices.now) }
+{
+    &vertices[start..start + count]
+}
+
+/// Those in the list begin to rise from the level: each counts its neighbours above the level afresh, those of them that stood on
+/// the next level count one more each and wait where they have more than `most`, and the meetings to come are filed.
+///
+/// First their neighbours are passed over, by threads where the list is long (`Rounds::gather`); then what was found is written
+/// down.
+pub fn begin<R: Threads + Sync, G: Gate + Sync, L: Ledger>(
+    rounds: &Rounds<R, G>,
     adj: &LevelAdj,
     levels: &Levels,
     counts: &mut Vec<u32>,
@@ -254,8 +300,16 @@ pub fn begin<L: Ledger>(
     ensures cost { OnOk result (steps.new ≡ steps.old + degrees adj.now.graph risers.now) }
 {
     let _n = adj.graph().vertices();
-    for v in risers {
-        begin_one(adj, levels, counts, queue, meetings, level, most, *v, steps)?;
+    let gathered = rounds.gather(risers, &Beginning { adj, levels, level })?;
+    let mut start = 0;
+    for i in 0..risers.len() {
+        let v = risers[i];
+        let own = gathered.numbers[i];
+        let count = gathered.lengths[i];
+        let above = run_of(&gathered.found, start, count);
+        begin_one(adj, counts, queue, meetings, level, most, v, own, above)?;
+        start += count;
+        steps.add(adj.graph().neighbours(v).len());
     }
     Ok(())
 }

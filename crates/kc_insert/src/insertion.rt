@@ -35,14 +35,16 @@ pub struct Tally {
 ///
 /// Goes through the levels once, from the lowest up. Each level is a round: those have to rise from it who count more neighbours
 /// there or above than its group allows. Up to `workers` threads (`Rounds`) find them, among those who came up to the level and
-/// then among those who stood on it and had an edge come in or a neighbour come up. The answer doesn't depend on `workers` nor
-/// on what the gate does. The first list that isn't empty is cut into as many pieces as there are workers, or fewer where it is
-/// short, and later short ones into fewer.
+/// then among those who stood on it and had an edge come in or a neighbour come up, and pass over the neighbours of those who
+/// begin to rise. The answer doesn't depend on `workers` nor on what the gate does. The first list that is tested and isn't
+/// empty is cut into as many pieces as there are workers, or fewer where it is short, and later short ones into fewer.
 ///
-/// Besides its passes a vertex that rises costs a few looks on each level on its way, and at most two looks, which count no
+/// Besides its passes a vertex that rises costs a few looks on each level on its way, and at most three looks, which count no
 /// steps, for each neighbour that stood above it when it began. Takes memory for a copy of the levels and of one count a
-/// vertex, two lists for each level up to the top, the vertices that wait or rose, and 8 bytes for each such neighbour. So a
-/// phase has one pass over all vertices and one over all levels; all else depends on the edges and on who rises.
+/// vertex, two lists for each level up to the top, the vertices that wait or rose, and 8 bytes for each such neighbour; and on
+/// one level at a time, 12 bytes for each vertex that begins there and 4 for each neighbour above it, or twice as much with
+/// several workers, room for growth aside. So a phase has one pass over all vertices and one over all levels; all else depends
+/// on the edges and on who rises.
 pub fn insert_rounds<R: Threads + Sync, G: Gate + Sync, L: Ledger>(
     rt: &R,
     alloc: Global,

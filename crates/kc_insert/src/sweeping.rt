@@ -161,6 +161,7 @@ fn raise_level<R: Threads + Sync, G: Gate + Sync, L: Ledger>(
         sweep.meetings.on(level + 1),
     )?;
     begin(
+        rounds,
         adj,
         &sweep.levels,
         &mut sweep.counts,

@@ -19,15 +19,15 @@ pub trait RoundTest {
         ensures { result ≡ keeps self.now v };
 }
 
-// The length of the pieces: the least with which there are no more pieces than workers.
-fn piece_size(candidates: usize, workers: u32) -> usize
+/// The length of the pieces: the least with which there are no more pieces than workers.
+pub fn piece_size(items: usize, workers: u32) -> usize
     requires few_workers { 1 ≤ workers }
-    requires some { 0 < candidates }
+    requires some { 0 < items }
     ensures positive { 0 < result }
-    ensures enough { candidates ≤ workers * result }
-    ensures least { workers * (result - 1) < candidates }
+    ensures enough { items ≤ workers * result }
+    ensures least { workers * (result - 1) < items }
 {
-    candidates.div_ceil(workers as usize)
+    items.div_ceil(workers as usize)
 }
 
 // The number of the piece that begins at this place, counted from 0.

@@ -1,18 +1,23 @@
 ghost use Rattle.std.specs.Prelude.{◌≡◌, ◌≤◌, ◌<◌, All, IfOk, filter};
+ghost use Rattle.kc_rounds.specs.Gathering.{AreGathered};
 
-use crate::{Gate, RoundTest, filter_round};
+use crate::gathering::gather_round;
+use crate::{Gate, Gathered, RoundGather, RoundTest, filter_round};
 use std::alloc::{AllocError, Global};
 use std::thread::Threads;
 
-// A list is cut into no piece shorter than this, but in a phase's first round: to start a thread and to join it costs as much
-// as some tens of thousands of tests.
-const LEAST_PIECE: usize = 131_072;
+// A list of tests is cut into no more pieces than it has full ones of this length, but in a phase's first round: to start a
+// thread and to join it costs as much as some tens of thousands of tests.
+const LEAST_TESTS: usize = 131_072;
+
+// The like for a list at whose vertices is gathered: that is a pass over neighbours, and costs far more than a test.
+const LEAST_GATHERED: usize = 2_048;
 
 /// The rounds of one phase, one after the other, with the workers that they may use.
 ///
 /// The first round that has candidates goes to all workers: `filter_round` cuts it into as many pieces, or fewer where there
-/// are few candidates. In later rounds a short list goes to fewer workers, down to one, since a thread costs more than the
-/// tests that it would take over. No answer depends on it.
+/// are few candidates. In later rounds, and where it is gathered, a short list goes to fewer workers, down to one, since a
+/// thread costs more than the work that it would take over. No answer depends on it.
 #[derive(Drop)]
 pub struct Rounds<'a, R, G> {
     rt: &'a R,
@@ -24,14 +29,15 @@ pub struct Rounds<'a, R, G> {
     ghost few_workers: { (1 ≤ workers) × (workers ≤ 64) },
 }
 
-// How many workers test a list of this length.
-fn workers_for(workers: u32, candidates: usize, is_first: bool) -> u32
-    requires { 1 ≤ workers }
+// How many of the workers share a list: one for each full `least_piece` items, at least one.
+fn workers_for(workers: u32, items: usize, least_piece: usize) -> u32
+    requires some_workers { 1 ≤ workers }
+    requires some_length { 1 ≤ least_piece }
     ensures some { 1 ≤ result }
     ensures few { result ≤ workers }
 {
-    let long_pieces = candidates / LEAST_PIECE;
-    if is_first || workers as usize <= long_pieces {
+    let long_pieces = items / least_piece;
+    if workers as usize <= long_pieces {
         workers
     } else if long_pieces == 0 {
         1
@@ -63,8 +69,26 @@ impl<'a, R: Threads + Sync, G: Gate + Sync> Rounds<'a, R, G> {
         requires { All (F.may_ask test.now) candidates.now }
         ensures { IfOk result (λ v. v.items ≡ filter (F.keeps test.now) candidates.now) }
     {
-        let workers = workers_for(self.workers, candidates.len(), self.is_first);
+        let workers = if self.is_first {
+            self.workers
+        } else {
+            workers_for(self.workers, candidates.len(), LEAST_TESTS)
+        };
         self.is_first = self.is_first && candidates.is_empty();
         filter_round(self.rt, self.alloc, self.gate, workers, candidates, test)
+    }
+
+    /// What is gathered at each of the vertices, in order (`AreGathered`). The list is cut into no more pieces than there are
+    /// workers, and no more than it has full 2,048s; a shorter list goes to one. No gate is told. The error is want of memory.
+    pub fn gather<F: RoundGather + Sync>(
+        &self,
+        vertices: &[u32],
+        what: &F,
+    ) -> Result<Gathered, AllocError>
+        requires { All (F.may_gather what.now) vertices.now }
+        ensures { IfOk result (AreGathered (F.number what.now) (F.finds what.now) vertices.now) }
+    {
+        let workers = workers_for(self.workers, vertices.len(), LEAST_GATHERED);
+        gather_round(self.rt, self.alloc, workers, vertices, what)
     }
 }

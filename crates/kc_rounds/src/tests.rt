@@ -1,4 +1,6 @@
-use crate::{Gate, OpenGate, RoundTest, Rounds, Spot, filter_round};
+use crate::gathering::gather_round;
+use crate::{Gate, OpenGate, RoundGather, RoundTest, Rounds, Spot, filter_round};
+use std::alloc::AllocError;
 use std::cell::Cell;
 use std::sync::atomic::Ordering::SeqCst;
 use std::sync::atomic::{AtomicBool, AtomicU64};
@@ -169,5 +171,164 @@ fn later_short_rounds_have_one_piece(rt: HostRuntime) -> Result<(), Fail> {
     let long = vec![in rt.alloc(); 4; 300_000]?;
     assert!(rt; rounds.movers(&long, &Odd)?.is_empty());
     assert_eq!(rt; gate.pieces.load(SeqCst), 0x010203);
+    Ok(())
+}
+
+// At an odd number its double, and itself; at an even one the same number, and nothing.
+struct Doubles;
+
+impl RoundGather for Doubles {
+    ghost use Rattle.std.specs.Prelude.{◌*◌, ◌%◌, ◌<◌, ◌∷◌, [], cond, nat_eq};
+
+    ghost number = { λ _ v. cond (nat_eq (v % 2) 1) (2 * v) v };
+
+    ghost finds = { λ _ v. cond (nat_eq (v % 2) 1) (v ∷ []) [] };
+
+    ghost may_gather = { λ _ v. v < 1000 };
+
+    fn room(&self, _v: u32) -> usize {
+        1
+    }
+
+    fn gather(&self, v: u32, found: &mut Vec<u32>) -> Result<u32, AllocError> {
+        if v % 2 == 1 {
+            found.push(v)?;
+            return Ok(2 * v);
+        }
+        Ok(v)
+    }
+}
+
+#[test]
+fn gathered_in_order_by_any_workers(rt: HostRuntime) -> Result<(), Fail> {
+    for workers in [1, 2, 3, 4, 5, 64] {
+        let all = gather_round(&rt, rt.alloc(), workers, &[7, 2, 4, 9, 6], &Doubles)?;
+        assert_eq!(rt; all.numbers.as_slice(), [14, 2, 4, 18, 6].as_slice());
+        assert_eq!(rt; all.lengths.as_slice(), [1, 0, 0, 1, 0].as_slice());
+        assert_eq!(rt; all.found.as_slice(), [7, 9].as_slice());
+    }
+    Ok(())
+}
+
+#[test]
+fn nothing_is_gathered_at_none(rt: HostRuntime) -> Result<(), Fail> {
+    let gate = OpenGate::new();
+    let rounds = Rounds::new(&rt, rt.alloc(), &gate, 64);
+    let all = rounds.gather(&[], &Doubles)?;
+    assert!(rt; all.numbers.is_empty());
+    assert!(rt; all.lengths.is_empty());
+    assert!(rt; all.found.is_empty());
+    Ok(())
+}
+
+// Finds each vertex at itself, and counts its calls, and those of them that are the first of a piece.
+#[derive(Drop)]
+struct Counting {
+    calls: AtomicU64,
+    pieces: AtomicU64,
+}
+
+impl RoundGather for Counting {
+    ghost use Rattle.std.specs.Prelude.{◌∷◌, []};
+
+    ghost number = { λ _ v. v };
+
+    ghost finds = { λ _ v. v ∷ [] };
+
+    ghost may_gather = { λ _ _. Unit {0} };
+
+    fn room(&self, _v: u32) -> usize {
+        1
+    }
+
+    fn gather(&self, v: u32, found: &mut Vec<u32>) -> Result<u32, AllocError> {
+        self.calls.fetch_add(1, SeqCst);
+        if found.is_empty() {
+            self.pieces.fetch_add(1, SeqCst);
+        }
+        found.push(v)?;
+        Ok(v)
+    }
+}
+
+#[test]
+fn each_vertex_has_one_turn(rt: HostRuntime) -> Result<(), Fail> {
+    for (workers, pieces) in [(1, 1), (2, 2), (3, 3), (4, 3), (5, 5), (64, 5)] {
+        let what = Counting {
+            calls: AtomicU64::new(0),
+            pieces: AtomicU64::new(0),
+        };
+        gather_round(&rt, rt.alloc(), workers, &[1, 2, 3, 4, 5], &what)?;
+        assert_eq!(rt; what.calls.load(SeqCst), 5);
+        assert_eq!(rt; what.pieces.load(SeqCst), pieces);
+    }
+    Ok(())
+}
+
+#[test]
+fn short_lists_are_gathered_by_few(rt: HostRuntime) -> Result<(), Fail> {
+    let gate = Told::new();
+    let rounds = Rounds::new(&rt, rt.alloc(), &gate, 64);
+    for (vertices, pieces) in [(1, 1), (4095, 1), (4096, 2), (6144, 3)] {
+        let what = Counting {
+            calls: AtomicU64::new(0),
+            pieces: AtomicU64::new(0),
+        };
+        let list = vec![in rt.alloc(); 3u32; vertices]?;
+        rounds.gather(&list, &what)?;
+        assert_eq!(rt; what.calls.load(SeqCst), vertices as u64);
+        assert_eq!(rt; what.pieces.load(SeqCst), pieces);
+    }
+    assert_eq!(rt; gate.pieces.load(SeqCst), 0);
+    assert_eq!(rt; gate.others.load(SeqCst), 0);
+    Ok(())
+}
+
+// Holds at vertex 1 until vertex 5 has its turn, for at most so many turns.
+#[derive(Drop)]
+struct HoldingGather {
+    seen: AtomicBool,
+    turns_left: AtomicU64,
+}
+
+impl RoundGather for HoldingGather {
+    ghost use Rattle.std.specs.Prelude.{[]};
+
+    ghost number = { λ _ v. v };
+
+    ghost finds = { λ _ _. [] };
+
+    ghost may_gather = { λ _ _. Unit {0} };
+
+    fn room(&self, _v: u32) -> usize {
+        0
+    }
+
+    fn gather(&self, v: u32, _found: &mut Vec<u32>) -> Result<u32, AllocError> {
+        if v == 5 {
+            self.seen.store(true, SeqCst);
+        }
+        if v == 1 {
+            for turn in 0..TURNS {
+                if self.seen.load(SeqCst) {
+                    self.turns_left.store(TURNS - turn, SeqCst);
+                    return Ok(v);
+                }
+                thread::yield_now();
+            }
+        }
+        Ok(v)
+    }
+}
+
+#[test]
+fn pieces_are_gathered_at_the_same_time(rt: HostRuntime) -> Result<(), Fail> {
+    let what = HoldingGather {
+        seen: AtomicBool::new(false),
+        turns_left: AtomicU64::new(0),
+    };
+    let all = gather_round(&rt, rt.alloc(), 2, &[1, 2, 3, 4, 5], &what)?;
+    assert_eq!(rt; all.numbers.as_slice(), [1, 2, 3, 4, 5].as_slice());
+    assert!(rt; what.turns_left.load(SeqCst) > 0);
     Ok(())
 }

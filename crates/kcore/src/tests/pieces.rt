@@ -1,8 +1,13 @@
 // A run whose rounds go to several workers.
+ghost use Rattle.std.specs.Prelude.{◌+◌, ◌≤◌};
+
+use super::answer;
 use crate::status::Status;
+use crate::stop::Stop;
 use crate::top::run_command;
 use kc_rounds::{Gate, Spot};
-use kc_text::{MemSink, MemSource, Words};
+use kc_text::{LineBuf, MemSink, MemSource, Words};
+use std::alloc::Global;
 use std::sync::atomic::Ordering::SeqCst;
 use std::sync::atomic::{AtomicBool, AtomicU64};
 use std::test::Fail;
@@ -55,5 +60,56 @@ fn a_first_round_has_two_pieces_at_once(rt: HostRuntime) -> Result<(), Fail> {
     let status = run_command(&rt, rt.alloc(), &words, &mut source, &mut sink, &gate);
     assert_eq!(rt; status, Status::Done);
     assert!(rt; gate.turns_left.load(SeqCst) > 0);
+    Ok(())
+}
+
+// Writes a line for each of the first `count` vertices, that joins it to the vertex so many further.
+fn write_pairs(
+    alloc: Global,
+    line: &mut LineBuf,
+    sink: &mut MemSink,
+    count: u32,
+    further: u32,
+) -> Result<(), Stop>
+    requires { count + further ≤ 20_000 }
+{
+    for v in 0..count {
+        line.number(alloc, v)?;
+        line.text(alloc, b" ")?;
+        line.number(alloc, v + further)?;
+        line.send(alloc, sink)?;
+    }
+    Ok(())
+}
+
+// In the first batch 6,144 vertices begin to rise at once, in the second 12,288 that have a neighbour above them: lists that
+// go to threads.
+fn write_long_rounds(alloc: Global, sink: &mut MemSink) -> Result<(), Stop> {
+    let mut line = LineBuf::new(alloc);
+    line.text(alloc, b"kcore 1\nvertices 18432\nbatch")?;
+    line.send(alloc, sink)?;
+    write_pairs(alloc, &mut line, sink, 3072, 3072)?;
+    line.text(alloc, b"end\nbatch")?;
+    line.send(alloc, sink)?;
+    write_pairs(alloc, &mut line, sink, 6144, 6144)?;
+    write_pairs(alloc, &mut line, sink, 6144, 12_288)?;
+    line.text(alloc, b"end")?;
+    line.send(alloc, sink)?;
+    Ok(())
+}
+
+#[test]
+fn long_rounds_give_one_text(rt: HostRuntime) -> Result<(), Fail> {
+    let mut input = MemSink::new(rt.alloc(), 16_777_216, 1000, &[])?;
+    assert!(rt; write_long_rounds(rt.alloc(), &mut input).is_ok());
+    let (status, one) = answer(&rt, rt.alloc(), "run 1", input.bytes(), 1000, (&[], &[]))?;
+    assert_eq!(rt; status, Status::Done);
+    let last = b"vertex 18431 level 1 est 2 low 1 high 2 up 1 down 1\nend\n";
+    assert!(rt; one.as_slice().ends_with(last));
+    for line in ["run 2", "run 3", "run 64"] {
+        let (status, text) = answer(&rt, rt.alloc(), line, input.bytes(), 1000, (&[], &[]))?;
+        assert_eq!(rt; status, Status::Done);
+        assert_eq!(rt; text.as_slice(), one.as_slice());
+    }
     Ok(())
 }

@@ -1,30 +1,62 @@
-use Rattle.std.proofs.Common.{◌≡◌, ◌<◌, ◌+◌, get_or, length, cond, ltb, arith}
-use Rattle.kc_insert.proofs.Beginning.{above_one, beginning_past, beginning_over, beginning_next, begun}
+use Rattle.std.proofs.Common.{◌≡◌, ◌<◌, ◌+◌, get_or, length, arith}
+use Rattle.kc_insert.proofs.Arriving.{noting_first}
+use Rattle.kc_insert.proofs.Beginning.{beginning_first, beginning_over, beginning_next, few_more, begun, begun_noting, begun_filed, stood_at}
 use Rattle.kc_insert.proofs.counting.begin_one.Goals as goal
-use Rattle.kc_insert.proofs.counting.begin_one.Goals.{then-other-level+in_ok-file, then-other-level-2+in_ok-meet, else-other-level-2, else-other-level}
+use Rattle.kc_insert.proofs.counting.begin_one.Goals.{then-other-level+in_ok-meet, else-other-level}
+
+pub loop-w-init : goal.loop-w-init
+loop-w-init c = beginning_first _ _ _ _ _ _ _ _ _ c.requires.graph c.requires.above c.requires.counts (noting_first _ _ _ _ _ _ c.requires.waiting c.requires.noted)
+
+pub level-other-requires : goal.level-other-requires
+level-other-requires c = (stood_at _ _ _ _ _ _ c.requires.graph c.requires.above c.loop-w-test.true).0
+
+pub meet-requires-clause-vertex : goal.meet-requires-clause-vertex
+meet-requires-clause-vertex c = omega (arith, (stood_at _ _ _ _ _ _ c.requires.graph c.requires.above c.loop-w-test.true).0, c.loop-w.invariant.counts_more.sized)
+
+pub meet-requires-clause-small : goal.meet-requires-clause-small
+meet-requires-clause-small c =
+    let low = (stood_at _ _ _ _ _ _ c.requires.graph c.requires.above c.loop-w-test.true).0 in
+    let few = few_more _ _ _ _ _ _ _ _ c.loop-w.invariant.counts_more (c.requires.few _ low (rw c.level-other.ensures at c.if-other-level.true)) in
+    omega (arith, few, rw c.graph.ensures at c.vertices-n.ensures.small)
+
+pub meet-requires-clause-room : goal.meet-requires-clause-room
+meet-requires-clause-room c = omega (arith, c.requires.room, c.loop-w.invariant.noting.sized)
+
+pub file-requires : goal.file-requires
+file-requires c = omega (arith, c.level-other.ensures, c.requires.places _ (stood_at _ _ _ _ _ _ c.requires.graph c.requires.above c.loop-w-test.true).0, c.loop-w.invariant.filing.sized)
 
 pub loop-w-preserved : goal.loop-w-preserved
-loop-w-preserved g c =
-    let low : get_or c.neighbours-w-items.result.now c.loop-w.w-index 0 < c.args.adj.now.graph.vertices = rw c.graph-2.ensures at (c.neighbours-w-items.ensures.below c.loop-w.w-index 0 (omega arith)) in
-    let inside : get_or c.args.adj.now.levels (get_or c.neighbours-w-items.result.now c.loop-w.w-index 0) 0 < length c.args.meetings.now = c.requires.places (get_or c.neighbours-w-items.result.now c.loop-w.w-index 0) low in
-    let on : c.level-other.result ≡ c.args.level + 1 → get_or c.args.adj.now.levels (get_or c.neighbours-w-items.result.now c.loop-w.w-index 0) 0 ≡ c.args.level + 1 = λ e. rw c.level-other.ensures at e in
-    let back : get_or c.args.adj.now.levels (get_or c.neighbours-w-items.result.now c.loop-w.w-index 0) 0 ≡ c.args.level + 1 → c.level-other.result ≡ c.args.level + 1 = λ e. rw c.level-other.ensures e in
-    let one : c.from-own.result ≡ cond (ltb c.args.level (get_or c.args.levels.now (get_or c.neighbours-w-items.result.now c.loop-w.w-index 0) 0)) 1 0 = above_one _ c.args.level c.get.result _ c.get.ensures (λ e. rw e at c.from-own.ensures) (λ e. rw e at c.from-own.ensures) in (
-      elim c.if-other-level.branch [
-        | then-other-level+in_ok-file w ↦ elim w.if-other-level-2.branch [
-          | then-other-level-2+in_ok-meet w' ↦
-              rw (w.counts-is, w.queue-is, w.meetings-is, w'.counts-is, w'.queue-is, w.in_ok-file.ensures, w'.in_ok-meet.ensures.counts, w'.in_ok-meet.ensures.queue, c.level-other.ensures)
-              (beginning_next _ _ _ _ _ _ c.loop-w.w-index c.neighbours-w-items.result.now c.loop-w.own _ _ _ _ _ _ (omega arith) low c.loop-w.invariant.0 c.from-own.result one (on w'.if-other-level-2.true) c.requires.room inside)
-          | else-other-level-2 w' ↦
-              rw (w.counts-is, w.queue-is, w.meetings-is, w'.counts-is, w'.queue-is, w.in_ok-file.ensures, c.level-other.ensures)
-              (beginning_over _ _ _ _ _ _ c.loop-w.w-index c.neighbours-w-items.result.now c.loop-w.own _ _ _ _ _ _ (omega arith) low c.loop-w.invariant.0 c.from-own.result one (omega (arith, w.if-other-level.true, c.level-other.ensures)) (λ e. w'.if-other-level-2.false (back e)) inside)
-        ]
-        | else-other-level w ↦
-            rw (w.counts-is, w.queue-is, w.meetings-is)
-            (beginning_past _ _ _ _ _ _ c.loop-w.w-index c.neighbours-w-items.result.now c.loop-w.own _ _ _ _ _ _ (omega arith) low c.loop-w.invariant.0 c.from-own.result one (omega (arith, w.if-other-level.false, c.level-other.ensures)))
-      ],
-      omega (arith, c.loop-w.invariant.1),
-    )
+loop-w-preserved c =
+    let there = stood_at _ _ _ _ _ _ c.requires.graph c.requires.above c.loop-w-test.true in
+    let inside : get_or c.args.adj.now.levels (get_or c.args.above.now c.loop-w.w-index 0) 0 < length c.args.meetings.now = c.requires.places _ there.0 in
+    let on : c.level-other.result ≡ c.args.level + 1 → get_or c.args.adj.now.levels (get_or c.args.above.now c.loop-w.w-index 0) 0 ≡ c.args.level + 1 = λ e. rw c.level-other.ensures at e in
+    let back : get_or c.args.adj.now.levels (get_or c.args.above.now c.loop-w.w-index 0) 0 ≡ c.args.level + 1 → c.level-other.result ≡ c.args.level + 1 = λ e. rw c.level-other.ensures e in
+    elim c.if-other-level.branch [
+      | then-other-level+in_ok-meet w ↦
+          rw (c.in_ok-file.ensures, w.counts-is, w.queue-is, w.in_ok-meet.ensures.counts, w.in_ok-meet.ensures.queue, c.level-other.ensures)
+          (beginning_next _ _ _ _ _ c.loop-w.w-index _ _ _ _ _ _ _ c.loop-w-test.true there.0 there.1 c.loop-w.invariant (on w.if-other-level.true) c.requires.room inside)
+      | else-other-level w ↦
+          rw (c.in_ok-file.ensures, w.counts-is, w.queue-is, c.level-other.ensures)
+          (beginning_over _ _ _ _ _ c.loop-w.w-index _ _ _ _ _ _ _ c.loop-w-test.true there.0 there.1 c.loop-w.invariant (λ e. w.if-other-level.false (back e)) inside)
+    ]
 
 pub returns-clause-begun : goal.returns-clause-begun
-returns-clause-begun g c = begun _ _ _ _ _ _ c.loop-w.w-index c.neighbours-w-items.result.now c.loop-w.own _ _ _ _ _ _ (omega arith) (rw c.graph-2.ensures at c.neighbours-w-items.ensures.value) c.requires.vertex c.loop-w.invariant.0
+returns-clause-begun c = begun _ _ _ _ _ c.loop-w.w-index c.args.own _ _ _ _ _ _ _ (omega arith) c.requires.above c.requires.vertex c.loop-w.invariant
+
+pub returns-clause-sized : goal.returns-clause-sized
+returns-clause-sized c = c.loop-w.invariant.noting.sized
+
+pub returns-clause-waiting : goal.returns-clause-waiting
+returns-clause-waiting c = c.loop-w.invariant.noting.waiting
+
+pub returns-clause-still : goal.returns-clause-still
+returns-clause-still c = c.loop-w.invariant.noting.still
+
+pub returns-clause-noted : goal.returns-clause-noted
+returns-clause-noted c = (begun_noting _ _ _ _ _ c.loop-w.w-index c.args.own _ _ _ _ _ _ _ (omega arith) c.requires.above c.requires.vertex c.loop-w.invariant c.requires.begins).noted
+
+pub returns-clause-places : goal.returns-clause-places
+returns-clause-places c = c.loop-w.invariant.filing.sized
+
+pub returns-clause-meetings : goal.returns-clause-meetings
+returns-clause-meetings c = begun_filed _ _ _ _ _ c.loop-w.w-index c.args.own _ _ _ _ _ _ _ (omega arith) c.requires.above c.requires.vertex c.loop-w.invariant

@@ -1,8 +1,6 @@
-use Rattle.std.proofs.Common.{◌≡◌, ◌+◌, drop}
+use Rattle.std.proofs.Common.{drop}
 use Rattle.kc_insert.proofs.Beginning.{IsBeginning}
 use Rattle.kc_insert.proofs.counting.begin_one.Given as goal
 
 abbrev pub invariant-loop-w : goal.invariant-loop-w
-invariant-loop-w g l =
-    IsBeginning l.adj.graph l.adj.levels l.levels l.level l.v l.most l.w-items (drop l.w-index l.w-items) l.own l.initial.counts.items l.counts.items l.initial.queue l.queue l.initial.meetings l.meetings
-    × (l.steps ≡ l.initial.steps + l.w-index)
+invariant-loop-w l = IsBeginning l.adj.graph l.adj.levels l.level l.v l.most l.above (drop l.w-index l.above) l.initial.counts.items l.counts.items l.initial.queue l.queue l.initial.meetings l.meetings

@@ -96,33 +96,33 @@ come_up-requires-clause-noted g c =
     rw (c.part.ensures.settled, c.take_all-waiting.ensures.left) (next_noted _ _ _ _ _ _ _ _ _ _ _ _ _ _ c.requires.sweeping t.up_is t.begun_is t.z_is _ (ap (λ vs. settled_at c.args.adj.now.levels c.lift_off.new.levels c.args.level vs) c.deref-6.ensures.value) c.high-above.result c.leave_behind.new.counts.items c.part.new.counts.items above_is c.leave_behind.ensures c.part.ensures.seen)
 
 pub begin-requires-clause-sized : goal.begin-requires-clause-sized
-begin-requires-clause-sized g c =
+begin-requires-clause-sized g c κs within =
     let t = step_from c.args.sweep.now.levels c.args.sweep.now.counts.items c.args.sweep.now.rising.items c.args.sweep.now.queue c.args.level c.high-most.result c.in_ok-going.going.items c.in_ok-begun.begun.items c.in_ok-starting.starting.items c.take_all-waiting.result.items c.go_up.new.levels c.lift_off.new.levels _ _ _ _ c.in_ok-going.ensures c.deref.ensures.value c.in_ok-starting.ensures c.deref-2.ensures.value c.take_all-waiting.ensures.taken c.go_up.ensures c.deref-3.ensures.value c.in_ok-begun.ensures.levels c.in_ok-begun.ensures.same c.deref-4.ensures.value in
     rw c.part.ensures.settled (ap (λ x. length x) t.z_is ∙ length-all_at _ c.in_ok-begun.begun.items (c.args.level + 1) ∙ length-all_at c.args.sweep.now.levels c.in_ok-going.going.items (c.args.level + 1) ∙ c.requires.sweeping.sized)
 
 pub begin-requires-clause-vertices : goal.begin-requires-clause-vertices
-begin-requires-clause-vertices g c =
+begin-requires-clause-vertices g c κs within =
     let t = step_from c.args.sweep.now.levels c.args.sweep.now.counts.items c.args.sweep.now.rising.items c.args.sweep.now.queue c.args.level c.high-most.result c.in_ok-going.going.items c.in_ok-begun.begun.items c.in_ok-starting.starting.items c.take_all-waiting.result.items c.go_up.new.levels c.lift_off.new.levels _ _ _ _ c.in_ok-going.ensures c.deref.ensures.value c.in_ok-starting.ensures c.deref-2.ensures.value c.take_all-waiting.ensures.taken c.go_up.ensures c.deref-3.ensures.value c.in_ok-begun.ensures.levels c.in_ok-begun.ensures.same c.deref-4.ensures.value in
     λ v there. rw c.part.ensures.settled (begins _ _ _ _ _ _ _ _ _ _ _ _ _ _ c.requires.sweeping t.up_is t.begun_is t.z_is v (ap (has_number v) (sym c.deref-7.ensures.value) ∙ there)).0
 
 pub begin-requires-clause-begins : goal.begin-requires-clause-begins
-begin-requires-clause-begins g c =
+begin-requires-clause-begins g c κs within =
     let t = step_from c.args.sweep.now.levels c.args.sweep.now.counts.items c.args.sweep.now.rising.items c.args.sweep.now.queue c.args.level c.high-most.result c.in_ok-going.going.items c.in_ok-begun.begun.items c.in_ok-starting.starting.items c.take_all-waiting.result.items c.go_up.new.levels c.lift_off.new.levels _ _ _ _ c.in_ok-going.ensures c.deref.ensures.value c.in_ok-starting.ensures c.deref-2.ensures.value c.take_all-waiting.ensures.taken c.go_up.ensures c.deref-3.ensures.value c.in_ok-begun.ensures.levels c.in_ok-begun.ensures.same c.deref-4.ensures.value in
     λ v there. rw c.part.ensures.settled (begin_there _ _ _ _ _ _ _ _ _ _ _ _ _ _ c.requires.sweeping t.up_is t.begun_is t.z_is _ (ap (λ vs. settled_at c.args.adj.now.levels c.lift_off.new.levels c.args.level vs) c.deref-6.ensures.value) v (ap (has_number v) (sym c.deref-7.ensures.value) ∙ there))
 
 pub begin-requires-clause-up : goal.begin-requires-clause-up
-begin-requires-clause-up g c =
+begin-requires-clause-up g c κs within =
     let t = step_from c.args.sweep.now.levels c.args.sweep.now.counts.items c.args.sweep.now.rising.items c.args.sweep.now.queue c.args.level c.high-most.result c.in_ok-going.going.items c.in_ok-begun.begun.items c.in_ok-starting.starting.items c.take_all-waiting.result.items c.go_up.new.levels c.lift_off.new.levels _ _ _ _ c.in_ok-going.ensures c.deref.ensures.value c.in_ok-starting.ensures c.deref-2.ensures.value c.take_all-waiting.ensures.taken c.go_up.ensures c.deref-3.ensures.value c.in_ok-begun.ensures.levels c.in_ok-begun.ensures.same c.deref-4.ensures.value in
     λ v there. (begins _ _ _ _ _ _ _ _ _ _ _ _ _ _ c.requires.sweeping t.up_is t.begun_is t.z_is v (ap (has_number v) (sym c.deref-7.ensures.value) ∙ there)).3
 
 pub begin-requires-clause-places : goal.begin-requires-clause-places
-begin-requires-clause-places g c =
+begin-requires-clause-places g c κs within =
     let t = step_from c.args.sweep.now.levels c.args.sweep.now.counts.items c.args.sweep.now.rising.items c.args.sweep.now.queue c.args.level c.high-most.result c.in_ok-going.going.items c.in_ok-begun.begun.items c.in_ok-starting.starting.items c.take_all-waiting.result.items c.go_up.new.levels c.lift_off.new.levels _ _ _ _ c.in_ok-going.ensures c.deref.ensures.value c.in_ok-starting.ensures c.deref-2.ensures.value c.take_all-waiting.ensures.taken c.go_up.ensures c.deref-3.ensures.value c.in_ok-begun.ensures.levels c.in_ok-begun.ensures.same c.deref-4.ensures.value in
     let room : c.args.level < top_level c.args.th.now.profile c.args.adj.now.graph.vertices = rw c.requires.scale at c.requires.room in
     rw (c.part.ensures.settled, c.take_all-met.ensures.left) (places_on _ _ _ _ _ _ _ _ _ _ _ _ _ _ c.requires.sweeping t.up_is t.begun_is t.z_is _ (ap (λ vs. settled_at c.args.adj.now.levels c.lift_off.new.levels c.args.level vs) c.deref-6.ensures.value) room)
 
 pub begin-requires-clause-unlisted : goal.begin-requires-clause-unlisted
-begin-requires-clause-unlisted g c =
+begin-requires-clause-unlisted g c κs within =
     let t = step_from c.args.sweep.now.levels c.args.sweep.now.counts.items c.args.sweep.now.rising.items c.args.sweep.now.queue c.args.level c.high-most.result c.in_ok-going.going.items c.in_ok-begun.begun.items c.in_ok-starting.starting.items c.take_all-waiting.result.items c.go_up.new.levels c.lift_off.new.levels _ _ _ _ c.in_ok-going.ensures c.deref.ensures.value c.in_ok-starting.ensures c.deref-2.ensures.value c.take_all-waiting.ensures.taken c.go_up.ensures c.deref-3.ensures.value c.in_ok-begun.ensures.levels c.in_ok-begun.ensures.same c.deref-4.ensures.value in
     rw (c.part.ensures.settled, c.deref-7.ensures.value) (unlisted_seen _ _ _ _ _ _ _ _ _ _ _ _ _ _ c.requires.sweeping t.up_is t.begun_is t.z_is _ (ap (λ vs. settled_at c.args.adj.now.levels c.lift_off.new.levels c.args.level vs) c.deref-6.ensures.value) c.part.new.counts.items c.come_up.new.counts.items (rw c.part.ensures.settled at c.in_ok-come_up.ensures.seen))
 

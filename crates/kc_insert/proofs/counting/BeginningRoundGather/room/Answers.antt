@@ -1,0 +1,9 @@
+use Rattle.std.proofs.Common.{ℕ, Bool, length, get_or, ltb, ap, arith}
+use Rattle.std.proofs.lemmas.List.Sums.{length-filter, count_by-le-length}
+use Rattle.kc_graph.specs.Shape.{neighbours_of}
+use Rattle.kc_insert.proofs.counting.BeginningRoundGather.room.Goals as goal
+
+pub returns : goal.returns
+returns c =
+    let test : ℕ → Bool = λ w. ltb c.args.self.now.level (get_or c.args.self.now.adj.now.levels w 0) in
+    omega (arith, length-filter test (neighbours_of c.args.v c.args.self.now.adj.now.graph.edges), count_by-le-length test (neighbours_of c.args.v c.args.self.now.adj.now.graph.edges), ap length (rw c.graph.ensures at c.neighbours.ensures.value))

@@ -1,0 +1,126 @@
+ghost use Rattle.std.specs.Prelude.{◌≡◌, ◌≤◌, ◌++◌, ℕ, All, IfOk, List, OnOk, length};
+ghost use Rattle.kc_rounds.specs.Gathering.{AreGathered};
+
+use crate::filtering::piece_size;
+use std::alloc::{AllocError, Global};
+use std::thread;
+use std::thread::Threads;
+
+// How many vertices ahead room is made.
+const AHEAD: usize = 8;
+
+/// What is gathered at a vertex, by several threads at once at several: a number and some vertices.
+pub trait RoundGather {
+    /// The number at a vertex.
+    ghost number: { Self → ℕ → ℕ };
+
+    /// The vertices that are found at a vertex.
+    ghost finds: { Self → ℕ → List ℕ };
+
+    /// At which vertices may be gathered.
+    ghost may_gather: { Self → ℕ → Type 0 };
+
+    /// As many vertices as are found at `v`, or more. Is asked some vertices ahead, so that what it reads of `v` is at hand when
+    /// `v` has its turn.
+    fn room(&self, v: u32) -> usize
+        requires { may_gather self.now v }
+        ensures { length (finds self.now v) ≤ result };
+
+    /// Puts the vertices that are found at `v` last in `found`, and gives the number. The error is want of memory; what `found`
+    /// holds is then unspecified.
+    fn gather(&self, v: u32, found: &mut Vec<u32>) -> Result<u32, AllocError>
+        requires { may_gather self.now v }
+        ensures number { IfOk result (λ k. k ≡ number self.now v) }
+        ensures found { OnOk result (found.new.items ≡ found.old.items ++ finds self.now v) };
+}
+
+/// What was gathered at each of some vertices, in their order (`AreGathered`).
+#[derive(Drop)]
+pub struct Gathered {
+    /// The number at each.
+    pub numbers: Vec<u32>,
+    /// How many vertices were found at each.
+    pub lengths: Vec<usize>,
+    /// The vertices that were found, those at the first one first.
+    pub found: Vec<u32>,
+}
+
+// Gathers at the vertices of a piece, in order.
+fn gather_piece<F: RoundGather>(
+    alloc: Global,
+    piece: &[u32],
+    what: &F,
+) -> Result<Gathered, AllocError>
+    requires { All (F.may_gather what.now) piece.now }
+    ensures { IfOk result (AreGathered (F.number what.now) (F.finds what.now) piece.now) }
+{
+    let mut numbers = Vec::with_capacity(alloc, piece.len())?;
+    let mut lengths = Vec::with_capacity(alloc, piece.len())?;
+    let mut found = Vec::new(alloc);
+    for i in 0..piece.len() {
+        if piece.len() - i > AHEAD {
+            found.reserve(what.room(piece[i + AHEAD]))?;
+        }
+        let before = found.len();
+        numbers.push(what.gather(piece[i], &mut found)?)?;
+        lengths.push(found.len() - before)?;
+    }
+    Ok(Gathered {
+        numbers,
+        lengths,
+        found,
+    })
+}
+
+/// What is gathered at each of the vertices, in order, whatever the number of workers.
+///
+/// `workers` is 1 to 64, and at each vertex may be gathered. They are cut into pieces of their number divided by `workers`,
+/// rounded up, and each piece goes to a thread of its own where one can be made; with one worker no thread is started. No gate
+/// is told.
+///
+/// Gathers once at each vertex. Takes memory for the answer, and with more than one worker for one answer of each piece besides.
+/// The error is want of memory.
+pub fn gather_round<R: Threads + Sync, F: RoundGather + Sync>(
+    rt: &R,
+    alloc: Global,
+    workers: u32,
+    vertices: &[u32],
+    what: &F,
+) -> Result<Gathered, AllocError>
+    requires few_workers { (1 ≤ workers) × (workers ≤ 64) }
+    requires asked { All (F.may_gather what.now) vertices.now }
+    ensures { IfOk result (AreGathered (F.number what.now) (F.finds what.now) vertices.now) }
+{
+    if workers == 1 || vertices.is_empty() {
+        return gather_piece(alloc, vertices, what);
+    }
+    let size = piece_size(vertices.len(), workers);
+    let pieces = thread::map_chunks(
+        rt,
+        alloc,
+        vertices,
+        size,
+        &|_start: usize, piece: &[u32]| -> Result<Gathered, AllocError>
+            requires { All (F.may_gather what.now) piece.now }
+            ensures { IfOk result (AreGathered (F.number what.entry.now) (F.finds what.entry.now) piece.entry.now) }
+        { gather_piece(alloc, piece, what) },
+    )?;
+    let mut numbers = Vec::with_capacity(alloc, vertices.len())?;
+    let mut lengths = Vec::with_capacity(alloc, vertices.len())?;
+    let mut found = Vec::new(alloc);
+    for piece in &pieces {
+        match piece {
+            Ok(part) => {
+                numbers.extend_from_slice(part.numbers.as_slice())?;
+                lengths.extend_from_slice(part.lengths.as_slice())?;
+                found.extend_from_slice(part.found.as_slice())?;
+            }
+            Err(_) => return Err(AllocError),
+        }
+    }
+    Ok(Gathered {
+        numbers,
+        lengths,
+        found,
+    })
+}
