@@ -192,10 +192,13 @@ impl RoundGather for Beginning<'_> {
 
     fn gather(&self, v: u32, found: &mut Vec<u32>) -> Result<u32, AllocError> {
         let _n = self.adj.graph().vertices();
+        let level = self.level;
+        let now = self.levels.as_slice();
+        let before = self.adj.levels().as_slice();
         let mut above = 0;
         for w in self.adj.graph().neighbours(v) {
-            above += u32::from(self.levels.get(*w) > self.level);
-            if self.adj.level(*w) > self.level {
+            above += u32::from(now[*w as usize] > level);
+            if before[*w as usize] > level {
                 found.push(*w)?;
             }
         }
