@@ -6,7 +6,7 @@ use Rattle.std.proofs.lemmas.Bool.Decides.{nat_tests}
 use Rattle.std.proofs.Math.ListN.{drop_of_length-le}
 use Rattle.kc_text.specs.Numbers.{value_from, is_digit, number_of}
 
--- digits behind a value, read as long as the value is below 2 ^ 32
+-- digits after a value, read as long as the value is below 2 ^ 32
 unfoldable pub number_from : ℕ → List ℕ → Option ℕ
 number_from value [] = Some value
 number_from value (d ∷ ds) = if is_digit d && nat_lt (10 * value + (d - 48)) (2 ^ 32) then number_from (10 * value + (d - 48)) ds else None

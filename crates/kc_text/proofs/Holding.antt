@@ -34,7 +34,7 @@ same scan last n TooLong h bs = absurd h
 same scan last n Limit h bs = refl
 same scan last n End h bs = refl
 
--- behind a last line that was held back nothing changes
+-- after a last line that was held back nothing changes
 pub held_same : (scan : Scan) (last last' : Option LastLine) (held held' : Option Line) (line : Line) → held ≡ Some line → last' ≡ last_after line last → held' ≡ None → IsLast line.body
     → (bs : List ℕ) → lines_of_rest (reading scan last' held') bs ≡ lines_of_rest (reading scan last held) bs
 held_same scan last last' held held' line e f h l bs = rw (e, f, h) (same scan last line.number line.body l bs)

@@ -4,7 +4,7 @@ use Rattle.kc_text.specs.declared.line.Line.{Line}
 use Rattle.kc_text.specs.declared.line.Body.{Body}
 use Rattle.kc_text.specs.declared.line.Body.TheVariants.{Text, TooLong, Limit, End}
 
--- the lines that follow a line: none behind the last
+-- the lines that follow a line: none after the last
 abbrev pub behind : Body → List Line → List Line
 behind (Text _) rest = rest
 behind TooLong rest = rest

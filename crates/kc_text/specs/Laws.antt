@@ -10,7 +10,7 @@ use Rattle.kc_text.specs.Numbers.{number_of}
 abbrev pub HasNoEnd : List ℕ → Type 0
 HasNoEnd piece = All (λ b. b ≢ 10) piece
 
--- pieces with a line feed behind each, and then a last piece without
+-- pieces with a line feed after each, and then a last piece without
 abbrev pub joined : List (List ℕ) → List ℕ → List ℕ
 joined [] last = last
 joined (piece ∷ pieces) last = piece ++ 10 ∷ joined pieces last

@@ -16,7 +16,7 @@ body_of limit piece = if nat_le (length piece) limit then Text (without_cr piece
 abbrev pub line_of : ℕ → ℕ → List ℕ → Line
 line_of limit n piece = record { number = n; body = body_of limit piece }
 
--- where the input ends behind a piece: the piece is a line if it isn't empty
+-- where the input ends after a piece: the piece is a line if it isn't empty
 abbrev pub last_of : ℕ → ℕ → List ℕ → List Line
 last_of limit n [] = record { number = n; body = End } ∷ []
 last_of limit n (x ∷ xs) = line_of limit n (x ∷ xs) ∷ record { number = n + 1; body = End } ∷ []

@@ -7,7 +7,7 @@ use Rattle.kc_text.specs.Words.{words, words_from}
 abbrev pub is_digit : ℕ → Bool
 is_digit b = nat_le 48 b && nat_le b 57
 
--- the value of digits that stand behind others of this value
+-- the value of digits that stand after others of this value
 unfoldable pub value_from : ℕ → List ℕ → ℕ
 value_from value [] = value
 value_from value (d ∷ ds) = value_from (10 * value + (d - 48)) ds
@@ -28,7 +28,7 @@ pub record DigitsAt (line : List ℕ) (start value end : ℕ) : Type 0 where
   pub value_is : value_from 0 (slice_range line start end) ≡ value
   pub words_are : words (drop start line) ≡ words_from (slice_range line start end) (drop end line)
 
--- the first word at or after `from` says this number, and the other words lie behind its end
+-- the first word at or after `from` says this number, and the other words lie after its end
 pub record NumberAt (line : List ℕ) (from value end : ℕ) : Type 0 where
   pub word : List ℕ
   pub within : end ≤ length line

@@ -15,12 +15,12 @@ pub record Scan : Type 0 where
   pub room : ℕ
   -- the bytes that joined the open line; where they are more than `limit`, only their number counts
   pub piece : List ℕ
-  -- the bytes behind those that were read
+  -- the bytes after those that were read
   pub ready : List ℕ
   -- the source has ended
   pub ended : Bool
 
--- the bytes behind the open piece, where bs is what the source has left
+-- the bytes after the open piece, where bs is what the source has left
 abbrev pub to_come : Scan → List ℕ → List ℕ
 to_come r bs = r.ready ++ (if r.ended then [] else bs)
 

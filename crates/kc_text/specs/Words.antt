@@ -6,7 +6,7 @@ use Rattle.std.specs.List.{slice_range}
 abbrev pub is_blank : ℕ → Bool
 is_blank b = (b == 32) || (b == 9)
 
--- a word that has begun, and the words behind it
+-- a word that has begun, and the words after it
 abbrev pub closed : List ℕ → List (List ℕ) → List (List ℕ)
 closed [] rest = rest
 closed (x ∷ xs) rest = (x ∷ xs) ∷ rest
@@ -25,7 +25,7 @@ abbrev pub is_skip : List (List ℕ) → Bool
 is_skip [] = true
 is_skip (w ∷ ws) = slice_index w 0 == 35
 
--- the first word at or after `from` lies there, and the other words behind it
+-- the first word at or after `from` lies there, and the other words after it
 pub record WordAt (line : List ℕ) (from start end : ℕ) : Type 0 where
   pub after : from ≤ start
   pub some : start < end

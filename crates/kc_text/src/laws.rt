@@ -31,7 +31,7 @@ pub fn lines_at_line_limit()
     ensures { MeasuresLines }
 {}
 
-/// The words of a line with blanks before, between and behind them.
+/// The words of a line with blanks before, between and after them.
 pub fn words_between_blanks()
     ensures { PartsWords }
 {}

@@ -92,7 +92,7 @@ impl LineReader {
         ensures err { OnErr result (lines_left self.new (S.left src.new) ≡ lines_left self.old (S.left src.old)) }
         ensures cause { ReadCause (S.faults src.old) (S.faults src.new) result }
 
-        // No line is held back behind a call.
+        // No line is held back after a call.
         ensures held { self.new.held ≡ None }
 
         // Where what was read decides the line, nothing is read, and the line is the one that
@@ -103,7 +103,7 @@ impl LineReader {
         // A read that fails was needed too: what was read before it doesn't decide the line.
         ensures open { OnReadFault result (is_decided self.new ≡ false) }
 
-        // Behind `Limit` and `End` comes the same line again.
+        // After `Limit` and `End` comes the same line again.
         ensures last { IfOk result (λ line. IsLast line.body → lines_left self.new (S.left src.new) ≡ lines_left self.old (S.left src.old)) }
         ensures settled { IfOk result (λ line. IsLast line.body → is_decided self.new ≡ true) }
         ensures again { IfOk result (λ line. IsLast line.body → (bs : List ℕ) → lines_of_rest self.new bs ≡ line ∷ []) }

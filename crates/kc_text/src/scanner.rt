@@ -258,7 +258,7 @@ impl Scanner {
         // A read that fails was needed too: what was read before it doesn't decide the line.
         ensures open { OnReadFault result (is_scan_decided self.new ≡ false) }
 
-        // Behind `Limit` and `End` comes the same line again.
+        // After `Limit` and `End` comes the same line again.
         ensures last { IfOk result (λ line. IsLast line.body → scan_lines_left self.new (S.left src.new) ≡ scan_lines_left self.old (S.left src.old)) }
         ensures settled { IfOk result (λ line. IsLast line.body → is_scan_decided self.new ≡ true) }
         ensures again { IfOk result (λ line. IsLast line.body → (bs : List ℕ) → scan_lines self.new bs ≡ line ∷ []) }
