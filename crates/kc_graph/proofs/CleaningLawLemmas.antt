@@ -5,10 +5,10 @@ use Rattle.std.proofs.lemmas.Bool.Decides.{nat_tests}
 use Rattle.std.proofs.lemmas.List.Elements.{All-nil, All-cons, All-head, All-tail, All-weaker, All-filter, filter_passes}
 use Rattle.std.specs.Prelude.{All, not, Option, Some, None}
 use Rattle.kc_graph.specs.declared.items.Item.{Item}
-use Rattle.kc_graph.specs.declared.items.Item.TheVariants.{Insert, Delete}
+use Rattle.kc_graph.specs.declared.items.Item.TheVariants.{Insert, Delete, Isolate}
 use Rattle.kc_graph.specs.Shape.{GraphShape, Pair, EdgesFrom, IsGraph, same_edge, has_edge, with_edge, without_edge, with_edges, without_edges}
 use Rattle.kc_graph.specs.Changes.{AllAbsent, AllPresent}
-use Rattle.kc_graph.specs.Cleaning.{IsInside, is_loop, proper_items, pair_of, touches, is_touched, deciding_item, is_deletion, is_insertion, inserted_pairs, added_edges, cleaned}
+use Rattle.kc_graph.specs.Cleaning.{IsInside, is_loop, proper_items, holds, pair_of, touches, is_touched, deciding_item, takes_out, is_insertion, inserted_pairs, added_edges, cleaned}
 use Rattle.kc_graph.specs.CleaningLaws.{FitsGraph, after_item, after_items}
 use Rattle.kc_graph.proofs.EdgeLemmas.{has_edge-insert_edge, has_edge-remove_edge, same_graph}
 use Rattle.kc_graph.proofs.ChangeLemmas.{can_add_ascending, can_remove_ascending, vertices-with_edges, vertices-without_edges, has_edge-with_edges, has_edge-without_edges, length-without_edges, is_graph-with_edge, is_graph-without_edge, inside_from_ascending, is_graph-with_edges, is_graph-without_edges}
@@ -30,7 +30,7 @@ all_there (e ∷ es) fs more =
 
 removed_is_present : (g : GraphShape) (items : List Item) → AllPresent g (cleaned g items).removed
 removed_is_present g items =
-    All-filter (λ e. is_deletion (deciding_item e (proper_items items))) (λ e. has_edge e g.edges ≡ true) g.edges (all_there g.edges g.edges (λ e h. h))
+    All-filter (λ e. takes_out (deciding_item e (proper_items items))) (λ e. has_edge e g.edges ≡ true) g.edges (all_there g.edges g.edges (λ e h. h))
 
 added_is_absent : (g : GraphShape) (items : List Item) → AllAbsent g (cleaned g items).added
 added_is_absent g items =
@@ -40,7 +40,7 @@ added_is_absent g items =
 pub cleaned_fits_graph : (g : GraphShape) (items : List Item) → IsGraph g → All (IsInside g.vertices) items → FitsGraph g (cleaned g items)
 cleaned_fits_graph g items graph inside =
     let c = cleaned g items in
-    let down : EdgesFrom g.vertices 0 0 c.removed = edges_from_filter g.vertices 0 0 (λ e. is_deletion (deciding_item e (proper_items items))) g.edges graph in
+    let down : EdgesFrom g.vertices 0 0 c.removed = edges_from_filter g.vertices 0 0 (λ e. takes_out (deciding_item e (proper_items items))) g.edges graph in
     let up : EdgesFrom g.vertices 0 0 c.added = edges_from_filter g.vertices 0 0 (λ e. not (has_edge e g.edges) && is_insertion (deciding_item e (proper_items items))) (inserted_pairs (proper_items items)) (edges_from_inserted g.vertices items inside) in
     let present = removed_is_present g items in
     let absent = added_is_absent g items in
@@ -73,6 +73,7 @@ abbrev outcome : Option Item → Bool → Bool
 outcome None there = there
 outcome (Some (Insert u v)) there = true
 outcome (Some (Delete u v)) there = false
+outcome (Some (Isolate v)) there = false
 
 touched_outcome : (e : Pair) (items : List Item) (a b : Bool) → is_touched e items ≡ true → outcome (deciding_item e items) a ≡ outcome (deciding_item e items) b
 touched_outcome e [] a b h = absurd (cc)
@@ -82,6 +83,7 @@ touched_outcome e (item ∷ items) a b h = go (is_touched e items) refl (touches
     go true is s h later i = later is
     go false is true h later (Insert u v) = refl
     go false is true h later (Delete u v) = refl
+    go false is true h later (Isolate v) = refl
     go false is false h later i = absurd (cc)
 
 -- whether the edge is there after an item that is no loop
@@ -99,6 +101,11 @@ after_first e item items g no_loop = go (is_touched e items) refl
         out : (s : Bool) → (not s && has_edge e g.edges) ≡ outcome (cond s (Some (Delete u v)) None) (has_edge e g.edges)
         out true = refl
         out false = refl
+    at (Isolate v) no_loop = has_edge-filter e (λ f. not (holds v f)) g.edges ∙ out (holds v e)
+      where
+        out : (s : Bool) → (not s && has_edge e g.edges) ≡ outcome (cond s (Some (Isolate v)) None) (has_edge e g.edges)
+        out true = refl
+        out false = refl
 
     go : (t : Bool) → is_touched e items ≡ t → outcome (deciding_item e items) (has_edge e (after_item g item).edges) ≡ outcome (cond t (deciding_item e items) (cond (touches e item) (Some item) None)) (has_edge e g.edges)
     go true is = touched_outcome e items (has_edge e (after_item g item).edges) (has_edge e g.edges) is
@@ -111,6 +118,7 @@ has_edge-after_items e (item ∷ items) g = has_edge-after_items e items (after_
     go : (i : Item) (b : Bool) → is_loop i ≡ b → outcome (deciding_item e (proper_items items)) (has_edge e (after_item g i).edges) ≡ outcome (deciding_item e (cond (not b) (i ∷ proper_items items) (proper_items items))) (has_edge e g.edges)
     go (Insert u v) true is = rw is refl
     go (Delete u v) true is = rw is refl
+    go (Isolate v) true is = absurd (cc)
     go i false is = after_first e i (proper_items items) g is
 
 after_item_is_graph : (g : GraphShape) (item : Item) → IsGraph g → IsInside g.vertices item → IsGraph (after_item g item)
@@ -124,6 +132,7 @@ after_item_is_graph g (Delete u v) graph inside = go (eqb u v)
     go : (b : Bool) → IsGraph (cond b g (without_edge g (pair_of u v)))
     go true = graph
     go false = is_graph-without_edge g (pair_of u v) graph
+after_item_is_graph g (Isolate v) graph inside = edges_from_filter g.vertices 0 0 (λ e. not (holds v e)) g.edges graph
 
 vertices-after_item : (g : GraphShape) (item : Item) → (after_item g item).vertices ≡ g.vertices
 vertices-after_item g (Insert u v) = go (eqb u v)
@@ -136,6 +145,7 @@ vertices-after_item g (Delete u v) = go (eqb u v)
     go : (b : Bool) → (cond b g (without_edge g (pair_of u v))).vertices ≡ g.vertices
     go true = refl
     go false = refl
+vertices-after_item g (Isolate v) = refl
 
 after_items_is_graph : (g : GraphShape) (items : List Item) → IsGraph g → All (IsInside g.vertices) items → IsGraph (after_items g items)
 after_items_is_graph g [] graph inside = graph
@@ -159,16 +169,18 @@ cleaned_leads_as_items g items graph inside =
     (size ∙ sym (vertices-after_items g items))
     (λ e. has_edge-with_edges e left c.added ∙ ap (λ b. has_edge e c.added || b) (has_edge-without_edges e g c.removed) ∙ at e ∙ sym (has_edge-after_items e items g))
   where
-    decide : (o : Option Item) (h t : Bool) → (is_insertion o ≡ true → t ≡ true) → (((not h && is_insertion o) && t) || (not (is_deletion o && h) && h)) ≡ outcome o h
+    decide : (o : Option Item) (h t : Bool) → (is_insertion o ≡ true → t ≡ true) → (((not h && is_insertion o) && t) || (not (takes_out o && h) && h)) ≡ outcome o h
     decide None true t there = refl
     decide None false t there = refl
     decide (Some (Insert u v)) true t there = refl
     decide (Some (Insert u v)) false t there = rw (there refl) refl
     decide (Some (Delete u v)) true t there = refl
     decide (Some (Delete u v)) false t there = refl
+    decide (Some (Isolate v)) true t there = refl
+    decide (Some (Isolate v)) false t there = refl
 
     at : (e : Pair) → (has_edge e (cleaned g items).added || (not (has_edge e (cleaned g items).removed) && has_edge e g.edges)) ≡ outcome (deciding_item e (proper_items items)) (has_edge e g.edges)
     at e =
         let a = has_edge-filter e (λ e. not (has_edge e g.edges) && is_insertion (deciding_item e (proper_items items))) (inserted_pairs (proper_items items)) in
-        let r = has_edge-filter e (λ e. is_deletion (deciding_item e (proper_items items))) g.edges in
+        let r = has_edge-filter e (λ e. takes_out (deciding_item e (proper_items items))) g.edges in
         rw (a, r) (decide (deciding_item e (proper_items items)) (has_edge e g.edges) (has_edge e (inserted_pairs (proper_items items))) (inserted_if_decided e (proper_items items)))

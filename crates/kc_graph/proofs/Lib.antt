@@ -11,4 +11,6 @@ pub mod DecidingLemmas
 pub mod KeyLemmas
 pub mod BatchLemmas
 pub mod CleaningLemmas
+pub mod LaterLemmas
+pub mod CountingLemmas
 pub mod CleaningLawLemmas

@@ -1,12 +1,12 @@
 -- Laws of cleaning, each the contract of a function of `laws`.
-use Rattle.std.specs.Prelude.{◌≡◌, ◌+◌, ◌-◌, ◌≤◌, ◌==◌, cond, List, [], ◌∷◌, length, All}
+use Rattle.std.specs.Prelude.{ℕ, ◌≡◌, ◌+◌, ◌-◌, ◌≤◌, ◌==◌, Bool, false, not, ◌&&◌, cond, List, [], ◌∷◌, length, filter, All}
 use Rattle.kc_graph.specs.declared.cleaning.Cleaned.{Cleaned}
 use Rattle.kc_graph.specs.declared.items.Item.{Item}
-use Rattle.kc_graph.specs.declared.items.Item.TheVariants.{Insert, Delete}
+use Rattle.kc_graph.specs.declared.items.Item.TheVariants.{Insert, Delete, Isolate}
 use Rattle.kc_graph.specs.declared.limits.TheConstants.{MAX_EDGES}
-use Rattle.kc_graph.specs.Shape.{GraphShape, EdgesFrom, IsGraph, with_edge, without_edge, with_edges, without_edges}
+use Rattle.kc_graph.specs.Shape.{GraphShape, Pair, EdgesFrom, IsGraph, has_edge, with_edge, without_edge, with_edges, without_edges}
 use Rattle.kc_graph.specs.Changes.{CanAdd, CanRemove, AllAbsent, AllPresent}
-use Rattle.kc_graph.specs.Cleaning.{IsInside, pair_of, cleaned}
+use Rattle.kc_graph.specs.Cleaning.{IsInside, holds, pair_of, proper_items, is_touched, isolates_some, count_with_later, cleaned}
 
 -- the edges removed are in the graph and those added are not, both ascend, each edge once, and the one list may leave and then the other come in
 pub record FitsGraph (g : GraphShape) (c : Cleaned) : Type 0 where
@@ -24,10 +24,15 @@ pub record FitsGraph (g : GraphShape) (c : Cleaned) : Type 0 where
 abbrev pub CleanedFitsGraph : Type 0
 CleanedFitsGraph = (g : GraphShape) (items : List Item) → IsGraph g → All (IsInside g.vertices) items → FitsGraph g (cleaned g items)
 
--- the graph after an item, which changes nothing if it is a loop, inserts an edge that is there or deletes one that is not
+-- the graph without the edges at v
+abbrev pub without_edges_at : ℕ → GraphShape → GraphShape
+without_edges_at v g = record { vertices = g.vertices; edges = filter (λ e. not (holds v e)) g.edges }
+
+-- the graph after an item, which changes nothing if it is a loop, inserts an edge that is there, deletes one that is not, or isolates a vertex without edges
 abbrev pub after_item : GraphShape → Item → GraphShape
 after_item g (Insert u v) = cond (u == v) g (with_edge g (pair_of u v))
 after_item g (Delete u v) = cond (u == v) g (without_edge g (pair_of u v))
+after_item g (Isolate v) = without_edges_at v g
 
 -- the graph after the items, one after another
 abbrev pub after_items : GraphShape → List Item → GraphShape
@@ -38,8 +43,15 @@ after_items g (item ∷ later) = after_items (after_item g item) later
 abbrev pub CleanedLeadsAsItems : Type 0
 CleanedLeadsAsItems = (g : GraphShape) (items : List Item) → IsGraph g → All (IsInside g.vertices) items → with_edges (without_edges g (cleaned g items).removed) (cleaned g items).added ≡ after_items g items
 
--- each item is a loop, a repeat, idle, or the one that removes or adds an edge
+-- whether the item decides on an edge that it takes out
+abbrev pub takes_some_out : List Pair → Item → List Item → Bool
+takes_some_out edges (Insert u v) later = false
+takes_some_out edges (Delete u v) later = not (is_touched (pair_of u v) later) && has_edge (pair_of u v) edges
+takes_some_out edges (Isolate v) later = isolates_some v edges later
+
+-- each item is a loop, a repeat, idle, one that takes edges out, or the one that adds an edge
 abbrev pub EachItemCountsOnce : Type 0
 EachItemCountsOnce =
     (g : GraphShape) (items : List Item) → IsGraph g → All (IsInside g.vertices) items
-    → let c = cleaned g items in c.loops + c.repeats + c.idle + length c.removed + length c.added ≡ length items
+    → let c = cleaned g items in
+    c.loops + c.repeats + c.idle + count_with_later (takes_some_out g.edges) (proper_items items) + length c.added ≡ length items

@@ -5,5 +5,6 @@ pub mod EdgeLists
 pub mod KeptRows
 pub mod Cleaning
 pub mod Keys
+pub mod Later
 pub mod Laws
 pub mod CleaningLaws

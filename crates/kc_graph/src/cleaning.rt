@@ -1,38 +1,42 @@
-ghost use Rattle.std.specs.Prelude.{◌≡◌, ◌<◌, ◌≤◌, [], length, All, IfOk, OnOk};
+ghost use Rattle.std.specs.Prelude.{◌≡◌, ◌<◌, ◌≤◌, [], false, length, All, IfOk, OnOk};
+ghost use Rattle.std.specs.List.{list_any};
 ghost use Rattle.kc_graph.specs.Cleaning.{IsInside, cleaned};
-ghost use Rattle.kc_graph.specs.Keys.{decided};
+ghost use Rattle.kc_graph.specs.Keys.{is_isolation, decided};
 
 use crate::edge_lists::Edges;
 use crate::graphs::Graph;
 use crate::items::Item;
 use crate::keys::{Key, sorted_keys};
+use crate::later::walk_back;
 use crate::limits::MAX_ITEMS;
 use std::alloc::{AllocError, Global};
 use std::thread::Threads;
 
 /// What the items of a batch come to in a graph (`cleaned`).
 ///
-/// Of several items between the same two vertices the last decides.
+/// Of several items that touch the same two vertices the last decides.
 #[derive(Drop)]
 pub struct Cleaned {
-    /// The edges that leave the graph, ascending: each is in it, and a deletion decides on it.
+    /// The edges that leave the graph, ascending: each is in it, and a deletion of it or an isolation
+    /// of one of its vertices decides on it.
     pub removed: Edges,
     /// The edges that come into the graph, ascending: none is in it, and an insertion decides on
     /// each.
     pub added: Edges,
-    /// The number of items between a vertex and itself. They ask for nothing.
+    /// The number of insertions and deletions between a vertex and itself. They ask for nothing.
     pub loops: u32,
-    /// The number of the other items that don't decide, since a later one is between the same two
-    /// vertices.
+    /// The number of the other insertions and deletions that don't decide, since a later item
+    /// touches the same two vertices.
     pub repeats: u32,
-    /// The number of items that decide and change nothing: insertions of edges that are in the
-    /// graph, and deletions of edges that are not.
+    /// The number of items that change nothing and are neither loops nor repeats: insertions of
+    /// edges that are in the graph, deletions of edges that are not, and isolations that decide on
+    /// no edge of the graph.
     pub idle: u32,
 }
 
 impl Cleaned {
-    // What the loops of a batch come to; the other items are taken in one by one.
-    fn of_loops(alloc: Global, loops: u32) -> Self
+    /// What loops come to, before the other items are taken in one by one.
+    pub fn of_loops(alloc: Global, loops: u32) -> Self
         ensures { result ≡ record { removed = []; added = []; loops = loops; repeats = 0; idle = 0 } }
     {
         Cleaned {
@@ -44,8 +48,8 @@ impl Cleaned {
         }
     }
 
-    // Takes in the key of an item that decides.
-    fn decide(&mut self, graph: &Graph, key: &Key) -> Result<(), AllocError>
+    /// Takes in the key of an item that decides.
+    pub fn decide(&mut self, graph: &Graph, key: &Key) -> Result<(), AllocError>
         requires ordered { key.now.a < key.now.b }
         requires below { key.now.b < graph.now.vertices }
         requires room { self.old.idle < MAX_ITEMS }
@@ -63,14 +67,8 @@ impl Cleaned {
     }
 }
 
-/// What the items of a batch come to in the graph, which stays as it is (`cleaned`).
-///
-/// The vertices of the items are below n, and they are at most `MAX_ITEMS`. The answer is the same
-/// for any number of threads. The error is want of memory.
-///
-/// Costs a sort of one key an item, of 16 bytes, by as many threads as the runtime has, and one
-/// look-up in the graph for each pair that the items name. Takes memory for the keys and for the two lists.
-pub fn clean<R: Threads + Sync>(
+// What the items of a batch without isolations come to, by a walk over their sorted keys.
+fn clean_pairs<R: Threads + Sync>(
     rt: &R,
     alloc: Global,
     graph: &Graph,
@@ -78,6 +76,7 @@ pub fn clean<R: Threads + Sync>(
 ) -> Result<Cleaned, AllocError>
     requires inside { All (IsInside graph.now.vertices) items.now }
     requires few { length items.now ≤ MAX_ITEMS }
+    requires none { list_any is_isolation items.now ≡ false }
     ensures { IfOk result (λ c. c ≡ cleaned graph.now items.now) }
 {
     // Its contract says that the edges of the graph ascend.
@@ -94,6 +93,60 @@ pub fn clean<R: Threads + Sync>(
         rest = later;
     }
     Ok(cleaned)
+}
+
+// What the items of any batch come to, by a walk from the last item to the first.
+fn clean_all<R: Threads + Sync>(
+    rt: &R,
+    alloc: Global,
+    graph: &Graph,
+    items: &[Item],
+) -> Result<Cleaned, AllocError>
+    requires inside { All (IsInside graph.now.vertices) items.now }
+    requires few { length items.now ≤ MAX_ITEMS }
+    ensures { IfOk result (λ c. c ≡ cleaned graph.now items.now) }
+{
+    // Its contract says that the edges of the graph ascend.
+    let _ = graph.vertices();
+    let mut cleaned = walk_back(alloc, graph, items)?.cleaned;
+    cleaned.removed.sort(rt);
+    cleaned.added.sort(rt);
+    Ok(cleaned)
+}
+
+fn has_isolation(items: &[Item]) -> bool
+    ensures { result ≡ list_any is_isolation items.now }
+{
+    items
+        .iter()
+        .any(|item| matches!(*item, Item::Isolate { .. }))
+}
+
+/// What the items of a batch come to in the graph, which stays as it is (`cleaned`).
+///
+/// The vertices of the items are below n, and they are at most `MAX_ITEMS`. The answer is the same
+/// for any number of threads. Fails only if memory runs out.
+///
+/// Costs a sort of one key an item, of 16 bytes, by as many threads as the runtime has, and one
+/// look-up in the graph for each pair that the items name. Takes memory for the keys and for the two
+/// lists. A batch with an isolation costs in place of the sort a look-up in a tree for each item and
+/// for each neighbour of an isolated vertex, once a vertex, and a sort of the two lists; it takes
+/// memory for the tree in place of the keys.
+pub fn clean<R: Threads + Sync>(
+    rt: &R,
+    alloc: Global,
+    graph: &Graph,
+    items: &[Item],
+) -> Result<Cleaned, AllocError>
+    requires inside { All (IsInside graph.now.vertices) items.now }
+    requires few { length items.now ≤ MAX_ITEMS }
+    ensures { IfOk result (λ c. c ≡ cleaned graph.now items.now) }
+{
+    if has_isolation(items) {
+        clean_all(rt, alloc, graph, items)
+    } else {
+        clean_pairs(rt, alloc, graph, items)
+    }
 }
 
 #[cfg(test)]

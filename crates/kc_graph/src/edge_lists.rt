@@ -1,9 +1,12 @@
 ghost use Rattle.std.specs.Prelude.{◌≡◌, ◌↔◌, [], ◌∷◌, ◌++◌, length, IsTrue, OnOk, OnErr};
-ghost use Rattle.kc_graph.specs.EdgeLists.{last_edge};
+ghost use Rattle.std.specs.List.Sorted.{IsPermutation, IsSorted};
+ghost use Rattle.kc_graph.specs.EdgeLists.{pair_cmp, last_edge};
 
 use crate::edges::Edge;
+use rayon::slice::par_sort_unstable;
 use std::alloc::{AllocError, Global};
 use std::marker::Model;
+use std::thread::Threads;
 
 /// Edges one after another. Contracts see them as the list of their pairs.
 #[derive(Drop)]
@@ -78,6 +81,14 @@ impl Edges {
     {
         self.items.push(e)?;
         Ok(())
+    }
+
+    /// Puts the edges in ascending order, by as many threads as the runtime has.
+    pub(crate) fn sort<R: Threads + Sync>(&mut self, rt: &R)
+        ensures same { IsPermutation self.old self.new }
+        ensures in_order { IsSorted pair_cmp self.new }
+    {
+        par_sort_unstable(rt, self.items.as_mut_slice());
     }
 }
 

@@ -3,7 +3,7 @@ ghost use Rattle.std.specs.Prelude.{ℕ, ◌<◌};
 use std::marker::Model;
 
 /// An edge between two different vertices. Contracts see it as the pair of the two.
-#[derive(Clone, Copy, Debug, PartialEq, Eq)]
+#[derive(Clone, Copy, Debug, PartialEq, Eq, PartialOrd, Ord)]
 pub struct Edge {
     /// The lesser vertex: `a < b`.
     pub a: u32,

@@ -36,7 +36,7 @@ impl Model for Graph {
 impl Graph {
     /// The graph on n vertices without edges; n is 1 to `MAX_VERTICES`.
     ///
-    /// Takes memory for n empty rows. The error is want of memory.
+    /// Takes memory for n empty rows. Fails only if memory runs out.
     pub fn new(alloc: Global, n: u32) -> Result<Graph, AllocError>
         requires positive { 1 ≤ n }
         requires small { n ≤ MAX_VERTICES }
@@ -89,7 +89,7 @@ impl Graph {
 
     /// Puts in an edge that is not there (`with_edge`); fewer than `MAX_EDGES` edges may be there.
     ///
-    /// The error is want of memory, and the graph is then unchanged. The memory comes from the
+    /// Fails only if memory runs out, and the graph is then unchanged. The memory comes from the
     /// allocator that `new` was given.
     ///
     /// Costs a binary search and a move of the greater neighbours in the rows of both ends, and

@@ -10,10 +10,12 @@ mod edges;
 mod graphs;
 mod items;
 mod keys;
+mod later;
 pub mod laws;
 mod limits;
 mod links;
 mod rows;
+mod touched;
 
 pub use cleaning::{Cleaned, clean};
 pub use edge_lists::Edges;

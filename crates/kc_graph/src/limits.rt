@@ -1,5 +1,5 @@
 /// The greatest number of vertices of a [`Graph`](crate::Graph).
-pub const MAX_VERTICES: u32 = 1_048_576;
+pub const MAX_VERTICES: u32 = 16_777_216;
 
 /// The greatest number of edges of a [`Graph`](crate::Graph).
 pub const MAX_EDGES: u32 = 16_777_216;

@@ -5,8 +5,8 @@ mod plain;
 
 use super::*;
 use crate::edges::Edge;
-use crate::items::Item::{Delete, Insert};
-use crate::limits::MAX_EDGES;
+use crate::items::Item::{Delete, Insert, Isolate};
+use crate::limits::{MAX_EDGES, MAX_ITEMS};
 use std::process::Abort;
 use std::test::Fail;
 
@@ -21,7 +21,7 @@ struct Case {
     idle: u32,
 }
 
-const CASES: [Case; 5] = [
+const CASES: [Case; 12] = [
     // No items.
     Case {
         edges: &[(0, 1)],
@@ -94,6 +94,97 @@ const CASES: [Case; 5] = [
         repeats: 2,
         idle: 2,
     },
+    // An isolation takes out all edges at its vertex.
+    Case {
+        edges: &[(0, 1), (0, 2), (1, 2), (1, 4)],
+        items: &[Isolate { v: 1 }],
+        removed: &[(0, 1), (1, 2), (1, 4)],
+        added: &[],
+        loops: 0,
+        repeats: 0,
+        idle: 0,
+    },
+    // An isolation of a vertex without edges, with an item of an absent pair before it and one after.
+    Case {
+        edges: &[],
+        items: &[
+            Insert { u: 0, v: 1 },
+            Isolate { v: 0 },
+            Insert { u: 0, v: 2 },
+        ],
+        removed: &[],
+        added: &[(0, 2)],
+        loops: 0,
+        repeats: 1,
+        idle: 1,
+    },
+    // Items before an isolation are repeats, those after it decide on their pairs: the one keeps its edge, the other
+    // takes it out in place of the isolation.
+    Case {
+        edges: &[(0, 1), (0, 2), (0, 3)],
+        items: &[
+            Delete { u: 0, v: 1 },
+            Insert { u: 0, v: 4 },
+            Isolate { v: 0 },
+            Insert { u: 2, v: 0 },
+            Delete { u: 0, v: 3 },
+        ],
+        removed: &[(0, 1), (0, 3)],
+        added: &[],
+        loops: 0,
+        repeats: 2,
+        idle: 1,
+    },
+    // Of two isolations of one vertex the last decides; it works by one edge, since the other is inserted again.
+    Case {
+        edges: &[(1, 2), (1, 3)],
+        items: &[
+            Isolate { v: 1 },
+            Delete { u: 1, v: 2 },
+            Isolate { v: 1 },
+            Insert { u: 1, v: 2 },
+        ],
+        removed: &[(1, 3)],
+        added: &[],
+        loops: 0,
+        repeats: 1,
+        idle: 2,
+    },
+    // Both ends of an edge are isolated: the later isolation decides, and the earlier one on nothing.
+    Case {
+        edges: &[(2, 3)],
+        items: &[Isolate { v: 3 }, Isolate { v: 2 }],
+        removed: &[(2, 3)],
+        added: &[],
+        loops: 0,
+        repeats: 0,
+        idle: 1,
+    },
+    // The same with an edge more at the earlier one.
+    Case {
+        edges: &[(2, 3), (3, 4)],
+        items: &[Isolate { v: 3 }, Isolate { v: 2 }],
+        removed: &[(2, 3), (3, 4)],
+        added: &[],
+        loops: 0,
+        repeats: 0,
+        idle: 0,
+    },
+    // All pairs of an isolation are decided by later items; a loop touches nothing.
+    Case {
+        edges: &[(0, 1), (0, 4)],
+        items: &[
+            Isolate { v: 0 },
+            Insert { u: 1, v: 0 },
+            Insert { u: 0, v: 0 },
+            Delete { u: 4, v: 0 },
+        ],
+        removed: &[(0, 4)],
+        added: &[],
+        loops: 1,
+        repeats: 0,
+        idle: 2,
+    },
 ];
 
 fn put_in(
@@ -123,6 +214,7 @@ fn is_inside(item: Item, n: u32) -> bool
 {
     match item {
         Insert { u, v } | Delete { u, v } => u < n && v < n,
+        Isolate { v } => v < n,
     }
 }
 
@@ -143,7 +235,7 @@ fn clean_checked<R: Abort + Threads + Sync>(
     items: &[Item],
 ) -> Result<Cleaned, AllocError> {
     assert!(rt; are_inside(items, graph.vertices()));
-    assert!(rt; items.len() <= 200);
+    assert!(rt; items.len() <= MAX_ITEMS as usize);
     clean(rt, alloc, graph, items)
 }
 
@@ -233,10 +325,10 @@ fn random_items(alloc: Global, seed: u64) -> Result<Vec<Item>, AllocError> {
     for _ in 0..seed.min(40) {
         x = next(x);
         let (u, v) = (((x >> 40) % 5) as u32, ((x >> 20) % 5) as u32);
-        items.push(if x >> 63 == 0 {
-            Insert { u, v }
-        } else {
-            Delete { u, v }
+        items.push(match x >> 60 {
+            0..8 => Insert { u, v },
+            8..14 => Delete { u, v },
+            _ => Isolate { v },
         })?;
     }
     Ok(items)
@@ -244,7 +336,7 @@ fn random_items(alloc: Global, seed: u64) -> Result<Vec<Item>, AllocError> {
 
 #[test]
 fn comes_to_what_the_definition_says(rt: HostRuntime) -> Result<(), Fail> {
-    for seed in 0..50u64 {
+    for seed in 0..100u64 {
         let graph = random_graph(&rt, rt.alloc(), seed)?;
         let items = random_items(rt.alloc(), seed)?;
         let cleaned = clean_checked(&rt, rt.alloc(), &graph, items.as_slice())?;
@@ -266,6 +358,38 @@ fn comes_to_what_the_definition_says(rt: HostRuntime) -> Result<(), Fail> {
             "seed {seed}"
         );
         assert_eq!(rt; cleaned.idle as usize, plain.idle.len(), "seed {seed}");
+    }
+    Ok(())
+}
+
+// As many items as a batch may have, on the pairs of the vertices 0 to 4 by turns, the last of each an insertion.
+fn full_batch(alloc: Global, first: Item) -> Result<Vec<Item>, AllocError> {
+    let mut items = Vec::with_capacity(alloc, MAX_ITEMS as usize)?;
+    items.push(first)?;
+    for i in 1..MAX_ITEMS {
+        let (u, v) = (i % 5, (i / 5) % 5);
+        items.push(if i < MAX_ITEMS / 2 {
+            Delete { u, v }
+        } else {
+            Insert { u, v }
+        })?;
+    }
+    Ok(items)
+}
+
+#[test]
+fn as_many_items_as_there_may_be(rt: HostRuntime) -> Result<(), Fail> {
+    // A first item that touches nothing that isn't touched later, so that it is a repeat or idle.
+    for (first, repeats, idle) in [(Delete { u: 0, v: 1 }, 1, 0), (Isolate { v: 0 }, 0, 1)] {
+        let graph = graph_of(&rt, rt.alloc(), &[(0, 1)])?;
+        let items = full_batch(rt.alloc(), first)?;
+        let cleaned = clean_checked(&rt, rt.alloc(), &graph, items.as_slice())?;
+        assert_eq!(rt; cleaned.removed.len(), 0);
+        assert_eq!(rt; cleaned.added.len(), 9);
+        // One of five of the others is a loop, and one decides on each of the ten pairs.
+        assert_eq!(rt; cleaned.loops, 209_715);
+        assert_eq!(rt; cleaned.repeats, MAX_ITEMS - 1 - 209_715 - 10 + repeats);
+        assert_eq!(rt; cleaned.idle, 1 + idle);
     }
     Ok(())
 }

@@ -90,3 +90,18 @@ fn edges_in_and_out(rt: HostRuntime) -> Result<(), Fail> {
     }
     Ok(())
 }
+
+// A star with 4,000 leaves: the leaves below 2,000 come in last, so that each is put into a row of some thousands.
+#[test]
+fn long_rows_stay_in_order(rt: HostRuntime) -> Result<(), Fail> {
+    let mut graph = Graph::new(rt.alloc(), 4_001)?;
+    for i in 0..4_000u32 {
+        let leaf = (i + 2_000) % 4_000 + 1;
+        put_in(&rt, rt.alloc(), &mut graph, (0, leaf))?;
+    }
+    assert_eq!(rt; graph.edge_count(), 4_000);
+    for (i, &w) in graph.neighbours(0).iter().enumerate() {
+        assert_eq!(rt; w as usize, i + 1);
+    }
+    Ok(())
+}

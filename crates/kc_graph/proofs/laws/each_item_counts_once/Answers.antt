@@ -1,4 +1,4 @@
-use Rattle.kc_graph.proofs.CleaningLemmas.{each_item_counts_once}
+use Rattle.kc_graph.proofs.CountingLemmas.{each_item_counts_once}
 use Rattle.kc_graph.proofs.laws.each_item_counts_once.Goals as goal
 
 pub returns : goal.returns

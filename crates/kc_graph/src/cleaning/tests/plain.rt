@@ -2,7 +2,7 @@
 // and for each item at all later ones.
 use crate::edges::Edge;
 use crate::graphs::Graph;
-use crate::items::Item::{self, Delete, Insert};
+use crate::items::Item::{self, Delete, Insert, Isolate};
 use std::alloc::{AllocError, Global};
 use std::process::Abort;
 
@@ -15,18 +15,16 @@ pub struct Plain {
     pub idle: Vec<Item>,
 }
 
-fn ends(item: Item) -> (u32, u32) {
+fn touches(item: Item, pair: (u32, u32)) -> bool {
     match item {
-        Insert { u, v } | Delete { u, v } => (u.min(v), u.max(v)),
+        Insert { u, v } | Delete { u, v } => (u.min(v), u.max(v)) == pair,
+        Isolate { v } => pair.0 == v || pair.1 == v,
     }
 }
 
-fn deciding_item(items: &[Item], pair: (u32, u32)) -> Option<Item> {
-    items
-        .iter()
-        .rev()
-        .find(|item| ends(**item) == pair)
-        .copied()
+// The place of the last item that touches the pair.
+fn deciding_place(items: &[Item], pair: (u32, u32)) -> Option<usize> {
+    items.iter().rposition(|item| touches(*item, pair))
 }
 
 fn has(rt: &impl Abort, graph: &Graph, pair: (u32, u32)) -> bool {
@@ -35,21 +33,41 @@ fn has(rt: &impl Abort, graph: &Graph, pair: (u32, u32)) -> bool {
     graph.has(Edge { a, b })
 }
 
+// Whether the item at this place decides on one of the edges.
+fn decides_on_some(rt: &impl Abort, graph: &Graph, items: &[Item], place: usize) -> bool {
+    for a in 0..graph.vertices() {
+        for b in 0..graph.vertices() {
+            if a < b && has(rt, graph, (a, b)) && deciding_place(items, (a, b)) == Some(place) {
+                return true;
+            }
+        }
+    }
+    false
+}
+
 impl Plain {
-    fn count_items(
+    fn count_item(
         &mut self,
         rt: &impl Abort,
         graph: &Graph,
         items: &[Item],
+        place: usize,
+        item: Item,
     ) -> Result<(), AllocError> {
-        for (i, &item) in items.iter().enumerate() {
-            let pair = ends(item);
-            if pair.0 == pair.1 {
-                self.loops.push(item)?;
-            } else if deciding_item(&items[i + 1..], pair).is_some() {
-                self.repeats.push(item)?;
-            } else if has(rt, graph, pair) == matches!(item, Insert { .. }) {
-                self.idle.push(item)?;
+        match item {
+            Insert { u, v } | Delete { u, v } if u == v => self.loops.push(item)?,
+            Insert { u, v } | Delete { u, v } => {
+                let pair = (u.min(v), u.max(v));
+                if deciding_place(items, pair) != Some(place) {
+                    self.repeats.push(item)?;
+                } else if has(rt, graph, pair) == matches!(item, Insert { .. }) {
+                    self.idle.push(item)?;
+                }
+            }
+            Isolate { .. } => {
+                if !decides_on_some(rt, graph, items, place) {
+                    self.idle.push(item)?;
+                }
             }
         }
         Ok(())
@@ -62,9 +80,14 @@ impl Plain {
         items: &[Item],
         pair: (u32, u32),
     ) -> Result<(), AllocError> {
-        match deciding_item(items, pair) {
+        let Some(place) = deciding_place(items, pair) else {
+            return Ok(());
+        };
+        match items.get(place) {
             Some(Insert { .. }) if !has(rt, graph, pair) => self.added.push(pair)?,
-            Some(Delete { .. }) if has(rt, graph, pair) => self.removed.push(pair)?,
+            Some(Delete { .. } | Isolate { .. }) if has(rt, graph, pair) => {
+                self.removed.push(pair)?
+            }
             _ => {}
         }
         Ok(())
@@ -84,7 +107,9 @@ pub fn clean(
         repeats: Vec::new(alloc),
         idle: Vec::new(alloc),
     };
-    plain.count_items(rt, graph, items)?;
+    for (place, &item) in items.iter().enumerate() {
+        plain.count_item(rt, graph, items, place, item)?;
+    }
     for a in 0..graph.vertices() {
         for b in 0..graph.vertices() {
             if a < b {

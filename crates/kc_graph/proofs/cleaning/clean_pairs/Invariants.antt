@@ -2,7 +2,7 @@ use Rattle.std.proofs.Common.{◌≡◌, ◌+◌, ◌≤◌, length}
 use Rattle.std.specs.Prelude.{All}
 use Rattle.kc_graph.specs.declared.limits.TheConstants.{MAX_ITEMS}
 use Rattle.kc_graph.proofs.CleaningLemmas.{IsKeyInside, walked}
-use Rattle.kc_graph.proofs.cleaning.clean.Given as goal
+use Rattle.kc_graph.proofs.cleaning.clean_pairs.Given as goal
 
 abbrev pub invariant-loop-key : goal.invariant-loop-key
 invariant-loop-key g l = record {

@@ -4,7 +4,7 @@ use Rattle.kc_graph.specs.declared.keys.Key.{Key}
 use Rattle.kc_graph.specs.declared.cleaning.Cleaned.{Cleaned}
 use Rattle.kc_graph.specs.Keys.{decided}
 use Rattle.kc_graph.proofs.CleaningLemmas.{walked, walked_decided, walked_repeated, first_inside, later_inside, decided_counts, length_sorted, sorted_inside, walked_is_cleaned}
-use Rattle.kc_graph.proofs.cleaning.clean.Goals as goal
+use Rattle.kc_graph.proofs.cleaning.clean_pairs.Goals as goal
 
 pub overflow_sub-items : goal.overflow_sub-items
 overflow_sub-items g c = omega (arith, length_sorted c.args.items.now c.in_ok-keys.keys.items c.in_ok-keys.ensures.same)
@@ -74,4 +74,4 @@ returns g c =
     ∙ c.loop-key.invariant.known
     ∙ ap (λ (ks : List Key). walked edges ks c.of_loops-cleaned.result) c.as_slice-rest.ensures.value
     ∙ ap (λ (known : Cleaned). walked edges keys known) c.of_loops-cleaned.ensures
-    ∙ walked_is_cleaned c.args.graph.now items keys (length items - c.len.result) c.vertices.ensures.graph c.requires.inside c.in_ok-keys.ensures.same c.in_ok-keys.ensures.in_order (omega (arith, few))
+    ∙ walked_is_cleaned c.args.graph.now items keys (length items - c.len.result) c.requires.none c.vertices.ensures.graph c.requires.inside c.in_ok-keys.ensures.same c.in_ok-keys.ensures.in_order (omega (arith, few))

@@ -1,0 +1,12 @@
+use Rattle.std.proofs.Common.{◌≤◌, drop, length}
+use Rattle.kc_graph.specs.Later.{ComesTo}
+use Rattle.kc_graph.proofs.later.walk_back.Given as goal
+
+abbrev pub invariant-loop-place : goal.invariant-loop-place
+invariant-loop-place l = record {
+  within : l.place ≤ length l.items;
+  comes : ComesTo l.graph.edges (drop l.place l.items) l.later;
+}
+
+abbrev pub decreases-loop-place : goal.decreases-loop-place
+decreases-loop-place l = l.place
