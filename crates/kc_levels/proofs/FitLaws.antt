@@ -2,12 +2,13 @@
 use Rattle.std.proofs.Common.{ℕ, suc, zero, ◌+◌, ◌-◌, ◌≤◌, ◌<◌, ◌≡◌, inl, inr, Bool, true, false, leb, ltb, get_or, refl, arith}
 use Rattle.std.proofs.lemmas.Bool.{cases_Bool, cases_lt, lt-ltb, le-leb}
 use Rattle.kc_levels.specs.declared.profile.Profile.{Profile}
+use Rattle.kc_levels.specs.declared.profile.Profile.TheVariants.{One, Two}
 use Rattle.kc_levels.specs.Thresholds.{low, high, grow, least, height, last_group, group_of}
 use Rattle.kc_levels.specs.LevelList.{at_least, IsHeld}
-use Rattle.kc_levels.specs.Laws.{SequencesRise, HeightIsLeast, LastGroupIsLeast, NoneBreaksBoth}
+use Rattle.kc_levels.specs.Laws.{SequencesRise, HeightIsLeast, LastGroupIsLeast, TopIsLow, NoneBreaksBoth}
 use Rattle.kc_levels.proofs.Least.{least-le}
 use Rattle.kc_levels.proofs.Sequences.{low-mono, high-mono, lo-mono, grow-mono, low-high}
-use Rattle.kc_levels.proofs.Groups.{grow-height, high-last_group, group_of-mono}
+use Rattle.kc_levels.proofs.Groups.{grow-height, last_group-pos, high-last_group, top_level-le, group_of-mono}
 use Rattle.kc_levels.proofs.AtLeast.{at_least-down}
 
 pub sequences_rise : SequencesRise
@@ -42,7 +43,10 @@ last_group_least p n (suc i) some h =
     ]
 
 pub last_group_is_least : LastGroupIsLeast
-last_group_is_least = record { allows = high-last_group; least = last_group_least }
+last_group_is_least = record { some = last_group-pos; allows = high-last_group; least = last_group_least }
+
+pub top_is_low : TopIsLow
+top_is_low = record { one = top_level-le One; two = top_level-le Two }
 
 -- a vertex that breaks the upper invariant is held on its level
 pub none_breaks_both : NoneBreaksBoth

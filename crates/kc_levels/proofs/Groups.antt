@@ -1,5 +1,5 @@
 -- The height, the last group, the top and the group of a level.
-use Rattle.std.proofs.Common.{ℕ, suc, zero, ◌+◌, ◌-◌, ◌*◌, ◌/◌, ◌^◌, ◌≤◌, ◌<◌, ◌≡◌, refl, inl, inr, ltb, leb, ap, arith, add-zero, one-add}
+use Rattle.std.proofs.Common.{ℕ, suc, zero, ◌+◌, ◌-◌, ◌*◌, ◌/◌, ◌^◌, ◌≤◌, ◌<◌, ◌≡◌, inl, inr, ltb, leb, ap, arith, add-zero, one-add}
 use Rattle.std.proofs.lemmas.Bool.{cases_lt, lt-ltb, le-ltb, ltb-true, le-leb, lt-leb, leb-true}
 use Rattle.std.proofs.lemmas.Nat.{mul-le, le-div, div_below, div-mul-add}
 use Rattle.std.proofs.Math.Nat.{div-mul-le_self}
@@ -89,8 +89,8 @@ low-small p n i small at = omega (arith, low-most p, low-mono p i (most_group p)
 -- the top from the length of a table of low
 pub record IsTop (tall long : ℕ) : Type 0 where
   pub long_enough : 2 ≤ long
-  pub short_enough : long < 4097
-  pub product : (long - 2) * tall < 4095
+  pub short_enough : long < 20001
+  pub product : (long - 2) * tall < 19999
 
 pub top-fits : (p : Profile) (n tall long : ℕ) → n ≤ MAX_VERTICES → tall ≡ height p n → long ≡ 1 + last_group p n → IsTop tall long
 top-fits p n tall long small tall_is long_is =
@@ -133,9 +133,11 @@ group_of-mono p n (suc k) (suc l) some le =
     let more : k / height p n ≤ l / height p n = le-div (k / height p n) l (height p n) tall (omega arith) in
     omega arith
 
-pub top_level-small : (p : Profile) (n : ℕ) → n ≤ MAX_VERTICES → top_level p n < 4096
-top_level-small p n small =
-    let fits : IsTop (height p n) (1 + last_group p n) = top-fits p n (height p n) (1 + last_group p n) small refl refl in
-    let same : 1 + last_group p n - 2 ≡ last_group p n - 1 = omega arith in
-    let product : (last_group p n - 1) * height p n < 4095 = rw same at fits.product in
+pub top_level-le : (p : Profile) (n : ℕ) → n ≤ MAX_VERTICES → top_level p n ≤ 1 + (most_group p - 1) * most_height p
+top_level-le p n small =
+    let product : (last_group p n - 1) * height p n ≤ (most_group p - 1) * most_height p =
+    mul-le (last_group p n - 1) (height p n) (most_group p - 1) (most_height p) (omega (arith, last_group-le p n small)) (height-le p n small) in
     omega arith
+
+pub top_level-small : (p : Profile) (n : ℕ) → n ≤ MAX_VERTICES → top_level p n < 20000
+top_level-small p n small = omega (arith, top_level-le p n small, top-most p)

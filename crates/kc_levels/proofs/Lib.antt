@@ -13,3 +13,6 @@ pub mod BothKept
 pub mod BetweenLaw
 pub mod FitLaws
 pub mod SweepLaw
+pub mod MovesBetween
+pub mod Copied
+pub mod Ascending

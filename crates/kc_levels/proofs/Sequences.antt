@@ -1,8 +1,9 @@
 -- The sequences low, high, grow and lo of a profile: their steps, and that they never fall.
 use Rattle.std.proofs.Common.{ℕ, suc, zero, ◌+◌, ◌-◌, ◌≤◌, ◌≡◌, refl, ap, arith, add-one, ◌*◌}
 use Rattle.kc_levels.specs.declared.profile.Profile.{Profile}
+use Rattle.kc_levels.specs.declared.profile.Profile.TheVariants.{Two}
 use Rattle.kc_levels.specs.Thresholds.{low, high, grow, lo, est, next_low, high_over, next_grow, lo_after}
-use Rattle.kc_levels.proofs.ProfileFacts.{next_low-above, high_over-ge, high_over-near, high_over-mono, high-lo, next_grow-above, lo_after-pos, lo_after-mono}
+use Rattle.kc_levels.proofs.ProfileFacts.{next_low-above, high_over-ge, high_over-near, high_over-mono, high-lo, high-lo-two, next_grow-above, lo_after-pos, lo_after-mono}
 use Rattle.kc_levels.proofs.Least.{steps-mono}
 
 pub low-next : (p : Profile) (i : ℕ) → 1 ≤ i → low p (i + 1) ≡ next_low p (low p i)
@@ -89,3 +90,9 @@ unfolding high lo low
 high-est p zero = omega arith
 high-est p (suc zero) = omega (arith, high_over-near p 1)
 high-est p (suc (suc j)) = high-lo p (low p (suc j)) (low-pos p (suc j))
+
+pub high-est-two : (j : ℕ) → high Two j ≤ 2 * est Two j
+unfolding high lo low
+high-est-two zero = omega arith
+high-est-two (suc zero) = omega arith
+high-est-two (suc (suc j)) = high-lo-two (low Two (suc j)) (low-pos Two (suc j))

@@ -13,7 +13,7 @@ use Rattle.kc_levels.proofs.Groups.{last_group-is}
 pub record IsLowTable (p : Profile) (n last : ℕ) (lows : List ℕ) : Type 0 where
   pub long : 2 ≤ length lows
   pub last_is : last ≡ low p (length lows - 1)
-  pub small : last < 2 ^ 22
+  pub small : last < 2 ^ 25
   pub lows_are : (i : ℕ) → i < length lows → get_or lows i 0 ≡ low p i
   pub before : (i : ℕ) → i + 2 < length lows → high_over p (low p (1 + i)) < n - 1
 

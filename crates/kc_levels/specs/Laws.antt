@@ -1,14 +1,19 @@
 -- Laws of the thresholds and of raised and lowered lists, each the contract of a function of `laws`.
 use Rattle.std.specs.Prelude.{ℕ, ◌+◌, ◌-◌, ◌*◌, ◌≤◌, ◌<◌, ◌≡◌, List, [], ◌∷◌, length, min, max, map, replicate, All}
+use Rattle.kc_graph.specs.declared.limits.TheConstants.{MAX_VERTICES}
 use Rattle.kc_graph.specs.Shape.{GraphShape, Pair, IsGraph, with_edges, without_edges}
 use Rattle.kc_levels.specs.declared.profile.Profile.{Profile}
-use Rattle.kc_levels.specs.declared.profile.Profile.TheVariants.{One}
+use Rattle.kc_levels.specs.declared.profile.Profile.TheVariants.{One, Two}
 use Rattle.kc_levels.specs.Thresholds.{low, high, grow, lo, est, height, last_group, top_level}
 use Rattle.kc_levels.specs.LevelList.{MeetsUpper, MeetsLower, IsCapped, MeetsBoth, IsRaisable, IsRaised, IsLowerable, IsLowered}
 
 -- 0 to 12
 abbrev pub first_groups : List ℕ
 first_groups = 0 ∷ 1 ∷ 2 ∷ 3 ∷ 4 ∷ 5 ∷ 6 ∷ 7 ∷ 8 ∷ 9 ∷ 10 ∷ 11 ∷ 12 ∷ []
+
+-- 1 to 8
+abbrev pub first_sizes : List ℕ
+first_sizes = 1 ∷ 2 ∷ 3 ∷ 4 ∷ 5 ∷ 6 ∷ 7 ∷ 8 ∷ []
 
 -- the first numbers of the sequences of the first profile
 pub record FirstProfileBegins : Type 0 where
@@ -17,6 +22,22 @@ pub record FirstProfileBegins : Type 0 where
   pub los : map (lo One) first_groups ≡ 0 ∷ 1 ∷ 1 ∷ 1 ∷ 2 ∷ 2 ∷ 3 ∷ 3 ∷ 4 ∷ 4 ∷ 5 ∷ 6 ∷ 7 ∷ []
   pub ests : map (est One) first_groups ≡ 0 ∷ 2 ∷ 2 ∷ 2 ∷ 4 ∷ 4 ∷ 6 ∷ 6 ∷ 8 ∷ 8 ∷ 10 ∷ 12 ∷ 14 ∷ []
   pub grows : map (grow One) first_groups ≡ 1 ∷ 2 ∷ 3 ∷ 4 ∷ 5 ∷ 7 ∷ 9 ∷ 12 ∷ 15 ∷ 19 ∷ 24 ∷ 30 ∷ 38 ∷ []
+  pub heights : map (height One) first_sizes ≡ 1 ∷ 2 ∷ 3 ∷ 4 ∷ 5 ∷ 5 ∷ 6 ∷ 6 ∷ []
+  pub last_groups : map (last_group One) first_sizes ≡ 1 ∷ 1 ∷ 1 ∷ 2 ∷ 2 ∷ 3 ∷ 3 ∷ 4 ∷ []
+
+-- 0 to 20
+abbrev pub more_groups : List ℕ
+more_groups = 0 ∷ 1 ∷ 2 ∷ 3 ∷ 4 ∷ 5 ∷ 6 ∷ 7 ∷ 8 ∷ 9 ∷ 10 ∷ 11 ∷ 12 ∷ 13 ∷ 14 ∷ 15 ∷ 16 ∷ 17 ∷ 18 ∷ 19 ∷ 20 ∷ []
+
+-- the first numbers of the sequences of the second profile
+pub record SecondProfileBegins : Type 0 where
+  pub lows : map (low Two) more_groups ≡ 1 ∷ 1 ∷ 2 ∷ 3 ∷ 4 ∷ 5 ∷ 6 ∷ 7 ∷ 8 ∷ 9 ∷ 10 ∷ 11 ∷ 12 ∷ 13 ∷ 14 ∷ 15 ∷ 16 ∷ 18 ∷ 20 ∷ 22 ∷ 24 ∷ []
+  pub highs : map (high Two) more_groups ≡ 0 ∷ 1 ∷ 3 ∷ 4 ∷ 6 ∷ 7 ∷ 9 ∷ 10 ∷ 12 ∷ 13 ∷ 15 ∷ 16 ∷ 18 ∷ 19 ∷ 21 ∷ 22 ∷ 24 ∷ 27 ∷ 30 ∷ 33 ∷ 36 ∷ []
+  pub los : map (lo Two) more_groups ≡ 0 ∷ 1 ∷ 1 ∷ 1 ∷ 2 ∷ 2 ∷ 3 ∷ 3 ∷ 4 ∷ 4 ∷ 5 ∷ 5 ∷ 6 ∷ 6 ∷ 7 ∷ 7 ∷ 8 ∷ 8 ∷ 9 ∷ 10 ∷ 11 ∷ []
+  pub ests : map (est Two) more_groups ≡ 0 ∷ 2 ∷ 2 ∷ 2 ∷ 4 ∷ 4 ∷ 6 ∷ 6 ∷ 8 ∷ 8 ∷ 10 ∷ 10 ∷ 12 ∷ 12 ∷ 14 ∷ 14 ∷ 16 ∷ 16 ∷ 18 ∷ 20 ∷ 22 ∷ []
+  pub grows : map (grow Two) more_groups ≡ 1 ∷ 2 ∷ 3 ∷ 4 ∷ 5 ∷ 6 ∷ 7 ∷ 8 ∷ 9 ∷ 11 ∷ 13 ∷ 15 ∷ 17 ∷ 20 ∷ 23 ∷ 26 ∷ 30 ∷ 34 ∷ 39 ∷ 44 ∷ 50 ∷ []
+  pub heights : map (height Two) first_sizes ≡ 1 ∷ 2 ∷ 3 ∷ 4 ∷ 5 ∷ 6 ∷ 7 ∷ 8 ∷ []
+  pub last_groups : map (last_group Two) first_sizes ≡ 1 ∷ 1 ∷ 2 ∷ 2 ∷ 3 ∷ 4 ∷ 4 ∷ 5 ∷ []
 
 -- from each level list within the top exactly one list is raised
 abbrev pub RaisedIsOneList : Type 0
@@ -78,10 +99,11 @@ DeletionKeepsBoth =
     IsGraph g → MeetsBoth p g x →
     IsLowered p (without_edges g removed) x y → MeetsBoth p (without_edges g removed) y
 
--- the estimate is twice lo, and high is at most three times the estimate
+-- the estimate is twice lo, and high is at most three times the estimate, in the second profile at most twice the estimate
 pub record EstimateIsNear : Type 0 where
   pub twice : (p : Profile) (j : ℕ) → est p j ≡ 2 * lo p j
   pub near : (p : Profile) (j : ℕ) → high p j ≤ 3 * est p j
+  pub nearer : (j : ℕ) → high Two j ≤ 2 * est Two j
 
 -- the sequences never fall, and a vertex that has too many neighbours for a group has enough for the next
 pub record SequencesRise : Type 0 where
@@ -98,8 +120,14 @@ pub record HeightIsLeast : Type 0 where
 
 -- the last group is the least one, from group 1 on, that allows as many neighbours as a vertex can have
 pub record LastGroupIsLeast : Type 0 where
+  pub some : (p : Profile) (n : ℕ) → 1 ≤ last_group p n
   pub allows : (p : Profile) (n : ℕ) → n - 1 ≤ high p (last_group p n)
   pub least : (p : Profile) (n i : ℕ) → 1 ≤ i → i < last_group p n → high p i < n - 1
+
+-- no top is above that of the greatest number of vertices
+pub record TopIsLow : Type 0 where
+  pub one : (n : ℕ) → n ≤ MAX_VERTICES → top_level One n ≤ 5042
+  pub two : (n : ℕ) → n ≤ MAX_VERTICES → top_level Two n ≤ 16769
 
 -- a vertex that breaks the upper invariant meets the lower one
 abbrev pub NoneBreaksBoth : Type 0

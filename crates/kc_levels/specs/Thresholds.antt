@@ -5,7 +5,7 @@
 use Rattle.std.specs.Prelude.{ℕ, ◌+◌, ◌-◌, ◌*◌, ◌/◌, nat_lt, nat_le, Bool, cond, max}
 use Rattle.std.proofs.Common.{suc, zero}
 use Rattle.kc_levels.specs.declared.profile.Profile.{Profile}
-use Rattle.kc_levels.specs.declared.profile.Profile.TheVariants.{One}
+use Rattle.kc_levels.specs.declared.profile.Profile.TheVariants.{One, Two}
 
 -- what a table of thresholds is for: a profile and a number of vertices
 pub record Scale : Type 0 where
@@ -15,6 +15,7 @@ pub record Scale : Type 0 where
 -- the low that follows l
 abbrev pub next_low : Profile → ℕ → ℕ
 next_low One l = l + max 1 (l / 4)
+next_low Two l = l + max 1 (l / 8)
 
 -- how many neighbours on a level of group i, or above it, a vertex needs to stand on the next level
 unfoldable pub low : Profile → ℕ → ℕ
@@ -25,6 +26,7 @@ low p (suc (suc i)) = next_low p (low p (suc i))
 -- the high of a group whose low is l
 abbrev pub high_over : Profile → ℕ → ℕ
 high_over One l = 2 * l
+high_over Two l = l + l / 2
 
 -- how many neighbours at its own level or above a vertex of group i may have
 unfoldable pub high : Profile → ℕ → ℕ
@@ -34,6 +36,7 @@ high p (suc i) = high_over p (low p (suc i))
 -- the grow that follows g
 abbrev pub next_grow : Profile → ℕ → ℕ
 next_grow One g = (5 * g + 3) / 4
+next_grow Two g = (9 * g + 7) / 8
 
 -- the least number of vertices after j levels of growth
 unfoldable pub grow : Profile → ℕ → ℕ
@@ -43,6 +46,7 @@ grow p (suc j) = next_grow p (grow p j)
 -- the lo of a group where l is the low of the group before
 abbrev pub lo_after : Profile → ℕ → ℕ
 lo_after One l = 4 * l / 9 + 1
+lo_after Two l = 8 * l / 17 + 1
 
 -- the lower bound that group j stands for
 unfoldable pub lo : Profile → ℕ → ℕ

@@ -37,7 +37,7 @@ pub fn check_upper(graph: &Graph, levels: &Levels, th: &Thresholds, v: u32) -> b
     requires capped { slice_index levels.now v ≤ top_level th.now.profile th.now.vertices }
     ensures meets { IsTrue result ↔ MeetsUpper th.now.profile graph.now levels.now v }
     ensures can_rise { OnFalse result (slice_index levels.now v < top_level th.now.profile th.now.vertices) }
-    ensures small { top_level th.now.profile th.now.vertices < 4096 }
+    ensures small { top_level th.now.profile th.now.vertices < 65535 }
 {
     let level = levels.get(v);
     at_least(graph, levels, v, level) <= th.high(th.group(level))

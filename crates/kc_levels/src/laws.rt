@@ -1,15 +1,21 @@
 // Laws of the definitions. The functions do nothing: each has laws as its contract.
 
-ghost use Rattle.kc_levels.specs.Laws.{FirstProfileBegins, EstimateIsNear, RaisedIsOneList, TopIsRaisable, LesserIsRaisable, LoweredIsOneList, ZerosAreLowerable, GreaterIsLowerable, InsertionKeepsBoth, DeletionKeepsBoth, SequencesRise, HeightIsLeast, LastGroupIsLeast, NoneBreaksBoth};
+ghost use Rattle.kc_levels.specs.Laws.{FirstProfileBegins, SecondProfileBegins, EstimateIsNear, RaisedIsOneList, TopIsRaisable, LesserIsRaisable, LoweredIsOneList, ZerosAreLowerable, GreaterIsLowerable, InsertionKeepsBoth, DeletionKeepsBoth, SequencesRise, HeightIsLeast, LastGroupIsLeast, TopIsLow, NoneBreaksBoth};
 ghost use Rattle.kc_levels.specs.Between.{BetweenMeetsBoth};
 ghost use Rattle.kc_levels.specs.Sweep.{SweptIsRaised};
 
-/// The first numbers of each sequence of profile 1.
+/// The first numbers of each sequence of profile 1, and the height and the last group for 1 to 8 vertices.
 pub fn profile_one_begins()
     ensures { FirstProfileBegins }
 {}
 
-/// The estimate of a group is twice its lower bound, and its upper bound is at most three times the estimate.
+/// The first numbers of each sequence of profile 2, and the height and the last group for 1 to 8 vertices.
+pub fn profile_two_begins()
+    ensures { SecondProfileBegins }
+{}
+
+/// The estimate of a group is twice its lower bound, and its upper bound is at most three times the estimate, in profile 2 at
+/// most twice the estimate.
 pub fn estimate_is_near()
     ensures { EstimateIsNear }
 {}
@@ -37,11 +43,13 @@ pub fn phases_keep_both()
 {}
 
 /// The sequences of a profile never fall. The height of a group and the last group are the least numbers that they are
-/// meant to be, for every number of vertices. No vertex breaks both invariants.
+/// meant to be, for every number of vertices. The top is at most 5,042 in profile 1 and 16,769 in profile 2, for up to
+/// `MAX_VERTICES` vertices. No vertex breaks both invariants.
 pub fn thresholds_fit()
     ensures rise { SequencesRise }
     ensures height { HeightIsLeast }
     ensures last { LastGroupIsLeast }
+    ensures top { TopIsLow }
     ensures apart { NoneBreaksBoth }
 {}
 

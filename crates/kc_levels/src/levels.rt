@@ -1,5 +1,7 @@
-ghost use Rattle.std.specs.Prelude.{◌≡◌, ℕ, ◌<◌, IfOk, length, slice_index, slice_set, replicate};
+ghost use Rattle.std.specs.Prelude.{◌≡◌, ℕ, ◌<◌, List, All, IfOk, length, slice_index, slice_set, replicate};
+ghost use Rattle.kc_levels.specs.Moved.{moves_between};
 
+use crate::Moves;
 use std::alloc::{AllocError, Global};
 use std::marker::Model;
 
@@ -18,7 +20,7 @@ impl Model for Levels {
 }
 
 impl Levels {
-    /// `n` vertices on level 0. The error is want of memory.
+    /// `n` vertices on level 0. Fails only if memory runs out.
     pub fn zeros(alloc: Global, n: u32) -> Result<Levels, AllocError>
         ensures { IfOk result (λ x. x ≡ replicate n 0) }
     {
@@ -27,7 +29,7 @@ impl Levels {
         })
     }
 
-    /// A list of the same levels. The error is want of memory.
+    /// A list of the same levels. Fails only if memory runs out.
     pub fn copy(&self, alloc: Global) -> Result<Levels, AllocError>
         ensures { IfOk result (λ x. x ≡ self.now) }
     {
@@ -50,6 +52,17 @@ impl Levels {
         ensures { self.new ≡ slice_set self.old v level }
     {
         self.items[v as usize] = level;
+    }
+
+    /// Puts each vertex of the moves on its new level: where they lead from this list to another, it is that one afterwards.
+    pub fn follow(&mut self, moves: &Moves)
+        requires { All (λ m. m.vertex < length self.old) moves.now }
+        ensures sized { length self.new ≡ length self.old }
+        ensures follows { (y : List ℕ) → length y ≡ length self.old → moves.now ≡ moves_between (length self.old) self.old y → self.new ≡ y }
+    {
+        for m in moves.as_slice() {
+            self.set(m.vertex, m.new);
+        }
     }
 
     /// The levels by vertex, for loops that read many of them.

@@ -9,13 +9,17 @@
 mod counts;
 pub mod laws;
 mod levels;
+mod move_lists;
 mod moved;
+mod moves;
 mod profile;
 mod thresholds;
 
 pub use counts::{at_least, check_lower, check_upper};
 pub use levels::Levels;
-pub use moved::moved_count;
+pub use move_lists::Moves;
+pub use moved::{moved_count, moves_of};
+pub use moves::Move;
 pub use profile::Profile;
 pub use thresholds::{Estimate, Thresholds};
 

@@ -1,8 +1,11 @@
-ghost use Rattle.std.specs.Prelude.{◌≡◌, ◌≤◌, length};
-ghost use Rattle.kc_levels.specs.Moved.{moved_count};
+ghost use Rattle.std.specs.Prelude.{◌≡◌, ◌<◌, ◌≤◌, ℕ, true, IfOk, length, map};
+ghost use Rattle.kc_graph.specs.Numbers.{has_number, RisesFrom};
+ghost use Rattle.kc_levels.specs.Moved.{is_moved, moved_count, move_of, moves_between};
+ghost use Rattle.kc_levels.specs.Following.{AreDistinct};
 
-use crate::Levels;
+use crate::{Levels, Move, Moves};
 use kc_graph::MAX_VERTICES;
+use std::alloc::{AllocError, Global};
 
 /// How many vertices have another level in `after` than in `before`, as `moved_count` says. One pass over the levels.
 pub fn moved_count(before: &Levels, after: &Levels) -> u32
@@ -19,4 +22,54 @@ pub fn moved_count(before: &Levels, after: &Levels) -> u32
         }
     }
     count
+}
+
+// Puts the vertices in ascending order. Each is there once.
+fn sort(vertices: &mut Vec<u32>)
+    requires { AreDistinct vertices.old.items }
+    ensures rises { RisesFrom 0 vertices.new.items }
+    ensures same { (v : ℕ) → has_number v vertices.new.items ≡ has_number v vertices.old.items }
+{
+    vertices.sort_unstable();
+}
+
+// The moves of the vertices from one list of levels to another, in their order.
+fn moves_in_order(
+    alloc: Global,
+    before: &Levels,
+    after: &Levels,
+    vertices: &[u32],
+) -> Result<Moves, AllocError>
+    requires before { (v : ℕ) → has_number v vertices.now ≡ true → v < length before.now }
+    requires after { (v : ℕ) → has_number v vertices.now ≡ true → v < length after.now }
+    ensures { IfOk result (λ moves. moves ≡ map (move_of before.now after.now) vertices.now) }
+{
+    let mut items = Vec::with_capacity(alloc, vertices.len())?;
+    for v in vertices {
+        items.push(Move {
+            vertex: *v,
+            old: before.get(*v),
+            new: after.get(*v),
+        })?;
+    }
+    Ok(Moves::from_vec(items))
+}
+
+/// The moves from one list of levels to another, ascending by vertex (`moves_between`). The vertices are those that have another
+/// level in the second list, each once; afterwards they are in ascending order.
+///
+/// Costs a sort of the vertices, and no pass over the levels. Fails only if memory runs out.
+pub fn moves_of(
+    alloc: Global,
+    before: &Levels,
+    after: &Levels,
+    vertices: &mut Vec<u32>,
+) -> Result<Moves, AllocError>
+    requires sized { length after.now ≡ length before.now }
+    requires moved { (v : ℕ) → has_number v vertices.old.items ≡ is_moved before.now after.now v }
+    requires once { AreDistinct vertices.old.items }
+    ensures { IfOk result (λ moves. moves ≡ moves_between (length before.now) before.now after.now) }
+{
+    sort(vertices);
+    moves_in_order(alloc, before, after, vertices)
 }

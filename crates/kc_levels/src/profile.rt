@@ -7,36 +7,42 @@ pub enum Profile {
     /// From 1 on each `low` is the one before and a quarter of it, at least 1 more; each `high` but the first, which is 0,
     /// is twice the `low`.
     One,
+    /// The finer one. From 1 on each `low` is the one before and an eighth of it, at least 1 more; each `high` but the first,
+    /// which is 0, is the `low` and half of it.
+    Two,
 }
 
 impl Profile {
     // The low that follows one.
     pub(crate) fn next_low(self, low: u32) -> u32
-        requires { low < 2 ^ 24 }
+        requires { low < 2 ^ 25 }
         ensures { result ≡ next_low self low }
     {
         match self {
             Profile::One => low + (low / 4).max(1),
+            Profile::Two => low + (low / 8).max(1),
         }
     }
 
     // The high of a group with this low.
     pub(crate) fn high_over(self, low: u32) -> u32
-        requires { low < 2 ^ 24 }
+        requires { low < 2 ^ 25 }
         ensures { result ≡ high_over self low }
     {
         match self {
             Profile::One => 2 * low,
+            Profile::Two => low + low / 2,
         }
     }
 
     // The grow that follows one.
     pub(crate) fn next_grow(self, grown: u32) -> u32
-        requires { grown < 2 ^ 24 }
+        requires { grown < 2 ^ 25 }
         ensures { result ≡ next_grow self grown }
     {
         match self {
             Profile::One => (5 * grown + 3) / 4,
+            Profile::Two => (9 * grown + 7) / 8,
         }
     }
 
@@ -48,6 +54,7 @@ impl Profile {
     {
         match self {
             Profile::One => 4 * low / 9 + 1,
+            Profile::Two => 8 * low / 17 + 1,
         }
     }
 }

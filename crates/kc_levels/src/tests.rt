@@ -5,19 +5,23 @@ use std::test::Fail;
 #[test]
 fn tops(rt: HostRuntime) -> Result<(), Fail> {
     let table = [
-        (1, 1),
-        (2, 1),
-        (3, 1),
-        (4, 5),
-        (5, 6),
-        (6, 11),
-        (8, 19),
-        (MAX_VERTICES, 3365),
+        (Profile::One, 1, 1),
+        (Profile::One, 2, 1),
+        (Profile::One, 3, 1),
+        (Profile::One, 4, 5),
+        (Profile::One, 5, 6),
+        (Profile::One, 6, 11),
+        (Profile::One, 8, 19),
+        (Profile::One, 1_048_576, 3365),
+        (Profile::One, MAX_VERTICES, 5042),
+        (Profile::Two, 1, 1),
+        (Profile::Two, 5, 11),
+        (Profile::Two, MAX_VERTICES, 16769),
     ];
-    for (n, top) in table {
+    for (profile, n, top) in table {
         assert!(rt; 1 <= n && n <= MAX_VERTICES);
-        let th = Thresholds::new(rt.alloc(), Profile::One, n)?;
-        assert_eq!(rt; th.top(), top, "at {n}");
+        let th = Thresholds::new(rt.alloc(), profile, n)?;
+        assert_eq!(rt; th.top(), top, "{profile:?} at {n}");
     }
     Ok(())
 }

@@ -13,7 +13,7 @@ pub struct Estimate {
     pub est: u32,
     /// The lower bound.
     pub lo: u32,
-    /// The upper bound, which is at most three times the estimate.
+    /// The upper bound, which is at most three times the estimate, in `Profile::Two` at most twice the estimate.
     pub hi: u32,
 }
 
@@ -75,7 +75,7 @@ fn lows_to_last(alloc: Global, profile: Profile, n: u32) -> Result<Vec<u32>, All
 
 impl Thresholds {
     /// The thresholds for `n` vertices, 1 to `MAX_VERTICES`. Takes memory and time for a number per group, of which
-    /// there are at most 60. The error is want of memory.
+    /// there are at most 133. Fails only if memory runs out.
     pub fn new(alloc: Global, profile: Profile, n: u32) -> Result<Thresholds, AllocError>
         requires positive { 1 ≤ n }
         requires small { n ≤ MAX_VERTICES }
@@ -119,7 +119,7 @@ impl Thresholds {
         requires { level ≤ top_level self.now.profile self.now.vertices }
         ensures value { result ≡ group_of self.now.profile self.now.vertices level }
         ensures within { result ≤ last_group self.now.profile self.now.vertices }
-        ensures small { top_level self.now.profile self.now.vertices < 4096 }
+        ensures small { top_level self.now.profile self.now.vertices < 65535 }
     {
         if level == 0 {
             0
@@ -128,10 +128,10 @@ impl Thresholds {
         }
     }
 
-    /// The greatest level, 1 to 4095.
+    /// The greatest level, at least 1.
     pub fn top(&self) -> u16
         ensures value { result ≡ top_level self.now.profile self.now.vertices }
-        ensures small { result < 4096 }
+        ensures small { result < 65535 }
         ensures positive { 1 ≤ self.now.vertices }
         ensures limit { self.now.vertices ≤ MAX_VERTICES }
     {

@@ -10,5 +10,8 @@ returns-clause-height c = law.height_is_least
 pub returns-clause-last : goal.returns-clause-last
 returns-clause-last c = law.last_group_is_least
 
+pub returns-clause-top : goal.returns-clause-top
+returns-clause-top c = law.top_is_low
+
 pub returns-clause-apart : goal.returns-clause-apart
 returns-clause-apart c = law.none_breaks_both

@@ -15,7 +15,7 @@ returns-else-level-eq0-clause-within c =
     rw (t.tall_is, ← is, ← c.self.view_is) (group_of-within c.self.inside.profile c.self.inside.n c.args.level t.positive capped)
 
 pub returns-then-level-eq0-clause-small : goal.returns-then-level-eq0-clause-small
-returns-then-level-eq0-clause-small c = rw (← c.self.view_is) (top_level-small c.self.inside.profile c.self.inside.n c.self.invariant.small)
+returns-then-level-eq0-clause-small c = rw (← c.self.view_is) (omega (arith, top_level-small c.self.inside.profile c.self.inside.n c.self.invariant.small))
 
 pub returns-else-level-eq0-clause-small : goal.returns-else-level-eq0-clause-small
-returns-else-level-eq0-clause-small c = rw (← c.self.view_is) (top_level-small c.self.inside.profile c.self.inside.n c.self.invariant.small)
+returns-else-level-eq0-clause-small c = rw (← c.self.view_is) (omega (arith, top_level-small c.self.inside.profile c.self.inside.n c.self.invariant.small))
