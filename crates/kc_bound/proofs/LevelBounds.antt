@@ -4,10 +4,11 @@ use Rattle.std.proofs.lemmas.Nat.{div-mul-add}
 use Rattle.std.proofs.Math.Nat.{div-mul-le_self}
 use Rattle.kc_graph.specs.Shape.{GraphShape}
 use Rattle.kc_levels.specs.declared.profile.Profile.{Profile}
+use Rattle.kc_levels.specs.declared.profile.Profile.TheVariants.{Two}
 use Rattle.kc_levels.specs.Thresholds.{low, high, lo, grow, height, group_of, lo_after}
 use Rattle.kc_levels.specs.LevelList.{at_least, IsHeld}
 use Rattle.kc_levels.proofs.ProfileFacts.{lo_after-pos}
-use Rattle.kc_levels.proofs.Sequences.{low-pos, low-mono, high-mono, grow-ge, high-est}
+use Rattle.kc_levels.proofs.Sequences.{low-pos, low-mono, high-mono, grow-ge, high-est, high-est-two}
 use Rattle.kc_levels.proofs.Groups.{height-pos, grow-height, group_of-mono}
 use Rattle.kc_bound.specs.Laws.{CorenessIsOne, HighBoundsCoreness, LoBoundsCoreness, EstimateIsNearCoreness}
 use Rattle.kc_bound.proofs.HighBound.{high_bound}
@@ -71,6 +72,8 @@ estimate_is_near_coreness = record {
   estimate = λ p g x graph meets v c is. omega (arith, lo_bounds_coreness p g x graph meets.lower v c is);
   coreness = λ p g x graph meets v c is.
       omega (arith, high_bounds_coreness p g x meets.upper v c is, high-est p (group_of p g.vertices (get_or x v 0)));
+  nearer = λ g x graph meets v c is.
+      omega (arith, high_bounds_coreness Two g x meets.upper v c is, high-est-two (group_of Two g.vertices (get_or x v 0)));
 }
 
 pub coreness_is_one : CorenessIsOne

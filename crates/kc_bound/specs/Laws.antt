@@ -3,6 +3,7 @@ use Rattle.std.specs.Prelude.{ℕ, ◌*◌, ◌≤◌, ◌<◌, ◌≡◌, Bool,
 use Rattle.kc_graph.specs.Numbers.{has_number}
 use Rattle.kc_graph.specs.Shape.{GraphShape, IsGraph}
 use Rattle.kc_levels.specs.declared.profile.Profile.{Profile}
+use Rattle.kc_levels.specs.declared.profile.Profile.TheVariants.{Two}
 use Rattle.kc_levels.specs.Thresholds.{high, lo, est, group_of}
 use Rattle.kc_levels.specs.LevelList.{MeetsUpper, MeetsLower, MeetsBoth}
 use Rattle.kc_bound.specs.Cores.{IsCore, IsCoreness}
@@ -31,9 +32,12 @@ LoBoundsCoreness =
     (p : Profile) (g : GraphShape) (x : List ℕ) → IsGraph g → ((u : ℕ) → u < g.vertices → MeetsLower p g x u) →
     (v c : ℕ) → IsCoreness g v c → lo p (group_of p g.vertices (get_or x v 0)) ≤ c
 
--- where both invariants hold, the estimate is at most twice the coreness, and the coreness at most three times the estimate
+-- where both invariants hold, the estimate is at most twice the coreness, and the coreness at most three times the estimate,
+-- in the second profile at most twice the estimate
 pub record EstimateIsNearCoreness : Type 0 where
   pub estimate : (p : Profile) (g : GraphShape) (x : List ℕ) → IsGraph g → MeetsBoth p g x →
       (v c : ℕ) → IsCoreness g v c → est p (group_of p g.vertices (get_or x v 0)) ≤ 2 * c
   pub coreness : (p : Profile) (g : GraphShape) (x : List ℕ) → IsGraph g → MeetsBoth p g x →
       (v c : ℕ) → IsCoreness g v c → c ≤ 3 * est p (group_of p g.vertices (get_or x v 0))
+  pub nearer : (g : GraphShape) (x : List ℕ) → IsGraph g → MeetsBoth Two g x →
+      (v c : ℕ) → IsCoreness g v c → c ≤ 2 * est Two (group_of Two g.vertices (get_or x v 0))

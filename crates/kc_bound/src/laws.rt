@@ -26,7 +26,7 @@ pub fn lo_bounds_coreness()
 {}
 
 /// Where both invariants hold at each vertex, the estimate that its level stands for is at most twice its coreness, and
-/// its coreness is at most three times the estimate.
+/// its coreness is at most three times the estimate, in the second profile at most twice the estimate.
 pub fn estimate_is_near_coreness()
     ensures { EstimateIsNearCoreness }
 {}
