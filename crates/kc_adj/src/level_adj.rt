@@ -41,7 +41,7 @@ impl Model for LevelAdj {
 impl LevelAdj {
     /// The graph on n vertices without edges, all on level 0; n is 1 to `MAX_VERTICES`.
     ///
-    /// Takes memory and time for n vertices. The error is want of memory.
+    /// Takes memory and time for n vertices. Fails only if memory runs out.
     pub fn new(alloc: Global, n: u32) -> Result<LevelAdj, AllocError>
         requires positive { 1 ≤ n }
         requires small { n ≤ MAX_VERTICES }
@@ -143,7 +143,7 @@ impl LevelAdj {
 
     /// Puts in an edge that is not there (`with_edge`); fewer than `MAX_EDGES` edges may be there. Levels stay.
     ///
-    /// Counts 3 steps. The error is want of memory, and all is then unchanged, the steps too.
+    /// Counts 3 steps. Fails only if memory runs out, and all is then unchanged, the steps too.
     ///
     /// Costs what `Graph::insert` costs.
     pub fn link<L: Ledger>(

@@ -67,7 +67,7 @@ fn filter_piece<F: RoundTest, G: Gate>(
 /// At the start of each piece the gate is told its index. An empty list has no piece.
 ///
 /// Tests each candidate once. Takes memory for the answer, and with more than one worker for one answer of each piece besides.
-/// The error is want of memory.
+/// Fails only if memory runs out.
 pub fn filter_round<R: Threads + Sync, F: RoundTest + Sync, G: Gate + Sync>(
     rt: &R,
     alloc: Global,

@@ -26,7 +26,7 @@ pub trait RoundGather {
         requires { may_gather self.now v }
         ensures { length (finds self.now v) ≤ result };
 
-    /// Puts the vertices that are found at `v` last in `found`, and gives the number. The error is want of memory; what `found`
+    /// Puts the vertices that are found at `v` last in `found`, and gives the number. Fails only if memory runs out; what `found`
     /// holds is then unspecified.
     fn gather(&self, v: u32, found: &mut Vec<u32>) -> Result<u32, AllocError>
         requires { may_gather self.now v }
@@ -79,7 +79,7 @@ fn gather_piece<F: RoundGather>(
 /// is told.
 ///
 /// Gathers once at each vertex. Takes memory for the answer, and with more than one worker for one answer of each piece besides.
-/// The error is want of memory.
+/// Fails only if memory runs out.
 pub fn gather_round<R: Threads + Sync, F: RoundGather + Sync>(
     rt: &R,
     alloc: Global,

@@ -15,7 +15,7 @@ mod spot;
 pub use filtering::{RoundTest, filter_round};
 pub use gate::{Gate, OpenGate};
 pub use gathering::{Gathered, RoundGather};
-pub use rounds::Rounds;
+pub use rounds::{FirstRound, Rounds};
 pub use spot::Spot;
 
 #[cfg(test)]

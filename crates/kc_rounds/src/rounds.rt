@@ -6,26 +6,40 @@ use crate::{Gate, Gathered, RoundGather, RoundTest, filter_round};
 use std::alloc::{AllocError, Global};
 use std::thread::Threads;
 
-// A list of tests is cut into no more pieces than it has full ones of this length, but in a phase's first round: to start a
-// thread and to join it costs as much as some tens of thousands of tests.
+// A list of tests is cut into no more pieces than it has full ones of this length, but in a first round: to start a thread and
+// to join it costs as much as some tens of thousands of tests.
 const LEAST_TESTS: usize = 131_072;
 
 // The like for a list at whose vertices is gathered: that is a pass over neighbours, and costs far more than a test.
 const LEAST_GATHERED: usize = 2_048;
 
-/// The rounds of one phase, one after the other, with the workers that they may use.
+/// Whether a first round is still to come.
 ///
-/// The first round that has candidates goes to all workers: `filter_round` cuts it into as many pieces, or fewer where there
-/// are few candidates. In later rounds, and where it is gathered, a short list goes to fewer workers, down to one, since a
-/// thread costs more than the work that it would take over. No answer depends on it.
+/// Who makes rounds keeps one for as long as it lives: the first round with candidates goes to all workers, however short it is, so
+/// that a gate sees pieces at the same time.
+#[derive(Drop)]
+pub struct FirstRound {
+    is_ahead: bool,
+}
+
+impl FirstRound {
+    /// No round has been yet. Takes no memory.
+    pub fn new() -> Self {
+        FirstRound { is_ahead: true }
+    }
+}
+
+/// The workers that rounds may use, and the gate that they tell.
+///
+/// A first round goes to all workers: `filter_round` cuts it into as many pieces, or fewer where there are few candidates. In later
+/// rounds, and where it is gathered, a short list goes to fewer workers, down to one, since a thread costs more than the work
+/// that it would take over. No answer depends on it.
 #[derive(Drop)]
 pub struct Rounds<'a, R, G> {
     rt: &'a R,
     alloc: Global,
     gate: &'a G,
     workers: u32,
-    // Whether no candidate was tested yet.
-    is_first: bool,
     ghost few_workers: { (1 ≤ workers) × (workers ≤ 64) },
 }
 
@@ -47,7 +61,7 @@ fn workers_for(workers: u32, items: usize, least_piece: usize) -> u32
 }
 
 impl<'a, R: Threads + Sync, G: Gate + Sync> Rounds<'a, R, G> {
-    /// No round has been yet. `workers` is 1 to 64.
+    /// Rounds by up to so many workers, 1 to 64.
     pub fn new(rt: &'a R, alloc: Global, gate: &'a G, workers: u32) -> Self
         requires { (1 ≤ workers) × (workers ≤ 64) }
     {
@@ -56,30 +70,31 @@ impl<'a, R: Threads + Sync, G: Gate + Sync> Rounds<'a, R, G> {
             alloc,
             gate,
             workers,
-            is_first: true,
         }
     }
 
-    /// One round: the candidates that pass, in order (`filter_round`). The error is want of memory.
+    /// One round: the candidates that pass, in order (`filter_round`). A round without candidates leaves a first one still to come.
+    /// Fails only if memory runs out.
     pub fn movers<F: RoundTest + Sync>(
-        &mut self,
+        &self,
+        first: &mut FirstRound,
         candidates: &[u32],
         test: &F,
     ) -> Result<Vec<u32>, AllocError>
         requires { All (F.may_ask test.now) candidates.now }
         ensures { IfOk result (λ v. v.items ≡ filter (F.keeps test.now) candidates.now) }
     {
-        let workers = if self.is_first {
+        let workers = if first.is_ahead {
             self.workers
         } else {
             workers_for(self.workers, candidates.len(), LEAST_TESTS)
         };
-        self.is_first = self.is_first && candidates.is_empty();
+        first.is_ahead = first.is_ahead && candidates.is_empty();
         filter_round(self.rt, self.alloc, self.gate, workers, candidates, test)
     }
 
     /// What is gathered at each of the vertices, in order (`AreGathered`). The list is cut into no more pieces than there are
-    /// workers, and no more than it has full 2,048s; a shorter list goes to one. No gate is told. The error is want of memory.
+    /// workers, and no more than it has full 2,048s; a shorter list goes to one. No gate is told. Fails only if memory runs out.
     pub fn gather<F: RoundGather + Sync>(
         &self,
         vertices: &[u32],

@@ -1,5 +1,7 @@
+ghost use Rattle.std.specs.Prelude.{◌≤◌};
+
 use crate::gathering::gather_round;
-use crate::{Gate, OpenGate, RoundGather, RoundTest, Rounds, Spot, filter_round};
+use crate::{FirstRound, Gate, OpenGate, RoundGather, RoundTest, Rounds, Spot, filter_round};
 use std::alloc::AllocError;
 use std::cell::Cell;
 use std::sync::atomic::Ordering::SeqCst;
@@ -155,21 +157,77 @@ fn pieces_run_at_the_same_time(rt: HostRuntime) -> Result<(), Fail> {
     Ok(())
 }
 
+// The gate and the test of a list of the numbers from 0 on: notes each piece that is told, and counts the numbers that are
+// tested before their piece was told.
+#[derive(Drop)]
+struct Order {
+    size: u32,
+    told: AtomicU64,
+    early: AtomicU64,
+    ghost positive: { 1 ≤ size },
+}
+
+impl Gate for Order {
+    fn at(&self, spot: Spot) {
+        match spot {
+            Spot::Piece { index } if index < 64 => {
+                self.told.fetch_add(1 << index, SeqCst);
+            }
+            _ => {}
+        }
+    }
+}
+
+impl RoundTest for Order {
+    ghost use Rattle.std.specs.Prelude.{true};
+
+    ghost keeps = { λ _ _. true };
+
+    ghost may_ask = { λ _ _. Unit {0} };
+
+    fn keep(&self, v: u32) -> bool {
+        let index = (v / self.size).min(63);
+        if (self.told.load(SeqCst) >> index) & 1 == 0 {
+            self.early.fetch_add(1, SeqCst);
+        }
+        true
+    }
+}
+
+#[test]
+fn pieces_are_told_before_they_are_tested(rt: HostRuntime) -> Result<(), Fail> {
+    for (workers, size) in [(1, 5), (2, 3), (3, 2), (5, 1)] {
+        let order = Order {
+            size,
+            told: AtomicU64::new(0),
+            early: AtomicU64::new(0),
+        };
+        let kept = filter_round(&rt, rt.alloc(), &order, workers, &[0, 1, 2, 3, 4], &order)?;
+        assert_eq!(rt; kept.len(), 5);
+        assert_eq!(rt; order.early.load(SeqCst), 0);
+    }
+    Ok(())
+}
+
 // The first round with candidates has as many pieces as workers; a short one after it has one.
 #[test]
 fn later_short_rounds_have_one_piece(rt: HostRuntime) -> Result<(), Fail> {
     let gate = Told::new();
-    let mut rounds = Rounds::new(&rt, rt.alloc(), &gate, 3);
+    let rounds = Rounds::new(&rt, rt.alloc(), &gate, 3);
+    let mut first = FirstRound::new();
     for (candidates, kept, pieces) in [
         ([].as_slice(), [].as_slice(), 0),
         ([1, 2, 3, 4, 5].as_slice(), [1, 3, 5].as_slice(), 0x010101),
         ([7, 6, 9].as_slice(), [7, 9].as_slice(), 0x010102),
     ] {
-        assert_eq!(rt; rounds.movers(candidates, &Odd)?.as_slice(), kept);
+        assert_eq!(rt;
+            rounds.movers(&mut first, candidates, &Odd)?.as_slice(),
+            kept
+        );
         assert_eq!(rt; gate.pieces.load(SeqCst), pieces);
     }
     let long = vec![in rt.alloc(); 4; 300_000]?;
-    assert!(rt; rounds.movers(&long, &Odd)?.is_empty());
+    assert!(rt; rounds.movers(&mut first, &long, &Odd)?.is_empty());
     assert_eq!(rt; gate.pieces.load(SeqCst), 0x010203);
     Ok(())
 }
