@@ -1,2 +1,4 @@
 pub mod Waiting
 pub mod Settling
+pub mod Fallen
+pub mod Working

@@ -30,7 +30,7 @@ impl Bucket {
         }
     }
 
-    /// Puts `v` last. The error is want of memory, and nothing is changed then.
+    /// Puts `v` last. Fails only if memory runs out, and nothing is changed then.
     pub fn push(&mut self, v: u32) -> Result<(), AllocError>
         ensures ok { OnOk result (self.new ≡ self.old ++ v ∷ []) }
         ensures err { OnErr result (self.new ≡ self.old) }
@@ -40,7 +40,7 @@ impl Bucket {
     }
 }
 
-/// Makes empty buckets up to this level, where there are fewer. The error is want of memory.
+/// Makes empty buckets up to this level, where there are fewer. Fails only if memory runs out.
 pub fn reach(alloc: Global, buckets: &mut Vec<Bucket>, level: u16) -> Result<(), AllocError>
     ensures enough { OnOk result (level < length buckets.new.items) }
     ensures longer { length buckets.old.items ≤ length buckets.new.items }

@@ -3,14 +3,16 @@ ghost use Rattle.kc_graph.specs.Numbers.{has_number};
 ghost use Rattle.kc_graph.specs.Shape.{EdgesFrom, without_edges};
 ghost use Rattle.kc_graph.specs.Changes.{AllPresent, CanRemove};
 ghost use Rattle.kc_levels.specs.LevelList.{MeetsLower, IsCapped, IsLowered};
-ghost use Rattle.kc_levels.specs.Moved.{moved_count};
+ghost use Rattle.kc_levels.specs.Moved.{moved_count, moves_between};
+ghost use Rattle.kc_delete.specs.Working.{IsReady};
 ghost use Rattle.kc_delete.specs.Settling.{WaitsOrMeets, ends_of};
 
 use crate::settling::{add_if_short, settle};
 use crate::waiting::Waiting;
+use crate::work::DeletionWork;
 use kc_adj::{LevelAdj, Steps};
 use kc_graph::Edge;
-use kc_levels::{Thresholds, moved_count};
+use kc_levels::{Moves, Thresholds};
 use kc_rounds::{Gate, Rounds};
 use std::alloc::{AllocError, Global};
 use std::sync::ledger::Ledger;
@@ -56,27 +58,67 @@ fn add_short_ends(
 
 /// Takes the edges out and lowers the levels: afterwards they are the lowered list (`IsLowered`), the greatest levels that
 /// are at most the old ones and meet the lower invariant in the new graph. The graph is the old one without the edges
-/// (`without_edges`).
+/// (`without_edges`). Gives the moves (`moves_between`): each vertex that fell with its old and its new level, ascending by vertex.
 ///
 /// The thresholds are for this number of vertices, and no level is above their top. The lower invariant holds before the
-/// call. `removed` is ascending, and each of its edges is in the graph. `workers` is 1 to 64. The answer doesn't depend on it
-/// nor on what the gate does.
+/// call. `work` is ready for the graph (`IsReady`), and is ready for the new one afterwards. `removed` is ascending, and each of
+/// its edges is in the graph. The answer doesn't depend on the workers of `rounds` nor on what the gate does.
 ///
-/// The error is want of memory; graph, levels and steps are then unspecified.
+/// Fails only if memory runs out; graph, levels, `work` and steps are then unspecified.
 ///
 /// A vertex that has too few neighbours to stand on its level waits, never twice at a time, under the level that it desired
-/// when it began to wait. A round is all that wait under the lowest level: up to `workers` threads (`Rounds`) find those of
-/// them that have too few neighbours, which then fall one after the other, each to the level that it desires then. The first
-/// round is cut into as many pieces as there are workers, later short ones into fewer.
+/// when it began to wait. A round is all that wait under the lowest level: up to as many threads as `rounds` has workers find those
+/// of them that have too few neighbours, which then fall one after the other, each to the level that it desires then. The first
+/// round in the life of `work` is cut into as many pieces as there are workers, later short ones into fewer.
 ///
 /// A vertex is looked at only where an edge left it, or where a neighbour fell that it counted before and doesn't count now, and
-/// once in a round; a look is O(1). A vertex that begins to wait and one that falls cost a call of `LevelAdj::desired` each,
-/// at most 12 passes over the neighbours; a fall costs two passes more. That a vertex seldom falls twice isn't proved, and no
-/// bound on the steps is promised. Besides there are three passes over all vertices, without their neighbours: to copy the
-/// levels, to make a mark for each vertex, and to count the moves.
+/// once in a round; a look is O(1). A vertex that begins to wait and one that falls cost a call of `LevelAdj::desired` each; a
+/// fall costs two passes over the neighbours more. That a vertex seldom falls twice isn't proved, and no bound on the steps is
+/// promised. Besides, those who fell are sorted, and the levels up to the greatest one that a vertex ever waited under are looked
+/// at, once or more often. So a phase has no pass over the vertices.
 ///
-/// Memory is taken for the copy, for the marks, and for the vertices that wait, in a list for each level up to the greatest
-/// one that a vertex waited under, and for those of a round that fall.
+/// Memory is taken for the vertices that wait, in a list for each level up to the greatest one that a vertex waited under, for
+/// those of a round that fall, and for who fell and the moves.
+pub fn delete_phase<R: Threads + Sync, G: Gate + Sync, L: Ledger>(
+    rounds: &Rounds<R, G>,
+    alloc: Global,
+    th: &Thresholds,
+    adj: &mut LevelAdj,
+    work: &mut DeletionWork,
+    removed: &[Edge],
+    steps: &mut Steps<L>,
+) -> Result<Moves, AllocError>
+    requires scale { th.now.vertices ≡ adj.old.graph.vertices }
+    requires capped { IsCapped th.now.profile adj.old.graph.vertices adj.old.levels }
+    requires lower { (v : ℕ) → v < adj.old.graph.vertices → MeetsLower th.now.profile adj.old.graph adj.old.levels v }
+    requires ready { IsReady adj.old work.old }
+    requires ascending { EdgesFrom adj.old.graph.vertices 0 0 removed.now }
+    requires present { AllPresent adj.old.graph removed.now }
+    ensures graph { OnOk result (adj.new.graph ≡ without_edges adj.old.graph removed.now) }
+    ensures lowered { OnOk result (IsLowered th.now.profile adj.new.graph adj.old.levels adj.new.levels) }
+    ensures moves { IfOk result (λ moves. moves ≡ moves_between adj.new.graph.vertices adj.old.levels adj.new.levels) }
+    ensures ready { OnOk result (IsReady adj.new work.new) }
+{
+    let _n = adj.graph().vertices();
+    let _levels = adj.levels();
+    unlink_edges(adj, removed, steps);
+    add_short_ends(adj, th, removed, &mut work.waiting)?;
+    settle(
+        rounds,
+        &mut work.first,
+        adj,
+        th,
+        &mut work.waiting,
+        &mut work.fallen,
+        steps,
+    )?;
+    let moves = work.fallen.take_moves(alloc, adj.levels())?;
+    Ok(moves)
+}
+
+/// One phase with a workspace of its own (`delete_phase`), which costs a pass over all vertices besides.
+///
+/// `workers` is 1 to 64. Fails only if memory runs out; graph, levels and steps are then unspecified.
 pub fn delete_rounds<R: Threads + Sync, G: Gate + Sync, L: Ledger>(
     rt: &R,
     alloc: Global,
@@ -97,14 +139,11 @@ pub fn delete_rounds<R: Threads + Sync, G: Gate + Sync, L: Ledger>(
     ensures lowered { OnOk result (IsLowered th.now.profile adj.new.graph adj.old.levels adj.new.levels) }
     ensures moves { IfOk result (λ tally. tally.moves ≡ moved_count adj.new.graph.vertices adj.old.levels adj.new.levels) }
 {
-    let n = adj.graph().vertices();
-    let before = adj.levels().copy(alloc)?;
-    let mut waiting = Waiting::new(alloc, n)?;
-    unlink_edges(adj, removed, steps);
-    add_short_ends(adj, th, removed, &mut waiting)?;
-    let mut rounds = Rounds::new(rt, alloc, gate, workers);
-    settle(&mut rounds, adj, th, &mut waiting, steps)?;
+    let _n = adj.graph().vertices();
+    let mut work = DeletionWork::new(alloc, adj)?;
+    let rounds = Rounds::new(rt, alloc, gate, workers);
+    let moves = delete_phase(&rounds, alloc, th, adj, &mut work, removed, steps)?;
     Ok(Tally {
-        moves: moved_count(&before, adj.levels()),
+        moves: moves.len() as u32,
     })
 }

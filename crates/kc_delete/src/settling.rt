@@ -1,24 +1,26 @@
 // Falls of vertices that have too few neighbours to stand on their level.
 
-ghost use Rattle.std.specs.Prelude.{◌≡◌, ℕ, ◌<◌, ◌≤◌, ◌-◌, OnOk, length, slice_index};
+ghost use Rattle.std.specs.Prelude.{◌≡◌, ℕ, ◌<◌, ◌≤◌, ◌-◌, [], false, OnOk, length, slice_index, slice_index_or};
 ghost use Rattle.std.specs.Bool.{OnTrue, OnFalse};
 ghost use Rattle.kc_graph.specs.Shape.{IsGraph, neighbours_of};
 ghost use Rattle.kc_levels.specs.Thresholds.{top_level};
 ghost use Rattle.kc_levels.specs.LevelList.{IsCapped, IsLowered};
+ghost use Rattle.kc_delete.specs.Fallen.{AreFallen};
 ghost use Rattle.kc_delete.specs.Settling.{IsSettling, WaitsOrMeets, StillWait, IsUntouched, IsLookedAt};
 
+use crate::fallen::Fallen;
 use crate::short::is_short;
 use crate::waiting::Waiting;
 use kc_adj::{LevelAdj, Steps};
 use kc_levels::Thresholds;
-use kc_rounds::{Gate, Rounds};
+use kc_rounds::{FirstRound, Gate, Rounds};
 use std::alloc::AllocError;
 use std::sync::ledger::Ledger;
 use std::thread::Threads;
 
 /// Lets v wait under its desired level, where it has too few neighbours to stand on its level and doesn't wait yet.
 ///
-/// The error is want of memory.
+/// Fails only if memory runs out.
 pub fn add_if_short(
     adj: &LevelAdj,
     th: &Thresholds,
@@ -76,27 +78,36 @@ fn add_short_neighbours(
 }
 
 /// Lets the vertices that wait fall to their desired levels, round after round, and their neighbours wait where they need to,
-/// until nobody waits.
+/// until nobody waits. Nobody has fallen before; afterwards all who fell are noted.
 ///
-/// The error is want of memory; levels and queue are then unspecified.
+/// Fails only if memory runs out; all is then unspecified.
 pub fn settle<R: Threads + Sync, G: Gate + Sync, L: Ledger>(
-    rounds: &mut Rounds<R, G>,
+    rounds: &Rounds<R, G>,
+    first: &mut FirstRound,
     adj: &mut LevelAdj,
     th: &Thresholds,
     waiting: &mut Waiting,
+    fallen: &mut Fallen,
     steps: &mut Steps<L>,
 ) -> Result<(), AllocError>
     requires graph { IsGraph adj.old.graph }
     requires scale { th.now.vertices ≡ adj.old.graph.vertices }
     requires capped { IsCapped th.now.profile adj.old.graph.vertices adj.old.levels }
     requires settling { IsSettling th.now.profile adj.old.graph adj.old.levels adj.old.levels waiting.old }
+    requires before { fallen.old.before ≡ adj.old.levels }
+    requires nobody { fallen.old.vertices.items ≡ [] }
     ensures graph { OnOk result (adj.new.graph ≡ adj.old.graph) }
     ensures lowered { OnOk result (IsLowered th.now.profile adj.old.graph adj.old.levels adj.new.levels) }
+    ensures sized { OnOk result (length waiting.new ≡ adj.old.graph.vertices) }
+    ensures none_waits { OnOk result ((v : ℕ) → slice_index_or waiting.new v false ≡ false) }
+    ensures before { OnOk result (fallen.new.before ≡ adj.old.levels) }
+    ensures fallen { OnOk result (AreFallen adj.old.levels adj.new.levels fallen.new.vertices.items) }
 {
-    while let Some(v) = waiting.next(rounds, adj, th)? {
+    while let Some(v) = waiting.next(rounds, first, adj, th)? {
         let from = adj.level(v);
         let to = adj.desired(th, v);
         if to < from {
+            fallen.note(v, from)?;
             adj.fall(v, to, steps);
             add_short_neighbours(adj, th, v, from, waiting)?;
         }

@@ -7,7 +7,7 @@ use crate::buckets::{Bucket, put, reach, take_all};
 use crate::short::Short;
 use kc_adj::LevelAdj;
 use kc_levels::Thresholds;
-use kc_rounds::{Gate, Rounds};
+use kc_rounds::{FirstRound, Gate, Rounds};
 use std::alloc::{AllocError, Global};
 use std::marker::Model;
 use std::thread::Threads;
@@ -92,7 +92,7 @@ fn keep_marks(marks: &mut Vec<bool>, candidates: &[u32], movers: &[u32])
 }
 
 impl Waiting {
-    /// Nobody waits, of `n` vertices. The error is want of memory.
+    /// Nobody waits, of `n` vertices. Fails only if memory runs out.
     pub fn new(alloc: Global, n: u32) -> Result<Self, AllocError>
         ensures { IfOk result (λ w. w ≡ replicate n false) }
     {
@@ -113,7 +113,7 @@ impl Waiting {
         self.marks[v as usize]
     }
 
-    /// Lets `v` wait under this level. The error is want of memory, and who waits is unchanged then.
+    /// Lets `v` wait under this level. Fails only if memory runs out, and who waits is unchanged then.
     pub fn add(&mut self, v: u32, level: u16) -> Result<(), AllocError>
         requires vertex { v < length self.old }
         ensures ok { OnOk result (self.new ≡ slice_set self.old v true) }
@@ -130,10 +130,11 @@ impl Waiting {
     /// doesn't wait. `None` says that nobody waits.
     ///
     /// A round is all that wait under the least level. Those of them that have enough neighbours when it begins leave it, and
-    /// wait no more. The error is want of memory.
+    /// wait no more. Fails only if memory runs out.
     pub fn next<R: Threads + Sync, G: Gate + Sync>(
         &mut self,
-        rounds: &mut Rounds<R, G>,
+        rounds: &Rounds<R, G>,
+        first: &mut FirstRound,
         adj: &LevelAdj,
         th: &Thresholds,
     ) -> Result<Option<u32>, AllocError>
@@ -154,7 +155,7 @@ impl Waiting {
                 return Ok(None);
             }
             let marks = &self.marks;
-            let movers = rounds.movers(&self.round, &Short { adj, th, marks })?;
+            let movers = rounds.movers(first, &self.round, &Short { adj, th, marks })?;
             keep_marks(&mut self.marks, &self.round, &movers);
             self.round = movers;
         }

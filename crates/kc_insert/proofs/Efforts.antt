@@ -1,20 +1,17 @@
--- What a step adds to the steps that a sweep may take, and to the number of vertices that rose.
-use Rattle.std.proofs.Common.{ℕ, suc, zero, ◌+◌, ◌-◌, ◌*◌, ◌≤◌, ◌<◌, ◌≡◌, ◌≢◌, inl, inr, Bool, true, false, cond, not, eqb, ◌&&◌, List, [], ◌∷◌, ◌++◌, length, get_or, set, filter, refl, ap, sym, ◌∙◌, arith, subst}
+-- What a step adds to the steps that a sweep may take.
+use Rattle.std.proofs.Common.{ℕ, suc, zero, ◌+◌, ◌-◌, ◌*◌, ◌≤◌, ◌<◌, ◌≡◌, ◌≢◌, inl, inr, Bool, true, false, eqb, ◌&&◌, List, [], ◌∷◌, ◌++◌, length, get_or, set, filter, refl, ap, sym, ◌∙◌, arith, subst}
 use Rattle.std.proofs.lemmas.Bool.{cases_eq, cases_Bool, true≢false}
 use Rattle.std.proofs.lemmas.Bool.Decides.{nat_tests}
 use Rattle.std.proofs.lemmas.List.{length-set, get_or-set_same, get_or-set_other}
-use Rattle.kc_graph.specs.Numbers.{has_number, count_below}
+use Rattle.kc_graph.specs.Numbers.{has_number}
 use Rattle.kc_graph.specs.Shape.{GraphShape, neighbours_of}
-use Rattle.kc_graph.proofs.CountLemmas.{count_below_agree}
 use Rattle.kc_graph.proofs.NumberLemmas.{has_number-append}
-use Rattle.kc_levels.specs.Moved.{is_moved, moved_count}
 use Rattle.kc_insert.specs.Effort.{effort}
 use Rattle.kc_insert.specs.Round.{is_over}
-use Rattle.kc_insert.specs.Meetings.{AreDistinct}
+use Rattle.kc_levels.specs.Following.{AreDistinct}
 use Rattle.kc_insert.specs.Counting.{degrees, steps_on}
 use Rattle.kc_insert.specs.Sweeping.{all_at}
 use Rattle.kc_insert.proofs.Buckets.{has_number-filter}
-use Rattle.kc_insert.proofs.Lifting.{all_at_here, all_at_other}
 
 pub effort_none : (g : GraphShape) (x : List ℕ) (n : ℕ) → effort g x x n ≡ 0
 effort_none g x zero = refl
@@ -60,44 +57,6 @@ effort_up g x y (v ∷ vs) l n distinct all =
     let other : u ≢ v = λ e. true≢false (sym there ∙ ap (λ t. has_number t vs) e ∙ distinct.0) in
     (that.0, rw (length-set y v (l + 1)) that.1, get_or-set_other y v u (l + 1) 0 other ∙ that.2, that.3)) in
     omega (arith, one, more)
-
--- a test that holds at one number more
-count_below_one : (n v : ℕ) (p q : ℕ → Bool) → v < n → p v ≡ false → q v ≡ true → ((u : ℕ) → u ≢ v → p u ≡ q u) → count_below n q ≡ count_below n p + 1
-count_below_one zero v p q h no_ yes_ same = absurd (omega (arith, h))
-count_below_one (suc n) v p q h no_ yes_ same = elim (cases_eq n v) [
-  | inl e ↦
-      let rest : count_below n p ≡ count_below n q = count_below_agree n p q (λ k lt. same k (λ f. absurd (omega (arith, lt, f, e)))) in
-      let one : ◌≡◌ {A = ℕ} (cond (q n) 1 0) 1 = ap (λ k. cond (q k) 1 0) e ∙ ap (λ b. cond b 1 0) yes_ in
-      let none : ◌≡◌ {A = ℕ} (cond (p n) 1 0) 0 = ap (λ k. cond (p k) 1 0) e ∙ ap (λ b. cond b 1 0) no_ in
-      omega (arith, rest, one, none)
-  | inr ne ↦
-      let rest = count_below_one n v p q (omega (arith, h, ne)) no_ yes_ same in
-      let here : ◌≡◌ {A = ℕ} (cond (p n) 1 0) (cond (q n) 1 0) = ap (λ b. cond b 1 0) (same n ne) in
-      omega (arith, rest, here)
-]
-
--- vertices that begin to rise
-pub moved_up : (n : ℕ) (x y vs : List ℕ) (l : ℕ) → AreDistinct vs → ((v : ℕ) → has_number v vs ≡ true → (v < n) × (v < length y) × (get_or y v 0 ≡ l) × (get_or x v 0 ≡ l)) → moved_count n x (all_at y vs (l + 1)) ≡ moved_count n x y + length vs
-moved_up n x y [] l distinct all = omega arith
-moved_up n x y (v ∷ vs) l distinct all =
-    let here = all v (grind (arith, nat_tests)) in
-    let new : get_or (set y v (l + 1)) v 0 ≡ l + 1 = get_or-set_same y v (l + 1) 0 here.1 in
-    let one : moved_count n x (set y v (l + 1)) ≡ moved_count n x y + 1 = count_below_one n v (is_moved x y) (is_moved x (set y v (l + 1))) here.0 (grind (arith, nat_tests, here.2, here.3)) (grind (arith, nat_tests, new, here.3)) (λ u ne. ap (λ k. not (eqb (get_or x u 0) k)) (sym (get_or-set_other y v u (l + 1) 0 ne))) in
-    let more = moved_up n x (set y v (l + 1)) vs l distinct.1 (λ u there.
-    let that = all u (grind (arith, nat_tests, there)) in
-    let other : u ≢ v = λ e. true≢false (sym there ∙ ap (λ t. has_number t vs) e ∙ distinct.0) in
-    (that.0, rw (length-set y v (l + 1)) that.1, get_or-set_other y v u (l + 1) 0 other ∙ that.2, that.3)) in
-    omega (arith, one, more)
-
--- vertices that had risen before
-pub moved_on : (n : ℕ) (x y vs : List ℕ) (l : ℕ) → ((v : ℕ) → has_number v vs ≡ true → (v < length y) × (get_or y v 0 ≡ l) × (get_or x v 0 < l)) → moved_count n x (all_at y vs (l + 1)) ≡ moved_count n x y
-moved_on n x y vs l all = count_below_agree n (is_moved x (all_at y vs (l + 1))) (is_moved x y) (λ u h. elim (cases_Bool (has_number u vs)) [
-  | inl there ↦
-      let here = all u there in
-      let new = all_at_here y vs (l + 1) u here.0 there in
-      grind (arith, nat_tests, new, here.1, here.2)
-  | inr gone ↦ ap (λ k. not (eqb (get_or x u 0) k)) (all_at_other y vs (l + 1) u gone)
-])
 
 pub degrees-append : (g : GraphShape) (us vs : List ℕ) → degrees g (us ++ vs) ≡ degrees g us + degrees g vs
 degrees-append g [] vs = omega arith

@@ -10,3 +10,6 @@ pub mod Arriving
 pub mod Starting
 pub mod Beginning
 pub mod Sweeps
+pub mod Marks
+pub mod Followed
+pub mod Ready

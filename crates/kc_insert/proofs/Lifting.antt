@@ -10,7 +10,7 @@ use Rattle.kc_graph.specs.Shape.{GraphShape, neighbours_of}
 use Rattle.kc_graph.proofs.NumberLemmas.{has_number_at, has_number_index, has_number-push}
 use Rattle.kc_levels.specs.LevelList.{IsBelow}
 use Rattle.kc_adj.specs.LeveledGraph.{LeveledGraph}
-use Rattle.kc_insert.specs.Meetings.{AreDistinct}
+use Rattle.kc_levels.specs.Following.{AreDistinct}
 use Rattle.kc_insert.specs.Counting.{degrees}
 use Rattle.kc_insert.specs.Sweeping.{all_at}
 use Rattle.kc_insert.proofs.Buckets.{pushed_is, has_last}

@@ -10,7 +10,7 @@ use Rattle.kc_graph.specs.Shape.{GraphShape, IsGraph, neighbours_of}
 use Rattle.kc_graph.proofs.NumberLemmas.{has_number_below, has_number_at}
 use Rattle.kc_graph.proofs.NeighbourLemmas.{neighbours_rise, neighbours_both, neighbour_below}
 use Rattle.kc_levels.proofs.Places.{changed}
-use Rattle.kc_insert.specs.Meetings.{AreDistinct}
+use Rattle.kc_levels.specs.Following.{AreDistinct}
 use Rattle.kc_adj.specs.LeveledGraph.{LeveledGraph}
 use Rattle.kc_insert.specs.Counting.{AreSeen, AreLess, goes_on, sees_listed, steps_on, settled_at}
 use Rattle.kc_insert.proofs.Flips.{count_agree, count_less}

@@ -1,5 +1,5 @@
 -- The step of a sweep from level l to the next: who goes on, who begins, and who stays.
-use Rattle.std.proofs.Common.{ℕ, ◌+◌, ◌*◌, ◌≤◌, ◌<◌, ◌≡◌, ◌≢◌, ◌⊎◌, inl, inr, Bool, true, false, leb, ltb, eqb, ◌&&◌, ◌||◌, List, [], ◌++◌, length, get_or, set, filter, refl, ap, sym, ◌∙◌, arith, subst}
+use Rattle.std.proofs.Common.{ℕ, ◌+◌, ◌*◌, ◌≤◌, ◌<◌, ◌≡◌, ◌≢◌, ◌⊎◌, inl, inr, Bool, true, false, leb, ltb, eqb, not, ◌&&◌, ◌||◌, List, [], ◌++◌, length, get_or, set, filter, refl, ap, sym, ◌∙◌, arith, subst}
 use Rattle.std.specs.Prelude.{count_by}
 use Rattle.std.proofs.lemmas.Bool.{cases_lt, cases_eq, cases_Bool, true≢false}
 use Rattle.std.proofs.lemmas.Bool.Decides.{nat_tests}
@@ -11,18 +11,19 @@ use Rattle.kc_graph.proofs.NumberLemmas.{has_number-append, has_number_at}
 use Rattle.kc_levels.specs.declared.profile.Profile.{Profile}
 use Rattle.kc_levels.specs.Thresholds.{high, group_of, top_level}
 use Rattle.kc_levels.specs.LevelList.{at_least, MeetsUpper}
-use Rattle.kc_levels.specs.Moved.{moved_count}
+use Rattle.kc_levels.specs.Moved.{is_moved}
 use Rattle.kc_levels.proofs.AtLeast.{below_everywhere}
 use Rattle.kc_levels.proofs.Raising.{raising_many}
 use Rattle.kc_adj.specs.LeveledGraph.{IsCounted}
 use Rattle.kc_insert.specs.Effort.{effort}
 use Rattle.kc_insert.specs.Round.{is_over}
-use Rattle.kc_insert.specs.Meetings.{IsMeeting, AreApart, AreDistinct, AreMeetings}
+use Rattle.kc_levels.specs.Following.{AreDistinct}
+use Rattle.kc_insert.specs.Meetings.{IsMeeting, AreApart, AreMeetings}
 use Rattle.kc_insert.specs.Counting.{goes_on, is_next, AreSeen, sees_met, sees_listed, sees_arrived, sees_unlisted, HaveBegun, MeetOn, AreWaiting, StillWait, AreNoted, degrees, steps_on, settled_at}
 use Rattle.kc_insert.specs.Sweeping.{all_at, IsFound, IsSweeping, HaveCome}
 use Rattle.kc_insert.proofs.Flips.{count_agree}
 use Rattle.kc_insert.proofs.Buckets.{has_number-filter}
-use Rattle.kc_insert.proofs.Efforts.{effort_up, moved_up, moved_on, degrees-append, distinct_append, distinct_filter, fee_parts}
+use Rattle.kc_insert.proofs.Efforts.{effort_up, degrees-append, distinct_append, distinct_filter, fee_parts}
 use Rattle.kc_insert.proofs.Parting.{length-settled_at, settled_at-get, settled_at-there}
 use Rattle.kc_insert.proofs.Lifting.{length-all_at, all_at_here, all_at_other}
 
@@ -573,6 +574,10 @@ module _ (p : Profile) (g : GraphShape) (x y c rising risen : List ℕ) (queue :
             | inr that ↦ absurd (omega (arith, rose, that.3, that.1))
           ]
         ];
+        once = distinct_append risen begun s.once begins_once (λ v there. elim (cases_Bool (has_number v begun)) [
+          | inr none ↦ none
+          | inl new ↦ absurd (true≢false (sym there ∙ begun_fresh v new))
+        ]);
         buckets = buckets ∙ s.buckets;
         waiting = waiting;
         found = found_on queue2 queue' first then noted;
@@ -624,12 +629,24 @@ module _ (p : Profile) (g : GraphShape) (x y c rising risen : List ℕ) (queue :
               let none : has_number v up ≡ false = elim (cases_Bool (has_number v up)) [ inr gone ↦ gone | inl there ↦ absurd (omega (arith, (goers v there).2, it.2)) ] in
               (it.0, rw long_half it.0, all_at_other y up (l + 1) v none ∙ it.1, elim (r.either v) [ inl old ↦ sym old ∙ it.2 | inr late ↦ absurd (omega (arith, late.2, it.1)) ])
 
-          moved_is : moved_count g.vertices x0 z ≡ length (risen ++ begun)
-          moved_is =
-              let one = moved_on g.vertices x0 y up l (λ v there. let it = goers_from v there in (rw s.sized it.0, it.1, it.2)) in
-              let two = moved_up g.vertices x0 (all_at y up (l + 1)) begun l begins_once half in
-              let three : moved_count g.vertices x0 z ≡ moved_count g.vertices x0 (all_at (all_at y up (l + 1)) begun (l + 1)) = ap (λ t. moved_count g.vertices x0 t) z_is in
-              omega (arith, one, two, three, r.moved, length-append risen begun)
+          moved_is : (v : ℕ) → has_number v (risen ++ begun) ≡ is_moved x0 z v
+          moved_is v = has_number-append v risen begun ∙ elim (case_of v) [
+            | inl it ↦ both_true _ _ (r.moved v ∙ differs y l it.1.from (omega (arith, (goers_from v it.0).2))) (differs z (l + 1) it.1.to (omega (arith, (goers_from v it.0).2)))
+            | inr (inl it) ↦ ap (λ b. has_number v risen || b) it.0 ∙ or_true (has_number v risen) ∙ sym (differs z (l + 1) it.1.to (omega (arith, (half v it.0).3)))
+            | inr (inr it) ↦ ap (λ b. has_number v risen || b) it.no_begun ∙ or_false (has_number v risen) ∙ r.moved v ∙ ap (λ k. not (eqb (get_or x0 v 0) k)) (sym it.same)
+          ]
+            where
+              differs : (t : List ℕ) (k : ℕ) → get_or t v 0 ≡ k → get_or x0 v 0 < k → is_moved x0 t v ≡ true
+              differs t k on below = grind (arith, nat_tests, on, below)
+
+              both_true : (a m : Bool) → a ≡ true → m ≡ true → a || has_number v begun ≡ m
+              both_true a m e f = ap (λ b. b || has_number v begun) e ∙ sym f
+
+              or_true : (b : Bool) → b || true ≡ true
+              or_true b = grind (arith, nat_tests)
+
+              or_false : (b : Bool) → b || false ≡ b
+              or_false b = grind (arith, nat_tests)
 
           cost_is : t2 + (2 * degrees g (up ++ begun) + length (up ++ begun)) ≤ s0 + effort g x0 z g.vertices
           cost_is =

@@ -1,15 +1,14 @@
 -- How a sweep begins and ends.
-use Rattle.std.proofs.Common.{ℕ, suc, zero, ◌+◌, ◌≤◌, ◌<◌, ◌≡◌, inl, inr, true, false, List, [], length, get_or, replicate, refl, ap, sym, ◌∙◌, arith, subst}
+use Rattle.std.proofs.Common.{ℕ, ◌+◌, ◌≤◌, ◌<◌, ◌≡◌, inl, inr, true, List, [], length, get_or, replicate, refl, ap, sym, ◌∙◌, arith, subst}
 use Rattle.std.proofs.lemmas.Bool.{cases_lt, cases_eq, true≢false}
 use Rattle.std.proofs.lemmas.Bool.Decides.{nat_tests}
 use Rattle.std.proofs.lemmas.List.{length-replicate}
-use Rattle.kc_graph.specs.Numbers.{has_number, count_below}
+use Rattle.kc_graph.specs.Numbers.{has_number}
 use Rattle.kc_graph.specs.Shape.{GraphShape, Pair, IsGraph, has_edge}
-use Rattle.kc_graph.proofs.CountLemmas.{count_below_agree, count_below-le}
 use Rattle.kc_levels.specs.declared.profile.Profile.{Profile}
 use Rattle.kc_levels.specs.Thresholds.{top_level}
 use Rattle.kc_levels.specs.LevelList.{IsCapped, IsRaised}
-use Rattle.kc_levels.specs.Moved.{is_moved, moved_count}
+use Rattle.kc_levels.proofs.AtLeast.{below_everywhere}
 use Rattle.kc_levels.proofs.Raising.{raising_first, raising_done, top_meets_upper}
 use Rattle.kc_adj.specs.LeveledGraph.{IsCounted}
 use Rattle.kc_insert.specs.BucketQueue.{IsQueued}
@@ -17,13 +16,6 @@ use Rattle.kc_insert.specs.Meetings.{AreApart}
 use Rattle.kc_insert.specs.Sweeping.{IsSweeping, HaveCome}
 use Rattle.kc_insert.proofs.Buckets.{empty_bucket}
 use Rattle.kc_insert.proofs.Efforts.{effort_none}
-
-count_none : (n : ℕ) → count_below n (λ v. false) ≡ 0
-count_none zero = refl
-count_none (suc n) = omega (arith, count_none n)
-
-moved_none : (n : ℕ) (x : List ℕ) → moved_count n x x ≡ 0
-moved_none n x = count_below_agree n (is_moved x x) (λ v. false) (λ v h. grind (arith, nat_tests)) ∙ count_none n
 
 pub sweeping_first : (p : Profile) (n : ℕ) (g : GraphShape) (x y counts rising risen : List ℕ) (queue : List (List ℕ)) (meetings : List (List Pair)) → n ≡ g.vertices → length x ≡ g.vertices → IsCapped p g.vertices x → IsQueued p g x queue → y ≡ x → IsCounted g x 0 counts → rising ≡ [] → risen ≡ [] → meetings ≡ replicate (top_level p n + 1) [] → IsSweeping p g x 0 y counts rising risen queue meetings
 sweeping_first p n g x y counts rising risen queue meetings scale long capped q same counted none none_yet empty = rw (same, none, none_yet) (record {
@@ -39,6 +31,7 @@ sweeping_first p n g x y counts rising risen queue meetings scale long capped q 
   distinct = record {};
   risen_in = λ v there. absurd (true≢false (sym there));
   risen_all = λ v rose. absurd (omega (arith, rose));
+  once = record {};
   buckets = q.sized;
   waiting = q.waiting;
   found = λ v h. elim (q.found v h) [ inl filed ↦ inr (inr (omega arith, refl, filed)) | inr meets ↦ inl meets ];
@@ -57,13 +50,67 @@ pub come_first : (p : Profile) (g : GraphShape) (x y rising risen : List ℕ) (s
 come_first p g x y rising risen s long capped same none none_yet = rw (same, none, none_yet) (record {
   raising = raising_first p g x long capped;
   either = λ v. inl refl;
-  moved = moved_none g.vertices x;
+  moved = λ v. grind (arith, nat_tests);
   cost = omega (arith, effort_none g x g.vertices);
 })
 
--- no more vertices rose than there are
-pub few_risen : (p : Profile) (g : GraphShape) (x0 : List ℕ) (l : ℕ) (x y rising risen : List ℕ) (s t : ℕ) → HaveCome p g x0 l x y rising risen s t → length risen ≤ g.vertices
-few_risen p g x0 l x y rising risen s t r = omega (arith, r.moved, count_below-le g.vertices (is_moved x0 y))
+-- where nobody came to the level, and nobody waits there and on those that follow up to another level, the sweep is at that level
+pub sweeping_on : (p : Profile) (g : GraphShape) (x : List ℕ) (l k : ℕ) (y counts rising risen : List ℕ) (queue : List (List ℕ)) (meetings : List (List Pair)) → rising ≡ [] → l ≤ k → ((j : ℕ) → l ≤ j → j < k → get_or queue j [] ≡ []) → IsSweeping p g x l y counts rising risen queue meetings → IsSweeping p g x k y counts rising risen queue meetings
+sweeping_on p g x l k y counts rising risen queue meetings none le bare s = record {
+  start = s.start;
+  sized = s.sized;
+  under = s.under;
+  capped = s.capped;
+  counted = s.counted;
+  still = λ v over. s.still v (omega (arith, over, le));
+  settled = λ v below. elim (cases_lt (get_or y v 0) l) [
+    | inl lt ↦ s.settled v lt
+    | inr ge ↦ same v ge
+  ];
+  came = λ v there. absurd (nobody v there);
+  all = λ v on before. absurd (omega (arith, before, same v (omega (arith, on, le))));
+  distinct = s.distinct;
+  risen_in = λ v there. let it = s.risen_in v there in (it.0, omega (arith, it.1, le));
+  risen_all = s.risen_all;
+  once = s.once;
+  buckets = s.buckets;
+  waiting = record { vertex = s.waiting.vertex; level = λ j u from there. s.waiting.level j u (omega (arith, from, le)) there };
+  found = λ v h. elim (s.found v h) [
+    | inl meets ↦ inl meets
+    | inr (inl came) ↦ absurd (nobody v came.1)
+    | inr (inr waits) ↦ elim (cases_lt (get_or y v 0) k) [
+      | inl lt ↦ absurd (true≢false (sym waits.2 ∙ ap (has_number v) (bare (get_or y v 0) waits.0 lt)))
+      | inr ge ↦ inr (inr (ge, waits.1, waits.2))
+    ]
+  ];
+  places = s.places;
+  meet = record {
+    only = λ j v w from there. s.meet.only j v w (omega (arith, from, le)) there;
+    once = s.meet.once;
+    each = λ j v w from rises it. s.meet.each j v w (omega (arith, from, le)) rises it;
+  };
+}
+  where
+    nobody : (v : ℕ) → has_number v rising ≡ true → ⊥
+    nobody v there = true≢false (sym there ∙ ap (has_number v) none)
+
+    -- who stands on the level or above stands where it stood
+    same : (v : ℕ) → l ≤ get_or y v 0 → get_or y v 0 ≡ get_or x v 0
+    same v at = elim (cases_eq (get_or y v 0) l) [
+      | inr ne ↦ s.still v (omega (arith, at, ne))
+      | inl on ↦ elim (cases_lt (get_or x v 0) l) [
+        | inl lt ↦ absurd (nobody v (s.all v on lt))
+        | inr ge ↦ omega (arith, on, ge, below_everywhere g.vertices x y v s.start s.under)
+      ]
+    ]
+
+pub come_on : (p : Profile) (g : GraphShape) (x0 : List ℕ) (l k : ℕ) (x y rising risen : List ℕ) (s t : ℕ) → l ≤ k → HaveCome p g x0 l x y rising risen s t → HaveCome p g x0 k x y rising risen s t
+come_on p g x0 l k x y rising risen s t le r = record {
+  raising = r.raising;
+  either = λ v. elim (r.either v) [ inl old ↦ inl old | inr new ↦ inr (new.0, new.1, omega (arith, new.2, le)) ];
+  moved = r.moved;
+  cost = r.cost;
+}
 
 -- whoever is not yet on its new level in the graph came to the last level
 pub rising_last : (p : Profile) (g : GraphShape) (x : List ℕ) (l : ℕ) (y counts rising risen : List ℕ) (queue : List (List ℕ)) (meetings : List (List Pair)) → IsSweeping p g x l y counts rising risen queue meetings → (v : ℕ) → get_or x v 0 < get_or y v 0 → has_number v rising ≡ true

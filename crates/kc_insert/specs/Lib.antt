@@ -1,6 +1,8 @@
+pub mod LevelLists
 pub mod Effort
 pub mod BucketQueue
 pub mod Meetings
 pub mod Counting
 pub mod Sweeping
 pub mod Round
+pub mod Working

@@ -11,11 +11,6 @@ abbrev pub AreApart : List Pair → Type 0
 AreApart [] = Unit {0}
 AreApart (e ∷ es) = (has_edge e es ≡ false) × AreApart es
 
--- no number is in the list twice
-abbrev pub AreDistinct : List ℕ → Type 0
-AreDistinct [] = Unit {0}
-AreDistinct (v ∷ vs) = (has_number v vs ≡ false) × AreDistinct vs
-
 -- v rises and meets its neighbour w on the level k
 pub record IsMeeting (g : GraphShape) (x : List ℕ) (k v w : ℕ) : Type 0 where
   pub near : has_number w (neighbours_of v g.edges) ≡ true

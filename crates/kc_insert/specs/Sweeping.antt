@@ -4,11 +4,12 @@ use Rattle.kc_graph.specs.Numbers.{has_number}
 use Rattle.kc_graph.specs.Shape.{GraphShape, Pair}
 use Rattle.kc_levels.specs.declared.profile.Profile.{Profile}
 use Rattle.kc_levels.specs.Thresholds.{top_level}
-use Rattle.kc_levels.specs.Moved.{moved_count}
+use Rattle.kc_levels.specs.Moved.{is_moved}
 use Rattle.kc_levels.specs.LevelList.{MeetsUpper, IsBelow, IsCapped, IsRaising}
 use Rattle.kc_adj.specs.LeveledGraph.{IsCounted}
 use Rattle.kc_insert.specs.Effort.{effort}
-use Rattle.kc_insert.specs.Meetings.{AreDistinct, AreMeetings}
+use Rattle.kc_levels.specs.Following.{AreDistinct}
+use Rattle.kc_insert.specs.Meetings.{AreMeetings}
 use Rattle.kc_insert.specs.Counting.{degrees, AreWaiting}
 
 -- the list with those of `risers` on the level k
@@ -35,6 +36,7 @@ pub record IsSweeping (p : Profile) (g : GraphShape) (x : List ℕ) (l : ℕ) (y
   pub distinct : AreDistinct rising
   pub risen_in : (v : ℕ) → has_number v risen ≡ true → (v < g.vertices) × (get_or x v 0 < l)
   pub risen_all : (v : ℕ) → get_or x v 0 < get_or y v 0 → has_number v risen ≡ true
+  pub once : AreDistinct risen
   pub buckets : length queue ≡ top_level p g.vertices + 1
   pub waiting : AreWaiting g.vertices x l queue
   pub found : (v : ℕ) → v < g.vertices → IsFound p g x y l rising queue v
@@ -46,5 +48,5 @@ pub record IsSweeping (p : Profile) (g : GraphShape) (x : List ℕ) (l : ℕ) (y
 pub record HaveCome (p : Profile) (g : GraphShape) (x0 : List ℕ) (l : ℕ) (x y rising risen : List ℕ) (s t : ℕ) : Type 0 where
   pub raising : IsRaising p g x0 y
   pub either : (v : ℕ) → (get_or x v 0 ≡ get_or x0 v 0) ⊎ ((get_or x0 v 0 < get_or x v 0) × (get_or x v 0 ≡ get_or y v 0) × (get_or y v 0 < l))
-  pub moved : moved_count g.vertices x0 y ≡ length risen
+  pub moved : (v : ℕ) → has_number v risen ≡ is_moved x0 y v
   pub cost : t + (2 * degrees g rising + length rising) ≤ s + effort g x0 y g.vertices

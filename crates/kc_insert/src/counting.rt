@@ -7,11 +7,12 @@
 ghost use Rattle.std.specs.Prelude.{◌≡◌, ◌+◌, ◌<◌, ◌≤◌, ◌++◌, ◌∷◌, ◌==◌, ◌^◌, ◌||◌, Bool, ℕ, [], OnOk, cond, drop, false, true, length, slice_index, slice_index_or, slice_set, take};
 ghost use Rattle.kc_graph.specs.Numbers.{has_number};
 ghost use Rattle.kc_graph.specs.Shape.{IsGraph, neighbours_of, has_edge};
-ghost use Rattle.kc_insert.specs.Meetings.{AreApart, AreDistinct, AreMeetings};
+ghost use Rattle.kc_levels.specs.Following.{AreDistinct};
+ghost use Rattle.kc_insert.specs.Meetings.{AreApart, AreMeetings};
 ghost use Rattle.kc_insert.specs.Counting.{goes_on, is_next, AreSeen, sees_met, sees_listed, sees_arrived, sees_unlisted, steps_on, settled_at, degrees, stood_above, MeetOn, AreWaiting, StillWait, AreNoted, AreLess, HasBegun, HaveBegun, meetings_on};
 
-use crate::bucket_queue::BucketQueue;
-use crate::meetings::{Meeting, Meetings};
+use crate::level_lists::LevelLists;
+use crate::meetings::Meeting;
 use kc_adj::{LevelAdj, Steps};
 use kc_levels::Levels;
 use kc_rounds::{Gate, RoundGather, Rounds};
@@ -111,7 +112,7 @@ pub fn part<L: Ledger>(
 // w counts one more, and waits on its level where it now has one more than `most`.
 fn meet(
     counts: &mut Vec<u32>,
-    queue: &mut BucketQueue,
+    queue: &mut LevelLists<u32>,
     level: u16,
     most: u32,
     w: u32,
@@ -136,7 +137,7 @@ pub fn come_up(
     adj: &LevelAdj,
     levels: &Levels,
     counts: &mut Vec<u32>,
-    queue: &mut BucketQueue,
+    queue: &mut LevelLists<u32>,
     level: u16,
     most: u32,
     meetings: &[Meeting],
@@ -211,8 +212,8 @@ impl RoundGather for Beginning<'_> {
 fn begin_one(
     adj: &LevelAdj,
     counts: &mut Vec<u32>,
-    queue: &mut BucketQueue,
-    meetings: &mut Meetings,
+    queue: &mut LevelLists<u32>,
+    meetings: &mut LevelLists<Meeting>,
     level: u16,
     most: u32,
     v: u32,
@@ -274,8 +275,8 @@ pub fn begin<R: Threads + Sync, G: Gate + Sync, L: Ledger>(
     adj: &LevelAdj,
     levels: &Levels,
     counts: &mut Vec<u32>,
-    queue: &mut BucketQueue,
-    meetings: &mut Meetings,
+    queue: &mut LevelLists<u32>,
+    meetings: &mut LevelLists<Meeting>,
     level: u16,
     most: u32,
     risers: &[u32],

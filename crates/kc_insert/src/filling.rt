@@ -1,10 +1,11 @@
-ghost use Rattle.std.specs.Prelude.{◌≡◌, ℕ, ◌+◌, ◌*◌, ◌<◌, OnOk, IfOk, length};
+ghost use Rattle.std.specs.Prelude.{◌≡◌, ℕ, ◌+◌, ◌*◌, ◌<◌, [], OnOk, length, replicate};
 ghost use Rattle.kc_graph.specs.Shape.{with_edges};
 ghost use Rattle.kc_graph.specs.Changes.{CanAdd};
+ghost use Rattle.kc_levels.specs.Thresholds.{top_level};
 ghost use Rattle.kc_levels.specs.LevelList.{MeetsUpper, IsCapped};
 ghost use Rattle.kc_insert.specs.BucketQueue.{IsQueued};
 
-use crate::bucket_queue::BucketQueue;
+use crate::level_lists::LevelLists;
 use kc_adj::{LevelAdj, Steps};
 use kc_graph::Edge;
 use kc_levels::Thresholds;
@@ -12,30 +13,31 @@ use std::alloc::{AllocError, Global};
 use std::sync::ledger::Ledger;
 
 /// Links the edges, in order, and files both ends of each, so that every vertex that breaks the upper invariant by them is in
-/// the queue. No vertex breaks it before. Counts 3 steps for each edge.
+/// the queue. No vertex breaks it before, and the queue is empty. Counts 3 steps for each edge.
 ///
-/// The error is want of memory; the graph is then unspecified.
+/// Fails only if memory runs out; the graph is then unspecified.
 pub fn link_edges<L: Ledger>(
     alloc: Global,
     th: &Thresholds,
     adj: &mut LevelAdj,
+    queue: &mut LevelLists<u32>,
     added: &[Edge],
     steps: &mut Steps<L>,
-) -> Result<BucketQueue, AllocError>
+) -> Result<(), AllocError>
     requires scale { th.now.vertices ≡ adj.old.graph.vertices }
     requires capped { IsCapped th.now.profile adj.old.graph.vertices adj.old.levels }
     requires upper { (v : ℕ) → v < adj.old.graph.vertices → MeetsUpper th.now.profile adj.old.graph adj.old.levels v }
+    requires empty { queue.old ≡ replicate (top_level th.now.profile th.now.vertices + 1) [] }
     requires addable { CanAdd adj.old.graph added.now }
     ensures graph { OnOk result (adj.new.graph ≡ with_edges adj.old.graph added.now) }
     ensures levels { OnOk result (adj.new.levels ≡ adj.old.levels) }
-    ensures queued { IfOk result (λ queue. IsQueued th.now.profile adj.new.graph adj.new.levels queue) }
+    ensures queued { OnOk result (IsQueued th.now.profile adj.new.graph adj.new.levels queue.new) }
     ensures cost { OnOk result (steps.new ≡ steps.old + 3 * length added.now) }
 {
-    let mut queue = BucketQueue::new(alloc, th.top() + 1)?;
     for e in added {
         adj.link(alloc, *e, steps)?;
         queue.file(adj.level(e.a), e.a)?;
         queue.file(adj.level(e.b), e.b)?;
     }
-    Ok(queue)
+    Ok(())
 }

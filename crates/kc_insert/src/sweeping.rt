@@ -1,25 +1,27 @@
 // One sweep over the levels, from the lowest up: on each those rise who have more neighbours there or above than their group
 // allows, whether they came up to it or have stood on it before.
 
-ghost use Rattle.std.specs.Prelude.{◌≡◌, ◌+◌, ◌*◌, ◌<◌, ◌≤◌, ℕ, true, All, IfOk, OnOk, filter, length, slice_index};
+ghost use Rattle.std.specs.Prelude.{◌≡◌, ◌+◌, ◌*◌, ◌^◌, ◌<◌, ◌≤◌, ℕ, true, List, [], All, IfOk, OnOk, filter, length, replicate, slice_index};
 ghost use Rattle.kc_graph.specs.Numbers.{has_number};
-ghost use Rattle.kc_graph.specs.Shape.{IsGraph};
+ghost use Rattle.kc_graph.specs.Shape.{GraphShape, IsGraph};
+ghost use Rattle.kc_levels.specs.declared.profile.Profile.{Profile};
 ghost use Rattle.kc_levels.specs.Thresholds.{top_level};
 ghost use Rattle.kc_levels.specs.LevelList.{IsBelow, IsCapped, IsRaised};
-ghost use Rattle.kc_levels.specs.Moved.{moved_count};
+ghost use Rattle.kc_levels.specs.Moved.{is_moved};
+ghost use Rattle.kc_adj.specs.LeveledGraph.{IsCounted};
 ghost use Rattle.kc_insert.specs.BucketQueue.{IsQueued};
-ghost use Rattle.kc_insert.specs.Meetings.{AreDistinct};
+ghost use Rattle.kc_levels.specs.Following.{AreDistinct};
 ghost use Rattle.kc_insert.specs.Counting.{degrees};
 ghost use Rattle.kc_insert.specs.Effort.{effort};
 ghost use Rattle.kc_insert.specs.Round.{is_over};
 ghost use Rattle.kc_insert.specs.Sweeping.{all_at, IsSweeping, HaveCome};
 
-use crate::bucket_queue::BucketQueue;
 use crate::counting::{begin, come_up, leave_behind, part};
-use crate::meetings::Meetings;
+use crate::level_lists::LevelLists;
+use crate::meetings::Meeting;
 use kc_adj::{LevelAdj, Steps};
 use kc_levels::{Levels, Thresholds};
-use kc_rounds::{Gate, RoundTest, Rounds};
+use kc_rounds::{FirstRound, Gate, RoundTest, Rounds};
 use std::alloc::{AllocError, Global};
 use std::sync::ledger::Ledger;
 use std::thread::Threads;
@@ -36,9 +38,11 @@ pub struct Sweep {
     /// All who rose.
     pub risen: Vec<u32>,
     /// Those who may have to rise from the level on which they stood before.
-    pub queue: BucketQueue,
+    pub queue: LevelLists<u32>,
     /// Whom those who rise are still to meet.
-    pub meetings: Meetings,
+    pub meetings: LevelLists<Meeting>,
+    /// Whether no round with candidates has been yet.
+    pub first: FirstRound,
 }
 
 // Tests whether a vertex counts more than `most` neighbours.
@@ -65,7 +69,8 @@ impl RoundTest for Over<'_> {
 
 // The candidates that count more than `most` neighbours.
 fn movers<R: Threads + Sync, G: Gate + Sync>(
-    rounds: &mut Rounds<R, G>,
+    rounds: &Rounds<R, G>,
+    first: &mut FirstRound,
     counts: &Vec<u32>,
     most: u32,
     candidates: &[u32],
@@ -73,7 +78,7 @@ fn movers<R: Threads + Sync, G: Gate + Sync>(
     requires asked { All (λ v. v < length counts.now.items) candidates.now }
     ensures { IfOk result (λ v. v.items ≡ filter (is_over counts.now.items most) candidates.now) }
 {
-    rounds.movers(candidates, &Over { counts, most })
+    rounds.movers(first, candidates, &Over { counts, most })
 }
 
 // Puts each of the vertices on the next level.
@@ -117,7 +122,7 @@ fn lift_off(
 // stay on it are put there in the graph. Of the steps that a riser may cost, two passes over its neighbours and one step more
 // are kept for the time when it stays (`HaveCome`).
 fn raise_level<R: Threads + Sync, G: Gate + Sync, L: Ledger>(
-    rounds: &mut Rounds<R, G>,
+    rounds: &Rounds<R, G>,
     alloc: Global,
     th: &Thresholds,
     adj: &mut LevelAdj,
@@ -136,8 +141,8 @@ fn raise_level<R: Threads + Sync, G: Gate + Sync, L: Ledger>(
     let most = th.high(th.group(level));
     let above = th.high(th.group(level + 1));
     let waiting = sweep.queue.take_all(alloc, level);
-    let mut going = movers(rounds, &sweep.counts, most, &sweep.rising)?;
-    let starting = movers(rounds, &sweep.counts, most, &waiting)?;
+    let mut going = movers(rounds, &mut sweep.first, &sweep.counts, most, &sweep.rising)?;
+    let starting = movers(rounds, &mut sweep.first, &sweep.counts, most, &waiting)?;
     go_up(&mut sweep.levels, level, &going);
     // Who waits may do so twice, and begins once.
     let mut begun = lift_off(alloc, &mut sweep.levels, level, &starting)?;
@@ -193,40 +198,60 @@ fn lift_all<L: Ledger>(adj: &mut LevelAdj, levels: &Levels, risen: &[u32], steps
     }
 }
 
+// The first level from this one on where somebody may have to rise: this one where somebody came to it.
+fn next_level(sweep: &Sweep, level: u16) -> u16
+    requires small { length sweep.now.queue < 2 ^ 16 }
+    requires inside { level ≤ length sweep.now.queue }
+    ensures from { level ≤ result }
+    ensures inside { result ≤ length sweep.now.queue }
+    ensures sweeping { (p : Profile) (g : GraphShape) (x : List ℕ) → IsSweeping p g x level sweep.now.levels sweep.now.counts.items sweep.now.rising.items sweep.now.risen.items sweep.now.queue sweep.now.meetings → IsSweeping p g x result sweep.now.levels sweep.now.counts.items sweep.now.rising.items sweep.now.risen.items sweep.now.queue sweep.now.meetings }
+{
+    if sweep.rising.is_empty() {
+        sweep.queue.next(level)
+    } else {
+        level
+    }
+}
+
 /// Raises the levels to the raised list, where every vertex that breaks the upper invariant is in the queue, each in the bucket
-/// of its level, and gives the number of vertices that rose.
+/// of its level. The sweep has the levels and the counts of the graph, before and after, and all who rose.
 ///
-/// Goes through the levels once, from the lowest up; each is a round. A vertex that rises costs three passes over its
-/// neighbours, however far it rises, and a few looks at each level on its way. The error is want of memory; the levels of the
-/// graph are then unspecified.
+/// Goes through the levels once, from the lowest up, where somebody waits or came; each is a round. A vertex that rises costs
+/// three passes over its neighbours, however far it rises, and a few looks at each level on its way. Fails only if memory runs out;
+/// the levels of the graph are then unspecified.
 pub fn raise_queued<R: Threads + Sync, G: Gate + Sync, L: Ledger>(
-    rounds: &mut Rounds<R, G>,
+    rounds: &Rounds<R, G>,
     alloc: Global,
     th: &Thresholds,
     adj: &mut LevelAdj,
-    queue: BucketQueue,
+    sweep: &mut Sweep,
     steps: &mut Steps<L>,
-) -> Result<u32, AllocError>
+) -> Result<(), AllocError>
     requires scale { th.now.vertices ≡ adj.old.graph.vertices }
     requires capped { IsCapped th.now.profile adj.old.graph.vertices adj.old.levels }
-    requires queued { IsQueued th.now.profile adj.old.graph adj.old.levels queue }
+    requires queued { IsQueued th.now.profile adj.old.graph adj.old.levels sweep.old.queue }
+    requires levels { sweep.old.levels ≡ adj.old.levels }
+    requires counted { IsCounted adj.old.graph adj.old.levels 0 sweep.old.counts.items }
+    requires nobody { (sweep.old.rising.items ≡ []) × (sweep.old.risen.items ≡ []) }
+    requires meetings { sweep.old.meetings ≡ replicate (top_level th.now.profile th.now.vertices + 1) [] }
     ensures graph { OnOk result (adj.new.graph ≡ adj.old.graph) }
     ensures raised { OnOk result (IsRaised th.now.profile adj.old.graph adj.old.levels adj.new.levels) }
-    ensures moves { IfOk result (λ moves. moves ≡ moved_count adj.old.graph.vertices adj.old.levels adj.new.levels) }
+    ensures levels { OnOk result (sweep.new.levels ≡ adj.new.levels) }
+    ensures counted { OnOk result (IsCounted adj.old.graph adj.new.levels 0 sweep.new.counts.items) }
+    ensures risen { OnOk result ((v : ℕ) → has_number v sweep.new.risen.items ≡ is_moved adj.old.levels adj.new.levels v) }
+    ensures once { OnOk result (AreDistinct sweep.new.risen.items) }
+    ensures buckets { OnOk result (length sweep.new.queue ≡ top_level th.now.profile th.now.vertices + 1) }
+    ensures places { OnOk result (length sweep.new.meetings ≡ top_level th.now.profile th.now.vertices + 1) }
     ensures cost { OnOk result (steps.new ≤ steps.old + effort adj.old.graph adj.old.levels adj.new.levels adj.old.graph.vertices) }
 {
     let _n = adj.graph().vertices();
-    let mut sweep = Sweep {
-        levels: adj.levels().copy(alloc)?,
-        counts: adj.own_counts().to_vec(alloc)?,
-        rising: Vec::new(alloc),
-        risen: Vec::new(alloc),
-        queue,
-        meetings: Meetings::new(alloc, th.top() + 1)?,
-    };
-    for level in 0..th.top() {
-        raise_level(rounds, alloc, th, adj, &mut sweep, level, steps)?;
+    let _levels = adj.levels();
+    let top = th.top();
+    let mut level = next_level(sweep, 0);
+    while level < top {
+        raise_level(rounds, alloc, th, adj, sweep, level, steps)?;
+        level = next_level(sweep, level + 1);
     }
     lift_all(adj, &sweep.levels, &sweep.rising, steps);
-    Ok(sweep.risen.len() as u32)
+    Ok(())
 }

@@ -1,11 +1,11 @@
 ghost use Rattle.std.specs.Prelude.{◌≡◌, ℕ, ◌<◌, ◌≤◌, length};
 ghost use Rattle.kc_graph.specs.Shape.{EdgesFrom};
 
-use crate::insert_rounds;
+use crate::{InsertionWork, insert_phase, insert_rounds};
 use kc_adj::{LevelAdj, Steps};
 use kc_graph::{Edge, MAX_EDGES, MAX_VERTICES};
-use kc_levels::{Profile, Thresholds};
-use kc_rounds::{Gate, OpenGate, Spot};
+use kc_levels::{Move, Profile, Thresholds};
+use kc_rounds::{Gate, OpenGate, Rounds, Spot};
 use std::alloc::{AllocError, Global};
 use std::marker::Brand;
 use std::process::Abort;
@@ -98,7 +98,7 @@ fn check_star_to_last<R: Threads + Sync + Abort>(
 
 #[test]
 fn levels_among_many(rt: HostRuntime) -> Result<(), Fail> {
-    for n in [4, 5, 1000, MAX_VERTICES] {
+    for n in [4, 5, 1000, 1_000_000] {
         check_star_to_last(&rt, rt.alloc(), n)?;
     }
     Ok(())
@@ -184,8 +184,8 @@ fn levels_are_the_least(rt: HostRuntime) -> Result<(), Fail> {
     Ok(())
 }
 
-// A second phase begins where the first one ended, and raises only what it must.
-fn check_second_phase<R: Threads + Sync + Abort, L: Ledger>(
+// Phases in turn with one workspace: each begins where the one before ended, raises only what it must, and leaves nothing over.
+fn check_in_turn<R: Threads + Sync + Abort, L: Ledger>(
     rt: &R,
     alloc: Global,
     blank: Blank,
@@ -195,22 +195,38 @@ fn check_second_phase<R: Threads + Sync + Abort, L: Ledger>(
     requires some_part { 0 < L.parts }
 {
     let gate = OpenGate::new();
+    let rounds = Rounds::new(rt, alloc, &gate, 2);
     let th = Thresholds::new(alloc, Profile::One, 5)?;
     let mut adj = LevelAdj::new(alloc, 5)?;
+    let mut work = InsertionWork::new(alloc, &th, &adj)?;
     let mut steps = Steps::<L>::new(blank);
     let first = [Edge { a: 0, b: 1 }, Edge { a: 0, b: 2 }];
-    let tally = insert_rounds(rt, alloc, &gate, 1, &th, &mut adj, &first, &mut steps)?;
-    assert_eq!(rt; tally.moves, 3);
+    let moves = insert_phase(&rounds, alloc, &th, &mut adj, &mut work, &first, &mut steps)?;
+    let want = [to_next(0, 0), to_next(1, 0), to_next(2, 0)];
+    assert_eq!(rt; moves.as_slice(), want.as_slice());
     let second = [Edge { a: 0, b: 3 }];
-    let tally = insert_rounds(rt, alloc, &gate, 2, &th, &mut adj, &second, &mut steps)?;
+    let moves = insert_phase(
+        &rounds, alloc, &th, &mut adj, &mut work, &second, &mut steps,
+    )?;
+    assert_eq!(rt; moves.as_slice(), [to_next(0, 1), to_next(3, 0)].as_slice());
     assert_eq!(rt; adj.levels().as_slice(), [2, 1, 1, 1, 0].as_slice());
-    assert_eq!(rt; tally.moves, 2);
     Ok(())
 }
 
+// The move of a vertex by one level.
+fn to_next(vertex: u32, old: u16) -> Move
+    requires { old < 100 }
+{
+    Move {
+        vertex,
+        old,
+        new: old + 1,
+    }
+}
+
 #[test]
-fn a_second_phase_raises_further(rt: HostRuntime) -> Result<(), Fail> {
-    check_second_phase::<HostRuntime, Brand>(&rt, rt.alloc(), Blank::new(1))?;
+fn phases_in_turn_leave_nothing_over(rt: HostRuntime) -> Result<(), Fail> {
+    check_in_turn::<HostRuntime, Brand>(&rt, rt.alloc(), Blank::new(1))?;
     Ok(())
 }
 

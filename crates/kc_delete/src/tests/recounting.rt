@@ -1,15 +1,16 @@
 // Deletion rounds beside a plain body that counts all neighbours anew at each step, on graphs and batches without an order.
 
-ghost use Rattle.std.specs.Prelude.{◌≡◌, ◌<◌, ◌≤◌, IfOk, length, All};
+ghost use Rattle.std.specs.Prelude.{◌≡◌, ◌<◌, ◌≤◌, IfOk, OnOk, length, All};
 ghost use Rattle.kc_graph.specs.Cleaning.{IsInside};
+ghost use Rattle.kc_delete.specs.Working.{IsReady};
 
 use super::{are_capped, meet_lower, state};
-use crate::delete_rounds;
+use crate::{DeletionWork, delete_phase};
 use kc_adj::{LevelAdj, Steps};
 use kc_graph::laws::cleaned_fits_graph;
 use kc_graph::{Edge, Graph, Item, MAX_ITEMS, clean};
 use kc_levels::{Levels, Profile, Thresholds, check_lower};
-use kc_rounds::OpenGate;
+use kc_rounds::{OpenGate, Rounds};
 use std::alloc::{AllocError, Global};
 use std::marker::Brand;
 use std::process::Abort;
@@ -72,42 +73,41 @@ fn two_of_three(alloc: Global, random: &mut u32) -> Result<Vec<Edge>, AllocError
     Ok(edges)
 }
 
-// One batch of deletions gives the same levels by the rounds and plainly.
+// One batch of deletions gives the same levels by a phase and plainly.
 fn compare_batch<R: Threads + Sync + Abort, L: Ledger>(
     rt: &R,
     alloc: Global,
     th: &Thresholds,
     adj: &mut LevelAdj,
+    work: &mut DeletionWork,
     plain: &mut Levels,
     items: &[Item],
     steps: &mut Steps<L>,
 ) -> Result<(), AllocError>
+    requires ready { IsReady adj.old work.old }
     requires inside { All (IsInside adj.old.graph.vertices) items.now }
     requires few { length items.now ≤ MAX_ITEMS }
     requires scale { th.now.vertices ≡ adj.old.graph.vertices }
     requires sized { length plain.old ≡ adj.old.graph.vertices }
+    ensures ready { OnOk result (IsReady adj.new work.new) }
+    ensures vertices { OnOk result (adj.new.graph.vertices ≡ adj.old.graph.vertices) }
+    ensures sized { OnOk result (length plain.new ≡ adj.new.graph.vertices) }
 {
     cleaned_fits_graph();
     let _n = adj.graph().vertices();
     assert!(rt; are_capped(adj, th));
     assert!(rt; meet_lower(adj, th));
     let cleaned = clean(rt, alloc, adj.graph(), items)?;
-    delete_rounds(
-        rt,
-        alloc,
-        &OpenGate::new(),
-        3,
-        th,
-        adj,
-        cleaned.removed.as_slice(),
-        steps,
-    )?;
+    let gate = OpenGate::new();
+    let rounds = Rounds::new(rt, alloc, &gate, 3);
+    let removed = cleaned.removed.as_slice();
+    delete_phase(&rounds, alloc, th, adj, work, removed, steps)?;
     lower_plainly(rt, adj.graph(), th, plain);
     assert_eq!(rt; adj.levels().as_slice(), plain.as_slice());
     Ok(())
 }
 
-// Levels that are as high as the lower invariant lets them be, and a batch of deletions.
+// Levels that are as high as the lower invariant lets them be, and three batches of deletions in turn with one workspace.
 fn compare<R: Threads + Sync + Abort, L: Ledger>(
     rt: &R,
     alloc: Global,
@@ -130,8 +130,14 @@ fn compare<R: Threads + Sync + Abort, L: Ledger>(
     }
     lower_plainly(rt, grounded.graph(), &th, &mut plain);
     let mut adj = state(rt, alloc, &edges, plain.as_slice(), &mut steps)?;
-    let items = deletions(alloc, &mut random)?;
-    compare_batch(rt, alloc, &th, &mut adj, &mut plain, &items, &mut steps)
+    let mut work = DeletionWork::new(alloc, &adj)?;
+    for _ in 0..3u32 {
+        let items = deletions(alloc, &mut random)?;
+        compare_batch(
+            rt, alloc, &th, &mut adj, &mut work, &mut plain, &items, &mut steps,
+        )?;
+    }
+    Ok(())
 }
 
 fn compare_from<R: Threads + Sync + Abort>(

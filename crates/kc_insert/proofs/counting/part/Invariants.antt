@@ -1,5 +1,5 @@
 use Rattle.std.proofs.Common.{◌≡◌, ◌+◌, drop}
-use Rattle.kc_insert.specs.Meetings.{AreDistinct}
+use Rattle.kc_levels.specs.Following.{AreDistinct}
 use Rattle.kc_insert.specs.Counting.{goes_on, AreSeen, sees_listed, steps_on}
 use Rattle.kc_insert.proofs.Parting.{IsSettling}
 use Rattle.kc_insert.proofs.counting.part.Given as goal

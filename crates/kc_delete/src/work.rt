@@ -1,0 +1,58 @@
+ghost use Rattle.std.specs.Prelude.{◌≡◌, ◌<◌, All, IfOk, length};
+ghost use Rattle.kc_levels.specs.Moved.{moves_between};
+ghost use Rattle.kc_adj.specs.LeveledGraph.{LeveledGraph};
+ghost use Rattle.kc_delete.specs.Working.{IsReady};
+
+use crate::fallen::Fallen;
+use crate::waiting::Waiting;
+use kc_adj::LevelAdj;
+use kc_levels::Moves;
+use kc_rounds::FirstRound;
+use std::alloc::{AllocError, Global};
+use std::marker::Model;
+
+/// What deletion phases work with, kept between them, so that a phase costs what it changes and not what the graph has.
+///
+/// Contracts see it as a `Working`. Between phases it is ready for the graph (`IsReady`): it has a copy of the levels, and nothing
+/// is left of a phase. An insertion phase changes the levels, and `follow` tells it so. Takes 3 bytes a vertex.
+#[derive(Drop)]
+pub struct DeletionWork {
+    pub(crate) waiting: Waiting,
+    pub(crate) fallen: Fallen,
+    // Whether no round with candidates has been yet.
+    pub(crate) first: FirstRound,
+}
+
+impl Model for DeletionWork {
+    ghost use Rattle.kc_delete.specs.Working.{Working};
+
+    ghost Value = { Working };
+
+    ghost view = { λ w. record { before = w.fallen.before; waits = w.waiting; fallen = w.fallen.vertices.items } };
+}
+
+impl DeletionWork {
+    /// Ready for this graph. Costs a pass over the vertices. Fails only if memory runs out.
+    pub fn new(alloc: Global, adj: &LevelAdj) -> Result<Self, AllocError>
+        ensures { IfOk result (IsReady adj.now) }
+    {
+        let n = adj.graph().vertices();
+        Ok(DeletionWork {
+            waiting: Waiting::new(alloc, n)?,
+            fallen: Fallen {
+                before: adj.levels().copy(alloc)?,
+                vertices: Vec::new(alloc),
+            },
+            first: FirstRound::new(),
+        })
+    }
+
+    /// Makes it ready for the graph after an insertion phase, where it was ready before: the moves are those of the phase. Costs a
+    /// look for each. Takes no memory.
+    pub fn follow(&mut self, moves: &Moves)
+        requires { All (λ m. m.vertex < length self.old.before) moves.now }
+        ensures { (a b : LeveledGraph) → IsReady a self.old → length a.levels ≡ a.graph.vertices → length b.levels ≡ b.graph.vertices → b.graph.vertices ≡ a.graph.vertices → moves.now ≡ moves_between a.graph.vertices a.levels b.levels → IsReady b self.new }
+    {
+        self.fallen.before.follow(moves);
+    }
+}

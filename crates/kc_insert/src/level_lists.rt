@@ -1,0 +1,120 @@
+ghost use Rattle.std.specs.Prelude.{◌≡◌, ◌+◌, ◌++◌, ◌∷◌, ◌^◌, ◌<◌, ◌≤◌, ℕ, [], replicate, OnOk, IfOk, slice_index_or, slice_set, length};
+
+use std::alloc::{AllocError, Global};
+use std::marker::Model;
+use std::mem;
+
+// So many levels share a mark.
+const SPAN: usize = 64;
+
+/// The items of one level, in the order in which they came.
+#[derive(Drop)]
+struct LevelList<T> {
+    items: Vec<T>,
+}
+
+impl<T> Model for LevelList<T> {
+    ghost use Rattle.std.specs.Prelude.{List};
+
+    ghost Value = { List T };
+
+    ghost view = { λ l. l.items.items };
+}
+
+/// A list of items for each level.
+///
+/// Contracts see it as the list of the lists, that of level 0 first. Levels without items cost a look for 64 of them.
+#[derive(Drop)]
+pub struct LevelLists<T> {
+    lists: Vec<LevelList<T>>,
+    // For each 64 levels whether one of them may have items.
+    marks: Vec<bool>,
+}
+
+impl<T> Model for LevelLists<T> {
+    ghost use Rattle.std.specs.Prelude.{List};
+    ghost use Rattle.kc_insert.specs.LevelLists.{AreMarked};
+
+    ghost Value = { List (List T) };
+
+    ghost view = { λ q. q.lists.items };
+
+    ghost invariant = { λ q. AreMarked q.lists.items q.marks.items };
+}
+
+impl<T: Drop> LevelLists<T> {
+    /// No items on each of `count` levels, from level 0 on. Fails only if memory runs out.
+    pub fn new(alloc: Global, count: u16) -> Result<Self, AllocError>
+        ensures { IfOk result (λ q. q ≡ replicate count []) }
+    {
+        let mut lists = Vec::with_capacity(alloc, count as usize)?;
+        for _ in 0..count {
+            lists.push(LevelList {
+                items: Vec::new(alloc),
+            })?;
+        }
+        let marks = vec![in alloc; false; count as usize / SPAN + 1]?;
+        Ok(LevelLists { lists, marks })
+    }
+
+    /// Puts an item last on a level. Fails only if memory runs out.
+    pub fn file(&mut self, level: u16, item: T) -> Result<(), AllocError>
+        requires { level < length self.old }
+        ensures { OnOk result (self.new ≡ slice_set self.old level (slice_index_or self.old level [] ++ item ∷ [])) }
+    {
+        self.marks[level as usize / SPAN] = true;
+        self.lists[level as usize].items.push(item)?;
+        Ok(())
+    }
+
+    /// The items of a level.
+    pub fn on(&self, level: u16) -> &[T]
+        requires { level < length self.now }
+        ensures { result.now ≡ slice_index_or self.now level [] }
+    {
+        self.lists[level as usize].items.as_slice()
+    }
+
+    /// Takes the items of a level out.
+    pub fn take_all(&mut self, alloc: Global, level: u16) -> Vec<T>
+        requires { level < length self.old }
+        ensures taken { result.items ≡ slice_index_or self.old level [] }
+        ensures left { self.new ≡ slice_set self.old level [] }
+    {
+        mem::replace(&mut self.lists[level as usize].items, Vec::new(alloc))
+    }
+
+    /// The first level from this one on that has items, or the number of levels where there is none.
+    pub fn next(&self, from: u16) -> u16
+        requires small { length self.now < 2 ^ 16 }
+        requires inside { from ≤ length self.now }
+        ensures from { from ≤ result }
+        ensures inside { result ≤ length self.now }
+        ensures none { (k : ℕ) → from ≤ k → k < result → slice_index_or self.now k [] ≡ [] }
+    {
+        let mut level = from as usize;
+        while level < self.lists.len() {
+            if !self.marks[level / SPAN] {
+                level = (level / SPAN + 1) * SPAN;
+            } else if self.lists[level].items.is_empty() {
+                level += 1;
+            } else {
+                return level as u16;
+            }
+        }
+        self.lists.len() as u16
+    }
+
+    /// Drops all items.
+    pub fn clear(&mut self, alloc: Global)
+        requires { length self.old < 2 ^ 16 }
+        ensures { self.new ≡ replicate (length self.old) [] }
+    {
+        let mut level = self.next(0);
+        while (level as usize) < self.lists.len() {
+            self.take_all(alloc, level);
+            level = self.next(level + 1);
+        }
+        self.marks.as_mut_slice().fill(false);
+    }
+}
