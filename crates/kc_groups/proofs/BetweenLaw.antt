@@ -90,8 +90,8 @@ module _ (phase : ℕ) (add : Bool) (edges : List Pair) (x y labels : List ℕ) 
           ap (λ b. b || any_has e (map of rs)) (filtered_none e (is_quiet x y) edges none) ∙ groups_out e rs none
           ∙ sym (ap (λ b. has_number (get_or labels v 0) rs && b) none ∙ and_false (has_number (get_or labels v 0) rs))
       | inl has ↦
-          let r = rooted g x y labels are joins in
-          let j = edge_joined g x y labels e is.graph joins (present_in g e edges is.present has) in
+          let r = rooted g (is_moved x y) labels are joins in
+          let j = edge_joined g (is_moved x y) labels e is.graph joins (present_in g e edges is.present has) in
           let at = is_at g.vertices x y labels e r j in
           let same = end_label e v r at end h m in
           let low : edge_label x y labels e < g.vertices = omega (arith, same, (r.root v h m).0) in

@@ -6,12 +6,12 @@ use Rattle.std.proofs.lemmas.Bool.Decides.{nat_tests}
 use Rattle.std.proofs.lemmas.List.{length-set, length-map, map_push, get_or-map, get_or-set_same, get_or-set_other, length_push, get_or_push, get_or_append_left, get_or_default, same_lists}
 use Rattle.std.proofs.lemmas.List.Elements.{filter_more}
 use Rattle.kc_graph.specs.Shape.{Pair}
-use Rattle.kc_levels.specs.Moved.{is_moved}
-use Rattle.kc_history.specs.declared.moves.Move.{Move}
+use Rattle.kc_levels.specs.Moved.{is_moved, move_of, pushed_if, moved_below, moves_between}
+use Rattle.kc_levels.specs.declared.moves.Move.{Move}
 use Rattle.kc_history.specs.declared.entries.Entry.{Entry}
 use Rattle.kc_groups.specs.Labels.{AreRooted}
-use Rattle.kc_groups.specs.Entries.{labels_below, moves_below, move_of, pushed_if, group_entry, ends_at, is_quiet}
-use Rattle.kc_groups.specs.Dealing.{empty_entry, with_moves, with_edges, ArePlaces, AreDealt, IsPlaced, IsPlacedEdge, edge_place, is_unplaced}
+use Rattle.kc_groups.specs.Entries.{labels_below, moves_below, group_entry, ends_at}
+use Rattle.kc_groups.specs.Dealing.{empty_entry, with_moves, with_edges, ArePlaces, AreDealt, IsPlacedEdge, edge_place, is_unplaced}
 use Rattle.kc_groups.proofs.EndLemmas.{IsAt, IsJoined, ends_yes, ends_no}
 
 -- Places
@@ -132,13 +132,6 @@ module _ (phase : ℕ) (add : Bool) (n : ℕ) (labels : List ℕ) (entries : Lis
         let under : get_or labels k 0 < k = omega (arith, r.low k h m, ne) in
         rw (labels-same labels k ne) (o.0, places_join n labels places k h (labels_below labels k) o.1 under (r.root k h m).1)
 
-pub placed : (n : ℕ) (moved : ℕ → Bool) (labels roots places : List ℕ) → ArePlaces n labels roots places n → AreRooted n moved labels → IsPlaced n moved places (length roots)
-placed n moved labels roots places p r = record {
-  sized = p.sized;
-  at = λ v h m. (p.at v h (r.root v h m).0).0;
-  none = λ v h m. omega (arith, p.none v h (omega (arith, r.none v h m)), p.few);
-}
-
 -- What is done to each entry
 
 dealt_at : (f h : ℕ → Entry → Entry) (old es : List Entry) (q : ℕ) (t : Entry) → AreDealt f old es → q < length old → ((d : Entry) → t ≡ h q (get_or old q d)) → ((p : ℕ) → p < length old → p ≢ q → (u : Entry) → h p u ≡ f p u) → AreDealt h old (set es q t)
@@ -158,32 +151,43 @@ dealt_first f old same = record { sized = refl; each = λ p d lt. sym (same p d 
 
 -- Moves
 
-moves-more : (labels x y : List ℕ) (l k : ℕ) → get_or labels k 0 ≡ l → moves_below labels x y l (k + 1) ≡ moves_below labels x y l k ++ move_of x y k ∷ []
-moves-more labels x y l k e = rw add-one (grind (arith, nat_tests, e))
+pub moves_first : (places : List ℕ) (old : List Entry) → All (λ (e : Entry). e.moves ≡ []) old → AreDealt (with_moves places []) old old
+moves_first places old none = dealt_first (with_moves places []) old (λ p d lt. ap (λ ms. record (get_or old p d) { moves = ms }) (sym (none p d lt)))
 
-moves-same : (labels x y : List ℕ) (l k : ℕ) → get_or labels k 0 ≢ l → moves_below labels x y l (k + 1) ≡ moves_below labels x y l k
-moves-same labels x y l k ne = rw add-one (grind (arith, nat_tests, ne))
-
-pub moves_first : (places x y : List ℕ) (old : List Entry) → All (λ (e : Entry). e.moves ≡ []) old → AreDealt (with_moves places x y 0) old old
-moves_first places x y old none = dealt_first (with_moves places x y 0) old (λ p d lt. ap (λ ms. record (get_or old p d) { moves = ms }) (sym (none p d lt)))
-
--- the move of k comes into the entry at its place
-pub deal_move : (places x y : List ℕ) (k : ℕ) (old es : List Entry) (t : Entry) → AreDealt (with_moves places x y k) old es → get_or places k 0 < length old → t ≡ get_or es (get_or places k 0) t → AreDealt (with_moves places x y (k + 1)) old (set es (get_or places k 0) (record t { moves = t.moves ++ move_of x y k ∷ [] }))
-deal_move places x y k old es t a inside read =
-    let q = get_or places k 0 in
-    dealt_at (with_moves places x y k) (with_moves places x y (k + 1)) old es q (record t { moves = t.moves ++ move_of x y k ∷ [] }) a inside
-    (λ d.
-    let was : t ≡ with_moves places x y k q (get_or old q d) = read_at es q t d (omega (arith, a.sized)) read ∙ a.each q d inside in
-    ap (λ (u : Entry). record u { moves = u.moves ++ move_of x y k ∷ [] }) was ∙ ap (λ ms. record (get_or old q d) { moves = ms }) (sym (moves-more places x y q k refl)))
-    (λ p lt ne u. ap (λ ms. record u { moves = ms }) (moves-same places x y p k (λ e. ne (sym e))))
+-- the next move comes into the entry at the place of its vertex
+pub deal_move : (places : List ℕ) (ms : List Move) (i : ℕ) (d : Move) (old es : List Entry) (t : Entry) → i < length ms → AreDealt (with_moves places (take i ms)) old es → get_or places (get_or ms i d).vertex 0 < length old → t ≡ get_or es (get_or places (get_or ms i d).vertex 0) t → AreDealt (with_moves places (take (i + 1) ms)) old (set es (get_or places (get_or ms i d).vertex 0) (record t { moves = t.moves ++ get_or ms i d ∷ [] }))
+deal_move places ms i d old es t h a inside read =
+    let m = get_or ms i d in
+    let q = get_or places (get_or ms i d).vertex 0 in
+    dealt_at (with_moves places (take i ms)) (with_moves places (take (i + 1) ms)) old es q (record t { moves = t.moves ++ m ∷ [] }) a inside
+    (λ u.
+    let was : t ≡ with_moves places (take i ms) q (get_or old q u) = read ∙ get_or_default es q t u (omega (arith, a.sized, inside)) ∙ a.each q u inside in
+    ap (λ (v : Entry). record v { moves = v.moves ++ m ∷ [] }) was ∙ ap (λ ns. record (get_or old q u) { moves = ns }) (sym (filtered q true (grind (arith, nat_tests)))))
+    (λ p lt ne u. ap (λ ns. record u { moves = ns }) (filtered p false (grind (arith, nat_tests, ne)) ∙ append-nil (filter (λ (n : Move). eqb (get_or places n.vertex 0) p) (take i ms))))
   where
-    read_at : (es : List Entry) (q : ℕ) (t d : Entry) → q < length es → t ≡ get_or es q t → t ≡ get_or es q d
-    read_at es q t d h e = e ∙ get_or_default es q t d h
+    filtered : (p : ℕ) (b : Bool) → eqb (get_or places (get_or ms i d).vertex 0) p ≡ b → filter (λ (n : Move). eqb (get_or places n.vertex 0) p) (take (i + 1) ms) ≡ filter (λ (n : Move). eqb (get_or places n.vertex 0) p) (take i ms) ++ cond b (get_or ms i d ∷ []) []
+    filtered p b e = filter_more (λ (n : Move). eqb (get_or places n.vertex 0) p) ms i d h ∙ ap (λ c. filter (λ (n : Move). eqb (get_or places n.vertex 0) p) (take i ms) ++ cond c (get_or ms i d ∷ []) []) e
 
--- a vertex without a place comes into no entry
-pub deal_none : (places x y : List ℕ) (k : ℕ) (old es : List Entry) → AreDealt (with_moves places x y k) old es → length old ≤ get_or places k 0 → AreDealt (with_moves places x y (k + 1)) old es
-deal_none places x y k old es a none =
-    dealt_same (with_moves places x y k) (with_moves places x y (k + 1)) old es a (λ p lt u. ap (λ ms. record u { moves = ms }) (moves-same places x y p k (λ e. absurd (omega arith))))
+-- the moves between two lists of levels whose vertices have the place p
+pub moves_placed : (places x y : List ℕ) (p k : ℕ) → ((v : ℕ) → v < k → is_moved x y v ≡ false → eqb (get_or places v 0) p ≡ false) → filter (λ (m : Move). eqb (get_or places m.vertex 0) p) (moves_between k x y) ≡ moves_below places x y p k
+moves_placed places x y p zero none = refl
+moves_placed places x y p (suc k) none = go (is_moved x y k) refl (moves_placed places x y p k (λ v h. none v (omega arith)))
+  where
+    pushed : (b : Bool) → eqb (get_or places k 0) p ≡ b → (ms : List Move) → filter (λ (m : Move). eqb (get_or places m.vertex 0) p) (ms ++ move_of x y k ∷ []) ≡ pushed_if b (move_of x y k) (filter (λ (m : Move). eqb (get_or places m.vertex 0) p) ms)
+    pushed true e [] = rw e refl
+    pushed false e [] = rw e refl
+    pushed b e (m ∷ ms) = step (eqb (get_or places m.vertex 0) p) b (pushed b e ms)
+      where
+        step : (c b : Bool) → filter (λ (m : Move). eqb (get_or places m.vertex 0) p) (ms ++ move_of x y k ∷ []) ≡ pushed_if b (move_of x y k) (filter (λ (m : Move). eqb (get_or places m.vertex 0) p) ms) → cond c (m ∷ filter (λ (m : Move). eqb (get_or places m.vertex 0) p) (ms ++ move_of x y k ∷ [])) (filter (λ (m : Move). eqb (get_or places m.vertex 0) p) (ms ++ move_of x y k ∷ [])) ≡ pushed_if b (move_of x y k) (cond c (m ∷ filter (λ (m : Move). eqb (get_or places m.vertex 0) p) ms) (filter (λ (m : Move). eqb (get_or places m.vertex 0) p) ms))
+        step true true same = ap (λ ns. m ∷ ns) same
+        step true false same = ap (λ ns. m ∷ ns) same
+        step false b same = same
+
+    go : (b : Bool) → is_moved x y k ≡ b → filter (λ (m : Move). eqb (get_or places m.vertex 0) p) (moves_between k x y) ≡ moves_below places x y p k → filter (λ (m : Move). eqb (get_or places m.vertex 0) p) (map (move_of x y) (pushed_if b k (moved_below (is_moved x y) k))) ≡ pushed_if (eqb (get_or places k 0) p) (move_of x y k) (moves_below places x y p k)
+    go true e same =
+        ap (filter (λ (m : Move). eqb (get_or places m.vertex 0) p)) (map_push (move_of x y) (moved_below (is_moved x y) k) k)
+        ∙ pushed (eqb (get_or places k 0) p) refl (moves_between k x y) ∙ ap (pushed_if (eqb (get_or places k 0) p) (move_of x y k)) same
+    go false e same = same ∙ sym (ap (λ b. pushed_if b (move_of x y k) (moves_below places x y p k)) (none k (omega arith) e))
 
 -- Edges
 
@@ -290,42 +294,49 @@ module _ (n : ℕ) (labels roots places : List ℕ) (p : ArePlaces n labels root
         (λ e. absurd (omega (arith, p.low i inside)))
   ]
 
-  pub groups_are : (phase : ℕ) (add : Bool) (x y : List ℕ) (edges : List Pair) (opened moved dealt : List Entry) → All (λ (e : Pair). (e.0 < n) × (e.1 < n)) edges → opened ≡ map (empty_entry phase add) roots → AreDealt (with_moves places x y n) opened moved → AreDealt (with_edges places edges) moved dealt → dealt ≡ map (group_entry phase add edges x y labels n) roots
-  groups_are phase add x y edges opened moved dealt inside is m e =
+  pub groups_are : (phase : ℕ) (add : Bool) (x y : List ℕ) (edges : List Pair) (opened moved dealt : List Entry) → All (λ (e : Pair). (e.0 < n) × (e.1 < n)) edges → opened ≡ map (empty_entry phase add) roots → (ms : List Move) → ((i : ℕ) → i < length roots → filter (λ (m : Move). eqb (get_or places m.vertex 0) i) ms ≡ moves_below places x y i n) → AreDealt (with_moves places ms) opened moved → AreDealt (with_edges places edges) moved dealt → dealt ≡ map (group_entry phase add edges x y labels n) roots
+  groups_are phase add x y edges opened moved dealt inside is ms below m e =
       let long : length opened ≡ length roots = ap (λ (es : List Entry). length es) is ∙ length-map roots (empty_entry phase add) in
       let sized : length dealt ≡ length roots = e.sized ∙ m.sized ∙ long in
       same_lists dealt (map (group_entry phase add edges x y labels n) roots) (sized ∙ sym (length-map roots (group_entry phase add edges x y labels n)))
       (λ i d h.
       let low : i < length roots = omega (arith, sized) in
       let was : get_or opened i d ≡ empty_entry phase add (get_or roots i 0) = ap (λ (es : List Entry). get_or es i d) is ∙ get_or-map (empty_entry phase add) roots i 0 d low in
-      let made : get_or dealt i d ≡ with_edges places edges i (with_moves places x y n i (empty_entry phase add (get_or roots i 0))) =
-      e.each i d (omega (arith, m.sized, long)) ∙ ap (with_edges places edges i) (m.each i d (omega (arith, long)) ∙ ap (with_moves places x y n i) was) in
-      let moves : moves_below places x y i n ≡ moves_below labels x y (get_or roots i 0) n = moves_same places labels x y i (get_or roots i 0) n (λ v at. same_place i v low at) in
+      let made : get_or dealt i d ≡ with_edges places edges i (with_moves places ms i (empty_entry phase add (get_or roots i 0))) =
+      e.each i d (omega (arith, m.sized, long)) ∙ ap (with_edges places edges i) (m.each i d (omega (arith, long)) ∙ ap (with_moves places ms i) was) in
+      let moves : filter (λ (m : Move). eqb (get_or places m.vertex 0) i) ms ≡ moves_below labels x y (get_or roots i 0) n = below i low ∙ moves_same places labels x y i (get_or roots i 0) n (λ v at. same_place i v low at) in
       let ends : filter (ends_at places i) edges ≡ filter (ends_at labels (get_or roots i 0)) edges =
       filter_same (ends_at places i) (ends_at labels (get_or roots i 0)) edges (λ k t at. either i (get_or edges k t) (same_place i (get_or edges k t).0 low (inside k t at).0) (same_place i (get_or edges k t).1 low (inside k t at).1)) in
       let is_entry : get_or dealt i d ≡ group_entry phase add edges x y labels n (get_or roots i 0) =
-      made ∙ same_entry phase add (get_or roots i 0) (moves_below places x y i n) (moves_below labels x y (get_or roots i 0) n) (filter (ends_at places i) edges) (filter (ends_at labels (get_or roots i 0)) edges) moves ends in
+      made ∙ same_entry phase add (get_or roots i 0) (filter (λ (m : Move). eqb (get_or places m.vertex 0) i) ms) (moves_below labels x y (get_or roots i 0) n) (filter (ends_at places i) edges) (filter (ends_at labels (get_or roots i 0)) edges) moves ends in
       is_entry ∙ sym (get_or-map (group_entry phase add edges x y labels n) roots i 0 d low))
     where
       either : (i : ℕ) (e : Pair) → eqb (get_or places e.0 0) i ≡ eqb (get_or labels e.0 0) (get_or roots i 0) → eqb (get_or places e.1 0) i ≡ eqb (get_or labels e.1 0) (get_or roots i 0) → ends_at places i e ≡ ends_at labels (get_or roots i 0) e
       either i e first second = rw (first, second) refl
 
-  module _ (x y : List ℕ) (r : AreRooted n (is_moved x y) labels) where
-    unplaced : (v : ℕ) → v < n → eqb (get_or places v 0) n ≡ not (is_moved x y v)
-    unplaced v h = go (is_moved x y v) refl
+  module _ (moved : ℕ → Bool) (r : AreRooted n moved labels) where
+    unplaced : (v : ℕ) → v < n → eqb (get_or places v 0) n ≡ not (moved v)
+    unplaced v h = go (moved v) refl
       where
-        go : (b : Bool) → is_moved x y v ≡ b → eqb (get_or places v 0) n ≡ not b
+        go : (b : Bool) → moved v ≡ b → eqb (get_or places v 0) n ≡ not b
         go true m = let low : get_or places v 0 < n = omega (arith, (p.at v h (r.root v h m).0).0, p.few) in grind (arith, nat_tests, low)
         go false m = let none : get_or places v 0 ≡ n = p.none v h (omega (arith, r.none v h m)) in grind (arith, nat_tests, none)
 
-    pub quiet_are : (edges : List Pair) → All (λ (e : Pair). (e.0 < n) × (e.1 < n)) edges → filter (is_unplaced n places) edges ≡ filter (is_quiet x y) edges
-    quiet_are edges inside = filter_same (is_unplaced n places) (is_quiet x y) edges (λ k t at. both (get_or edges k t) (unplaced (get_or edges k t).0 (inside k t at).0) (unplaced (get_or edges k t).1 (inside k t at).1))
+    pub quiet_are : (edges : List Pair) → All (λ (e : Pair). (e.0 < n) × (e.1 < n)) edges → filter (is_unplaced n places) edges ≡ filter (λ (e : Pair). not (moved e.0) && not (moved e.1)) edges
+    quiet_are edges inside = filter_same (is_unplaced n places) (λ (e : Pair). not (moved e.0) && not (moved e.1)) edges (λ k t at. both (get_or edges k t) (unplaced (get_or edges k t).0 (inside k t at).0) (unplaced (get_or edges k t).1 (inside k t at).1))
       where
-        both : (e : Pair) → eqb (get_or places e.0 0) n ≡ not (is_moved x y e.0) → eqb (get_or places e.1 0) n ≡ not (is_moved x y e.1) → is_unplaced n places e ≡ is_quiet x y e
+        both : (e : Pair) → eqb (get_or places e.0 0) n ≡ not (moved e.0) → eqb (get_or places e.1 0) n ≡ not (moved e.1) → is_unplaced n places e ≡ not (moved e.0) && not (moved e.1)
         both e first second = rw (first, second) refl
 
+    -- a vertex that stays has no place, and one that moves has one
+    pub stays : (v : ℕ) → v < n → moved v ≡ false → get_or places v 0 ≡ n
+    stays v h m = p.none v h (omega (arith, r.none v h m))
+
+    pub has_place : (v : ℕ) → v < n → moved v ≡ true → get_or places v 0 < length roots
+    has_place v h m = (p.at v h (r.root v h m).0).0
+
     -- the places of an edge in which linked ends have one label
-    pub edge_placed : (e : Pair) → IsJoined n x y labels e → IsPlacedEdge n (length roots) places e
+    pub edge_placed : (e : Pair) → IsJoined n moved labels e → IsPlacedEdge n (length roots) places e
     edge_placed e j =
         let first : e.0 < n = omega (arith, j.order, j.inside) in
         record {
@@ -342,9 +353,9 @@ module _ (n : ℕ) (labels roots places : List ℕ) (p : ArePlaces n labels root
         at : (v : ℕ) → v < n → get_or places v 0 < n → (get_or places v 0 < length roots) × (get_or roots (get_or places v 0) 0 ≡ get_or labels v 0)
         at v h low = elim (cases_lt (get_or labels v 0) n) [ inl is ↦ p.at v h is | inr high ↦ absurd (omega (arith, p.none v h high)) ]
 
-        moves : (v : ℕ) → v < n → get_or places v 0 < n → is_moved x y v ≡ true
-        moves v h low = go (is_moved x y v) refl
+        moves : (v : ℕ) → v < n → get_or places v 0 < n → moved v ≡ true
+        moves v h low = go (moved v) refl
           where
-            go : (b : Bool) → is_moved x y v ≡ b → b ≡ true
+            go : (b : Bool) → moved v ≡ b → b ≡ true
             go true m = refl
             go false m = absurd (omega (arith, p.none v h (omega (arith, r.none v h m))))

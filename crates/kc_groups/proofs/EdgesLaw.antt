@@ -61,7 +61,7 @@ module _ (phase : ℕ) (add : Bool) (edges : List Pair) (x y labels : List ℕ) 
   in_quiet : (b : Bool) → has_edge e edges ≡ true → is_quiet x y e ≡ b → has_edge e (filter (is_quiet x y) edges) ≡ b
   in_quiet b has at = has_edge-filter e (is_quiet x y) edges ∙ grind (arith, nat_tests, has, at)
 
-  dealt : (r : AreRooted g.vertices (is_moved x y) labels) (j : IsJoined g.vertices x y labels e) → has_edge e edges ≡ true → count_by (λ (t : Entry). has_edge e t.edges) (quiet_entry phase add edges x y ∷ map of (labels_below labels g.vertices)) ≡ 1
+  dealt : (r : AreRooted g.vertices (is_moved x y) labels) (j : IsJoined g.vertices (is_moved x y) labels e) → has_edge e edges ≡ true → count_by (λ (t : Entry). has_edge e t.edges) (quiet_entry phase add edges x y ∷ map of (labels_below labels g.vertices)) ≡ 1
   dealt r j has = elim (cases_lt (edge_label x y labels e) g.vertices) [
     | inl low ↦
         let root = label_root g.vertices x y labels e r j low in
@@ -97,7 +97,7 @@ edges_are_dealt_once phase add edges x y g plan e is a =
     (elim (cases_Bool (has_edge e edges)) [
       | inl has ↦
           let joined = labels_joined g (is_moved x y) a.labels is.graph a.are_labels in
-          dealt phase add edges x y a.labels g e (rooted g x y a.labels a.are_labels joined) (edge_joined g x y a.labels e is.graph joined (present_in g e edges is.present has)) has
+          dealt phase add edges x y a.labels g e (rooted g (is_moved x y) a.labels a.are_labels joined) (edge_joined g (is_moved x y) a.labels e is.graph joined (present_in g e edges is.present has)) has
           ∙ sym (ap (λ (b : Bool). let k : ℕ = cond b 1 0 in k) has)
       | inr none ↦ out phase add edges x y a.labels g e none ∙ sym (ap (λ (b : Bool). let k : ℕ = cond b 1 0 in k) none)
     ])

@@ -9,10 +9,10 @@ use Rattle.kc_groups.specs.Labels.{AreJoined, AreRooted}
 use Rattle.kc_groups.specs.Entries.{ends_at, is_quiet}
 
 -- the ends of an edge have one label where both move
-pub record IsJoined (n : ℕ) (x y labels : List ℕ) (e : Pair) : Type 0 where
+pub record IsJoined (n : ℕ) (moved : ℕ → Bool) (labels : List ℕ) (e : Pair) : Type 0 where
   pub order : e.0 < e.1
   pub inside : e.1 < n
-  pub one : is_moved x y e.0 ≡ true → is_moved x y e.1 ≡ true → get_or labels e.1 0 ≡ get_or labels e.0 0
+  pub one : moved e.0 ≡ true → moved e.1 ≡ true → get_or labels e.1 0 ≡ get_or labels e.0 0
 
 -- the label of an end that moves, if there is one
 abbrev pub edge_label : List ℕ → List ℕ → List ℕ → Pair → ℕ
@@ -24,7 +24,7 @@ pub record IsAt (n label a b : ℕ) : Type 0 where
   pub second : (b ≡ label) ⊎ (b ≡ n)
   pub either : (a ≡ label) ⊎ (b ≡ label)
 
-pub is_at : (n : ℕ) (x y labels : List ℕ) (e : Pair) → AreRooted n (is_moved x y) labels → IsJoined n x y labels e → IsAt n (edge_label x y labels e) (get_or labels e.0 0) (get_or labels e.1 0)
+pub is_at : (n : ℕ) (x y labels : List ℕ) (e : Pair) → AreRooted n (is_moved x y) labels → IsJoined n (is_moved x y) labels e → IsAt n (edge_label x y labels e) (get_or labels e.0 0) (get_or labels e.1 0)
 is_at n x y labels e r j = go (is_moved x y e.0) (is_moved x y e.1) refl refl
   where
     go : (a b : Bool) → is_moved x y e.0 ≡ a → is_moved x y e.1 ≡ b → IsAt n (cond a (get_or labels e.0 0) (get_or labels e.1 0)) (get_or labels e.0 0) (get_or labels e.1 0)
@@ -39,7 +39,7 @@ pub ends_no : (n label l : ℕ) (labels : List ℕ) (e : Pair) → IsAt n label 
 ends_no n label l labels e at low ne = grind (arith, nat_tests, at.first, at.second)
 
 -- the label of the edge is a label, or no end of it moved
-pub label_root : (n : ℕ) (x y labels : List ℕ) (e : Pair) → AreRooted n (is_moved x y) labels → IsJoined n x y labels e → edge_label x y labels e < n → (get_or labels (edge_label x y labels e) 0 ≡ edge_label x y labels e) × (is_quiet x y e ≡ false)
+pub label_root : (n : ℕ) (x y labels : List ℕ) (e : Pair) → AreRooted n (is_moved x y) labels → IsJoined n (is_moved x y) labels e → edge_label x y labels e < n → (get_or labels (edge_label x y labels e) 0 ≡ edge_label x y labels e) × (is_quiet x y e ≡ false)
 label_root n x y labels e r j = go (is_moved x y e.0) (is_moved x y e.1) refl refl
   where
     go : (a b : Bool) → is_moved x y e.0 ≡ a → is_moved x y e.1 ≡ b → cond a (get_or labels e.0 0) (get_or labels e.1 0) < n → (get_or labels (cond a (get_or labels e.0 0) (get_or labels e.1 0)) 0 ≡ cond a (get_or labels e.0 0) (get_or labels e.1 0)) × (not a && not b ≡ false)
@@ -47,7 +47,7 @@ label_root n x y labels e r j = go (is_moved x y e.0) (is_moved x y e.1) refl re
     go false true ea eb low = ((r.root e.1 j.inside eb).1, refl)
     go false false ea eb low = absurd (omega (arith, r.none e.1 j.inside eb))
 
-pub label_none : (n : ℕ) (x y labels : List ℕ) (e : Pair) → AreRooted n (is_moved x y) labels → IsJoined n x y labels e → n ≤ edge_label x y labels e → is_quiet x y e ≡ true
+pub label_none : (n : ℕ) (x y labels : List ℕ) (e : Pair) → AreRooted n (is_moved x y) labels → IsJoined n (is_moved x y) labels e → n ≤ edge_label x y labels e → is_quiet x y e ≡ true
 label_none n x y labels e r j = go (is_moved x y e.0) (is_moved x y e.1) refl refl
   where
     go : (a b : Bool) → is_moved x y e.0 ≡ a → is_moved x y e.1 ≡ b → n ≤ cond a (get_or labels e.0 0) (get_or labels e.1 0) → not a && not b ≡ true
@@ -55,8 +55,8 @@ label_none n x y labels e r j = go (is_moved x y e.0) (is_moved x y e.1) refl re
     go false true ea eb high = absurd (omega (arith, (r.root e.1 j.inside eb).0))
     go false false ea eb high = refl
 
-pub edge_joined : (g : GraphShape) (x y labels : List ℕ) (e : Pair) → IsGraph g → AreJoined g (is_moved x y) labels → has_edge e g.edges ≡ true → IsJoined g.vertices x y labels e
-edge_joined g x y labels e graph joined h =
+pub edge_joined : (g : GraphShape) (moved : ℕ → Bool) (labels : List ℕ) (e : Pair) → IsGraph g → AreJoined g moved labels → has_edge e g.edges ≡ true → IsJoined g.vertices moved labels e
+edge_joined g moved labels e graph joined h =
     let bounds = edge_inside g.vertices 0 0 e g.edges graph h in
     record {
       order = bounds.0;
@@ -64,5 +64,5 @@ edge_joined g x y labels e graph joined h =
       one = λ a b. joined.one e.0 e.1 (omega (arith, bounds.0, bounds.1)) (record { from = a; to = b; edge = joined_in_order g.vertices 0 0 e.0 e.1 g.edges graph (omega (arith, bounds.0)) ∙ h });
     }
 
-pub rooted : (g : GraphShape) (x y labels : List ℕ) → AreLabels g (is_moved x y) labels → AreJoined g (is_moved x y) labels → AreRooted g.vertices (is_moved x y) labels
-rooted g x y labels l j = record { sized = l.sized; root = j.root; low = λ v h m. (l.label v h m).least v 0 refl; none = l.none }
+pub rooted : (g : GraphShape) (moved : ℕ → Bool) (labels : List ℕ) → AreLabels g moved labels → AreJoined g moved labels → AreRooted g.vertices moved labels
+rooted g moved labels l j = record { sized = l.sized; root = j.root; low = λ v h m. (l.label v h m).least v 0 refl; none = l.none }

@@ -6,11 +6,17 @@ use Rattle.std.proofs.lemmas.List.Sums.{sum_by-set}
 use Rattle.std.proofs.lemmas.Grind.{same_number_lists}
 use borrow.Author.Count.{below_more}
 use Rattle.kc_graph.specs.Shape.{GraphShape, IsGraph, joined}
+use Rattle.kc_graph.proofs.EdgeLemmas.{joined_comm, joined_inside}
 use Rattle.kc_levels.specs.Moved.{is_moved}
 use Rattle.kc_groups.specs.Links.{AreLinked, Path, IsLabel, AreLabels}
 use Rattle.kc_groups.specs.Labels.{IsMarked, AreJoined}
 use Rattle.kc_groups.specs.Laws.{LabelsAreOne}
-use Rattle.kc_groups.proofs.FloodLemmas.{linked_below, linked_back}
+
+linked_back : (g : GraphShape) (moved : ℕ → Bool) (v w : ℕ) → AreLinked g moved v w → AreLinked g moved w v
+linked_back g moved v w k = record { from = k.to; to = k.from; edge = joined_comm w v g.edges ∙ k.edge }
+
+linked_below : (g : GraphShape) (moved : ℕ → Bool) (v w : ℕ) → IsGraph g → AreLinked g moved v w → w < g.vertices
+linked_below g moved v w graph link = (joined_inside g.vertices 0 0 v w g.edges graph link.edge).1
 
 -- each label is reached and at most its vertex
 record IsLabelling (g : GraphShape) (moved : ℕ → Bool) (labels : List ℕ) : Type 0 where
@@ -125,8 +131,8 @@ first_labels g moved = record {
     own_is : (v : ℕ) → v < g.vertices → get_or (own_from moved g.vertices 0 g.vertices) v 0 ≡ cond (moved v) v g.vertices
     own_is v h = let same : 0 + v ≡ v = omega arith in own_at moved g.vertices 0 g.vertices v h ∙ ap (λ u. cond (moved u) u g.vertices) same
 
-pub labels_exist : (g : GraphShape) (x y : List ℕ) → IsGraph g → (labels : List ℕ) × AreLabels g (is_moved x y) labels
-labels_exist g x y graph = labels_from (sum (own_from (is_moved x y) g.vertices 0 g.vertices)) g (is_moved x y) (own_from (is_moved x y) g.vertices 0 g.vertices) graph (first_labels g (is_moved x y)) (omega arith)
+pub labels_exist : (g : GraphShape) (moved : ℕ → Bool) → IsGraph g → (labels : List ℕ) × AreLabels g moved labels
+labels_exist g moved graph = labels_from (sum (own_from moved g.vertices 0 g.vertices)) g moved (own_from moved g.vertices 0 g.vertices) graph (first_labels g moved) (omega arith)
 
 pub labels_one : (g : GraphShape) (moved : ℕ → Bool) (labels labels' : List ℕ) → AreLabels g moved labels → AreLabels g moved labels' → labels ≡ labels'
 labels_one g moved labels labels' l l' =
@@ -143,7 +149,7 @@ labels_one g moved labels labels' l l' =
 
 pub labels_are_one : LabelsAreOne
 labels_are_one g x y graph =
-    let some = labels_exist g x y graph in
+    let some = labels_exist g (is_moved x y) graph in
     (some.0, (some.1, λ others are. labels_one g (is_moved x y) others some.0 are some.1))
 
 -- two paths in a row

@@ -12,13 +12,13 @@ use Rattle.kc_graph.specs.Shape.{GraphShape, Pair, IsGraph, has_edge, with_edges
 use Rattle.kc_graph.proofs.ChangeLemmas.{vertices-with_edges, vertices-without_edges, has_edge-with_edges, has_edge-without_edges, is_graph-with_edges, is_graph-without_edges, inside_from_ascending}
 use Rattle.kc_graph.proofs.EdgeLemmas.{same_graph}
 use Rattle.kc_graph.proofs.NumberLemmas.{has_number_at, has_number_nowhere}
-use Rattle.kc_levels.specs.Moved.{is_moved}
+use Rattle.kc_levels.specs.Moved.{is_moved, move_of}
 use Rattle.kc_levels.proofs.Places.{changed}
-use Rattle.kc_history.specs.declared.moves.Move.{Move}
+use Rattle.kc_levels.specs.declared.moves.Move.{Move}
 use Rattle.kc_history.specs.declared.entries.Entry.{Entry}
 use Rattle.kc_history.specs.Points.{with_moves, with_entry, graph_after, levels_after}
 use Rattle.kc_groups.specs.declared.plans.PhasePlan.{PhasePlan}
-use Rattle.kc_groups.specs.Entries.{labels_below, moves_below, move_of, group_entry, quiet_entry, ends_at, is_quiet, AreEntries}
+use Rattle.kc_groups.specs.Entries.{labels_below, moves_below, group_entry, quiet_entry, ends_at, is_quiet, AreEntries}
 use Rattle.kc_groups.specs.Laws.{IsPhase, EntriesLeadOver}
 use Rattle.kc_groups.proofs.LabelLaw.{labels_joined}
 use Rattle.kc_groups.proofs.ListLemmas.{has_label, all_moves, has_move, vertices}

@@ -4,23 +4,13 @@ use Rattle.std.specs.List.{All, Contains}
 use Rattle.std.proofs.lemmas.Bool.{cases_eq}
 use Rattle.std.proofs.lemmas.Bool.Decides.{nat_tests}
 use Rattle.std.proofs.lemmas.List.{map_push}
-use Rattle.std.proofs.lemmas.List.Elements.{All-push, Contains-push, Contains-append_left}
+use Rattle.std.proofs.lemmas.List.Elements.{Contains-push, Contains-append_left}
 use Rattle.kc_graph.specs.Numbers.{RisesFrom, AllBelow, has_number}
 use Rattle.kc_graph.proofs.NumberLemmas.{rises_at_least, has_number-push}
-use Rattle.kc_history.specs.declared.moves.Move.{Move}
-use Rattle.kc_groups.specs.Entries.{pushed_if, labels_below, moves_below, move_of}
-
-rises_push : (low k : ℕ) (xs : List ℕ) → RisesFrom low xs → AllBelow k xs → low ≤ k → RisesFrom low (xs ++ k ∷ [])
-rises_push low k [] up below le = (le, tt)
-rises_push low k (x ∷ xs) up below le = (up.0, rises_push (suc x) k xs up.1 below.1 (omega (arith, below.0)))
-
-below_push : (k : ℕ) (xs : List ℕ) → AllBelow k xs → AllBelow (suc k) (xs ++ k ∷ [])
-below_push k [] below = (omega arith, tt)
-below_push k (x ∷ xs) below = (omega (arith, below.0), below_push k xs below.1)
-
-below_next : (k : ℕ) (xs : List ℕ) → AllBelow k xs → AllBelow (suc k) xs
-below_next k [] below = tt
-below_next k (x ∷ xs) below = (omega (arith, below.0), below_next k xs below.1)
+use Rattle.kc_levels.specs.declared.moves.Move.{Move}
+use Rattle.kc_levels.specs.Moved.{pushed_if, move_of}
+use Rattle.kc_levels.proofs.MovesBetween.{rises_push, below_push, below_next, all_pushed}
+use Rattle.kc_groups.specs.Entries.{labels_below, moves_below}
 
 pub labels_rise : (labels : List ℕ) (k : ℕ) → RisesFrom 0 (labels_below labels k) × AllBelow k (labels_below labels k)
 labels_rise labels zero = (tt, tt)
@@ -30,10 +20,6 @@ labels_rise labels (suc k) =
       | true ↦ (rises_push 0 k (labels_below labels k) before.0 before.1 (omega arith), below_push k (labels_below labels k) before.1)
       | false ↦ (before.0, below_next k (labels_below labels k) before.1)
     ]
-
-pub all_pushed : {A : Type 0} (P : A → Type 0) (b : Bool) (x : A) (xs : List A) → All P xs → (b ≡ true → P x) → All P (pushed_if b x xs)
-all_pushed P true x xs all here = All-push P xs x all (here refl)
-all_pushed P false x xs all here = all
 
 pub labels_own : (labels : List ℕ) (n k : ℕ) → k ≤ n → All (λ r. (get_or labels r 0 ≡ r) × (r < n)) (labels_below labels k)
 labels_own labels n zero le = λ i d h. absurd (omega arith)

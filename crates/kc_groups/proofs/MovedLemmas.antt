@@ -1,15 +1,17 @@
 -- The list of the vertices that move: what a loop over it keeps, and what holds past the vertices that stay.
-use Rattle.std.proofs.Common.{ℕ, suc, zero, ◌+◌, ◌-◌, ◌≤◌, ◌<◌, ◌≡◌, inl, inr, Bool, true, false, not, eqb, take, drop, List, [], ◌∷◌, ◌++◌, length, get_or, refl, ap, sym, ◌∙◌, arith, add-one, subst}
-use Rattle.std.specs.Prelude.{All}
+use Rattle.std.proofs.Common.{ℕ, suc, zero, ◌+◌, ◌-◌, ◌≤◌, ◌<◌, ◌≡◌, inl, inr, Bool, true, false, not, eqb, ltb, ◌&&◌, take, drop, List, [], ◌∷◌, ◌++◌, length, get_or, refl, ap, sym, ◌∙◌, arith, add-one, subst}
 use lib.Pointwise.{pointwise}
-use Rattle.std.proofs.lemmas.Bool.{cases_eq, cases_lt, not-false}
+use Rattle.std.proofs.lemmas.Bool.{cases_eq, cases_lt, cases_Bool, not-false}
 use Rattle.std.proofs.lemmas.Bool.Decides.{nat_tests, Decides-eqb}
 use Rattle.std.proofs.lemmas.Slice.Eq.{slice_eq-Decides}
 use Rattle.std.proofs.lemmas.List.{get_or-take, get_or-drop, length_push, get_or_push, get_or_append_left, get_or_past, get_or_default}
-use Rattle.kc_levels.specs.Moved.{is_moved}
-use Rattle.kc_groups.specs.Entries.{pushed_if}
-use Rattle.kc_groups.specs.Labels.{moved_below}
-use Rattle.kc_groups.proofs.ListLemmas.{all_pushed}
+use Rattle.kc_levels.specs.Moved.{is_moved, pushed_if, moved_below}
+use Rattle.kc_levels.proofs.MovesBetween.{moved_all, moved_below_is}
+use Rattle.kc_graph.specs.Numbers.{has_number}
+use Rattle.kc_graph.proofs.NumberLemmas.{has_number_index, all_from_below}
+use Rattle.kc_levels.specs.declared.moves.Move.{Move}
+use Rattle.kc_groups.specs.Gathering.{vertices, is_mover, AreInOrder}
+use Rattle.kc_groups.proofs.WorkLemmas.{no_move, vertex_at, many}
 
 -- nothing is listed over vertices that stay
 pub moved_past : (moved : ℕ → Bool) (low k : ℕ) → low ≤ k → ((v : ℕ) → low ≤ v → v < k → moved v ≡ false) → moved_below moved low ≡ moved_below moved k
@@ -30,10 +32,6 @@ still_between x y low high told v le lt =
     read zs =
         let at : low + (v - low) ≡ v = omega (arith, le) in
         get_or-take (high - low) (drop low zs) (v - low) 0 (omega (arith, le, lt)) ∙ get_or-drop low zs (v - low) 0 ∙ ap (λ i. get_or zs i 0) at
-
-moved_all : (moved : ℕ → Bool) (n k : ℕ) → k ≤ n → All (λ v. (v < n) × (moved v ≡ true)) (moved_below moved k)
-moved_all moved n zero le = λ i d h. absurd (omega arith)
-moved_all moved n (suc k) le = all_pushed (λ v. (v < n) × (moved v ≡ true)) (moved k) k (moved_below moved k) (moved_all moved n k (omega arith)) (λ e. (omega arith, e))
 
 -- the least vertex that may stand at place i of a rising list
 abbrev pub begins : List ℕ → ℕ → ℕ
@@ -71,6 +69,22 @@ over P moved (suc n) still i h p = go (moved n) refl (over P moved n (λ k lt. s
           subst P (sym (get_or_past (moved_below moved n) i (suc n) past)) (still n (omega arith) e (subst P (get_or_past (moved_below moved n) i n past) (again i le here)))
     ]
 
+-- moves in order are those of the vertices below n that are among them
+pub movers_below : (n : ℕ) (ms : List Move) → AreInOrder n ms → vertices ms ≡ moved_below (is_mover ms) n
+movers_below n ms order = moved_below_is (is_mover ms) n (vertices ms) order.rises (λ v. each v)
+  where
+    each : (v : ℕ) → has_number v (vertices ms) ≡ ltb v n && has_number v (vertices ms)
+    each v = elim (cases_Bool (has_number v (vertices ms))) [
+      | inl there ↦
+          let place = has_number_index v (vertices ms) there in
+          let low : v < n = omega (arith, all_from_below n (vertices ms) order.below place.0 0 place.1, place.2) in
+          grind (arith, nat_tests, low)
+      | inr out ↦ rw out (sym (nothing (ltb v n)))
+    ]
+      where
+        nothing : (b : Bool) → (b && false) ≡ false
+        nothing b = grind (arith, nat_tests)
+
 module _ (moved : ℕ → Bool) (n : ℕ) (items : List ℕ) (is : items ≡ moved_below moved n) where
   -- the vertex at place i moves
   pub moved_at : (i : ℕ) → i < length items → (get_or items i 0 < n) × (moved (get_or items i 0) ≡ true)
@@ -92,3 +106,25 @@ module _ (moved : ℕ → Bool) (n : ℕ) (items : List ℕ) (is : items ≡ mov
 
       pub moved_next : (i : ℕ) → i < length items → P (get_or items i 0 + 1) → P (get_or items (i + 1) n)
       moved_next i h p = subst (λ k. P (get_or items k n)) (sym (add-one i)) (from (suc i) (omega arith) (subst P (add-one (get_or items i 0)) p))
+
+-- the same of moves in order
+module _ (n : ℕ) (ms : List Move) (order : AreInOrder n ms) where
+  at_vertex : (P : ℕ → Type 0) (i : ℕ) → i < length ms → P (get_or (vertices ms) i 0) → P (get_or ms i no_move).vertex
+  at_vertex P i h p = subst P (sym (vertex_at ms i h)) p
+
+  pub mover_at : (i : ℕ) → i < length ms → ((get_or ms i no_move).vertex < n) × (is_mover ms (get_or ms i no_move).vertex ≡ true)
+  mover_at i h = at_vertex (λ v. (v < n) × (is_mover ms v ≡ true)) i h (moved_at (is_mover ms) n (vertices ms) (movers_below n ms order) i (omega (arith, many ms, h)))
+
+  module _ (P : ℕ → Type 0) where
+    pub mover_this : (i : ℕ) → i < length ms → P (get_or (vertices ms) i n) → P (get_or ms i no_move).vertex
+    mover_this i h p = at_vertex P i h (moved_this (is_mover ms) n (vertices ms) (movers_below n ms order) P i (omega (arith, many ms, h)) p)
+
+    pub mover_last : (i : ℕ) → i ≡ length ms → P (get_or (vertices ms) i n) → P n
+    mover_last i e p = moved_last (is_mover ms) n (vertices ms) (movers_below n ms order) P i (e ∙ sym (many ms)) p
+
+    module _ (still : (k : ℕ) → k < n → is_mover ms k ≡ false → P k → P (k + 1)) where
+      pub mover_first : P 0 → P (get_or (vertices ms) 0 n)
+      mover_first p = moved_first (is_mover ms) n (vertices ms) (movers_below n ms order) P still p
+
+      pub mover_next : (i : ℕ) → i < length ms → P ((get_or ms i no_move).vertex + 1) → P (get_or (vertices ms) (i + 1) n)
+      mover_next i h p = moved_next (is_mover ms) n (vertices ms) (movers_below n ms order) P still i (omega (arith, many ms, h)) (subst (λ v. P (v + 1)) (vertex_at ms i h) p)

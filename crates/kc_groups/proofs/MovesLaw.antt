@@ -5,11 +5,11 @@ use Rattle.std.proofs.lemmas.List.{length-map, get_or-map}
 use Rattle.std.proofs.lemmas.List.Elements.{All-map}
 use Rattle.kc_graph.specs.Shape.{GraphShape, Pair, IsGraph}
 use Rattle.kc_graph.proofs.NumberLemmas.{has_number_index}
-use Rattle.kc_levels.specs.Moved.{is_moved}
+use Rattle.kc_levels.specs.Moved.{is_moved, move_of}
 use Rattle.kc_history.specs.declared.entries.Entry.{Entry}
 use Rattle.kc_groups.specs.declared.plans.PhasePlan.{PhasePlan}
 use Rattle.kc_groups.specs.Links.{IsLabel}
-use Rattle.kc_groups.specs.Entries.{labels_below, moves_below, move_of, group_entry, AreEntries}
+use Rattle.kc_groups.specs.Entries.{labels_below, moves_below, group_entry, AreEntries}
 use Rattle.kc_groups.specs.Laws.{HasMove, IsOwnMove, MovesAreInTheirGroups}
 use Rattle.kc_groups.proofs.LabelLaw.{label_one, labels_joined}
 use Rattle.kc_groups.proofs.ListLemmas.{labels_own, has_label, all_moves, has_move}

@@ -7,12 +7,12 @@ use Rattle.std.proofs.lemmas.List.{length-map, get_or-map}
 use Rattle.std.proofs.lemmas.List.Elements.{All-map}
 use Rattle.kc_graph.specs.Shape.{GraphShape, Pair}
 use Rattle.kc_levels.specs.Moved.{is_moved}
-use Rattle.kc_history.specs.declared.moves.Move.{Move}
+use Rattle.kc_levels.specs.declared.moves.Move.{Move}
 use Rattle.kc_history.specs.declared.entries.Entry.{Entry}
 use Rattle.kc_groups.specs.declared.plans.PhasePlan.{PhasePlan}
 use Rattle.kc_groups.specs.Links.{AreLabels}
 use Rattle.kc_groups.specs.Entries.{labels_below, moves_below, quiet_entry, group_entry, AreEntries}
-use Rattle.kc_groups.specs.WellFormed.{IsMove, IsGroupEntry, IsWellFormed, AreSmall}
+use Rattle.kc_groups.specs.WellFormed.{IsMove, IsGroupEntry, IsWellFormed}
 use Rattle.kc_groups.specs.Laws.{PlanIsOne, PlanIsWellFormed}
 use Rattle.kc_groups.proofs.LabelLaw.{labels_exist, labels_one}
 use Rattle.kc_groups.proofs.ListLemmas.{labels_rise, labels_own, all_moves, moves_rise, has_move, rises_apart, vertices}
@@ -29,7 +29,7 @@ plan_one phase add edges x y g p q a b =
 
 pub plan_is_one : PlanIsOne
 plan_is_one phase add edges x y g graph =
-    let labels = labels_exist g x y graph in
+    let labels = labels_exist g (is_moved x y) graph in
     let plan : PhasePlan = record { quiet = quiet_entry phase add edges x y; groups = map (group_entry phase add edges x y labels.0 g.vertices) (labels_below labels.0 g.vertices) } in
     let are : AreEntries phase add edges x y g plan = record { labels = labels.0; are_labels = labels.1; quiet = refl; groups = refl } in
     (plan, (are, λ other others. plan_one phase add edges x y g other plan others are))
@@ -65,7 +65,7 @@ module _ (phase : ℕ) (add : Bool) (edges : List Pair) (x y labels : List ℕ) 
       subst (λ t. b < length (vertices (moves_below labels x y t g.vertices)) → get_or (vertices (moves_below labels x y l g.vertices)) a 0 ≡ get_or (vertices (moves_below labels x y t g.vertices)) b 0 → a ≡ b) e
       (λ hb s. rises_apart (vertices (moves_below labels x y l g.vertices)) 0 a b (moves_rise labels x y l g.vertices).0 ha hb s)
 
-  module _ (are : AreLabels g (is_moved x y) labels) (before : length x ≡ g.vertices) (after : length y ≡ g.vertices) (low : AreSmall x) (high : AreSmall y) where
+  module _ (are : AreLabels g (is_moved x y) labels) where
     group_is : (l : ℕ) → get_or labels l 0 ≡ l → l < g.vertices → IsGroupEntry g.vertices phase add (of l)
     group_is l own inside = record {
       phase_is = refl;
@@ -74,8 +74,6 @@ module _ (phase : ℕ) (add : Bool) (edges : List Pair) (x y labels : List ℕ) 
       moves = all_moves labels x y l g.vertices g.vertices (IsMove g.vertices) (omega arith) (λ v h e. record {
         vertex = h;
         differ = differ x y v (moves_if_labelled g (is_moved x y) labels v are h (omega (arith, e)));
-        old_small = low v 0 (omega (arith, before));
-        new_small = high v 0 (omega (arith, after));
       });
     }
 
@@ -102,6 +100,6 @@ module _ (phase : ℕ) (add : Bool) (edges : List Pair) (x y labels : List ℕ) 
     }
 
 pub plan_is_well_formed : PlanIsWellFormed
-plan_is_well_formed phase add edges x y g plan a before after low high =
+plan_is_well_formed phase add edges x y g plan a =
     let made : PhasePlan = record { quiet = quiet_entry phase add edges x y; groups = map (group_entry phase add edges x y a.labels g.vertices) (labels_below a.labels g.vertices) } in
-    subst (IsWellFormed g.vertices) (sym (same_plan plan made a.quiet a.groups)) (well_formed phase add edges x y a.labels g a.are_labels before after low high)
+    subst (IsWellFormed g.vertices) (sym (same_plan plan made a.quiet a.groups)) (well_formed phase add edges x y a.labels g a.are_labels)

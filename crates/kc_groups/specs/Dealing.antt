@@ -1,8 +1,9 @@
 -- How moves and edges are dealt to the entries of their labels.
-use Rattle.std.specs.Prelude.{ℕ, ◌≤◌, ◌<◌, ◌≡◌, ◌==◌, ◌&&◌, ◌⊎◌, Bool, true, false, cond, List, [], Some, length, get_or, filter}
+use Rattle.std.specs.Prelude.{ℕ, ◌≤◌, ◌<◌, ◌≡◌, ◌==◌, ◌&&◌, ◌⊎◌, Bool, cond, List, [], Some, length, get_or, filter}
 use Rattle.kc_graph.specs.Shape.{Pair}
+use Rattle.kc_levels.specs.declared.moves.Move.{Move}
 use Rattle.kc_history.specs.declared.entries.Entry.{Entry}
-use Rattle.kc_groups.specs.Entries.{moves_below, ends_at}
+use Rattle.kc_groups.specs.Entries.{ends_at}
 
 -- an entry of the label l that nothing was dealt to
 abbrev pub empty_entry : ℕ → Bool → ℕ → Entry
@@ -18,20 +19,14 @@ pub record ArePlaces (n : ℕ) (labels roots places : List ℕ) (k : ℕ) : Type
   pub back : (i : ℕ) → i < length roots → get_or places (get_or roots i 0) 0 ≡ i
   pub rest : (v : ℕ) → k ≤ v → v < n → get_or places v 0 ≡ get_or labels v 0
 
--- each of n vertices that moves has one of m places, and no other vertex has one
-pub record IsPlaced (n : ℕ) (moved : ℕ → Bool) (places : List ℕ) (m : ℕ) : Type 0 where
-  pub sized : length places ≡ n
-  pub at : (v : ℕ) → v < n → moved v ≡ true → get_or places v 0 < m
-  pub none : (v : ℕ) → v < n → moved v ≡ false → m ≤ get_or places v 0
-
 -- something was done to each entry, by its place in the list
 pub record AreDealt (f : ℕ → Entry → Entry) (old new : List Entry) : Type 0 where
   pub sized : length new ≡ length old
   pub each : (p : ℕ) (d : Entry) → p < length old → get_or new p d ≡ f p (get_or old p d)
 
--- the entry with the moves of the vertices below k whose place is p
-abbrev pub with_moves : List ℕ → List ℕ → List ℕ → ℕ → ℕ → Entry → Entry
-with_moves places x y k p e = record e { moves = moves_below places x y p k }
+-- the entry with the moves of the vertices whose place is p
+abbrev pub with_moves : List ℕ → List Move → ℕ → Entry → Entry
+with_moves places ms p e = record e { moves = filter (λ (m : Move). get_or places m.vertex 0 == p) ms }
 
 -- the entry with the edges that have an end whose place is p
 abbrev pub with_edges : List ℕ → List Pair → ℕ → Entry → Entry

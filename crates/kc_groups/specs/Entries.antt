@@ -1,25 +1,17 @@
 -- The entries of a phase that changes the levels x to y. Its edges come in where `add` is true, and leave where it is false.
-use Rattle.std.specs.Prelude.{ℕ, ◌≡◌, ◌==◌, ◌||◌, ◌&&◌, Bool, not, cond, List, [], ◌∷◌, ◌++◌, Some, None, get_or, map, filter}
+use Rattle.std.specs.Prelude.{ℕ, ◌≡◌, ◌==◌, ◌||◌, ◌&&◌, Bool, not, List, [], ◌∷◌, Some, None, get_or, map, filter}
 use Rattle.std.proofs.Common.{suc, zero}
 use Rattle.kc_graph.specs.Shape.{GraphShape, Pair}
-use Rattle.kc_levels.specs.Moved.{is_moved}
-use Rattle.kc_history.specs.declared.moves.Move.{Move}
+use Rattle.kc_levels.specs.Moved.{is_moved, pushed_if, move_of}
+use Rattle.kc_levels.specs.declared.moves.Move.{Move}
 use Rattle.kc_history.specs.declared.entries.Entry.{Entry}
 use Rattle.kc_groups.specs.declared.plans.PhasePlan.{PhasePlan}
 use Rattle.kc_groups.specs.Links.{AreLabels}
-
--- the list with x at its end, where b is true
-abbrev pub pushed_if : {A : Type 0} → Bool → A → List A → List A
-pushed_if b x xs = cond b (xs ++ x ∷ []) xs
 
 -- the labels among the vertices below k, ascending: each is its own label
 abbrev pub labels_below : List ℕ → ℕ → List ℕ
 labels_below labels zero = []
 labels_below labels (suc k) = pushed_if (get_or labels k 0 == k) k (labels_below labels k)
-
--- the move of v
-abbrev pub move_of : List ℕ → List ℕ → ℕ → Move
-move_of x y v = record { vertex = v; old = get_or x v 0; new = get_or y v 0 }
 
 -- the moves of the vertices below k whose label is l, ascending
 abbrev pub moves_below : List ℕ → List ℕ → List ℕ → ℕ → ℕ → List Move

@@ -3,16 +3,16 @@ use Rattle.std.specs.Prelude.{ℕ, ◌≡◌, ◌<◌, Bool, true, false, cond, 
 use Rattle.kc_graph.specs.Numbers.{RisesFrom}
 use Rattle.kc_graph.specs.Shape.{GraphShape, Pair, IsGraph, EdgesFrom, has_edge, with_edges, without_edges}
 use Rattle.kc_graph.specs.Changes.{AllPresent}
-use Rattle.kc_levels.specs.Moved.{is_moved}
+use Rattle.kc_levels.specs.Moved.{is_moved, move_of}
 use Rattle.kc_levels.specs.LevelList.{IsBelow}
 use Rattle.kc_levels.specs.Between.{IsBetween}
-use Rattle.kc_history.specs.declared.moves.Move.{Move}
+use Rattle.kc_levels.specs.declared.moves.Move.{Move}
 use Rattle.kc_history.specs.declared.entries.Entry.{Entry}
 use Rattle.kc_history.specs.Points.{graph_after, levels_after}
 use Rattle.kc_groups.specs.declared.plans.PhasePlan.{PhasePlan}
 use Rattle.kc_groups.specs.Links.{IsLabel, AreLabels}
-use Rattle.kc_groups.specs.Entries.{move_of, entries_of, AreEntries}
-use Rattle.kc_groups.specs.WellFormed.{IsWellFormed, AreSmall, vertices_of}
+use Rattle.kc_groups.specs.Entries.{entries_of, AreEntries}
+use Rattle.kc_groups.specs.WellFormed.{IsWellFormed, vertices_of}
 
 -- there is exactly one list of labels
 abbrev pub LabelsAreOne : Type 0
@@ -34,11 +34,11 @@ PlanIsOne =
     (phase : ℕ) (add : Bool) (edges : List Pair) (x y : List ℕ) (g : GraphShape) → IsGraph g →
     (plan : PhasePlan) × (AreEntries phase add edges x y g plan × ((other : PhasePlan) → AreEntries phase add edges x y g other → other ≡ plan))
 
--- the plan is well formed where all levels are small
+-- the plan is well formed
 abbrev pub PlanIsWellFormed : Type 0
 PlanIsWellFormed =
     (phase : ℕ) (add : Bool) (edges : List Pair) (x y : List ℕ) (g : GraphShape) (plan : PhasePlan) →
-    AreEntries phase add edges x y g plan → length x ≡ g.vertices → length y ≡ g.vertices → AreSmall x → AreSmall y → IsWellFormed g.vertices plan
+    AreEntries phase add edges x y g plan → IsWellFormed g.vertices plan
 
 -- a vertex that moves, with its label: it has its move in the entry of its label
 pub record HasMove (x y : List ℕ) (v l : ℕ) (plan : PhasePlan) : Type 0 where

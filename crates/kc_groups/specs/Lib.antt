@@ -1,6 +1,9 @@
 pub mod Links
 pub mod Labels
+pub mod Forest
+pub mod Gathering
 pub mod Entries
 pub mod Dealing
 pub mod WellFormed
 pub mod Laws
+pub mod Sizes

@@ -1,16 +1,14 @@
 -- What each plan of a phase keeps.
 use Rattle.std.specs.Prelude.{ℕ, ◌≤◌, ◌<◌, ◌≡◌, ◌≢◌, Bool, List, [], Some, None, length, get_or, map, All}
 use Rattle.kc_graph.specs.Numbers.{RisesFrom, AllBelow}
-use Rattle.kc_history.specs.declared.moves.Move.{Move}
+use Rattle.kc_levels.specs.declared.moves.Move.{Move}
 use Rattle.kc_history.specs.declared.entries.Entry.{Entry}
 use Rattle.kc_groups.specs.declared.plans.PhasePlan.{PhasePlan}
 
--- a move of a vertex below n between two levels, each below 4,096
+-- a move of a vertex below n to another level
 pub record IsMove (n : ℕ) (m : Move) : Type 0 where
   pub vertex : m.vertex < n
   pub differ : m.old ≢ m.new
-  pub old_small : m.old < 4096
-  pub new_small : m.new < 4096
 
 -- an entry of the phase, with a move at least
 pub record IsGroupEntry (n phase : ℕ) (add : Bool) (e : Entry) : Type 0 where
@@ -37,7 +35,3 @@ pub record IsWellFormed (n : ℕ) (plan : PhasePlan) : Type 0 where
   pub labels_rise : RisesFrom 0 labels
   pub labels_below : AllBelow n labels
   pub once : (i j a b : ℕ) → i < length plan.groups → j < length plan.groups → a < length (vertices_of (get_or plan.groups i plan.quiet)) → b < length (vertices_of (get_or plan.groups j plan.quiet)) → vertex_at plan i a ≡ vertex_at plan j b → (i ≡ j) × (a ≡ b)
-
--- no level is 4,096 or above
-abbrev pub AreSmall : List ℕ → Type 0
-AreSmall x = All (λ l. l < 4096) x

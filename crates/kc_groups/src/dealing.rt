@@ -1,9 +1,9 @@
 // The moves and edges of a phase, dealt to the entries of their labels.
-ghost use Rattle.std.specs.Prelude.{◌≡◌, ℕ, ◌<◌, ◌≤◌, [], OnOk, All, map, filter, length};
-ghost use Rattle.kc_levels.specs.Moved.{is_moved};
-ghost use Rattle.kc_groups.specs.Labels.{AreRooted, moved_below};
+ghost use Rattle.std.specs.Prelude.{◌≡◌, ℕ, ◌<◌, ◌≤◌, [], OnOk, All, map, filter, length, slice_index};
+ghost use Rattle.kc_groups.specs.Labels.{AreRooted};
+ghost use Rattle.kc_groups.specs.Gathering.{AreInOrder, is_mover};
 ghost use Rattle.kc_groups.specs.Entries.{labels_below};
-ghost use Rattle.kc_groups.specs.Dealing.{empty_entry, with_moves, with_edges, ArePlaces, AreDealt, IsPlaced, IsPlacedEdge, edge_place, is_unplaced};
+ghost use Rattle.kc_groups.specs.Dealing.{empty_entry, with_moves, with_edges, ArePlaces, AreDealt, IsPlacedEdge, edge_place, is_unplaced};
 
 use kc_graph::{Edge, Edges, MAX_VERTICES};
 use kc_history::{Entry, Move};
@@ -15,52 +15,42 @@ pub(crate) fn open_groups(
     alloc: Global,
     phase: u32,
     add: bool,
-    before: &[u16],
-    after: &[u16],
-    moved: &[u32],
+    moves: &[Move],
     places: &mut Vec<u32>,
     entries: &mut Vec<Entry>,
 ) -> Result<(), AllocError>
-    requires small { length before.now ≤ MAX_VERTICES }
-    requires moved { moved.now ≡ moved_below (is_moved before.now after.now) (length before.now) }
-    requires rooted { AreRooted (length before.now) (is_moved before.now after.now) places.old.items }
+    requires small { length places.old.items ≤ MAX_VERTICES }
+    requires order { AreInOrder (length places.old.items) moves.now }
+    requires rooted { AreRooted (length places.old.items) (is_mover moves.now) places.old.items }
     requires entries { entries.old.items ≡ [] }
-    ensures entries { OnOk result (entries.new.items ≡ map (empty_entry phase add) (labels_below places.old.items (length before.now))) }
-    ensures places { OnOk result (ArePlaces (length before.now) places.old.items (labels_below places.old.items (length before.now)) places.new.items (length before.now)) }
+    ensures entries { OnOk result (entries.new.items ≡ map (empty_entry phase add) (labels_below places.old.items (length places.old.items))) }
+    ensures places { OnOk result (ArePlaces (length places.old.items) places.old.items (labels_below places.old.items (length places.old.items)) places.new.items (length places.old.items)) }
 {
-    for v in moved {
-        let label = places[*v as usize];
-        if label == *v {
-            places[*v as usize] = entries.len() as u32;
-            entries.push(Entry::new(alloc, phase, Some(*v), add))?;
+    for m in moves {
+        let v = m.vertex;
+        let label = places[v as usize];
+        if label == v {
+            places[v as usize] = entries.len() as u32;
+            entries.push(Entry::new(alloc, phase, Some(v), add))?;
         } else {
-            places[*v as usize] = places[label as usize];
+            places[v as usize] = places[label as usize];
         }
     }
     Ok(())
 }
 
-// Puts the move of each vertex that moves at the end of the entry at its place.
+// Puts each move at the end of the entry at the place of its vertex.
 pub(crate) fn deal_moves(
-    before: &[u16],
-    after: &[u16],
-    moved: &[u32],
+    moves: &[Move],
     places: &[u32],
     entries: &mut Vec<Entry>,
 ) -> Result<(), AllocError>
-    requires same { length after.now ≡ length before.now }
-    requires moved { moved.now ≡ moved_below (is_moved before.now after.now) (length before.now) }
-    requires placed { IsPlaced (length before.now) (is_moved before.now after.now) places.now (length entries.old.items) }
+    requires placed { All (λ m. (m.vertex < length places.now) × (slice_index places.now m.vertex < length entries.old.items)) moves.now }
     requires empty { All (λ e. e.moves ≡ []) entries.old.items }
-    ensures { OnOk result (AreDealt (with_moves places.now before.now after.now (length before.now)) entries.old.items entries.new.items) }
+    ensures { OnOk result (AreDealt (with_moves places.now moves.now) entries.old.items entries.new.items) }
 {
-    for v in moved {
-        let m = Move {
-            vertex: *v,
-            old: before[*v as usize],
-            new: after[*v as usize],
-        };
-        entries[places[*v as usize] as usize].push_move(m)?;
+    for m in moves {
+        entries[places[m.vertex as usize] as usize].push_move(*m)?;
     }
     Ok(())
 }

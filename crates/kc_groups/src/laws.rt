@@ -12,7 +12,7 @@ pub fn plan_is_one()
     ensures { PlanIsOne }
 {}
 
-/// The plan of a phase is well formed where all levels are below 4,096.
+/// The plan of a phase is well formed.
 pub fn plan_is_well_formed()
     ensures { PlanIsWellFormed }
 {}

@@ -1,16 +1,16 @@
-// The vertices that move in a phase.
+// The moves of a phase, found from the levels before and after it.
 ghost use Rattle.std.specs.Prelude.{◌≡◌, ◌<◌, ◌≤◌, OnOk, IfOk, length};
-ghost use Rattle.kc_levels.specs.Moved.{is_moved};
-ghost use Rattle.kc_groups.specs.Labels.{moved_below};
+ghost use Rattle.kc_levels.specs.Moved.{is_moved, moves_between};
 
 use kc_graph::MAX_VERTICES;
+use kc_history::{Move, Moves};
 use std::alloc::{AllocError, Global};
 
 // How many levels are compared at once: 64 bytes. Where some vertices move here and there, a longer run is seldom the same.
 const RUN: u32 = 32;
 
 // Whether v moves.
-pub(crate) fn is_moved(before: &[u16], after: &[u16], v: u32) -> bool
+fn is_moved(before: &[u16], after: &[u16], v: u32) -> bool
     requires vertex { v < length before.now }
     requires same { length after.now ≡ length before.now }
     ensures { result ≡ is_moved before.now after.now v }
@@ -18,49 +18,53 @@ pub(crate) fn is_moved(before: &[u16], after: &[u16], v: u32) -> bool
     before[v as usize] != after[v as usize]
 }
 
-// Lists the vertices from one place to another that move, behind those before.
+// Puts the moves of the vertices from one place to another at the end of those before.
 fn list_run(
     before: &[u16],
     after: &[u16],
     from: u32,
     to: u32,
-    moved: &mut Vec<u32>,
+    moves: &mut Moves,
 ) -> Result<(), AllocError>
     requires order { from ≤ to }
     requires inside { to ≤ length before.now }
     requires same { length after.now ≡ length before.now }
-    requires moved { moved.old.items ≡ moved_below (is_moved before.now after.now) from }
-    ensures { OnOk result (moved.new.items ≡ moved_below (is_moved before.now after.now) to) }
+    requires moves { moves.old ≡ moves_between from before.now after.now }
+    ensures { OnOk result (moves.new ≡ moves_between to before.now after.now) }
 {
     for v in from..to {
         if is_moved(before, after, v) {
-            moved.push(v)?;
+            moves.push(Move {
+                vertex: v,
+                old: before[v as usize],
+                new: after[v as usize],
+            })?;
         }
     }
     Ok(())
 }
 
-// Those of n vertices that move, ascending. One pass over the levels, which looks at single vertices only where a run of levels
-// has changed.
-pub(crate) fn moved_vertices(
+// The moves of n vertices, ascending. One pass over the levels, which looks at single vertices only where a run of levels has
+// changed.
+pub(crate) fn find_moves(
     alloc: Global,
     n: u32,
     before: &[u16],
     after: &[u16],
-) -> Result<Vec<u32>, AllocError>
+) -> Result<Moves, AllocError>
     requires small { n ≤ MAX_VERTICES }
     requires before { length before.now ≡ n }
     requires after { length after.now ≡ n }
-    ensures { IfOk result (λ moved. moved.items ≡ moved_below (is_moved before.now after.now) n) }
+    ensures { IfOk result (λ moves. moves ≡ moves_between n before.now after.now) }
 {
-    let mut moved = Vec::new(alloc);
+    let mut moves = Moves::new(alloc);
     let mut from = 0;
     while from < n {
         let to = n.min(from + RUN);
         if before[from as usize..to as usize] != after[from as usize..to as usize] {
-            list_run(before, after, from, to, &mut moved)?;
+            list_run(before, after, from, to, &mut moves)?;
         }
         from = to;
     }
-    Ok(moved)
+    Ok(moves)
 }

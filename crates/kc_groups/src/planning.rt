@@ -1,27 +1,70 @@
-ghost use Rattle.std.specs.Prelude.{◌≡◌, IfOk, IsTrue, length, true, false};
-ghost use Rattle.kc_graph.specs.Shape.{EdgesFrom};
+ghost use Rattle.std.specs.Prelude.{◌≡◌, ℕ, List, IfOk, OnOk, IsTrue, length, true, false};
+ghost use Rattle.kc_graph.specs.Shape.{EdgesFrom, with_edges};
 ghost use Rattle.kc_graph.specs.Changes.{AllPresent};
 ghost use Rattle.kc_levels.specs.LevelList.{IsBelow};
 ghost use Rattle.kc_groups.specs.Entries.{AreEntries};
-ghost use Rattle.kc_groups.specs.WellFormed.{AreSmall, IsWellFormed};
+ghost use Rattle.kc_groups.specs.Gathering.{clean, AreInOrder, AreMovesOf};
+ghost use Rattle.kc_groups.specs.WellFormed.{IsWellFormed};
 
 use crate::PhasePlan;
 use crate::dealing::{deal_edges, deal_moves, open_groups};
-use crate::flooding::label_all;
-use crate::moved::moved_vertices;
-use kc_graph::{Edge, Edges, Graph};
-use kc_history::{Entries, Entry};
+use crate::linking::gather;
+use crate::moved::find_moves;
+use crate::work::{GroupWork, clear, label, number};
+use kc_graph::{Edge, Graph};
+use kc_history::{Entries, Entry, Moves};
 use kc_levels::Levels;
 use std::alloc::{AllocError, Global};
 
+/// The entries of phase `phase`, whose edges come in if `add` is true and else leave, from its moves, as `AreEntries` says: by the
+/// levels before and after it, whatever they are, that the moves lead between (`AreMovesOf`), and the graph with all its edges.
+///
+/// `graph` is the graph after the phase, or the one before it. The edges ascend, and so do the vertices of the moves.
+///
+/// Looks only at the vertices that move, their neighbours and the edges of the phase, whatever the number of vertices. The
+/// workspace is clean before and afterwards. Fails only if memory runs out; the workspace is then of no further use.
+pub fn plan_moves(
+    alloc: Global,
+    phase: u32,
+    add: bool,
+    edges: &[Edge],
+    moves: &Moves,
+    graph: &Graph,
+    work: &mut GroupWork,
+) -> Result<PhasePlan, AllocError>
+    requires clean { work.old ≡ clean graph.now.vertices }
+    requires order { AreInOrder graph.now.vertices moves.now }
+    requires ascending { EdgesFrom graph.now.vertices 0 0 edges.now }
+    ensures clean { OnOk result (work.new ≡ clean graph.now.vertices) }
+    ensures entries { IfOk result (λ plan. (before after : List ℕ) → AreMovesOf graph.now.vertices before after moves.now → AreEntries phase add edges.now before after (with_edges graph.now edges.now) plan) }
+{
+    // Its contract says how many vertices there are at most.
+    let _n = graph.vertices();
+    let moves = moves.as_slice();
+    let places = &mut work.places;
+    number(moves, places);
+    let parents = gather(alloc, graph, edges, moves, places)?;
+    label(moves, &parents, places);
+    let mut groups = Vec::new(alloc);
+    let mut quiet = Entry::new(alloc, phase, None, add);
+    open_groups(alloc, phase, add, moves, places, &mut groups)?;
+    deal_moves(moves, places, &mut groups)?;
+    deal_edges(places, edges, &mut quiet.edges, &mut groups)?;
+    clear(moves, places);
+    Ok(PhasePlan {
+        quiet,
+        groups: Entries::from_vec(groups),
+    })
+}
+
 /// The entries of phase `phase`, whose edges come in if `add` is true and else leave, and which changes the levels `before` to
-/// `after`, as `AreEntries` says. The plan is well formed where all levels are below 4,096.
+/// `after`, as `AreEntries` says. The plan is well formed.
 ///
 /// `graph` has every edge that is there before or after the phase: it is the graph after an insertion, and the graph before a
 /// deletion. The edges ascend and are in it.
 ///
 /// One pass over the levels of all vertices, and a table with a number for each. Then only the vertices that move, their
-/// neighbours and the edges of the phase. The error is want of memory.
+/// neighbours and the edges of the phase. Fails only if memory runs out.
 pub fn plan_phase(
     alloc: Global,
     phase: u32,
@@ -38,30 +81,10 @@ pub fn plan_phase(
     requires rises { add ≡ true → IsBelow graph.now.vertices before.now after.now }
     requires falls { add ≡ false → IsBelow graph.now.vertices after.now before.now }
     ensures entries { IfOk result (AreEntries phase add edges.now before.now after.now graph.now) }
-    ensures well_formed { AreSmall before.now → AreSmall after.now → IfOk result (IsWellFormed graph.now.vertices) }
+    ensures well_formed { IfOk result (IsWellFormed graph.now.vertices) }
 {
     let n = graph.vertices();
-    let before = before.as_slice();
-    let after = after.as_slice();
-    let moved = moved_vertices(alloc, n, before, after)?;
-    // Labels at first. `open_groups` puts places in their stead.
-    let mut places = label_all(alloc, graph, before, after, &moved)?;
-    let mut groups = Vec::new(alloc);
-    let mut quiet = Entry::new(alloc, phase, None, add);
-    open_groups(
-        alloc,
-        phase,
-        add,
-        before,
-        after,
-        &moved,
-        &mut places,
-        &mut groups,
-    )?;
-    deal_moves(before, after, &moved, &places, &mut groups)?;
-    deal_edges(&places, edges, &mut quiet.edges, &mut groups)?;
-    Ok(PhasePlan {
-        quiet,
-        groups: Entries::from_vec(groups),
-    })
+    let moves = find_moves(alloc, n, before.as_slice(), after.as_slice())?;
+    let mut work = GroupWork::new(alloc, n)?;
+    plan_moves(alloc, phase, add, edges, &moves, graph, &mut work)
 }

@@ -3,8 +3,10 @@ ghost use Rattle.std.specs.Bool.{OnTrue};
 ghost use Rattle.kc_graph.specs.Shape.{EdgesFrom};
 ghost use Rattle.kc_graph.specs.Changes.{AllPresent};
 ghost use Rattle.kc_levels.specs.LevelList.{IsBelow};
+ghost use Rattle.kc_groups.specs.Gathering.{clean};
 
-use crate::{PhasePlan, plan_phase};
+use crate::moved::find_moves;
+use crate::{GroupWork, PhasePlan, plan_moves, plan_phase};
 use kc_graph::{Edge, Graph, MAX_EDGES, MAX_VERTICES};
 use kc_history::Move;
 use kc_levels::Levels;
@@ -95,6 +97,26 @@ fn plan<R: Abort>(
     assert!(rt; !add || is_below(&before, &after));
     assert!(rt; add || is_below(&after, &before));
     plan_phase(alloc, 7, add, edges, &before, &after, &graph)
+}
+
+// The plan of a phase after which the graph is this one, by a workspace that other phases use too.
+fn plan_after(
+    alloc: Global,
+    add: bool,
+    edges: &[Edge],
+    before: &[u16],
+    after: &[u16],
+    graph: &Graph,
+    work: &mut GroupWork,
+) -> Result<PhasePlan, AllocError>
+    requires before { length before.now ≡ graph.now.vertices }
+    requires after { length after.now ≡ graph.now.vertices }
+    requires ascending { EdgesFrom graph.now.vertices 0 0 edges.now }
+    requires clean { work.old ≡ clean graph.now.vertices }
+    ensures { OnOk result (work.new ≡ clean graph.now.vertices) }
+{
+    let moves = find_moves(alloc, graph.vertices(), before, after)?;
+    plan_moves(alloc, 7, add, edges, &moves, graph, work)
 }
 
 // The quiet entry has these edges, and there are so many groups.
@@ -262,5 +284,43 @@ fn groups_far_apart_rise(rt: HostRuntime) -> Result<(), Fail> {
         &[(63, 0, 1), (69, 0, 1)],
         &[edge(63, 69)],
     );
+    Ok(())
+}
+
+// A path leaves and its three vertices fall. Then two others rise, and an edge comes in between two of the three, which stay.
+#[test]
+fn a_workspace_is_clean_after_each_phase(rt: HostRuntime) -> Result<(), Fail> {
+    let graph = Graph::new(rt.alloc(), 6)?;
+    let mut work = GroupWork::new(rt.alloc(), 6)?;
+    let path = [edge(0, 2), edge(1, 2)];
+    let fallen = plan_after(
+        rt.alloc(),
+        false,
+        &path,
+        &[1, 1, 1, 0, 0, 0],
+        &[0, 0, 0, 0, 0, 0],
+        &graph,
+        &mut work,
+    )?;
+    check_quiet(&rt, &fallen, false, &[], 1);
+    check_group(
+        &rt,
+        &fallen,
+        0,
+        0,
+        &[(0, 1, 0), (1, 1, 0), (2, 1, 0)],
+        &path,
+    );
+    let risen = plan_after(
+        rt.alloc(),
+        true,
+        &[edge(1, 2), edge(3, 5)],
+        &[0, 0, 0, 0, 0, 0],
+        &[0, 0, 0, 1, 0, 1],
+        &graph,
+        &mut work,
+    )?;
+    check_quiet(&rt, &risen, true, &[edge(1, 2)], 1);
+    check_group(&rt, &risen, 0, 3, &[(3, 0, 1), (5, 0, 1)], &[edge(3, 5)]);
     Ok(())
 }

@@ -13,12 +13,12 @@ pub record HistoryStartsEmpty : Type 0 where
   pub graph : (n : ℕ) (history : List Entry) → graph_at n history 0 ≡ record { vertices = n; edges = [] }
   pub levels : (n : ℕ) (history : List Entry) → levels_at n history 0 ≡ replicate n 0
 
--- the end of a history with entries behind it is what they make of its end
+-- the end of a history with entries after it is what they make of its end
 pub record EntriesLeadOn : Type 0 where
   pub graph : (n : ℕ) (history more : List Entry) → graph_at n (history ++ more) (length (history ++ more)) ≡ graph_after (graph_at n history (length history)) more
   pub levels : (n : ℕ) (history more : List Entry) → levels_at n (history ++ more) (length (history ++ more)) ≡ levels_after (levels_at n history (length history)) more
 
--- point p behind a history with entries behind it is what the first p of them make of its end
+-- point p after a history with entries after it is what the first p of them make of its end
 pub record PointsLeadOn : Type 0 where
   pub graph : (n : ℕ) (history more : List Entry) (p : ℕ) → graph_at n (history ++ more) (length history + p) ≡ graph_after (graph_at n history (length history)) (take p more)
   pub levels : (n : ℕ) (history more : List Entry) (p : ℕ) → levels_at n (history ++ more) (length history + p) ≡ levels_after (levels_at n history (length history)) (take p more)

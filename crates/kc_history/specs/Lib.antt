@@ -1,2 +1,3 @@
 pub mod Points
+pub mod Ends
 pub mod Laws

@@ -1,7 +1,7 @@
 -- A history and its points. A history is a list of entries, and grows at its end.
 use Rattle.std.specs.Prelude.{ℕ, cond, List, [], ◌∷◌, set, take, replicate}
 use Rattle.kc_graph.specs.Shape.{GraphShape, with_edges, without_edges}
-use Rattle.kc_history.specs.declared.moves.Move.{Move}
+use Rattle.kc_levels.specs.declared.moves.Move.{Move}
 use Rattle.kc_history.specs.declared.entries.Entry.{Entry}
 
 -- the levels after the moves: each puts its vertex on its new level

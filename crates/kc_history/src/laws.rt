@@ -12,7 +12,7 @@ pub fn history_starts_empty()
     ensures { HistoryStartsEmpty }
 {}
 
-/// Where entries follow a history, each point behind its end is what the entries up to there make of that end.
+/// Where entries follow a history, each point after its end is what the entries up to there make of that end.
 pub fn entries_lead_on()
     ensures end { EntriesLeadOn }
     ensures points { PointsLeadOn }

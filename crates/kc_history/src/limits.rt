@@ -1,2 +1,2 @@
 /// The greatest number of a phase. Phases are numbered from 1.
-pub const MAX_PHASE: u32 = 1_048_575;
+pub const MAX_PHASE: u32 = 16_777_215;

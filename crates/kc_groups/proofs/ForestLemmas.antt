@@ -1,0 +1,217 @@
+-- Forests over the places of a list: a place that points further up, and trees that come together.
+use Rattle.std.proofs.Common.{ℕ, ◌≤◌, ◌<◌, ◌≡◌, ◌≢◌, ◌⊎◌, inl, inr, Bool, true, false, cond, eqb, max, min, List, length, get_or, set, map, refl, ap, sym, ◌∙◌, arith}
+use Rattle.std.proofs.lemmas.Bool.{cases_eq, cases_lt, true≢false}
+use Rattle.std.proofs.lemmas.Bool.Decides.{nat_tests}
+use Rattle.std.proofs.lemmas.List.{length-set, length-map, get_or-map, get_or-set_same, get_or-set_other}
+use Rattle.kc_groups.specs.Forest.{IsForest, merged, AreGathered}
+
+-- a place that isn't a root points to where its parent does
+pub forest_up : (parents roots : List ℕ) (i : ℕ) → IsForest parents roots → i < length parents → IsForest (set parents i (get_or parents (get_or parents i 0) 0)) roots
+forest_up parents roots i f h =
+    let up = get_or parents i 0 in
+    let top = get_or parents (get_or parents i 0) 0 in
+    let inside : get_or parents i 0 < length parents = omega (arith, f.up i h, h) in
+    record {
+      sized = f.sized ∙ sym (length-set parents i top);
+      up = λ j lt. elim (cases_eq j i) [
+        | inl e ↦ omega (arith, at j e, f.up up inside, f.up i h, e)
+        | inr ne ↦ omega (arith, other j ne, f.up j (old j lt))
+      ];
+      same = λ j lt. elim (cases_eq j i) [
+        | inl e ↦ ap (λ u. get_or roots u 0) (at j e) ∙ f.same up inside ∙ f.same i h ∙ ap (λ u. get_or roots u 0) (sym e)
+        | inr ne ↦ ap (λ u. get_or roots u 0) (other j ne) ∙ f.same j (old j lt)
+      ];
+      own = λ j lt is. elim (cases_eq j i) [
+        | inl e ↦
+            let low : get_or parents i 0 ≡ i = omega (arith, at j e, is, e, f.up up inside, f.up i h) in
+            ap (λ u. get_or roots u 0) e ∙ f.own i h low ∙ sym e
+        | inr ne ↦ f.own j (old j lt) (sym (other j ne) ∙ is)
+      ];
+      low = λ j lt. f.low j (old j lt);
+      root = λ j lt.
+          let l = old j lt in
+          elim (cases_eq (get_or roots j 0) i) [
+            | inl e ↦
+                let own : get_or parents i 0 ≡ i = ap (λ u. get_or parents u 0) (sym e) ∙ f.root j l ∙ e in
+                at (get_or roots j 0) e ∙ ap (λ u. get_or parents u 0) own ∙ own ∙ sym e
+            | inr ne ↦ other (get_or roots j 0) ne ∙ f.root j l
+          ];
+    }
+  where
+    old : (j : ℕ) → j < length (set parents i (get_or parents (get_or parents i 0) 0)) → j < length parents
+    old j lt = omega (arith, length-set parents i (get_or parents (get_or parents i 0) 0), lt)
+
+    at : (j : ℕ) → j ≡ i → get_or (set parents i (get_or parents (get_or parents i 0) 0)) j 0 ≡ get_or parents (get_or parents i 0) 0
+    at j e = ap (λ u. get_or (set parents i (get_or parents (get_or parents i 0) 0)) u 0) e ∙ get_or-set_same parents i (get_or parents (get_or parents i 0) 0) 0 h
+
+    other : (j : ℕ) → j ≢ i → get_or (set parents i (get_or parents (get_or parents i 0) 0)) j 0 ≡ get_or parents j 0
+    other j ne = get_or-set_other parents i j (get_or parents (get_or parents i 0) 0) 0 ne
+
+-- the root of a root is itself
+pub root_of_root : (parents roots : List ℕ) (i : ℕ) → IsForest parents roots → i < length parents → get_or roots (get_or roots i 0) 0 ≡ get_or roots i 0
+root_of_root parents roots i f h = f.own (get_or roots i 0) (omega (arith, f.low i h, h)) (f.root i h)
+
+-- the new root of a tree whose root was l, where the tree of the root s comes under r
+abbrev pub under : ℕ → ℕ → ℕ → ℕ
+under s r l = cond (eqb l s) r l
+
+pub under_same : (s r l : ℕ) → l ≡ s → under s r l ≡ r
+under_same s r l e = grind (arith, nat_tests, e)
+
+pub under_other : (s r l : ℕ) → l ≢ s → under s r l ≡ l
+under_other s r l ne = grind (arith, nat_tests, ne)
+
+-- the tree of the root s comes under the root r
+pub forest_under : (parents roots : List ℕ) (s r : ℕ) → IsForest parents roots → s < length parents → r ≤ s → get_or parents s 0 ≡ s → get_or parents r 0 ≡ r → IsForest (set parents s r) (map (under s r) roots)
+forest_under parents roots s r f h le root_s root_r = record {
+  sized = length-map roots (under s r) ∙ f.sized ∙ sym (length-set parents s r);
+  up = λ j lt. elim (cases_eq j s) [
+    | inl e ↦ omega (arith, at j e, le, e)
+    | inr ne ↦ omega (arith, other j ne, f.up j (old j lt))
+  ];
+  same = λ j lt. elim (cases_eq j s) [
+    | inl e ↦
+        let is_r : get_or (map (under s r) roots) r 0 ≡ r = read r (omega (arith, le, h)) ∙ ap (under s r) own_r ∙ stays in
+        let is_s : get_or (map (under s r) roots) j 0 ≡ r = read j (old j lt) ∙ under_same s r (get_or roots j 0) (ap (λ u. get_or roots u 0) e ∙ own_s) in
+        ap (λ u. get_or (map (under s r) roots) u 0) (at j e) ∙ is_r ∙ sym is_s
+    | inr ne ↦
+        let l = old j lt in
+        ap (λ u. get_or (map (under s r) roots) u 0) (other j ne) ∙ read (get_or parents j 0) (omega (arith, f.up j l, l)) ∙ ap (under s r) (f.same j l) ∙ sym (read j l)
+  ];
+  own = λ j lt is. elim (cases_eq j s) [
+    | inl e ↦ read j (old j lt) ∙ under_same s r (get_or roots j 0) (ap (λ u. get_or roots u 0) e ∙ own_s) ∙ sym (at j e) ∙ is
+    | inr ne ↦
+        let was : get_or roots j 0 ≡ j = f.own j (old j lt) (sym (other j ne) ∙ is) in
+        read j (old j lt) ∙ under_other s r (get_or roots j 0) (λ e. ne (sym was ∙ e)) ∙ was
+  ];
+  low = λ j lt. elim (cases_eq (get_or roots j 0) s) [
+    | inl e ↦ omega (arith, read j (old j lt), under_same s r (get_or roots j 0) e, f.low j (old j lt), e, le)
+    | inr ne ↦ omega (arith, read j (old j lt), under_other s r (get_or roots j 0) ne, f.low j (old j lt))
+  ];
+  root = λ j lt. elim (cases_eq (get_or roots j 0) s) [
+    | inl e ↦
+        let is : get_or (map (under s r) roots) j 0 ≡ r = read j (old j lt) ∙ under_same s r (get_or roots j 0) e in
+        ap (λ u. get_or (set parents s r) u 0) is ∙ new_r ∙ sym is
+    | inr ne ↦
+        let is : get_or (map (under s r) roots) j 0 ≡ get_or roots j 0 = read j (old j lt) ∙ under_other s r (get_or roots j 0) ne in
+        ap (λ u. get_or (set parents s r) u 0) is ∙ other (get_or roots j 0) ne ∙ f.root j (old j lt) ∙ sym is
+  ];
+}
+  where
+    old : (j : ℕ) → j < length (set parents s r) → j < length parents
+    old j lt = omega (arith, length-set parents s r, lt)
+
+    at : (j : ℕ) → j ≡ s → get_or (set parents s r) j 0 ≡ r
+    at j e = ap (λ u. get_or (set parents s r) u 0) e ∙ get_or-set_same parents s r 0 h
+
+    other : (j : ℕ) → j ≢ s → get_or (set parents s r) j 0 ≡ get_or parents j 0
+    other j ne = get_or-set_other parents s j r 0 ne
+
+    read : (j : ℕ) → j < length parents → get_or (map (under s r) roots) j 0 ≡ under s r (get_or roots j 0)
+    read j lt = get_or-map (under s r) roots j 0 0 (omega (arith, f.sized, lt))
+
+    own_s : get_or roots s 0 ≡ s
+    own_s = f.own s h root_s
+
+    own_r : get_or roots r 0 ≡ r
+    own_r = f.own r (omega (arith, le, h)) root_r
+
+    stays : under s r r ≡ r
+    stays = elim (cases_eq r s) [ inl e ↦ under_same s r r e | inr ne ↦ under_other s r r ne ]
+
+    new_r : get_or (set parents s r) r 0 ≡ r
+    new_r = elim (cases_eq r s) [ inl e ↦ at r e | inr ne ↦ other r ne ∙ root_r ]
+
+-- the trees of two places come together
+pub forest_merged : (parents roots : List ℕ) (i j : ℕ) → IsForest parents roots → i < length parents → j < length parents → IsForest (set parents (max (get_or roots i 0) (get_or roots j 0)) (min (get_or roots i 0) (get_or roots j 0))) (merged i j roots)
+forest_merged parents roots i j f hi hj = elim (cases_lt (get_or roots i 0) (get_or roots j 0)) [
+  | inl lt ↦
+      let big : max (get_or roots i 0) (get_or roots j 0) ≡ get_or roots j 0 = omega (arith, lt) in
+      let small : min (get_or roots i 0) (get_or roots j 0) ≡ get_or roots i 0 = omega (arith, lt) in
+      rw (big, small) (forest_under parents roots (get_or roots j 0) (get_or roots i 0) f (omega (arith, f.low j hj, hj)) (omega (arith, lt)) (f.root j hj) (f.root i hi))
+  | inr ge ↦
+      let big : max (get_or roots i 0) (get_or roots j 0) ≡ get_or roots i 0 = omega (arith, ge) in
+      let small : min (get_or roots i 0) (get_or roots j 0) ≡ get_or roots j 0 = omega (arith, ge) in
+      rw (big, small) (forest_under parents roots (get_or roots i 0) (get_or roots j 0) f (omega (arith, f.low i hi, hi)) ge (f.root i hi) (f.root j hj))
+]
+
+-- the forest in which each place is a tree of its own
+pub lone_forest : (parents : List ℕ) → ((i : ℕ) → i < length parents → get_or parents i 0 ≡ i) → IsForest parents parents
+lone_forest parents own = record {
+  sized = refl;
+  up = λ i h. omega (arith, own i h);
+  same = λ i h. ap (λ u. get_or parents u 0) (own i h);
+  own = λ i h e. e;
+  low = λ i h. omega (arith, own i h);
+  root = λ i h. ap (λ u. get_or parents u 0) (own i h);
+}
+
+pub lone_gathered : (m : ℕ) (parents : List ℕ) → length parents ≡ m → ((i : ℕ) → i < length parents → get_or parents i 0 ≡ i) → AreGathered m (λ i j. false) parents
+lone_gathered m parents sized own = record {
+  roots = parents;
+  forest = lone_forest parents own;
+  sized = sized;
+  joined = λ i j hi hj e. absurd (true≢false (sym e));
+  sound = λ label same i h. ap label (own i (omega (arith, sized)));
+}
+
+module _ (m : ℕ) (before after : ℕ → ℕ → Bool) (parents : List ℕ) (g : AreGathered m before parents) where
+  -- no link is new
+  pub gathered_same : ((i j : ℕ) → i < m → j < m → after i j ≡ before i j) → AreGathered m after parents
+  gathered_same same = record {
+    roots = g.roots;
+    forest = g.forest;
+    sized = g.sized;
+    joined = λ i j hi hj e. g.joined i j hi hj (sym (same i j hi hj) ∙ e);
+    sound = λ label one i h. g.sound label (λ j k hj hk e. one j k hj hk (same j k hj hk ∙ e)) i h;
+  }
+
+  -- one link is new, and its trees come together
+  module _ (a b : ℕ) where
+    abbrev s : ℕ
+    s = max (get_or g.roots a 0) (get_or g.roots b 0)
+
+    abbrev r : ℕ
+    r = min (get_or g.roots a 0) (get_or g.roots b 0)
+
+    read : (i : ℕ) → i < m → get_or (merged a b g.roots) i 0 ≡ under s r (get_or g.roots i 0)
+    read i h = get_or-map (under s r) g.roots i 0 0 (omega (arith, g.forest.sized, g.sized, h))
+
+    both : (under s r (get_or g.roots a 0) ≡ r) × (under s r (get_or g.roots b 0) ≡ r)
+    both = elim (cases_lt (get_or g.roots a 0) (get_or g.roots b 0)) [
+      | inl lt ↦ (under_other s r (get_or g.roots a 0) (omega (arith, lt)) ∙ omega (arith, lt), under_same s r (get_or g.roots b 0) (omega (arith, lt)))
+      | inr ge ↦ elim (cases_eq (get_or g.roots a 0) (get_or g.roots b 0)) [
+        | inl e ↦ (under_same s r (get_or g.roots a 0) (omega (arith, e)), under_same s r (get_or g.roots b 0) (omega (arith, e)))
+        | inr ne ↦ (under_same s r (get_or g.roots a 0) (omega (arith, ge)), under_other s r (get_or g.roots b 0) (omega (arith, ge, ne)) ∙ omega (arith, ge))
+      ]
+    ]
+
+    ends : (label : ℕ → ℕ) → label (get_or g.roots a 0) ≡ label (get_or g.roots b 0) → label r ≡ label s
+    ends label e = elim (cases_lt (get_or g.roots a 0) (get_or g.roots b 0)) [
+      | inl lt ↦
+          let low : r ≡ get_or g.roots a 0 = omega (arith, lt) in
+          let high : s ≡ get_or g.roots b 0 = omega (arith, lt) in
+          ap label low ∙ e ∙ ap label (sym high)
+      | inr ge ↦
+          let low : r ≡ get_or g.roots b 0 = omega (arith, ge) in
+          let high : s ≡ get_or g.roots a 0 = omega (arith, ge) in
+          ap label low ∙ sym e ∙ ap label (sym high)
+    ]
+
+    pub gathered_more : (new : List ℕ) → a < m → b < m → after a b ≡ true → ((i j : ℕ) → i < m → j < m → before i j ≡ true → after i j ≡ true) → ((i j : ℕ) → i < m → j < m → after i j ≡ true → (before i j ≡ true) ⊎ ((i ≡ a) × (j ≡ b))) → length new ≡ length parents → IsForest new (merged a b g.roots) → AreGathered m after new
+    gathered_more new ha hb link more only long f = record {
+      roots = merged a b g.roots;
+      forest = f;
+      sized = long ∙ g.sized;
+      joined = λ i j hi hj e. elim (only i j hi hj e) [
+        | inl old ↦ read i hi ∙ ap (under s r) (g.joined i j hi hj old) ∙ sym (read j hj)
+        | inr is ↦ read i hi ∙ ap (λ u. under s r (get_or g.roots u 0)) is.0 ∙ both.0 ∙ sym both.1 ∙ ap (λ u. under s r (get_or g.roots u 0)) (sym is.1) ∙ sym (read j hj)
+      ];
+      sound = λ label one i h.
+          let old = g.sound label (λ j k hj hk e. one j k hj hk (more j k hj hk e)) in
+          let new_link : label (get_or g.roots a 0) ≡ label (get_or g.roots b 0) = old a ha ∙ one a b ha hb link ∙ sym (old b hb) in
+          ap label (read i h) ∙ elim (cases_eq (get_or g.roots i 0) s) [
+            | inl e ↦ ap label (under_same s r (get_or g.roots i 0) e) ∙ ends label new_link ∙ ap label (sym e) ∙ old i h
+            | inr ne ↦ ap label (under_other s r (get_or g.roots i 0) ne) ∙ old i h
+          ];
+    }

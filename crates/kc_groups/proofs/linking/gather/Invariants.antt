@@ -1,0 +1,10 @@
+use Rattle.kc_groups.specs.Forest.{AreGathered}
+use Rattle.kc_groups.specs.Gathering.{vertices, in_rows}
+use Rattle.kc_groups.proofs.LinkLemmas.{with_first}
+use Rattle.kc_groups.proofs.linking.gather.Given as goal
+
+abbrev pub invariant-loop-place : goal.invariant-loop-place
+invariant-loop-place l = AreGathered l.m (in_rows l.graph (vertices l.moves) l.place) l.parents.items
+
+abbrev pub invariant-loop-e : goal.invariant-loop-e
+invariant-loop-e l = AreGathered l.m (with_first l.graph (vertices l.moves) l.m l.edges l.e-index) l.parents.items

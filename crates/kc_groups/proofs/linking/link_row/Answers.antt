@@ -1,0 +1,46 @@
+use Rattle.std.proofs.Common.{◌≡◌, ◌<◌, ◌≤◌, length, get_or, refl, ap, ◌∙◌, arith}
+use Rattle.kc_graph.specs.Shape.{neighbours_of}
+use Rattle.kc_graph.proofs.NumberLemmas.{length-rising}
+use Rattle.kc_groups.specs.Gathering.{vertices}
+use Rattle.kc_groups.proofs.WorkLemmas.{vertex_at, vertex_inside, many}
+use Rattle.kc_groups.proofs.LinkLemmas.{row_first, row_last, row_past, row_link}
+use Rattle.kc_groups.proofs.linking.link_row.Goals as goal
+use Rattle.kc_groups.proofs.linking.link_row.Goals.{then-other-place, else-other-place}
+
+pub neighbours-w-items-requires : goal.neighbours-w-items-requires
+neighbours-w-items-requires c = vertex_inside c.args.graph.now.vertices c.args.moves.now c.args.place c.requires.numbered.below c.requires.inside
+
+pub loop-w-init : goal.loop-w-init
+loop-w-init c =
+    row_first c.args.graph.now (vertices c.args.moves.now) c.args.place c.neighbours-w-items.result.now c.args.parents.now.items
+    (rw (many c.args.moves.now) c.requires.gathered)
+
+pub join-requires-clause-first : goal.join-requires-clause-first
+join-requires-clause-first c = omega (arith, many c.args.moves.now, c.loop-w.invariant.sized, c.requires.inside)
+
+pub join-requires-clause-second : goal.join-requires-clause-second
+join-requires-clause-second c = omega (arith, many c.args.moves.now, c.loop-w.invariant.sized, c.requires.inside, c.if-other-place.true)
+
+pub loop-w-preserved : goal.loop-w-preserved
+loop-w-preserved c =
+    let g = c.args.graph.now in
+    let vs = vertices c.args.moves.now in
+    let items = c.neighbours-w-items.result.now in
+    let few : length (vertices c.args.moves.now) ≤ c.args.graph.now.vertices = omega (arith, length-rising c.args.graph.now.vertices 0 vs c.requires.numbered.rises c.requires.numbered.below (omega arith)) in
+    let h : c.args.place < length (vertices c.args.moves.now) = omega (arith, many c.args.moves.now, c.requires.inside) in
+    let inside : c.loop-w.w-index < length c.neighbours-w-items.result.now = omega arith in
+    let below : get_or c.neighbours-w-items.result.now c.loop-w.w-index 0 < c.args.graph.now.vertices = c.neighbours-w-items.ensures.below c.loop-w.w-index 0 inside in
+    elim c.if-other-place.branch [
+      | then-other-place w ↦
+          rw (w.parents-is)
+          (row_link g vs c.args.place items c.loop-w.parents.items g.vertices c.args.places.now c.requires.numbered few h c.loop-w.w-index inside below c.loop-w.invariant _ _ refl w.if-other-place.true w.join.ensures.sized (w.join.ensures.forest c.loop-w.invariant.roots c.loop-w.invariant.forest))
+      | else-other-place w ↦
+          rw (w.parents-is)
+          (row_past g vs c.args.place items c.loop-w.parents.items g.vertices c.args.places.now c.requires.numbered few h c.loop-w.w-index inside below c.loop-w.invariant (omega arith))
+    ]
+
+pub returns : goal.returns
+returns c =
+    let vs = vertices c.args.moves.now in
+    let is : c.neighbours-w-items.result.now ≡ neighbours_of (get_or (vertices c.args.moves.now) c.args.place 0) c.args.graph.now.edges = c.neighbours-w-items.ensures.value ∙ ap (λ v. neighbours_of v c.args.graph.now.edges) (vertex_at c.args.moves.now c.args.place c.requires.inside) in
+    rw (many c.args.moves.now) at (row_last c.args.graph.now vs c.args.place c.neighbours-w-items.result.now c.loop-w.parents.items c.loop-w.w-index (omega arith) is c.loop-w.invariant)

@@ -1,0 +1,9 @@
+use Rattle.std.proofs.Common.{ap, ◌∙◌}
+use Rattle.kc_levels.specs.Moved.{moves_between}
+use Rattle.kc_groups.proofs.PlanLemmas.{between_in_order}
+use Rattle.kc_groups.proofs.tests.plan_after.Goals as goal
+
+pub plan_moves-requires-clause-order : goal.plan_moves-requires-clause-order
+plan_moves-requires-clause-order c =
+    between_in_order c.args.graph.now.vertices c.args.before.now c.args.after.now c.in_ok-moves.moves
+    (c.in_ok-moves.ensures ∙ ap (λ k. moves_between k c.args.before.now c.args.after.now) c.vertices.ensures.count)

@@ -1,0 +1,10 @@
+use Rattle.std.proofs.Common.{ℕ, ◌≡◌, ◌<◌, List, length, get_or}
+use Rattle.kc_groups.specs.Forest.{IsForest}
+use Rattle.kc_groups.specs.Gathering.{vertices, HaveNone}
+use Rattle.kc_groups.proofs.work.label.Given as goal
+
+abbrev pub invariant-loop-place : goal.invariant-loop-place
+invariant-loop-place l =
+    (length l.places.items ≡ length l.initial.places.items)
+    × HaveNone (length l.initial.places.items) (vertices l.moves) l.places.items
+    × ((roots : List ℕ) → IsForest l.parents roots → (i : ℕ) → i < l.place → get_or l.places.items (get_or (vertices l.moves) i 0) 0 ≡ get_or (vertices l.moves) (get_or roots i 0) 0)

@@ -1,0 +1,64 @@
+// The moves of a phase, gathered into a tree for each group.
+ghost use Rattle.std.specs.Prelude.{◌≡◌, ℕ, Bool, ◌+◌, ◌<◌, ◌≤◌, ◌||◌, IfOk, false, length};
+ghost use Rattle.kc_graph.specs.Shape.{EdgesFrom};
+ghost use Rattle.kc_groups.specs.Forest.{AreGathered};
+ghost use Rattle.kc_groups.specs.Gathering.{vertices, AreNumbered, in_rows, in_edges};
+
+use crate::forest::join;
+use kc_graph::{Edge, Graph, MAX_VERTICES};
+use kc_history::Move;
+use std::alloc::{AllocError, Global};
+
+// Each of m places as a tree of its own.
+fn lone_places(alloc: Global, m: u32) -> Result<Vec<u32>, AllocError>
+    ensures { IfOk result (λ parents. AreGathered m (λ i j. false) parents.items) }
+{
+    let mut parents = Vec::with_capacity(alloc, m as usize)?;
+    for place in 0..m {
+        parents.push(place)?;
+    }
+    Ok(parents)
+}
+
+// Joins the move at `place` with those of its neighbours at lesser places.
+fn link_row(graph: &Graph, moves: &[Move], places: &[u32], parents: &mut Vec<u32>, place: u32)
+    requires inside { place < length moves.now }
+    requires numbered { AreNumbered graph.now.vertices (vertices moves.now) places.now }
+    requires gathered { AreGathered (length moves.now) (in_rows graph.now (vertices moves.now) place) parents.old.items }
+    ensures { AreGathered (length moves.now) (in_rows graph.now (vertices moves.now) (place + 1)) parents.new.items }
+{
+    for w in graph.neighbours(moves[place as usize].vertex) {
+        let other = places[*w as usize];
+        if other < place {
+            join(parents, place, other);
+        }
+    }
+}
+
+// A forest over the moves in which those that an edge of the graph or of the phase leads between are in one tree.
+pub(crate) fn gather(
+    alloc: Global,
+    graph: &Graph,
+    edges: &[Edge],
+    moves: &[Move],
+    places: &[u32],
+) -> Result<Vec<u32>, AllocError>
+    requires small { length moves.now ≤ MAX_VERTICES }
+    requires numbered { AreNumbered graph.now.vertices (vertices moves.now) places.now }
+    requires ascending { EdgesFrom graph.now.vertices 0 0 edges.now }
+    ensures { IfOk result (λ parents. AreGathered (length moves.now) (λ i j. in_rows graph.now (vertices moves.now) (length moves.now) i j || in_edges edges.now (vertices moves.now) i j) parents.items) }
+{
+    let m = moves.len() as u32;
+    let mut parents = lone_places(alloc, m)?;
+    for place in 0..m {
+        link_row(graph, moves, places, &mut parents, place);
+    }
+    for e in edges {
+        let first = places[e.a as usize];
+        let second = places[e.b as usize];
+        if first < m && second < m {
+            join(&mut parents, first, second);
+        }
+    }
+    Ok(parents)
+}

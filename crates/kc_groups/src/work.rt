@@ -1,0 +1,79 @@
+// What a plan works with: a number for each vertex.
+ghost use Rattle.std.specs.Prelude.{◌≡◌, ◌≤◌, ℕ, List, ◌<◌, IfOk, length};
+ghost use Rattle.kc_groups.specs.Forest.{IsForest};
+ghost use Rattle.kc_groups.specs.Gathering.{vertices, clean, AreInOrder, AreNumbered, AreLabelled, HaveNone};
+
+use kc_graph::MAX_VERTICES;
+use kc_history::Move;
+use std::alloc::{AllocError, Global};
+use std::marker::Model;
+
+/// What `plan_moves` works with, kept between phases. Contracts see it as a list with a number for each vertex, which is clean
+/// (`clean`) between phases.
+#[derive(Drop)]
+pub struct GroupWork {
+    // The number of vertices for each vertex that the phase at hand doesn't move.
+    pub(crate) places: Vec<u32>,
+}
+
+impl Model for GroupWork {
+    ghost use Rattle.std.specs.Prelude.{List, ℕ};
+
+    ghost Value = { List ℕ };
+
+    ghost view = { λ w. w.places.items };
+}
+
+impl GroupWork {
+    /// For the phases of a graph with n vertices. Takes memory for n numbers. Fails only if memory runs out.
+    pub fn new(alloc: Global, n: u32) -> Result<GroupWork, AllocError>
+        ensures { IfOk result (λ work. work ≡ clean n) }
+    {
+        Ok(GroupWork {
+            places: vec![in alloc; n; n as usize]?,
+        })
+    }
+}
+
+// Gives each vertex that moves the place of its move.
+pub(crate) fn number(moves: &[Move], places: &mut Vec<u32>)
+    requires few { length places.old.items ≤ MAX_VERTICES }
+    requires clean { places.old.items ≡ clean (length places.old.items) }
+    requires order { AreInOrder (length places.old.items) moves.now }
+    ensures { AreNumbered (length places.old.items) (vertices moves.now) places.new.items }
+{
+    for place in 0..moves.len() {
+        places[moves[place].vertex as usize] = place as u32;
+    }
+}
+
+// Gives each vertex that moves the vertex of its root: what a place points to has its own already.
+pub(crate) fn label(moves: &[Move], parents: &[u32], places: &mut Vec<u32>)
+    requires numbered { AreNumbered (length places.old.items) (vertices moves.now) places.old.items }
+    requires forest { (roots : List ℕ) × IsForest parents.now roots }
+    requires same { length parents.now ≡ length moves.now }
+    ensures { (roots : List ℕ) → IsForest parents.now roots → AreLabelled (length places.old.items) (vertices moves.now) roots places.new.items }
+{
+    for place in 0..moves.len() {
+        let v = moves[place].vertex;
+        let up = parents[place] as usize;
+        places[v as usize] = if up == place {
+            v
+        } else {
+            places[moves[up].vertex as usize]
+        };
+    }
+}
+
+// Takes the numbers of the vertices that move away.
+pub(crate) fn clear(moves: &[Move], places: &mut Vec<u32>)
+    requires few { length places.old.items ≤ MAX_VERTICES }
+    requires order { AreInOrder (length places.old.items) moves.now }
+    requires none { HaveNone (length places.old.items) (vertices moves.now) places.old.items }
+    ensures { places.new.items ≡ clean (length places.old.items) }
+{
+    let n = places.len() as u32;
+    for m in moves {
+        places[m.vertex as usize] = n;
+    }
+}
