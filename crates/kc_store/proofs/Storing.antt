@@ -1,0 +1,251 @@
+-- Two laws of stores to the words of a vertex, whoever makes them: one of packed words, one of old levels.
+use Rattle.std.proofs.Common.{◌≡◌, ◌≢◌, ℕ, ◌+◌, ◌*◌, ◌^◌, ◌<◌, Bool, true, false, List, [], ◌∷◌, ◌++◌, length, Some, None, if◌then◌else◌, set, get_or, Contains, sym, refl, ap, ◌∙◌, subst, ⊎_elim, arith, length-set, get_or-set_same, get_or-set_other}
+use Rattle.std.proofs.lemmas.List.Elements.{Contains-push_cases}
+use mathlib.Core.Logic.{dite}
+use native.Mathlib.Decide.{ℕ_discrete}
+use Rattle.kc_words.specs.declared.marks.Mark.{Mark}
+use Rattle.kc_words.specs.Packed.{packed, unpacked}
+use Rattle.kc_history.specs.declared.entries.Entry.{Entry}
+use Rattle.kc_history.specs.Ends.{last_move, level_of, is_label, stamp_of}
+use Rattle.kc_store.specs.declared.roles.Pending.{Pending}
+use Rattle.kc_store.specs.Plans.{Move, group_of}
+use Rattle.kc_store.specs.Rule.{AllApart, IsUnpublished, Fits, Facts, IsSoundMark, IsSoundOld, IsMarked, IsNoted, IsSettled, AllMarked, AllNoted, AllCleared, Reaches, LookHolds, BelowHolds}
+use Rattle.kc_store.proofs.Limits.{vertex_fits, phase_fits}
+use Rattle.kc_store.proofs.Points.{group_label, label_found, waits_found, apart_found, before_itself}
+use Rattle.kc_store.proofs.Publishing.{mark, unpacks}
+
+-- a vertex moves in one group alone
+pub same_group : (v g h : ℕ) (es : List Entry) (e f : Entry) (m k : Move) → AllApart es → group_of g es ≡ Some e → group_of h es ≡ Some f → last_move v e.moves ≡ Some m → last_move v f.moves ≡ Some k → e ≡ f
+same_group v g h [] e f m k apart ge hf me kf = cc
+same_group v g h (x ∷ xs) e f m k apart ge hf me kf = go (is_label g x.label) (is_label h x.label) refl refl (λ a b. same_group v g h xs e f m k apart.1 a b me kf)
+  where
+    here : (i : ℕ) (y : Entry) → is_label i x.label ≡ true → group_of i (x ∷ xs) ≡ Some y → x ≡ y
+    here i y t is = let s : Some x ≡ Some y = sym (ap (λ b. if b then Some x else group_of i xs) t) ∙ is in cc
+
+    past : (i : ℕ) (y : Entry) → is_label i x.label ≡ false → group_of i (x ∷ xs) ≡ Some y → group_of i xs ≡ Some y
+    past i y t is = sym (ap (λ b. if b then Some x else group_of i xs) t) ∙ is
+
+    clash : (i : ℕ) (y : Entry) (a b : Move) → group_of i xs ≡ Some y → last_move v y.moves ≡ Some b → last_move v x.moves ≡ Some a → e ≡ f
+    clash i y a b is by ax = let none : last_move v x.moves ≡ None = (apart_found x i xs y apart.0 is).vertices v b by in let s : None ≡ Some a = sym none ∙ ax in cc
+
+    go : (b c : Bool) → is_label g x.label ≡ b → is_label h x.label ≡ c → (group_of g xs ≡ Some e → group_of h xs ≡ Some f → e ≡ f) → e ≡ f
+    go true true t u on = sym (here g e t ge) ∙ here h f u hf
+    go true false t u on = clash h f m k (past h f u hf) kf (subst (λ (y : Entry). last_move v y.moves ≡ Some m) (sym (here g e t ge)) me)
+    go false true t u on = clash g e k m (past g e t ge) me (subst (λ (y : Entry). last_move v y.moves ≡ Some k) (sym (here h f u hf)) kf)
+    go false false t u on = on (past g e t ge) (past h f u hf)
+
+-- the mark of a move of a group that is not published yet may be stored where its old level is
+pub sound_mark : (n : ℕ) (log rest : List Entry) (p : ℕ) (ws : List ℕ) (v g o : ℕ) (e : Entry) (m : Move) → Facts n log rest p ws → group_of g rest ≡ Some e → last_move v e.moves ≡ Some m → o ≡ m.old → IsSoundMark n log rest p v (packed m.new g p) o
+sound_mark n log rest p ws v g o e m f group moves old =
+    let w = waits_found n p log g rest e f.waiting group in
+    let named : e.label ≡ Some g = label_found g e.label (group_label g rest e group) in
+    let same : Some g ≡ Some w.label = sym named ∙ w.label_is in
+    let is : g ≡ w.label = cc in
+    let h = w.moves v m moves in
+    let late : stamp_of 0 log g < p = subst (λ (k : ℕ). stamp_of 0 log k < p) (sym is) w.older in
+    let inside : g < n = subst (λ (k : ℕ). k < n) (sym is) w.label_in in
+    let u : unpacked (packed m.new g p) ≡ mark m.new g p = unpacks m.new g p (vertex_fits n g f.small inside) (phase_fits p f.phase_in) in record {
+      fits = subst (λ (z : Mark). Fits n log rest p v z o) (sym u) record {
+        label_in = inside;
+        shown = λ le. absurd (omega (arith, le, late));
+        unpublished = λ b. record { phase_is = refl; group = e; group_is = group; move = m; move_is = moves; new_is = refl; level_is = h.1; old_is = old };
+      };
+      marked = λ j y b group' there.
+          let one : e ≡ y = same_group v g j rest e y m b f.apart group group' moves there in
+          let named' : y.label ≡ Some j = label_found j y.label (group_label j rest y group') in
+          let labels : Some g ≡ Some j = sym named ∙ (ap (λ (z : Entry). z.label) one ∙ named') in
+          let label_same : g ≡ j = cc in
+          let both : Some m ≡ Some b = sym moves ∙ (ap (λ (z : Entry). last_move v z.moves) one ∙ there) in
+          let move_same : m ≡ b = cc in
+          u ∙ (λ i. mark (move_same i).new (label_same i) p);
+      cleared = λ free. let n : None ≡ Some m = sym (free g e group) ∙ moves in cc;
+    }
+
+-- a mark of phase 0 with the level of a vertex may be stored where no group that waits moves it
+pub sound_clear : (n : ℕ) (log rest : List Entry) (p v l o : ℕ) → v < n → level_of 0 log v ≡ l → IsSettled rest v → IsSoundMark n log rest p v (packed l 0 0) o
+sound_clear n log rest p v l o inside is free =
+    let u : unpacked (packed l 0 0) ≡ mark l 0 0 = unpacks l 0 0 (omega arith) (omega arith) in record {
+      fits = subst (λ (z : Mark). Fits n log rest p v z o) (sym u) record {
+        label_in = omega (arith, inside);
+        shown = λ le. is;
+        unpublished = λ lt. absurd (omega (arith, lt));
+      };
+      marked = λ j y b group there. let n : None ≡ Some b = sym (free j y group) ∙ there in cc;
+      cleared = λ f. ap (λ (z : Mark). z.phase) u;
+    }
+
+module _ (n : ℕ) (log rest : List Entry) (p : ℕ) (ws : List ℕ) (v k : ℕ) (inside : v < n) (sized : length ws ≡ 3 * n + 1) (sound : IsSoundMark n log rest p v k (get_or ws (2 * n + 1 + v) 0)) where
+  abbrev marked : List ℕ
+  marked = set ws (v + 1) k
+
+  here : get_or marked (v + 1) 0 ≡ k
+  here = let lt : v + 1 < length ws = omega arith in get_or-set_same ws (v + 1) k 0 lt
+
+  else_where : (x : ℕ) → x ≢ v → get_or marked (x + 1) 0 ≡ get_or ws (x + 1) 0
+  else_where x o = get_or-set_other ws (v + 1) (x + 1) k 0 (λ y. o (omega arith))
+
+  old_stays : (x : ℕ) → get_or marked (2 * n + 1 + x) 0 ≡ get_or ws (2 * n + 1 + x) 0
+  old_stays x = get_or-set_other ws (v + 1) (2 * n + 1 + x) k 0 (λ y. omega (arith, y, inside))
+
+  pub mark_facts : Facts n log rest p ws → Facts n log rest p marked
+  mark_facts f = record {
+    sized = length-set ws (v + 1) k ∙ f.sized;
+    small = f.small;
+    phase_is = get_or-set_other ws (v + 1) 0 k 0 (λ x. omega arith) ∙ f.phase_is;
+    phase_in = f.phase_in;
+    stamps = λ j lt. get_or-set_other ws (v + 1) (n + 1 + j) k 0 (λ x. omega arith) ∙ f.stamps j lt;
+    below = f.below;
+    waiting = f.waiting;
+    apart = f.apart;
+    vertices = λ x lt. subst (λ (z : ℕ). Fits n log rest p x (unpacked (get_or marked (x + 1) 0)) z) (sym (old_stays x)) (dite (ℕ_discrete x v)
+        (λ s. subst (λ (y : ℕ). Fits n log rest p y (unpacked (get_or marked (y + 1) 0)) (get_or ws (2 * n + 1 + y) 0)) (sym s) (subst (λ (z : ℕ). Fits n log rest p v (unpacked z) (get_or ws (2 * n + 1 + v) 0)) (sym here) sound.fits))
+        (λ o. subst (λ (z : ℕ). Fits n log rest p x (unpacked z) (get_or ws (2 * n + 1 + x) 0)) (sym (else_where x o)) (f.vertices x lt)));
+    olds = λ x lt. subst (λ (z : ℕ). z < 2 ^ 16) (sym (old_stays x)) (f.olds x lt);
+  }
+
+  pub mark_notes : (vs : List ℕ) → AllNoted n rest ws vs → AllNoted n rest marked vs
+  mark_notes vs all x on = let a = all x on in (a.0, subst (IsNoted rest x) (sym (old_stays x)) a.1)
+
+  marked_here : IsMarked rest p v (get_or marked (v + 1) 0)
+  marked_here = subst (IsMarked rest p v) (sym here) sound.marked
+
+  pub mark_marks : (vs : List ℕ) → AllMarked rest p ws vs → AllMarked rest p marked vs
+  mark_marks vs all x on = dite (ℕ_discrete x v)
+      (λ s. subst (λ (y : ℕ). IsMarked rest p y (get_or marked (y + 1) 0)) (sym s) marked_here)
+      (λ o. subst (IsMarked rest p x) (sym (else_where x o)) (all x on))
+
+  pub mark_more : (vs : List ℕ) → AllMarked rest p ws vs → AllMarked rest p marked (vs ++ v ∷ [])
+  mark_more vs all x on = ⊎_elim (λ (t : Contains vs x). mark_marks vs all x t) (λ (s : v ≡ x). subst (λ (y : ℕ). IsMarked rest p y (get_or marked (y + 1) 0)) s marked_here) (Contains-push_cases vs v x on)
+
+  abbrev IsClear : ℕ → Type 0
+  IsClear z = (unpacked z).phase ≡ 0
+
+  clear_here : IsSettled rest v → IsClear (get_or marked (v + 1) 0)
+  clear_here free = subst IsClear (sym here) (sound.cleared free)
+
+  pub mark_clears : (vs : List ℕ) → AllCleared n rest ws vs → AllCleared n rest marked vs
+  mark_clears vs all x on = let c = all x on in (
+    c.0,
+    c.1,
+    dite (ℕ_discrete x v)
+        (λ s. subst (λ (y : ℕ). IsClear (get_or marked (y + 1) 0)) (sym s) (clear_here (subst (IsSettled rest) s c.1)))
+        (λ o. subst IsClear (sym (else_where x o)) c.2),
+  )
+
+  pub clear_more : (vs : List ℕ) → IsSettled rest v → AllCleared n rest ws vs → AllCleared n rest marked (vs ++ v ∷ [])
+  clear_more vs free all x on = ⊎_elim (λ (t : Contains vs x). mark_clears vs all x t) (λ (s : v ≡ x). subst (λ (y : ℕ). (y < n) × IsSettled rest y × IsClear (get_or marked (y + 1) 0)) s (inside, free, clear_here free)) (Contains-push_cases vs v x on)
+
+  pub mark_look : (q : Pending) → LookHolds n log rest p ws q → LookHolds n log rest p marked q
+  mark_look q h = record {
+    seen_in = h.seen_in;
+    from_in = h.from_in;
+    made_in = h.made_in;
+    vertices_is = h.vertices_is;
+    inside = h.inside;
+    label_in = h.label_in;
+    shown = h.shown;
+    unpublished = λ lt. subst (IsUnpublished log rest p q.vertex (unpacked q.word)) (sym (old_stays q.vertex)) (h.unpublished lt);
+  }
+
+  pub mark_below : (q : Pending) → BelowHolds n log ws q → BelowHolds n log marked q
+  mark_below q h = record {
+    seen_in = h.seen_in;
+    from_in = h.from_in;
+    made_in = h.made_in;
+    vertices_is = h.vertices_is;
+    inside = h.inside;
+    old = subst (Reaches q.from log q.vertex) (sym (old_stays q.vertex)) h.old;
+  }
+
+module _ (n : ℕ) (log rest : List Entry) (p : ℕ) (ws : List ℕ) (v o : ℕ) (inside : v < n) (f : Facts n log rest p ws) (sound : IsSoundOld log v o) where
+  abbrev noted : List ℕ
+  noted = set ws (2 * n + 1 + v) o
+
+  old_here : get_or noted (2 * n + 1 + v) 0 ≡ o
+  old_here = let sized = f.sized in let lt : 2 * n + 1 + v < length ws = omega (arith, sized, inside) in get_or-set_same ws (2 * n + 1 + v) o 0 lt
+
+  old_else : (x : ℕ) → x ≢ v → get_or noted (2 * n + 1 + x) 0 ≡ get_or ws (2 * n + 1 + x) 0
+  old_else x other = get_or-set_other ws (2 * n + 1 + v) (2 * n + 1 + x) o 0 (λ y. other (omega (arith, y)))
+
+  mark_stays : (x : ℕ) → x < n → get_or noted (x + 1) 0 ≡ get_or ws (x + 1) 0
+  mark_stays x lt = get_or-set_other ws (2 * n + 1 + v) (x + 1) o 0 (λ y. omega (arith, y, lt))
+
+  -- the old level of a move that is marked is the level of its vertex, so it is the one that is stored
+  unpublished_at : (x : ℕ) (u : Mark) → IsUnpublished log rest p x u (get_or ws (2 * n + 1 + x) 0) → IsUnpublished log rest p x u (get_or noted (2 * n + 1 + x) 0)
+  unpublished_at x u y = record {
+    phase_is = y.phase_is;
+    group = y.group;
+    group_is = y.group_is;
+    move = y.move;
+    move_is = y.move_is;
+    new_is = y.new_is;
+    level_is = y.level_is;
+    old_is = dite (ℕ_discrete x v)
+        (λ s. ap (λ (z : ℕ). get_or noted (2 * n + 1 + z) 0) s ∙ (old_here ∙ (sym sound.level_is ∙ (ap (level_of 0 log) (sym s) ∙ y.level_is))))
+        (λ other. old_else x other ∙ y.old_is);
+  }
+
+  pub note_facts : Facts n log rest p noted
+  note_facts = record {
+    sized = length-set ws (2 * n + 1 + v) o ∙ f.sized;
+    small = f.small;
+    phase_is = get_or-set_other ws (2 * n + 1 + v) 0 o 0 (λ x. omega arith) ∙ f.phase_is;
+    phase_in = f.phase_in;
+    stamps = λ j lt. get_or-set_other ws (2 * n + 1 + v) (n + 1 + j) o 0 (λ x. omega (arith, x, lt)) ∙ f.stamps j lt;
+    below = f.below;
+    waiting = f.waiting;
+    apart = f.apart;
+    vertices = λ x lt. let h = f.vertices x lt in subst (λ (z : ℕ). Fits n log rest p x (unpacked z) (get_or noted (2 * n + 1 + x) 0)) (sym (mark_stays x lt)) record {
+      label_in = h.label_in;
+      shown = h.shown;
+      unpublished = λ late. unpublished_at x (unpacked (get_or ws (x + 1) 0)) (h.unpublished late);
+    };
+    olds = λ x lt. dite (ℕ_discrete x v)
+        (λ s. subst (λ (y : ℕ). get_or noted (2 * n + 1 + y) 0 < 2 ^ 16) (sym s) (subst (λ (z : ℕ). z < 2 ^ 16) (sym old_here) sound.short))
+        (λ other. subst (λ (z : ℕ). z < 2 ^ 16) (sym (old_else x other)) (f.olds x lt));
+  }
+
+  noted_here : IsNoted rest v (get_or noted (2 * n + 1 + v) 0)
+  noted_here g e m group moves = old_here ∙ (sym sound.level_is ∙ ((waits_found n p log g rest e f.waiting group).moves v m moves).1)
+
+  pub note_notes : (vs : List ℕ) → AllNoted n rest ws vs → AllNoted n rest noted vs
+  note_notes vs all x on = let a = all x on in (
+    a.0,
+    dite (ℕ_discrete x v)
+        (λ s. subst (λ (y : ℕ). IsNoted rest y (get_or noted (2 * n + 1 + y) 0)) (sym s) noted_here)
+        (λ other. subst (IsNoted rest x) (sym (old_else x other)) a.1),
+  )
+
+  pub note_more : (vs : List ℕ) → AllNoted n rest ws vs → AllNoted n rest noted (vs ++ v ∷ [])
+  note_more vs all x on = ⊎_elim (λ (t : Contains vs x). note_notes vs all x t) (λ (s : v ≡ x). subst (λ (y : ℕ). (y < n) × IsNoted rest y (get_or noted (2 * n + 1 + y) 0)) s (inside, noted_here)) (Contains-push_cases vs v x on)
+
+  pub note_marks : (vs : List ℕ) → ((x : ℕ) → Contains vs x → x < n) → AllMarked rest p ws vs → AllMarked rest p noted vs
+  note_marks vs within all x on = subst (IsMarked rest p x) (sym (mark_stays x (within x on))) (all x on)
+
+  pub note_clears : (vs : List ℕ) → AllCleared n rest ws vs → AllCleared n rest noted vs
+  note_clears vs all x on = let c = all x on in (c.0, c.1, subst (λ (z : ℕ). (unpacked z).phase ≡ 0) (sym (mark_stays x c.0)) c.2)
+
+  pub note_look : (q : Pending) → LookHolds n log rest p ws q → LookHolds n log rest p noted q
+  note_look q h = record {
+    seen_in = h.seen_in;
+    from_in = h.from_in;
+    made_in = h.made_in;
+    vertices_is = h.vertices_is;
+    inside = h.inside;
+    label_in = h.label_in;
+    shown = h.shown;
+    unpublished = λ lt. unpublished_at q.vertex (unpacked q.word) (h.unpublished lt);
+  }
+
+  -- a pass may find the level of now, which is one since its first load
+  pub note_below : (q : Pending) → BelowHolds n log ws q → BelowHolds n log noted q
+  note_below q h = record {
+    seen_in = h.seen_in;
+    from_in = h.from_in;
+    made_in = h.made_in;
+    vertices_is = h.vertices_is;
+    inside = h.inside;
+    old = dite (ℕ_discrete q.vertex v)
+        (λ s. record { point = log; after = h.from_in; within = before_itself log; level_is = ap (level_of 0 log) s ∙ (sound.level_is ∙ (sym old_here ∙ ap (λ (z : ℕ). get_or noted (2 * n + 1 + z) 0) (sym s))) })
+        (λ other. subst (Reaches q.from log q.vertex) (sym (old_else q.vertex other)) h.old);
+  }

@@ -1,0 +1,72 @@
+ghost use Rattle.std.specs.Prelude.{◌≡◌, ◌<◌, ◌≤◌, true, false};
+ghost use Rattle.kc_groups.specs.WellFormed.{vertex_at};
+ghost use Rattle.kc_store.specs.States.{marker_marked, marker_cleared};
+
+use crate::moves::{move_at, phase_of, word_of};
+use crate::rule::{LentClears, LentMarks, LentNotes, Place};
+use crate::store::Store;
+use kc_groups::PhasePlan;
+use kc_words::pack;
+use std::marker::Model;
+
+/// Stores marks of a range of moves of one group, beside the writer and other markers. Contracts see its range, whether the group was
+/// published when it was lent, and the vertices whose moves it noted, marked and cleared.
+///
+/// Each call asks that the store is the one of the writer that lent it, and takes no memory.
+#[derive(Drop)]
+pub struct Marker {
+    pub(crate) seat: Place,
+    // The place of the group in the plan, as in what the seat knows.
+    pub(crate) group: u32,
+}
+
+impl Model for Marker {
+    ghost use Rattle.std.specs.Prelude.{◌≡◌};
+    ghost use Rattle.kc_store.specs.Seats.{MarkerShape, marker_shape, marker_of, IsMarker};
+
+    ghost Value = { MarkerShape };
+
+    ghost view = { λ m. marker_shape m.seat };
+
+    ghost invariant = { λ m. IsMarker m.seat × (m.group ≡ (marker_of m.seat.me.0).loan.group) };
+}
+
+impl Marker {
+    /// Marks move i of the group, counted from the group's first. It is in the marker's range, the group was not published when
+    /// the marker was lent, and the plan is the one of that time.
+    pub fn mark(&mut self, store: &Store, plan: &PhasePlan, i: u32)
+        requires table { self.old.table ≡ store.now.table }
+        requires plan { plan.now ≡ self.old.state.plan }
+        requires range { (self.old.state.loan.from ≤ i) × (i < self.old.state.loan.to) }
+        requires early { self.old.state.loan.published ≡ false }
+        ensures { self.new ≡ record self.old { state = marker_marked (vertex_at plan.now self.old.state.loan.group i) self.old.state } }
+    {
+        let group = self.group;
+        let seat = &mut self.seat;
+        let (m, label) = move_at(plan, group, i);
+        let v = m.vertex as usize;
+        let old = word_of(m.old);
+        let words = &store.table.shared;
+        // The old level comes first: a reader that finds the mark may load it.
+        words.store::<LentNotes>(seat, 2 * store.n as usize + 1 + v, old);
+        words.store::<LentMarks>(seat, v + 1, pack(m.new, label, phase_of(plan)));
+    }
+
+    /// Clears move i of the group, counted from the group's first. It is in the marker's range, the group was published when the
+    /// marker was lent, and the plan is the one of that time.
+    pub fn clear(&mut self, store: &Store, plan: &PhasePlan, i: u32)
+        requires table { self.old.table ≡ store.now.table }
+        requires plan { plan.now ≡ self.old.state.plan }
+        requires range { (self.old.state.loan.from ≤ i) × (i < self.old.state.loan.to) }
+        requires late { self.old.state.loan.published ≡ true }
+        ensures { self.new ≡ record self.old { state = marker_cleared (vertex_at plan.now self.old.state.loan.group i) self.old.state } }
+    {
+        let group = self.group;
+        let seat = &mut self.seat;
+        let (m, _label) = move_at(plan, group, i);
+        store
+            .table
+            .shared
+            .store::<LentClears>(seat, m.vertex as usize + 1, pack(m.new, 0, 0));
+    }
+}

@@ -1,0 +1,214 @@
+// The rule of the table, and what each kind of step tells.
+use crate::roles::Role;
+use atomic_table::{Join, Play, Seat, Split, TableRule};
+use std::marker::{Brand, PhantomData};
+
+pub(crate) type Place = Seat<u8, Role>;
+
+pub(crate) struct Rule;
+
+// What a table is opened with.
+#[derive(Clone, Copy)]
+pub(crate) struct Size {
+    pub vertices: u32,
+    pub before: u32,
+}
+
+impl TableRule<u8, Role, Size> for Rule {
+    ghost use Rattle.kc_store.specs.Rule.{IsKept};
+    ghost use Rattle.kc_store.specs.Steps.{first_role};
+
+    ghost holds = { λ k. IsKept k.vertices };
+
+    ghost first = { λ k. first_role k.vertices k.before };
+}
+
+// The plan of the phase that a step begins. The call picks it.
+pub(crate) trait Planned {
+    ghost use Rattle.kc_groups.specs.declared.plans.PhasePlan.{PhasePlan};
+
+    ghost plan: { PhasePlan };
+}
+
+impl Planned for Brand {
+    ghost use Rattle.kc_store.specs.States.{empty_plan};
+
+    ghost plan = { empty_plan 0 };
+}
+
+// A phase begins.
+pub(crate) struct Begins<J> {
+    of: PhantomData<J>,
+}
+
+impl<J: Planned> Play<u8, Role> for Begins<J> {
+    ghost use Rattle.kc_store.specs.Steps.{begins};
+
+    ghost then = { begins J.plan };
+}
+
+// The writer stores an old level.
+pub(crate) struct Notes;
+
+impl Play<u8, Role> for Notes {
+    ghost use Rattle.kc_store.specs.Steps.{notes};
+
+    ghost then = { notes };
+}
+
+// The writer stores the mark of a move.
+pub(crate) struct Marks;
+
+impl Play<u8, Role> for Marks {
+    ghost use Rattle.kc_store.specs.Steps.{marks};
+
+    ghost then = { marks };
+}
+
+// The writer stores the one level of a vertex whose move shows.
+pub(crate) struct Clears;
+
+impl Play<u8, Role> for Clears {
+    ghost use Rattle.kc_store.specs.Steps.{clears};
+
+    ghost then = { clears };
+}
+
+// A group is published.
+pub(crate) struct Publishes;
+
+impl Play<u8, Role> for Publishes {
+    ghost use Rattle.kc_store.specs.Steps.{publishes};
+
+    ghost then = { publishes };
+}
+
+// A marker stores an old level.
+pub(crate) struct LentNotes;
+
+impl Play<u8, Role> for LentNotes {
+    ghost use Rattle.kc_store.specs.Steps.{lent_notes};
+
+    ghost then = { lent_notes };
+}
+
+// A marker stores the mark of a move.
+pub(crate) struct LentMarks;
+
+impl Play<u8, Role> for LentMarks {
+    ghost use Rattle.kc_store.specs.Steps.{lent_marks};
+
+    ghost then = { lent_marks };
+}
+
+// A marker stores the one level of a vertex whose move shows.
+pub(crate) struct LentClears;
+
+impl Play<u8, Role> for LentClears {
+    ghost use Rattle.kc_store.specs.Steps.{lent_clears};
+
+    ghost then = { lent_clears };
+}
+
+// A pass loads the packed word of a vertex.
+pub(crate) struct FirstLoad;
+
+impl Play<u8, Role> for FirstLoad {
+    ghost use Rattle.kc_store.specs.Steps.{first_load};
+
+    ghost then = { first_load };
+}
+
+// It loads the stamp of the word's label.
+pub(crate) struct SecondLoad;
+
+impl Play<u8, Role> for SecondLoad {
+    ghost use Rattle.kc_store.specs.Steps.{second_load};
+
+    ghost then = { second_load };
+}
+
+// It loads the old level of the vertex.
+pub(crate) struct ThirdLoad;
+
+impl Play<u8, Role> for ThirdLoad {
+    ghost use Rattle.kc_store.specs.Steps.{third_load};
+
+    ghost then = { third_load };
+}
+
+// A pass is split off.
+pub(crate) struct NewPass;
+
+impl Split<Role> for NewPass {
+    ghost use Rattle.kc_store.specs.Steps.{new_pass};
+
+    ghost left = { λ v. v };
+
+    ghost right = { new_pass };
+}
+
+// A pass is joined.
+pub(crate) struct TakesIn;
+
+impl Join<Role> for TakesIn {
+    ghost use Rattle.kc_store.specs.Steps.{took_in};
+    ghost use Rattle.kc_store.specs.declared.roles.Role.TheVariants.{Spent};
+
+    ghost both = { took_in };
+
+    ghost spent = { Spent };
+}
+
+// What passes had seen begins the history.
+pub(crate) struct Tells;
+
+impl Play<u8, Role> for Tells {
+    ghost use Rattle.kc_store.specs.Steps.{told};
+
+    ghost then = { told };
+}
+
+// The range that is lent. The call picks it.
+pub(crate) trait Ranged {
+    ghost use Rattle.std.specs.Prelude.{ℕ};
+
+    ghost group: { ℕ };
+
+    ghost low: { ℕ };
+
+    ghost high: { ℕ };
+}
+
+impl Ranged for Brand {
+    ghost group = { 0 };
+
+    ghost low = { 0 };
+
+    ghost high = { 0 };
+}
+
+// A marker is lent.
+pub(crate) struct Lends<J> {
+    of: PhantomData<J>,
+}
+
+impl<J: Ranged> Split<Role> for Lends<J> {
+    ghost use Rattle.kc_store.specs.Steps.{lender, lent_to};
+
+    ghost left = { lender J.group J.low J.high };
+
+    ghost right = { lent_to J.group J.low J.high };
+}
+
+// A marker is given back.
+pub(crate) struct GetsBack;
+
+impl Join<Role> for GetsBack {
+    ghost use Rattle.kc_store.specs.Steps.{got_back};
+    ghost use Rattle.kc_store.specs.declared.roles.Role.TheVariants.{Spent};
+
+    ghost both = { got_back };
+
+    ghost spent = { Spent };
+}

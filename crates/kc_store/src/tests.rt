@@ -1,0 +1,4 @@
+mod plans;
+mod rows;
+mod showing;
+mod threads;

@@ -1,0 +1,108 @@
+// Plans of phases, from graphs and levels.
+ghost use Rattle.std.specs.Prelude.{◌≡◌, ◌≤◌, ◌<◌, OnOk, IfOk, length};
+ghost use Rattle.std.specs.Bool.{OnTrue};
+ghost use Rattle.kc_graph.specs.Shape.{EdgesFrom};
+ghost use Rattle.kc_graph.specs.Changes.{AllPresent};
+ghost use Rattle.kc_levels.specs.LevelList.{IsBelow};
+ghost use Rattle.kc_groups.specs.WellFormed.{IsWellFormed};
+
+use kc_graph::{Edge, Graph, MAX_EDGES, MAX_VERTICES};
+use kc_groups::{PhasePlan, plan_phase};
+use kc_levels::Levels;
+use std::alloc::{AllocError, Global};
+use std::process::Abort;
+
+// Puts the edges into the graph.
+pub(crate) fn insert_all<R: Abort>(
+    rt: &R,
+    alloc: Global,
+    graph: &mut Graph,
+    edges: &[Edge],
+) -> Result<(), AllocError>
+    ensures { OnOk result (graph.new.vertices ≡ graph.old.vertices) }
+{
+    for e in edges {
+        assert!(rt; e.b < graph.vertices());
+        assert!(rt; !graph.has(*e));
+        assert!(rt; graph.edge_count() < MAX_EDGES);
+        graph.insert(alloc, *e)?;
+    }
+    Ok(())
+}
+
+// The levels of a list.
+fn levels_of(alloc: Global, items: &[u16]) -> Result<Levels, AllocError>
+    requires { length items.now ≤ MAX_VERTICES }
+    ensures { IfOk result (λ x. length x ≡ length items.now) }
+{
+    let mut levels = Levels::zeros(alloc, items.len() as u32)?;
+    for v in 0..items.len() {
+        levels.set(v as u32, items[v]);
+    }
+    Ok(levels)
+}
+
+// Whether no level of x is above that of y.
+pub(crate) fn is_below(x: &Levels, y: &Levels) -> bool
+    requires { length y.now ≡ length x.now }
+    ensures { OnTrue result (IsBelow (length x.now) x.now y.now) }
+{
+    let x = x.as_slice();
+    let y = y.as_slice();
+    for v in 0..x.len() {
+        if x[v] > y[v] {
+            return false;
+        }
+    }
+    true
+}
+
+// Whether each of the edges is in the graph.
+fn are_present(graph: &Graph, edges: &[Edge]) -> bool
+    requires { EdgesFrom graph.now.vertices 0 0 edges.now }
+    ensures { OnTrue result (AllPresent graph.now edges.now) }
+{
+    for e in edges {
+        if !graph.has(*e) {
+            return false;
+        }
+    }
+    true
+}
+
+// The plan of a phase from one list of levels to another, in a graph with the phase's edges and others.
+pub(crate) fn plan<R: Abort>(
+    rt: &R,
+    alloc: Global,
+    phase: u32,
+    add: bool,
+    edges: &[Edge],
+    others: &[Edge],
+    before: &[u16],
+    after: &[u16],
+) -> Result<PhasePlan, AllocError>
+    requires positive { 1 ≤ length before.now }
+    requires small { length before.now ≤ MAX_VERTICES }
+    requires same { length after.now ≡ length before.now }
+    requires ascending { EdgesFrom (length before.now) 0 0 edges.now }
+    ensures formed { IfOk result (IsWellFormed (length before.now)) }
+    ensures phase { IfOk result (λ plan. plan.quiet.phase ≡ phase) }
+{
+    let n = before.len() as u32;
+    let mut graph = Graph::new(alloc, n)?;
+    insert_all(rt, alloc, &mut graph, edges)?;
+    insert_all(rt, alloc, &mut graph, others)?;
+    let before = levels_of(alloc, before)?;
+    let after = levels_of(alloc, after)?;
+    assert!(rt; are_present(&graph, edges));
+    assert!(rt; !add || is_below(&before, &after));
+    assert!(rt; add || is_below(&after, &before));
+    plan_phase(alloc, phase, add, edges, &before, &after, &graph)
+}
+
+pub(crate) fn edge(a: u32, b: u32) -> Edge
+    requires { a < b }
+    ensures { result ≡ (a, b) }
+{
+    Edge { a, b }
+}

@@ -1,0 +1,25 @@
+// A mark in a word: the phase in bits 0 to 23, the label in bits 24 to 47, the new level in bits 48 to 63.
+ghost use Rattle.std.specs.Prelude.{◌≡◌, ◌<◌, ◌^◌};
+ghost use Rattle.kc_words.specs.Packed.{packed, unpacked};
+
+use crate::Mark;
+
+/// The word of a mark, as `packed` says. Label and phase are below 16,777,216.
+pub fn pack(new: u16, label: u32, phase: u32) -> u64
+    requires label { label < 2 ^ 24 }
+    requires phase { phase < 2 ^ 24 }
+    ensures { result ≡ packed new label phase }
+{
+    (u64::from(new) << 48) + (u64::from(label) << 24) + u64::from(phase)
+}
+
+/// The mark of a word, as `unpacked` says. Each word is that of one mark.
+pub fn unpack(word: u64) -> Mark
+    ensures { result ≡ unpacked word }
+{
+    Mark {
+        new: (word >> 48) as u16,
+        label: (word >> 24 & 0xff_ffff) as u32,
+        phase: (word & 0xff_ffff) as u32,
+    }
+}
