@@ -1,4 +1,4 @@
--- One batch: there is a state behind it, there is only one, and it keeps what is true of each state.
+-- One batch: there is a state after it, there is only one, and it keeps what is true of each state.
 use Rattle.std.proofs.Common.{ℕ, ◌≡◌, ◌≤◌, ◌+◌, ◌-◌, Bool, true, false, List, [], ◌∷◌, nat_lt, length, replicate, refl, sym, ap, ◌∙◌, suc, zero, inl, inr, arith}
 use Rattle.std.specs.Prelude.{Some, None, if◌then◌else◌, ◌&&◌, ◌⊎◌, Result, Ok, Err}
 use Rattle.std.specs.Result.{MatchResult, is_ok}
@@ -10,7 +10,7 @@ use Rattle.kc_graph.specs.declared.limits.TheConstants.{MAX_EDGES, MAX_ITEMS}
 use Rattle.kc_graph.specs.Shape.{Pair, GraphShape, EdgesFrom, IsGraph, with_edges, without_edges}
 use Rattle.kc_graph.specs.CleaningLaws.{FitsGraph}
 use Rattle.kc_graph.proofs.ChangeLemmas.{vertices-with_edges, vertices-without_edges, length-with_edges, inside_from_ascending, is_graph-with_edges, is_graph-without_edges}
-use Rattle.kc_graph.proofs.CleaningLemmas.{each_item_counts_once}
+use Rattle.kc_graph.proofs.CountingLemmas.{each_item_counts_once}
 use Rattle.kc_graph.proofs.CleaningLawLemmas.{cleaned_fits_graph}
 use Rattle.kc_levels.specs.declared.profile.Profile.{Profile}
 use Rattle.kc_levels.specs.LevelList.{at_least, MeetsBoth, IsBelow, IsCapped, IsRaised, IsLowered}
@@ -141,7 +141,7 @@ pub at_after : (p : Profile) (g : GraphShape) (c : Cleaned) (x y : List ℕ) →
 at_after p g c x y k f a =
     after_raised p (without_edges g c.removed) c.added a.between y (after_lowered p g c.removed x a.between k a.lowered) (ascend_later g c f) a.raised
 
--- the one list of levels behind a batch
+-- the one list of levels after a batch
 pub one_after : (p : Profile) (g : GraphShape) (c : Cleaned) (x : List ℕ) → IsAt p g x → FitsGraph g c
     → (y : List ℕ) × (AreLevelsAfter p g c x y × ((z : List ℕ) → AreLevelsAfter p g c x z → z ≡ y))
 one_after p g c x k f =
@@ -168,7 +168,7 @@ batch_has_one_state limit s c k cleaning =
       ),
     )
 
--- how many edges there are behind a batch
+-- how many edges there are after a batch
 pub edges_behind : (g : GraphShape) (c : Cleaned) (limit : ℕ) → limit ≤ MAX_EDGES → FitsGraph g c → length g.edges - length c.removed + length c.added ≤ limit → length (graph_after_batch g c).edges ≤ limit
 edges_behind g c limit small f room =
     let longer = length-with_edges (without_edges g c.removed) c.added (f.can_add (omega (arith, small, room))) in
@@ -192,7 +192,7 @@ batch_keeps_both limit s t c k cleaning a =
     let there = at_after s.profile s.graph c s.levels t.levels (at_state limit s k) (fits s.graph c k.graph cleaning) a.levels in
     rw (a.profile, a.graph) there.both
 
--- the state behind the phases of a batch
+-- the state after the phases of a batch
 pub behind_phases : (s : State) (c : Cleaned) (g : GraphShape) (y : List ℕ) (count : ℕ) → g ≡ graph_after_batch s.graph c → AreLevelsAfter s.profile s.graph c s.levels y → count ≡ phases_of c
     → IsAfterBatch s c (record { profile = s.profile; graph = g; levels = y; phases = s.phases + count })
 behind_phases s c g y count graph moved counted = record { profile = refl; graph = graph; levels = moved; phases = ap (λ k. s.phases + k) counted }
@@ -200,7 +200,7 @@ behind_phases s c g y count graph moved counted = record { profile = refl; graph
 pub vertices_after : (g : GraphShape) (c : Cleaned) → (graph_after_batch g c).vertices ≡ g.vertices
 vertices_after g c = vertices-with_edges (without_edges g c.removed) c.added ∙ vertices-without_edges g c.removed
 
--- the sound state behind the phases of a batch that isn't refused
+-- the sound state after the phases of a batch that isn't refused
 pub sound_behind : (limit : ℕ) (s : State) (c : Cleaned) (g : GraphShape) (y : List ℕ) (count : ℕ) → limit ≤ MAX_EDGES → IsSound limit s → IsCleaning s.graph c → refusal_of limit s c ≡ None
     → g ≡ graph_after_batch s.graph c → AreLevelsAfter s.profile s.graph c s.levels y → count ≡ phases_of c
     → IsSound limit (record { profile = s.profile; graph = g; levels = y; phases = s.phases + count })

@@ -1,3 +1,4 @@
 pub mod BatchLemmas
 pub mod RelinkLemmas
+pub mod MoveLemmas
 pub mod PhaseLaw

@@ -1,25 +1,21 @@
 -- The phases of a batch: there is one list of them, they are numbered on and well formed, and their entries lead over the batch.
-use Rattle.std.proofs.Common.{ℕ, suc, zero, ◌+◌, ◌≤◌, ◌<◌, ◌≡◌, Bool, true, false, List, [], ◌∷◌, ◌++◌, length, get_or, map, refl, ap, sym, ◌∙◌, arith, append_assoc, length-append, subst}
+use Rattle.std.proofs.Common.{ℕ, suc, zero, ◌+◌, ◌<◌, ◌≡◌, Bool, true, false, List, [], ◌∷◌, ◌++◌, length, get_or, map, refl, ap, sym, ◌∙◌, arith, append_assoc, length-append, subst}
 use Rattle.std.specs.Prelude.{All, ◌≢◌, ◌↔◌, IsTrue, Result, Ok, Err, IfOk}
 use Rattle.std.proofs.lemmas.Bool.{iff_false}
 use Rattle.std.proofs.lemmas.List.{append-nil}
-use Rattle.std.proofs.lemmas.List.Elements.{All-cons, All-nil, All-append, All-from_get_or}
+use Rattle.std.proofs.lemmas.List.Elements.{All-cons, All-nil, All-append}
 use Rattle.kc_graph.specs.declared.cleaning.Cleaned.{Cleaned}
-use Rattle.kc_graph.specs.declared.limits.TheConstants.{MAX_VERTICES}
 use Rattle.kc_graph.specs.Shape.{Pair, GraphShape, EdgesFrom, IsGraph, with_edges, without_edges}
 use Rattle.kc_graph.specs.Changes.{AllPresent}
-use Rattle.kc_graph.specs.CleaningLaws.{FitsGraph}
 use Rattle.kc_graph.proofs.ChangeLemmas.{vertices-with_edges, vertices-without_edges}
 use Rattle.kc_levels.specs.declared.profile.Profile.{Profile}
-use Rattle.kc_levels.specs.LevelList.{IsCapped}
 use Rattle.kc_levels.specs.Moved.{moved_count}
-use Rattle.kc_levels.proofs.Groups.{top_level-small}
 use Rattle.kc_history.specs.declared.entries.Entry.{Entry}
 use Rattle.kc_history.specs.Points as points
 use Rattle.kc_history.proofs.PointLemmas as history
 use Rattle.kc_groups.specs.declared.plans.PhasePlan.{PhasePlan}
 use Rattle.kc_groups.specs.Entries.{entries_of, AreEntries}
-use Rattle.kc_groups.specs.WellFormed.{IsWellFormed, AreSmall}
+use Rattle.kc_groups.specs.WellFormed.{IsWellFormed}
 use Rattle.kc_groups.proofs.PlanLaw.{plan_is_one, plan_is_well_formed}
 use Rattle.kc_groups.proofs.LeadLaw.{entries_lead_over}
 use Rattle.kc_engine.specs.declared.plans.BatchPlan.{BatchPlan}
@@ -179,37 +175,26 @@ phases_are_numbered_on = record { count = count; number = number }
         i (rw a.phases.all at inside) in
         rw a.phases.all (both ∙ omega arith)
 
-small_levels : (p : Profile) (n : ℕ) (x : List ℕ) → n ≤ MAX_VERTICES → length x ≡ n → IsCapped p n x → AreSmall x
-small_levels p n x few sized capped = All-from_get_or (λ l. l < 4096) x 0 (λ i lt. omega (arith, capped i (omega (arith, lt, sized)), top_level-small p n few))
-
 -- the phase of these edges is well formed
-phase_well_formed : (phase : ℕ) (add : Bool) (es : List Pair) (x y : List ℕ) (g : GraphShape) (plans : List PhasePlan) → length x ≡ g.vertices → length y ≡ g.vertices → AreSmall x → AreSmall y → ArePhaseOf phase add es x y g plans → All (IsWellFormed g.vertices) plans
-phase_well_formed phase add [] x y g plans sx sy lx ly a = rw a (All-nil (IsWellFormed g.vertices))
-phase_well_formed phase add (e ∷ es) x y g plans sx sy lx ly a =
+phase_well_formed : (phase : ℕ) (add : Bool) (es : List Pair) (x y : List ℕ) (g : GraphShape) (plans : List PhasePlan) → ArePhaseOf phase add es x y g plans → All (IsWellFormed g.vertices) plans
+phase_well_formed phase add [] x y g plans a = rw a (All-nil (IsWellFormed g.vertices))
+phase_well_formed phase add (e ∷ es) x y g plans a =
     let b : IsOnePhase phase add (e ∷ es) x y g plans = a in
-    rw b.alone (All-cons (IsWellFormed g.vertices) b.plan [] (plan_is_well_formed phase add (e ∷ es) x y g b.plan b.entries sx sy lx ly) (All-nil (IsWellFormed g.vertices)))
+    rw b.alone (All-cons (IsWellFormed g.vertices) b.plan [] (plan_is_well_formed phase add (e ∷ es) x y g b.plan b.entries) (All-nil (IsWellFormed g.vertices)))
 
 -- the phases of a batch are well formed
-pub well_formed : (p : Profile) (before : ℕ) (g : GraphShape) (c : Cleaned) (x y : List ℕ) (plans : List PhasePlan) → g.vertices ≤ MAX_VERTICES → IsAt p g x → FitsGraph g c → (a : AreLevelsAfter p g c x y) → ArePhases before g c x a.between y plans → All (IsWellFormed g.vertices) plans
-well_formed p before g c x y plans few k f a phases =
-    let middle = after_lowered p g c.removed x a.between k a.lowered in
-    let end = at_after p g c x y k f a in
-    let here = vertices-without_edges g c.removed in
-    let there = vertices_after g c in
-    let first = small_levels p g.vertices x few k.both.sized k.capped in
-    let second = small_levels p g.vertices a.between few (middle.both.sized ∙ here) (rw here at middle.capped) in
-    let third = small_levels p g.vertices y few (end.both.sized ∙ there) (rw there at end.capped) in
-    let leave = phase_well_formed (before + 1) false c.removed x a.between g phases.leaving k.both.sized (middle.both.sized ∙ here) first second phases.deletion in
-    let come = phase_well_formed (before + phases_for c.removed + 1) true c.added a.between y (graph_after_batch g c) phases.coming (middle.both.sized ∙ here ∙ sym there) end.both.sized second third phases.insertion in
-    rw phases.all (All-append (IsWellFormed g.vertices) phases.leaving phases.coming leave (rw there at come))
+pub well_formed : (before : ℕ) (g : GraphShape) (c : Cleaned) (x z y : List ℕ) (plans : List PhasePlan) → ArePhases before g c x z y plans → All (IsWellFormed g.vertices) plans
+well_formed before g c x z y plans phases =
+    let leave = phase_well_formed (before + 1) false c.removed x z g phases.leaving phases.deletion in
+    let come = phase_well_formed (before + phases_for c.removed + 1) true c.added z y (graph_after_batch g c) phases.coming phases.insertion in
+    rw phases.all (All-append (IsWellFormed g.vertices) phases.leaving phases.coming leave (rw (vertices_after g c) at come))
 
-pub well_formed_made : {E : Type 0} → (r : Result BatchPlan E) (p : Profile) (before : ℕ) (g : GraphShape) (c : Cleaned) (x y : List ℕ) → g.vertices ≤ MAX_VERTICES → IsAt p g x → FitsGraph g c → IfOk r (λ (b : BatchPlan). IsPlanOf p before g c x y b) → IfOk r (λ (b : BatchPlan). All (IsWellFormed g.vertices) b.phases)
-well_formed_made (Ok b) p before g c x y few k f a = well_formed p before g c x y b.phases few k f a.levels a.phases
-well_formed_made (Err e) p before g c x y few k f a = tt
+pub well_formed_made : {E : Type 0} → (r : Result BatchPlan E) (p : Profile) (before : ℕ) (g : GraphShape) (c : Cleaned) (x y : List ℕ) → IfOk r (λ (b : BatchPlan). IsPlanOf p before g c x y b) → IfOk r (λ (b : BatchPlan). All (IsWellFormed g.vertices) b.phases)
+well_formed_made (Ok b) p before g c x y a = well_formed before g c x a.levels.between y b.phases a.phases
+well_formed_made (Err e) p before g c x y a = tt
 
 pub phases_are_well_formed : PhasesAreWellFormed
-phases_are_well_formed limit s t c plans few sound cleaning a =
-    well_formed s.profile s.phases s.graph c s.levels t.levels plans few (at_state limit s sound) (fits s.graph c sound.graph cleaning) a.after.levels a.phases
+phases_are_well_formed s t c plans a = well_formed s.phases s.graph c s.levels a.after.levels.between t.levels plans a.phases
 
 entries_in-append : (ps qs : List PhasePlan) → entries_in (ps ++ qs) ≡ entries_in ps ++ entries_in qs
 entries_in-append [] qs = refl

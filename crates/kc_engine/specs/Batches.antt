@@ -1,4 +1,4 @@
--- Batches in turn: whether a cleaned batch is refused in a state, and the state behind it if it isn't.
+-- Batches in turn: whether a cleaned batch is refused in a state, and the state after it if it isn't.
 use Rattle.std.specs.Prelude.{ℕ, ◌≡◌, ◌≤◌, ◌+◌, ◌-◌, nat_lt, ◌&&◌, Bool, true, false, List, [], ◌∷◌, ◌++◌, length, Option, Some, None, if◌then◌else◌, All}
 use Rattle.kc_graph.specs.declared.cleaning.Cleaned.{Cleaned}
 use Rattle.kc_graph.specs.declared.items.Item.{Item}
@@ -65,7 +65,7 @@ graph_after_batch g c = with_edges (without_edges g c.removed) c.added
 
 -- the levels y after the batch at the levels x: first some edges leave, then some come in
 pub record AreLevelsAfter (p : Profile) (g : GraphShape) (c : Cleaned) (x y : List ℕ) : Type 0 where
-  -- the levels behind the deletion phase, if there is one
+  -- the levels after the deletion phase, if there is one
   pub between : List ℕ
   pub lowered : AreLoweredIn p g c.removed x between
   pub raised : AreRaisedIn p (without_edges g c.removed) c.added between y

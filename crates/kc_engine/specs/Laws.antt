@@ -1,7 +1,7 @@
 -- Laws of the definitions, each the contract of a function of `laws`.
 use Rattle.std.specs.Prelude.{ℕ, ◌≡◌, ◌≤◌, ◌<◌, ◌+◌, None, List, ◌++◌, length, get_or, map, All}
 use Rattle.kc_graph.specs.declared.cleaning.Cleaned.{Cleaned}
-use Rattle.kc_graph.specs.declared.limits.TheConstants.{MAX_EDGES, MAX_VERTICES}
+use Rattle.kc_graph.specs.declared.limits.TheConstants.{MAX_EDGES}
 use Rattle.kc_levels.specs.declared.profile.Profile.{Profile}
 use Rattle.kc_levels.specs.LevelList.{MeetsBoth}
 use Rattle.kc_history.specs.declared.limits.TheConstants.{MAX_PHASE}
@@ -16,19 +16,19 @@ use Rattle.kc_engine.specs.Batches.{IsCleaning, refusal_of, IsAfterBatch, IsAfte
 abbrev pub StartIsSound : Type 0
 StartIsSound = (p : Profile) (n before limit : ℕ) → before ≤ MAX_PHASE → IsSound limit (start p n before)
 
--- behind each batch that isn't refused there is exactly one state
+-- after each batch that isn't refused there is exactly one state
 abbrev pub BatchHasOneState : Type 0
 BatchHasOneState =
     (limit : ℕ) (s : State) (c : Cleaned) → IsSound limit s → IsCleaning s.graph c →
     (t : State) × (IsAfterBatch s c t × ((u : State) → IsAfterBatch s c u → u ≡ t))
 
--- the state behind a batch that isn't refused is sound if the one before it is
+-- the state after a batch that isn't refused is sound if the one before it is
 abbrev pub BatchKeepsSound : Type 0
 BatchKeepsSound =
     (limit : ℕ) (s t : State) (c : Cleaned) → limit ≤ MAX_EDGES → IsSound limit s → IsCleaning s.graph c → refusal_of limit s c ≡ None →
     IsAfterBatch s c t → IsSound limit t
 
--- both invariants hold behind a batch where they held before it
+-- both invariants hold after a batch where they held before it
 abbrev pub BatchKeepsBoth : Type 0
 BatchKeepsBoth =
     (limit : ℕ) (s t : State) (c : Cleaned) → IsSound limit s → IsCleaning s.graph c → IsAfterBatch s c t →
@@ -45,11 +45,10 @@ pub record PhasesAreNumberedOn : Type 0 where
   pub count : (s t : State) (c : Cleaned) (plans : List PhasePlan) → IsAfterPhases s c t plans → s.phases + length plans ≡ t.phases
   pub number : (s t : State) (c : Cleaned) (plans : List PhasePlan) (i : ℕ) → IsAfterPhases s c t plans → i < length plans → get_or (map (λ (p : PhasePlan). p.quiet.phase) plans) i 0 ≡ s.phases + i + 1
 
--- the phases of a graph with no more vertices than there may be are well formed
+-- the phases are well formed
 abbrev pub PhasesAreWellFormed : Type 0
 PhasesAreWellFormed =
-    (limit : ℕ) (s t : State) (c : Cleaned) (plans : List PhasePlan) → s.graph.vertices ≤ MAX_VERTICES → IsSound limit s → IsCleaning s.graph c →
-    IsAfterPhases s c t plans → All (IsWellFormed s.graph.vertices) plans
+    (s t : State) (c : Cleaned) (plans : List PhasePlan) → IsAfterPhases s c t plans → All (IsWellFormed s.graph.vertices) plans
 
 -- the entries of the phases, one after another, lead from the graph and levels before the batch to those after it
 pub record PhasesLeadOver : Type 0 where
@@ -61,7 +60,7 @@ pub record IsHistoryOf (n : ℕ) (history : List Entry) (s : State) : Type 0 whe
   pub graph : points.graph_at n history (length history) ≡ s.graph
   pub levels : points.levels_at n history (length history) ≡ s.levels
 
--- behind a history that ends at the state before the batch, they lead to the state after it
+-- after a history that ends at the state before the batch, they lead to the state after it
 abbrev pub PhasesLeadOn : Type 0
 PhasesLeadOn =
     (limit n : ℕ) (history : List Entry) (s t : State) (c : Cleaned) (plans : List PhasePlan) → IsSound limit s → IsCleaning s.graph c → IsAfterPhases s c t plans →

@@ -1,4 +1,5 @@
 pub mod States
 pub mod Batches
+pub mod Readiness
 pub mod Planning
 pub mod Laws

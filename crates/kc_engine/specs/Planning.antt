@@ -5,9 +5,11 @@ use Rattle.kc_graph.specs.declared.limits.TheConstants.{MAX_EDGES}
 use Rattle.kc_levels.specs.Thresholds.{Scale}
 use Rattle.kc_engine.specs.declared.shape.Shape.{Shape}
 use Rattle.kc_engine.specs.declared.plans.BatchPlan.{BatchPlan}
+use Rattle.kc_engine.specs.declared.work.PhaseWork.{PhaseWork}
 use Rattle.kc_engine.specs.declared.faults.EngineFault.{EngineFault}
 use Rattle.kc_engine.specs.declared.faults.EngineFault.TheVariants.{Halted, EdgeLimit, PhaseLimit, Memory}
 use Rattle.kc_engine.specs.States.{State, start, IsSound}
+use Rattle.kc_engine.specs.Readiness.{AreReady}
 use Rattle.kc_engine.specs.Batches.{refusal_of, moves_through, IsAfterBatch, ArePhases}
 
 -- what contracts see of an `Engine`; once it has halted, graph and levels of the state are unspecified
@@ -21,13 +23,14 @@ pub record EngineView : Type 0 where
 abbrev pub opened : Shape → EngineView
 opened shape = record { state = start shape.profile shape.n shape.phases_before; workers = shape.workers; edge_limit = shape.edge_limit; halted = false }
 
--- what an engine keeps: its thresholds are for its graph and its state is sound, unless it has halted
-pub record IsKept (th : Scale) (e : EngineView) : Type 0 where
+-- what an engine keeps: unless it has halted, its thresholds are for its graph, its state is sound, and a phase may begin
+pub record IsKept (th : Scale) (work : PhaseWork) (e : EngineView) : Type 0 where
   pub some_workers : 1 ≤ e.workers
   pub few_workers : e.workers ≤ 64
   pub limit : e.edge_limit ≤ MAX_EDGES
   pub scale : e.halted ≡ false → th.vertices ≡ e.state.graph.vertices
   pub sound : e.halted ≡ false → IsSound e.edge_limit e.state
+  pub ready : e.halted ≡ false → AreReady e.state.profile (record { graph = e.state.graph; levels = e.state.levels }) work
 
 -- the batch was accepted: f is the engine e after it, and the plan has its phases
 pub record IsPlanned (e : EngineView) (c : Cleaned) (plan : BatchPlan) (f : EngineView) : Type 0 where

@@ -1,5 +1,5 @@
-ghost use Rattle.std.specs.Prelude.{◌≡◌, ◌≤◌, false, IfOk, OnOk, All};
-ghost use Rattle.kc_levels.specs.LevelList.{MeetsBoth};
+ghost use Rattle.std.specs.Prelude.{◌≡◌, ◌-◌, ◌<◌, ◌≤◌, false, IfOk, OnOk, All, slice_index};
+ghost use Rattle.kc_levels.specs.LevelList.{at_least, MeetsBoth};
 ghost use Rattle.kc_groups.specs.WellFormed.{IsWellFormed};
 ghost use Rattle.kc_engine.specs.States.{IsSound};
 ghost use Rattle.kc_engine.specs.Batches.{IsCleaning, refusal_of};
@@ -9,6 +9,7 @@ use crate::faults::EngineFault;
 use crate::phases::{phase_count, run_phases};
 use crate::plans::BatchPlan;
 use crate::shape::Shape;
+use crate::work::PhaseWork;
 use kc_adj::LevelAdj;
 use kc_graph::{Cleaned, Graph, MAX_EDGES, MAX_VERTICES};
 use kc_history::MAX_PHASE;
@@ -22,11 +23,14 @@ use std::thread::Threads;
 ///
 /// Contracts see it as an `EngineView`: its state (`State`), workers and edge limit, and whether it has halted. Unless it has
 /// halted its state is sound (`IsSound`): both invariants hold, and no number is above its limit.
+///
+/// Besides the graph it keeps 25 bytes a vertex: 10 for levels and counts, and 15 for what phases work with.
 #[derive(Drop)]
 pub struct Engine {
     // For the vertices of the graph.
     thresholds: Thresholds,
     adj: LevelAdj,
+    work: PhaseWork,
     // How many phases there were, at most `MAX_PHASE`.
     phases: u32,
     workers: u32,
@@ -42,13 +46,13 @@ impl Model for Engine {
 
     ghost view = { λ e. record { state = record { profile = e.thresholds.profile; graph = e.adj.graph; levels = e.adj.levels; phases = e.phases }; workers = e.workers; edge_limit = e.edge_limit; halted = e.halted } };
 
-    ghost invariant = { λ e. IsKept e.thresholds (record { state = record { profile = e.thresholds.profile; graph = e.adj.graph; levels = e.adj.levels; phases = e.phases }; workers = e.workers; edge_limit = e.edge_limit; halted = e.halted }) };
+    ghost invariant = { λ e. IsKept e.thresholds e.work (record { state = record { profile = e.thresholds.profile; graph = e.adj.graph; levels = e.adj.levels; phases = e.phases }; workers = e.workers; edge_limit = e.edge_limit; halted = e.halted }) };
 }
 
 impl Engine {
     /// The engine of this shape before its first batch (`opened`): no edges, all levels 0, not halted.
     ///
-    /// The numbers of the shape are within their ranges. Takes memory and time for n vertices. The error is want of memory.
+    /// The numbers of the shape are within their ranges. Takes memory and time for n vertices. Fails only if memory runs out.
     pub fn open(alloc: Global, shape: Shape) -> Result<Engine, AllocError>
         requires some { 1 ≤ shape.n }
         requires small { shape.n ≤ MAX_VERTICES }
@@ -58,9 +62,13 @@ impl Engine {
         requires few_edges { shape.edge_limit ≤ MAX_EDGES }
         ensures { IfOk result (λ engine. engine ≡ opened shape) }
     {
+        let thresholds = Thresholds::new(alloc, shape.profile, shape.n)?;
+        let adj = LevelAdj::new(alloc, shape.n)?;
+        let work = PhaseWork::new(alloc, &thresholds, &adj)?;
         Ok(Engine {
-            thresholds: Thresholds::new(alloc, shape.profile, shape.n)?,
-            adj: LevelAdj::new(alloc, shape.n)?,
+            thresholds,
+            adj,
+            work,
             phases: shape.phases_before,
             workers: shape.workers,
             edge_limit: shape.edge_limit,
@@ -96,7 +104,7 @@ impl Engine {
     /// none for an empty list. Unless the engine has halted, `cleaned` is what `clean` gives for this graph.
     ///
     /// The faults, of which the first that applies comes, before memory is asked for:
-    /// - `Halted` exactly where an earlier batch met want of memory;
+    /// - `Halted` exactly where an earlier batch ran out of memory;
     /// - `EdgeLimit` exactly where the edges less those removed and with those added are more than the edge limit, with that
     ///   number;
     /// - `PhaseLimit` exactly where the batch has a phase and the number of its last one is above `MAX_PHASE`, with that number;
@@ -107,9 +115,10 @@ impl Engine {
     /// A phase has the entries of `AreEntries`, by its number, the levels before and after it, and the graph that has its edges:
     /// the one before edges leave, and the one after they come in. Each is well formed.
     ///
-    /// Costs what `delete_rounds`, `insert_rounds` and, for each phase, `plan_phase` cost, besides one pass over the vertices for
-    /// each phase, to copy the levels. For the plan of a deletion phase its edges come in once more and leave again, each time at
-    /// the cost of `LevelAdj::link` and `unlink`. A batch without phases and one that is refused cost O(1).
+    /// Costs what `delete_phase`, `insert_phase` and, for each phase, `plan_moves` cost, besides what it takes to follow each phase
+    /// with what the other kind works with: after a deletion phase two looks an edge that left, and one for each vertex that fell
+    /// and each of its neighbours; after an insertion phase a look for each vertex that rose. So no phase passes over all vertices
+    /// or all edges. A batch without phases and one that is refused cost O(1).
     pub fn plan<R: Threads + Sync, G: Gate + Sync>(
         &mut self,
         rt: &R,
@@ -138,6 +147,7 @@ impl Engine {
             self.workers,
             &self.thresholds,
             &mut self.adj,
+            &mut self.work,
             self.phases,
             cleaned,
         )
@@ -162,6 +172,22 @@ impl Engine {
         ensures sound { self.now.halted ≡ false → IsSound self.now.edge_limit self.now.state }
     {
         self.adj.levels()
+    }
+
+    /// How many neighbours of `v` are on its level or above (`at_least`). Costs O(1).
+    pub fn at_least_own(&self, v: u32) -> u32
+        requires { v < self.now.state.graph.vertices }
+        ensures { result ≡ at_least self.now.state.graph self.now.state.levels v (slice_index self.now.state.levels v) }
+    {
+        self.adj.at_least_own(v)
+    }
+
+    /// How many neighbours of `v` are on the level below its own or above (`at_least`), and on level 0 how many it has. Costs O(1).
+    pub fn at_least_below(&self, v: u32) -> u32
+        requires { v < self.now.state.graph.vertices }
+        ensures { result ≡ at_least self.now.state.graph self.now.state.levels v (slice_index self.now.state.levels v - 1) }
+    {
+        self.adj.at_least_below(v)
     }
 
     /// The thresholds that the levels go by. They are for the vertices of the graph, unless the engine has halted.

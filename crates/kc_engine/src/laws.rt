@@ -7,7 +7,7 @@ pub fn start_is_sound()
     ensures { StartIsSound }
 {}
 
-/// There is exactly one state behind each batch.
+/// There is exactly one state after each batch.
 pub fn batch_has_one_state()
     ensures { BatchHasOneState }
 {}
@@ -33,7 +33,7 @@ pub fn phases_are_well_formed()
     ensures { PhasesAreWellFormed }
 {}
 
-/// The entries of the phases of a batch lead from the graph and levels before it to those after it, also behind a history.
+/// The entries of the phases of a batch lead from the graph and levels before it to those after it, also after a history.
 pub fn phases_lead_over()
     ensures over { PhasesLeadOver }
     ensures on { PhasesLeadOn }

@@ -9,11 +9,11 @@
 mod engine;
 mod faults;
 pub mod laws;
-mod leaving;
 mod phases;
 mod plan_lists;
 mod plans;
 mod shape;
+mod work;
 
 pub use engine::Engine;
 pub use faults::EngineFault;

@@ -39,7 +39,7 @@ impl BatchPlan {
         Ok(BatchPlan { phases, moves })
     }
 
-    // The phases, and behind them those of another plan.
+    // The phases, and after them those of another plan.
     pub(crate) fn and_then(self, later: BatchPlan) -> Result<BatchPlan, AllocError>
         requires { self.moves + later.moves < 2 ^ 32 }
         ensures { IfOk result (λ batch. batch ≡ record { phases = self.phases ++ later.phases; moves = self.moves + later.moves }) }

@@ -28,6 +28,7 @@ fn is_inside(item: Item, n: u32) -> bool
     match item {
         Item::Insert { u, v } => u < n && v < n,
         Item::Delete { u, v } => u < n && v < n,
+        Item::Isolate { v } => v < n,
     }
 }
 
@@ -313,19 +314,19 @@ fn phases_are_limited(rt: HostRuntime) -> Result<(), Fail> {
         profile: Profile::One,
         n: 2,
         workers: 64,
-        phases_before: 1_048_574,
+        phases_before: 16_777_214,
         edge_limit: MAX_EDGES,
     };
     let mut engine = Engine::open(rt.alloc(), shape)?;
     let outcome = run(&rt, rt.alloc(), &mut engine, &[put(0, 1)])?;
     assert_eq!(rt; outcome, Outcome::Moves(2));
-    assert!(rt; is_as(&engine, &[1, 1], 1, 1_048_575));
+    assert!(rt; is_as(&engine, &[1, 1], 1, 16_777_215));
     let outcome = run(&rt, rt.alloc(), &mut engine, &[take(0, 1)])?;
-    assert_eq!(rt; outcome, Outcome::PhaseLimit(1_048_576));
-    assert!(rt; is_as(&engine, &[1, 1], 1, 1_048_575));
+    assert_eq!(rt; outcome, Outcome::PhaseLimit(16_777_216));
+    assert!(rt; is_as(&engine, &[1, 1], 1, 16_777_215));
     let outcome = run(&rt, rt.alloc(), &mut engine, &[put(1, 0)])?;
     assert_eq!(rt; outcome, Outcome::Moves(0));
-    assert!(rt; is_as(&engine, &[1, 1], 1, 1_048_575));
+    assert!(rt; is_as(&engine, &[1, 1], 1, 16_777_215));
     Ok(())
 }
 

@@ -1,53 +1,89 @@
-use Rattle.std.proofs.Common.{false, ap, sym, ◌∙◌}
+use Rattle.std.proofs.Common.{ℕ, ◌≡◌, false, List, length, ap, refl, sym, ◌∙◌, arith}
+use Rattle.std.proofs.lemmas.Result.{IfOk-weaker}
 use Rattle.kc_graph.specs.Shape.{GraphShape}
-use Rattle.kc_graph.proofs.ChangeLemmas.{vertices-without_edges, is_graph-without_edges}
+use Rattle.kc_graph.proofs.ChangeLemmas.{vertices-without_edges}
 use Rattle.kc_levels.specs.Moved.{moved_count}
-use Rattle.kc_adj.specs.LeveledGraph.{LeveledGraph}
+use Rattle.kc_groups.proofs.PlanLemmas.{between_in_order}
 use Rattle.kc_engine.specs.declared.plans.BatchPlan.{BatchPlan}
+use Rattle.kc_engine.specs.Readiness.{AreReady}
 use Rattle.kc_engine.proofs.BatchLemmas.{moved_same}
-use Rattle.kc_engine.proofs.RelinkLemmas.{absent_after, room_again, linked_again}
+use Rattle.kc_engine.proofs.RelinkLemmas.{linked_again}
+use Rattle.kc_engine.proofs.MoveLemmas.{edges_inside, moves_again, moves_inside, move_count, few_moves}
 use Rattle.kc_engine.proofs.PhaseLaw.{phase_made, moves_made}
 use Rattle.kc_engine.proofs.phases.deletion_phase.Goals as goal
 
 pub returns-then-is_empty-clause-moves : goal.returns-then-is_empty-clause-moves
 returns-then-is_empty-clause-moves g c = ap (λ (p : BatchPlan). p.moves) c.empty.ensures ∙ sym (moved_same c.args.adj.now.graph.vertices c.args.adj.now.levels)
 
-pub plan_removed-requires-clause-graph : goal.plan_removed-requires-clause-graph
-plan_removed-requires-clause-graph g c =
-    rw (c.in_ok-tally.ensures.graph, c.as_slice-edges.ensures) (is_graph-without_edges c.args.adj.now.graph c.args.removed.now c.requires.graph)
+pub follow-requires-clause-before : goal.follow-requires-clause-before
+follow-requires-clause-before g c =
+    let same : c.delete_phase.new.adj.graph.vertices ≡ c.args.adj.now.graph.vertices = ap (λ (h : GraphShape). h.vertices) c.in_ok-moves.ensures.graph ∙ vertices-without_edges c.args.adj.now.graph c.as_slice-edges.result.now in
+    ap (λ (x : List ℕ). length x) c.requires.ready.insertion.before ∙ c.requires.sized ∙ sym same
 
-pub plan_removed-requires-clause-ascending : goal.plan_removed-requires-clause-ascending
-plan_removed-requires-clause-ascending g c =
-    rw (c.in_ok-tally.ensures.graph, c.as_slice-edges.ensures, vertices-without_edges c.args.adj.now.graph c.args.removed.now) c.requires.ascending
+pub follow-requires-clause-levels : goal.follow-requires-clause-levels
+follow-requires-clause-levels g c =
+    let same : c.delete_phase.new.adj.graph.vertices ≡ c.args.adj.now.graph.vertices = ap (λ (h : GraphShape). h.vertices) c.in_ok-moves.ensures.graph ∙ vertices-without_edges c.args.adj.now.graph c.as_slice-edges.result.now in
+    ap (λ (x : List ℕ). length x) c.requires.ready.insertion.levels ∙ c.requires.sized ∙ sym same
 
-pub plan_removed-requires-clause-absent : goal.plan_removed-requires-clause-absent
-plan_removed-requires-clause-absent g c = rw (c.in_ok-tally.ensures.graph, c.as_slice-edges.ensures) (absent_after c.args.adj.now.graph c.args.removed.now)
+pub follow-requires-clause-counts : goal.follow-requires-clause-counts
+follow-requires-clause-counts g c =
+    let same : c.delete_phase.new.adj.graph.vertices ≡ c.args.adj.now.graph.vertices = ap (λ (h : GraphShape). h.vertices) c.in_ok-moves.ensures.graph ∙ vertices-without_edges c.args.adj.now.graph c.as_slice-edges.result.now in
+    c.requires.ready.insertion.counted.sized ∙ sym same
 
-pub plan_removed-requires-clause-room : goal.plan_removed-requires-clause-room
-plan_removed-requires-clause-room g c =
-    rw (c.in_ok-tally.ensures.graph, c.as_slice-edges.ensures)
-    (room_again c.args.adj.now.graph c.args.removed.now c.requires.graph c.requires.ascending c.requires.present c.requires.few_edges)
+pub follow-requires-clause-edges : goal.follow-requires-clause-edges
+follow-requires-clause-edges g c =
+    let same : c.delete_phase.new.adj.graph.vertices ≡ c.args.adj.now.graph.vertices = ap (λ (h : GraphShape). h.vertices) c.in_ok-moves.ensures.graph ∙ vertices-without_edges c.args.adj.now.graph c.as_slice-edges.result.now in
+    edges_inside c.args.adj.now.graph.vertices c.delete_phase.new.adj.graph.vertices c.as_slice-edges.result.now (sym same) (rw c.as_slice-edges.ensures c.requires.ascending)
 
-pub plan_removed-requires-clause-sized : goal.plan_removed-requires-clause-sized
-plan_removed-requires-clause-sized g c =
-    rw (c.in_ok-tally.ensures.graph, vertices-without_edges c.args.adj.now.graph c.as_slice-edges.result.now, c.in_ok-before.ensures, c.levels.ensures.value) c.requires.sized
+pub follow-requires-clause-moves : goal.follow-requires-clause-moves
+follow-requires-clause-moves g c =
+    let n = c.delete_phase.new.adj.graph.vertices in
+    moves_inside n n c.args.adj.now.levels c.delete_phase.new.adj.levels c.in_ok-moves.moves refl c.in_ok-moves.ensures.moves
+
+pub plan_moves-requires-clause-clean : goal.plan_moves-requires-clause-clean
+plan_moves-requires-clause-clean g c =
+    rw (c.graph.ensures, c.in_ok-moves.ensures.graph, vertices-without_edges c.args.adj.now.graph c.as_slice-edges.result.now) c.requires.ready.groups
+
+pub plan_moves-requires-clause-order : goal.plan_moves-requires-clause-order
+plan_moves-requires-clause-order g c =
+    rw c.graph.ensures (between_in_order c.delete_phase.new.adj.graph.vertices c.args.adj.now.levels c.delete_phase.new.adj.levels c.in_ok-moves.moves c.in_ok-moves.ensures.moves)
+
+pub plan_moves-requires-clause-ascending : goal.plan_moves-requires-clause-ascending
+plan_moves-requires-clause-ascending g c =
+    rw (c.graph.ensures, c.in_ok-moves.ensures.graph, c.as_slice-edges.ensures, vertices-without_edges c.args.adj.now.graph c.args.removed.now) c.requires.ascending
+
+pub overflow_cast-len : goal.overflow_cast-len
+overflow_cast-len g c =
+    let same : c.delete_phase.new.adj.graph.vertices ≡ c.args.adj.now.graph.vertices = ap (λ (h : GraphShape). h.vertices) c.in_ok-moves.ensures.graph ∙ vertices-without_edges c.args.adj.now.graph c.as_slice-edges.result.now in
+    let few = few_moves c.delete_phase.new.adj.graph.vertices c.args.adj.now.graph.vertices c.args.adj.now.levels c.delete_phase.new.adj.levels c.in_ok-moves.moves same c.in_ok-moves.ensures.moves in
+    omega (arith, c.len.ensures, few, c.requires.small)
 
 pub returns-clause-phases : goal.returns-clause-phases
 returns-clause-phases g c =
     let graph = c.args.adj.now.graph in
-    let removed = c.args.removed.now in
-    let again = linked_again graph removed c.requires.graph c.requires.ascending c.requires.present in
-    let kept = ap (λ (k : LeveledGraph). k.levels) c.in_ok-plan.ensures.kept in
-    let entries = rw (c.in_ok-tally.ensures.graph, c.as_slice-edges.ensures, again, c.in_ok-before.ensures, c.levels.ensures.value) at c.in_ok-plan.ensures.entries in
-    phase_made c.of_phase.result c.args.phase c.in_ok-tally.tally.moves false c.is_empty.result removed c.args.adj.now.levels c.plan_removed.new.adj.levels graph c.in_ok-plan.plan
-    c.is_empty.ensures c.if-is_empty.false (rw kept entries) c.of_phase.ensures
+    let x = c.args.adj.now.levels in
+    let y = c.delete_phase.new.adj.levels in
+    let same : c.delete_phase.new.adj.graph.vertices ≡ c.args.adj.now.graph.vertices = ap (λ (h : GraphShape). h.vertices) c.in_ok-moves.ensures.graph ∙ vertices-without_edges c.args.adj.now.graph c.as_slice-edges.result.now in
+    let planned = rw c.graph.ensures at c.in_ok-plan.ensures.entries in
+    let entries = planned x y (record { before = c.requires.sized ∙ sym same; after = c.in_ok-moves.ensures.lowered.lowerable.sized; moves = c.in_ok-moves.ensures.moves }) in
+    let again = linked_again graph c.args.removed.now c.requires.graph c.requires.ascending c.requires.present in
+    phase_made c.of_phase.result c.args.phase c.len.result false c.is_empty.result c.args.removed.now x y graph c.in_ok-plan.plan
+    c.is_empty.ensures c.if-is_empty.false (rw (c.in_ok-moves.ensures.graph, c.as_slice-edges.ensures, again) at entries) c.of_phase.ensures
+
+pub returns-clause-ready : goal.returns-clause-ready
+returns-clause-ready g c =
+    let same : c.delete_phase.new.adj.graph.vertices ≡ c.args.adj.now.graph.vertices = ap (λ (h : GraphShape). h.vertices) c.in_ok-moves.ensures.graph ∙ vertices-without_edges c.args.adj.now.graph c.as_slice-edges.result.now in
+    let ready : AreReady c.args.th.now.profile c.delete_phase.new.adj (record { deletion = c.delete_phase.new.work; insertion = c.follow.new.self; groups = c.plan_moves.new.work }) = record {
+      deletion = c.in_ok-moves.ensures.ready;
+      insertion = c.follow.ensures c.args.th.now.profile c.args.adj.now c.requires.ready.insertion c.requires.sized c.in_ok-moves.ensures.graph (moves_again c.delete_phase.new.adj.graph.vertices c.args.adj.now.graph.vertices c.args.adj.now.levels c.delete_phase.new.adj.levels c.in_ok-moves.moves same c.in_ok-moves.ensures.moves);
+      groups = rw c.graph.ensures at c.in_ok-plan.ensures.clean;
+    } in
+    IfOk-weaker c.of_phase.result _ _ (λ plan made. ready) c.of_phase.ensures
 
 pub returns-clause-moves : goal.returns-clause-moves
 returns-clause-moves g c =
-    moves_made c.of_phase.result c.in_ok-tally.tally.moves (moved_count c.args.adj.now.graph.vertices c.args.adj.now.levels c.plan_removed.new.adj.levels) c.in_ok-plan.plan
-    (
-    c.in_ok-tally.ensures.moves
-    ∙ ap (λ n. moved_count n c.args.adj.now.levels c.delete_rounds.new.adj.levels) (ap (λ (h : GraphShape). h.vertices) c.in_ok-tally.ensures.graph ∙ vertices-without_edges c.args.adj.now.graph c.as_slice-edges.result.now)
-    ∙ ap (λ (k : LeveledGraph). moved_count c.args.adj.now.graph.vertices c.args.adj.now.levels k.levels) (sym c.in_ok-plan.ensures.kept)
-    )
-    c.of_phase.ensures
+    let same : c.delete_phase.new.adj.graph.vertices ≡ c.args.adj.now.graph.vertices = ap (λ (h : GraphShape). h.vertices) c.in_ok-moves.ensures.graph ∙ vertices-without_edges c.args.adj.now.graph c.as_slice-edges.result.now in
+    let x = c.args.adj.now.levels in
+    let y = c.delete_phase.new.adj.levels in
+    let count = move_count c.delete_phase.new.adj.graph.vertices c.args.adj.now.graph.vertices x y c.in_ok-moves.moves same c.in_ok-moves.ensures.moves in
+    moves_made c.of_phase.result c.len.result (moved_count c.args.adj.now.graph.vertices x y) c.in_ok-plan.plan (c.len.ensures ∙ count) c.of_phase.ensures

@@ -1,5 +1,6 @@
 use Rattle.std.proofs.Common.{◌≡◌, ◌+◌, ap, sym, ◌∙◌, arith}
 use Rattle.std.specs.Prelude.{IfOk}
+use Rattle.std.proofs.lemmas.Result.{IfOk-weaker}
 use Rattle.kc_graph.specs.Shape.{GraphShape}
 use Rattle.kc_graph.proofs.ChangeLemmas.{vertices-without_edges}
 use Rattle.kc_graph.proofs.CountLemmas.{count_below-le}
@@ -33,6 +34,19 @@ insertion_phase-requires-clause-upper g c κs within =
     let between = after_lowered p graph c.args.cleaned.now.removed levels c.deletion_phase.new.adj.levels at c.in_ok-fallen.ensures.lowered in
     rw c.in_ok-fallen.ensures.graph between.both.upper
 
+pub insertion_phase-requires-clause-graph : goal.insertion_phase-requires-clause-graph
+insertion_phase-requires-clause-graph g c κs within =
+    let p = c.args.th.now.profile in
+    let graph = c.args.adj.now.graph in
+    let levels = c.args.adj.now.levels in
+    let at : IsAt p graph levels = record { graph = rw c.graph.ensures at c.vertices-n.ensures.graph; both = c.requires.both; capped = c.requires.capped } in
+    let between = after_lowered p graph c.args.cleaned.now.removed levels c.deletion_phase.new.adj.levels at c.in_ok-fallen.ensures.lowered in
+    rw c.in_ok-fallen.ensures.graph between.graph
+
+pub insertion_phase-requires-clause-small : goal.insertion_phase-requires-clause-small
+insertion_phase-requires-clause-small g c κs within =
+    rw (c.in_ok-fallen.ensures.graph, vertices-without_edges c.args.adj.now.graph c.args.cleaned.now.removed) (rw c.graph.ensures at c.vertices-n.ensures.small)
+
 pub insertion_phase-requires-clause-ascending : goal.insertion_phase-requires-clause-ascending
 insertion_phase-requires-clause-ascending g c κs within =
     rw (c.in_ok-fallen.ensures.graph, vertices-without_edges c.args.adj.now.graph c.args.cleaned.now.removed) c.requires.fits.added_ascend
@@ -64,6 +78,9 @@ made g c =
     (ap (λ n. c.args.before + n) c.phases_for.ensures.value) c.in_ok-fallen.ensures.graph c.in_ok-risen.ensures.graph
     c.in_ok-fallen.ensures.lowered c.in_ok-risen.ensures.raised c.in_ok-fallen.ensures.phases c.in_ok-risen.ensures.phases c.in_ok-fallen.ensures.moves c.in_ok-risen.ensures.moves c.and_then.ensures
 
+pub returns-clause-ready : goal.returns-clause-ready
+returns-clause-ready g c = IfOk-weaker c.and_then.result _ _ (λ plan made. c.in_ok-risen.ensures.ready) c.and_then.ensures
+
 pub returns-clause-plan : goal.returns-clause-plan
 returns-clause-plan g c = made g c
 
@@ -72,6 +89,4 @@ returns-clause-well_formed g c =
     let p = c.args.th.now.profile in
     let graph = c.args.adj.now.graph in
     let levels = c.args.adj.now.levels in
-    let at : IsAt p graph levels = record { graph = rw c.graph.ensures at c.vertices-n.ensures.graph; both = c.requires.both; capped = c.requires.capped } in
-    let few = rw c.graph.ensures at c.vertices-n.ensures.small in
-    well_formed_made c.and_then.result p c.args.before graph c.args.cleaned.now levels c.insertion_phase.new.adj.levels few at c.requires.fits (made g c)
+    well_formed_made c.and_then.result p c.args.before graph c.args.cleaned.now levels c.insertion_phase.new.adj.levels (made g c)

@@ -9,6 +9,7 @@ invariant_of-result c =
       some_workers = c.requires.some_workers;
       few_workers = c.requires.few_workers;
       limit = c.requires.few_edges;
-      scale = λ h. rw (c.in_ok-new.ensures, c.in_ok-new-2.ensures) refl;
-      sound = λ h. rw (c.in_ok-new.ensures, c.in_ok-new-2.ensures) (start_is_sound shape.profile shape.n shape.phases_before shape.edge_limit c.requires.few_phases);
+      scale = λ h. rw (c.in_ok-thresholds.ensures, c.in_ok-adj.ensures) refl;
+      sound = λ h. rw (c.in_ok-thresholds.ensures, c.in_ok-adj.ensures) (start_is_sound shape.profile shape.n shape.phases_before shape.edge_limit c.requires.few_phases);
+      ready = λ h. c.in_ok-work.ensures;
     }

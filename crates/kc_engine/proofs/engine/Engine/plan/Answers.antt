@@ -17,6 +17,9 @@ run_phases-requires-clause-fits g c κs within =
     let asked = rw (← c.self.view_is) at c.requires.cleaning in
     fits e.adj.graph c.args.cleaned.now (c.self.invariant.sound c.if-self.false).graph (asked c.if-self.false)
 
+pub run_phases-requires-clause-ready : goal.run_phases-requires-clause-ready
+run_phases-requires-clause-ready g c κs within = c.self.invariant.ready c.if-self.false
+
 pub invariant_of-self-2 : goal.invariant_of-self-2
 invariant_of-self-2 g c =
     let e = c.self.inside in
@@ -33,6 +36,7 @@ invariant_of-self-2 g c =
       sound = λ h.
           sound_behind e.edge_limit s c.args.cleaned.now adj.graph adj.levels c.phase_count.result c.self.invariant.limit (c.self.invariant.sound c.if-self.false)
           (asked c.if-self.false) none graph (rw (done g c) at c.run_phases.ensures.plan).levels c.phase_count.ensures.value;
+      ready = λ h. rw (done g c) at c.run_phases.ensures.ready;
     }
 
 pub returns-clause-answer : goal.returns-clause-answer

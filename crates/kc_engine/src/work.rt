@@ -1,0 +1,36 @@
+ghost use Rattle.std.specs.Prelude.{◌≡◌, IfOk};
+ghost use Rattle.kc_engine.specs.Readiness.{AreReady};
+
+use kc_adj::LevelAdj;
+use kc_delete::DeletionWork;
+use kc_groups::GroupWork;
+use kc_insert::InsertionWork;
+use kc_levels::Thresholds;
+use std::alloc::{AllocError, Global};
+
+// What the phases of an engine work with, kept between them and ready for its graph (`AreReady`), so that a phase costs what it
+// changes and not what the graph has. Takes 15 bytes a vertex.
+#[derive(Drop)]
+pub(crate) struct PhaseWork {
+    pub(crate) deletion: DeletionWork,
+    pub(crate) insertion: InsertionWork,
+    pub(crate) groups: GroupWork,
+}
+
+impl PhaseWork {
+    // Ready for this graph. Costs a pass over the vertices and one over the levels up to the top.
+    pub(crate) fn new(
+        alloc: Global,
+        th: &Thresholds,
+        adj: &LevelAdj,
+    ) -> Result<PhaseWork, AllocError>
+        requires scale { th.now.vertices ≡ adj.now.graph.vertices }
+        ensures { IfOk result (λ work. AreReady th.now.profile adj.now work) }
+    {
+        Ok(PhaseWork {
+            deletion: DeletionWork::new(alloc, adj)?,
+            insertion: InsertionWork::new(alloc, th, adj)?,
+            groups: GroupWork::new(alloc, adj.graph().vertices())?,
+        })
+    }
+}
