@@ -6,7 +6,7 @@ use Rattle.std.specs.Option.{option_map}
 use Rattle.std.proofs.lemmas.List.{append-nil}
 use Rattle.std.proofs.lemmas.List.Elements.{All-nil, All-cons}
 use Rattle.std.proofs.lemmas.Bool.Decides.{nat_tests}
-use Rattle.kc_levels.specs.declared.profile.Profile.TheVariants.{One}
+use Rattle.kc_levels.specs.declared.profile.Profile.{Profile}
 use Rattle.kc_text.specs.declared.line.Line.{Line}
 use Rattle.kc_text.specs.declared.line.Body.{Body}
 use Rattle.kc_text.specs.declared.line.Body.TheVariants.{Text, TooLong, Limit, End}
@@ -15,9 +15,9 @@ use Rattle.kc_text.specs.Words.{words, words_from}
 use Rattle.kc_text.specs.Numbers.{number_of}
 use Rattle.kc_batch.specs.declared.ask.Ask.{Ask}
 use Rattle.kc_batch.specs.Kept.{text_of}
-use Rattle.kc_batch.specs.Headers.{Accepted, Refused, is_magic, vertices_in, is_ask, number_before, numbers_of, fits_ask, ask_with, ask_in, next_ask, asks_from, after_magic, header_of, IsAsk}
+use Rattle.kc_batch.specs.Headers.{Accepted, Refused, profile_in, vertices_in, is_ask, number_before, numbers_of, fits_ask, ask_with, ask_in, next_ask, asks_from, after_profile, header_of, IsAsk}
 
--- numbers that were read, and those that the words behind them say
+-- numbers that were read, and those that the words after them say
 abbrev pub numbers_behind : List ℕ → List (List ℕ) → Option (List ℕ)
 numbers_behind front ws = option_map (λ rest. front ++ rest) (numbers_of ws)
 
@@ -85,44 +85,44 @@ going_some f x h TooLong e rest = refl
 going_some f x h Limit e rest = let y : Some x ≡ None = sym e ∙ h in absurd cc
 going_some f x h End e rest = let y : Some x ≡ None = sym e ∙ h in absurd cc
 
-no_magic : is_magic [] ≡ false
-unfolding is_magic
-no_magic = refl
+no_profile : profile_in [] ≡ None
+unfolding profile_in
+no_profile = refl
 
 no_vertices : vertices_in [] ≡ None
 unfolding vertices_in
 no_vertices = refl
 
-pub magic_missing : (line : Line) → is_magic (words (text_of line.body)) ≡ false → (rest : List Line) → header_of (onto line rest) ≡ Refused line.number
+pub profile_missing : (line : Line) → profile_in (words (text_of line.body)) ≡ None → (rest : List Line) → header_of (onto line rest) ≡ Refused line.number
 unfolding header_of
-magic_missing line e rest = rw e refl
+profile_missing line e rest = rw e refl
 
-pub magic_there : (line : Line) → is_magic (words (text_of line.body)) ≡ true → (rest : List Line) → header_of (onto line rest) ≡ after_magic rest
+pub profile_there : (line : Line) (p : Profile) → profile_in (words (text_of line.body)) ≡ Some p → (rest : List Line) → header_of (onto line rest) ≡ after_profile p rest
 unfolding header_of
-magic_there line e rest = rw (e, going is_magic no_magic line.body e rest) refl
+profile_there line p e rest = rw (e, going_some profile_in p no_profile line.body e rest) refl
 
-pub vertices_missing : (line : Line) → vertices_in (words (text_of line.body)) ≡ None → (rest : List Line) → after_magic (onto line rest) ≡ Refused line.number
-unfolding after_magic
-vertices_missing line e rest = rw e refl
+pub vertices_missing : (p : Profile) (line : Line) → vertices_in (words (text_of line.body)) ≡ None → (rest : List Line) → after_profile p (onto line rest) ≡ Refused line.number
+unfolding after_profile
+vertices_missing p line e rest = rw e refl
 
-pub vertices_there : (line : Line) (n : ℕ) → vertices_in (words (text_of line.body)) ≡ Some n → (rest : List Line) → after_magic (onto line rest) ≡ asks_from n [] rest
-unfolding after_magic
-vertices_there line n e rest = rw (e, going_some vertices_in n no_vertices line.body e rest) refl
+pub vertices_there : (p : Profile) (line : Line) (n : ℕ) → vertices_in (words (text_of line.body)) ≡ Some n → (rest : List Line) → after_profile p (onto line rest) ≡ asks_from p n [] rest
+unfolding after_profile
+vertices_there p line n e rest = rw (e, going_some vertices_in n no_vertices line.body e rest) refl
 
-pub ask_missing : (n : ℕ) (asks : List Ask) (line : Line) → is_ask (words (text_of line.body)) ≡ false
-    → (rest : List Line) → asks_from n asks (onto line rest) ≡ Accepted (record { profile = One; n = n; asks = asks }) (onto line rest)
+pub ask_missing : (p : Profile) (n : ℕ) (asks : List Ask) (line : Line) → is_ask (words (text_of line.body)) ≡ false
+    → (rest : List Line) → asks_from p n asks (onto line rest) ≡ Accepted (record { profile = p; n = n; asks = asks }) (onto line rest)
 unfolding asks_from
-ask_missing n asks line e rest = rw e refl
+ask_missing p n asks line e rest = rw e refl
 
-pub ask_refused : (n : ℕ) (asks : List Ask) (line : Line) → is_ask (words (text_of line.body)) ≡ true → next_ask n asks (words (text_of line.body)) ≡ None
-    → (rest : List Line) → asks_from n asks (onto line rest) ≡ Refused line.number
+pub ask_refused : (p : Profile) (n : ℕ) (asks : List Ask) (line : Line) → is_ask (words (text_of line.body)) ≡ true → next_ask n asks (words (text_of line.body)) ≡ None
+    → (rest : List Line) → asks_from p n asks (onto line rest) ≡ Refused line.number
 unfolding asks_from
-ask_refused n asks line e f rest = rw (e, f) refl
+ask_refused p n asks line e f rest = rw (e, f) refl
 
-pub ask_there : (n : ℕ) (asks : List Ask) (line : Line) (ask : Ask) → is_ask (words (text_of line.body)) ≡ true → next_ask n asks (words (text_of line.body)) ≡ Some ask
-    → (rest : List Line) → asks_from n asks (onto line rest) ≡ asks_from n (asks ++ ask ∷ []) rest
+pub ask_there : (p : Profile) (n : ℕ) (asks : List Ask) (line : Line) (ask : Ask) → is_ask (words (text_of line.body)) ≡ true → next_ask n asks (words (text_of line.body)) ≡ Some ask
+    → (rest : List Line) → asks_from p n asks (onto line rest) ≡ asks_from p n (asks ++ ask ∷ []) rest
 unfolding asks_from
-ask_there n asks line ask e f rest = rw (e, f, going is_ask refl line.body e rest) refl
+ask_there p n asks line ask e f rest = rw (e, f, going is_ask refl line.body e rest) refl
 
 -- where a line is put back
 pub step_back : {X : Type 0} (F G : List Line → X) (line : Line) (old mid new : Option (List Line)) → old ≡ option_map (onto line) mid → new ≡ option_map (onto line) mid

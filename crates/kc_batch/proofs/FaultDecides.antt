@@ -1,65 +1,67 @@
--- Allowed items, and the line behind them.
+-- Allowed items, and the line after them.
 use Rattle.std.proofs.Common.{ℕ, ◌+◌, ◌≡◌, ◌≤◌, ◌<◌, true, false, List, [], ◌∷◌, ◌++◌, refl, ap, ◌∙◌, append_assoc, length, length-append, nat_le, arith}
 use Rattle.std.specs.Prelude.{All}
 use Rattle.std.proofs.lemmas.List.{append-nil}
 use Rattle.std.proofs.lemmas.List.Elements.{All-head, All-tail}
 use Rattle.std.proofs.lemmas.Bool.Decides.{nat_tests}
 use Rattle.kc_graph.specs.declared.items.Item.{Item}
-use Rattle.kc_graph.specs.declared.items.Item.TheVariants.{Insert, Delete}
+use Rattle.kc_graph.specs.declared.items.Item.TheVariants.{Insert, Delete, Isolate}
 use Rattle.kc_text.specs.declared.reason.Reason.{Reason}
+use Rattle.kc_batch.specs.declared.rules.Rules.{Rules}
 use Rattle.kc_batch.specs.declared.token.Token.{Token}
 use Rattle.kc_batch.specs.declared.token.Kind.{Kind}
 use Rattle.kc_batch.specs.declared.token.Kind.TheVariants as kind
 use Rattle.kc_batch.specs.declared.turn.Turn.TheVariants.{Pass, Stop}
 use Rattle.kc_batch.specs.declared.batch.Next.TheVariants.{Refused}
 use Rattle.kc_graph.specs.Cleaning.{IsInside}
-use Rattle.kc_batch.specs.Turns.{is_inside, turn_of}
+use Rattle.kc_batch.specs.Turns.{is_inside, turn_of, IsItemOf}
 use Rattle.kc_batch.specs.Batches.{whole, after_end, items_from, batch_of}
 use Rattle.kc_batch.specs.FaultLaw.{line_at, item_lines, items_of, is_passed, FirstFaultDecides}
 
 inside_tests : (n : ℕ) (i : Item) → IsInside n i → is_inside n i ≡ true
 inside_tests n (Insert u v) h = grind (arith, nat_tests, h.0, h.1)
 inside_tests n (Delete u v) h = grind (arith, nat_tests, h.0, h.1)
+inside_tests n (Isolate v) h = grind (arith, nat_tests, h)
 
 -- an allowed item is added
-adds : (n limit m : ℕ) (front : List Item) (i : Item) (rest : List Token) → IsInside n i → length front < limit
-    → items_from n limit front (line_at m (kind.Item i) ∷ rest) ≡ items_from n limit (front ++ i ∷ []) rest
+adds : (rules : Rules) (m : ℕ) (front : List Item) (i : Item) (rest : List Token) → IsItemOf rules i → length front < rules.item_limit
+    → items_from rules front (line_at m (kind.Item i) ∷ rest) ≡ items_from rules (front ++ i ∷ []) rest
 unfolding items_from
-adds n limit m front i rest h l =
-    let full : nat_le limit (length front) ≡ false = grind (arith, nat_tests) in
-    rw (inside_tests n i h, full) refl
+adds rules m front i rest h l =
+    let full : nat_le rules.item_limit (length front) ≡ false = grind (arith, nat_tests) in
+    rw (h.allowed, inside_tests rules.n i h.inside, full) refl
 
 -- and so are several
-adds_all : (n limit : ℕ) (front : List Item) (ls : List (ℕ × Item)) (rest : List Token) → All (λ l. IsInside n l.1) ls → length front + length ls ≤ limit
-    → items_from n limit front (item_lines ls ++ rest) ≡ items_from n limit (front ++ items_of ls) rest
-adds_all n limit front [] rest h l = rw append-nil refl
-adds_all n limit front (x ∷ ls) rest h l =
-    adds n limit x.0 front x.1 (item_lines ls ++ rest) (All-head (λ l. IsInside n l.1) x ls h) (omega arith)
-    ∙ adds_all n limit (front ++ x.1 ∷ []) ls rest (All-tail (λ l. IsInside n l.1) x ls h) (rw (length-append front (x.1 ∷ [])) (omega arith))
-    ∙ ap (λ items. items_from n limit items rest) (append_assoc front (x.1 ∷ []) (items_of ls))
+adds_all : (rules : Rules) (front : List Item) (ls : List (ℕ × Item)) (rest : List Token) → All (λ l. IsItemOf rules l.1) ls → length front + length ls ≤ rules.item_limit
+    → items_from rules front (item_lines ls ++ rest) ≡ items_from rules (front ++ items_of ls) rest
+adds_all rules front [] rest h l = rw append-nil refl
+adds_all rules front (x ∷ ls) rest h l =
+    adds rules x.0 front x.1 (item_lines ls ++ rest) (All-head (λ l. IsItemOf rules l.1) x ls h) (omega arith)
+    ∙ adds_all rules (front ++ x.1 ∷ []) ls rest (All-tail (λ l. IsItemOf rules l.1) x ls h) (rw (length-append front (x.1 ∷ [])) (omega arith))
+    ∙ ap (λ items. items_from rules items rest) (append_assoc front (x.1 ∷ []) (items_of ls))
 
 length_items : (ls : List (ℕ × Item)) → length (items_of ls) ≡ length ls
 length_items [] = refl
 length_items (x ∷ ls) = rw (length_items ls) refl
 
-begins : (n limit first : ℕ) (ls : List (ℕ × Item)) (rest : List Token) → All (λ l. IsInside n l.1) ls → length ls ≤ limit
-    → batch_of n limit (line_at first kind.BatchStart ∷ item_lines ls ++ rest) ≡ items_from n limit (items_of ls) rest
+begins : (rules : Rules) (first : ℕ) (ls : List (ℕ × Item)) (rest : List Token) → All (λ l. IsItemOf rules l.1) ls → length ls ≤ rules.item_limit
+    → batch_of rules (line_at first kind.BatchStart ∷ item_lines ls ++ rest) ≡ items_from rules (items_of ls) rest
 unfolding batch_of
-begins n limit first ls rest h l = adds_all n limit [] ls rest h (omega arith)
+begins rules first ls rest h l = adds_all rules [] ls rest h (omega arith)
 
-closes : (n limit last : ℕ) (items : List Item) (rest : List Token) → items_from n limit items (line_at last kind.BatchEnd ∷ rest) ≡ (whole items last, rest)
+closes : (rules : Rules) (last : ℕ) (items : List Item) (rest : List Token) → items_from rules items (line_at last kind.BatchEnd ∷ rest) ≡ (whole items last, rest)
 unfolding items_from
-closes n limit last items rest = refl
+closes rules last items rest = refl
 
-passes : (n limit last : ℕ) (items : List Item) (k : Kind) (reason : Reason) (rest : List Token) → turn_of n (nat_le limit (length items)) k ≡ Pass reason
-    → items_from n limit items (line_at last k ∷ rest) ≡ (Refused last reason, after_end rest)
+passes : (rules : Rules) (last : ℕ) (items : List Item) (k : Kind) (reason : Reason) (rest : List Token) → turn_of rules (nat_le rules.item_limit (length items)) k ≡ Pass reason
+    → items_from rules items (line_at last k ∷ rest) ≡ (Refused last reason, after_end rest)
 unfolding items_from
-passes n limit last items k reason rest e = rw e refl
+passes rules last items k reason rest e = rw e refl
 
-stops : (n limit last : ℕ) (items : List Item) (k : Kind) (reason : Reason) (rest : List Token) → turn_of n (nat_le limit (length items)) k ≡ Stop reason
-    → items_from n limit items (line_at last k ∷ rest) ≡ (Refused last reason, line_at last k ∷ [])
+stops : (rules : Rules) (last : ℕ) (items : List Item) (k : Kind) (reason : Reason) (rest : List Token) → turn_of rules (nat_le rules.item_limit (length items)) k ≡ Stop reason
+    → items_from rules items (line_at last k ∷ rest) ≡ (Refused last reason, line_at last k ∷ [])
 unfolding items_from
-stops n limit last items k reason rest e = rw e refl
+stops rules last items k reason rest e = rw e refl
 
 goes_by : (t : Token) (k : Kind) (rest : List Token) → t.kind ≡ k → is_passed k ≡ true → after_end (t ∷ rest) ≡ after_end rest
 unfolding after_end
@@ -83,8 +85,8 @@ all_go_by (t ∷ ts) rest last h =
 
 pub first_fault_decides : FirstFaultDecides
 first_fault_decides = record {
-  accepted = λ n limit first last ls rest h l. begins n limit first ls _ h l ∙ closes n limit last (items_of ls) rest;
-  refused = λ n limit first last ls k reason rest h l e. begins n limit first ls _ h l ∙ passes n limit last (items_of ls) k reason rest (rw length_items e);
-  stopped = λ n limit first last ls k reason rest h l e. begins n limit first ls _ h l ∙ stops n limit last (items_of ls) k reason rest (rw length_items e);
+  accepted = λ rules first last ls rest h l. begins rules first ls _ h l ∙ closes rules last (items_of ls) rest;
+  refused = λ rules first last ls k reason rest h l e. begins rules first ls _ h l ∙ passes rules last (items_of ls) k reason rest (rw length_items e);
+  stopped = λ rules first last ls k reason rest h l e. begins rules first ls _ h l ∙ stops rules last (items_of ls) k reason rest (rw length_items e);
   passed = λ ts rest last h. all_go_by ts rest last h;
 }

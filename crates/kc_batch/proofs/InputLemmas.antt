@@ -12,7 +12,7 @@ use Rattle.kc_batch.specs.Kept.{kept_left}
 use Rattle.kc_batch.specs.Headers.{HeaderText, Accepted, refused_at, header_of, Answers}
 use Rattle.kc_batch.specs.Tokens.{tokens}
 use Rattle.kc_batch.specs.Batches.{batches}
-use Rattle.kc_batch.specs.BatchInputs.{BatchInput, WithBatches, HeaderRefused, behind_header, input_of}
+use Rattle.kc_batch.specs.BatchInputs.{BatchInput, WithBatches, HeaderRefused, rules_of, behind_header, input_of}
 
 -- an answer of what is left is an answer of the whole
 pub answer_before : (rule later : List Line → HeaderText) (before mid now : Option (List Line)) (result : Result HeaderShape HeaderFault)
@@ -34,7 +34,7 @@ told_input line_limit input_limit item_limit r (Some bytes) e = rw e refl
 
 -- with a header the input is that header, and the batches of what is left
 pub told_accepted : (item_limit : ℕ) (header : HeaderShape) (before now : Option (List Line)) → option_map header_of before ≡ option_map (Accepted header) now
-    → input_left item_limit before ≡ option_map (WithBatches header) (option_map (batches header.n item_limit) (option_map tokens now))
+    → input_left item_limit before ≡ option_map (WithBatches header) (option_map (batches (rules_of header item_limit)) (option_map tokens now))
 told_accepted item_limit header before None e = rw e refl
 told_accepted item_limit header before (Some rest) e = rw e refl
 

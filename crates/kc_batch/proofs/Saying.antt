@@ -14,7 +14,7 @@ use Rattle.kc_batch.specs.declared.token.Token.{Token}
 use Rattle.kc_batch.specs.declared.token.Kind.{Kind}
 use Rattle.kc_batch.specs.declared.token.Kind.TheVariants.{BatchStart, Item, BatchEnd, Other, TooLong, Limit, InputEnd}
 use Rattle.kc_batch.specs.Kept.{is_skipped, kept}
-use Rattle.kc_batch.specs.Tokens.{insertion, deletion, kind_of_words, kind_of_text, kind_of, tokens, onto_token, behind_kind, TakesToken, IsLastKind}
+use Rattle.kc_batch.specs.Tokens.{insertion, deletion, isolation, unsigned, kind_of_words, kind_of_text, kind_of, tokens, onto_token, behind_kind, TakesToken, IsLastKind}
 use Rattle.kc_batch.proofs.KeptLemmas.{told_skips, told_goes}
 
 -- a line of this kind is neither the end of the input nor its limit
@@ -45,13 +45,21 @@ deletion_goes_on None v = other_goes_on
 deletion_goes_on (Some u) None = other_goes_on
 deletion_goes_on (Some u) (Some v) = record { behind = λ rest. refl; more = λ h. h }
 
+isolation_goes_on : (v : Option ℕ) → GoesOn (isolation v)
+isolation_goes_on None = other_goes_on
+isolation_goes_on (Some v) = record { behind = λ rest. refl; more = λ h. h }
+
+unsigned_goes_on : (first : List ℕ) (u v : Option ℕ) → GoesOn (unsigned first u v)
+unsigned_goes_on first None v = if_goes_on (bytes_eq first (codes "x")) (isolation v) Other (isolation_goes_on v) other_goes_on
+unsigned_goes_on first (Some u) v = insertion_goes_on (Some u) v
+
 words_go_on : (ws : List (List ℕ)) → GoesOn (kind_of_words ws)
 unfolding kind_of_words
 words_go_on [] = other_goes_on
 words_go_on (word ∷ []) =
     if_goes_on (bytes_eq word (codes "batch")) BatchStart (if bytes_eq word (codes "end") then BatchEnd else Other) start_goes_on
     (if_goes_on (bytes_eq word (codes "end")) BatchEnd Other end_goes_on other_goes_on)
-words_go_on (u ∷ v ∷ []) = insertion_goes_on (number_of u) (number_of v)
+words_go_on (first ∷ second ∷ []) = unsigned_goes_on first (number_of first) (number_of second)
 words_go_on (sign ∷ u ∷ v ∷ []) =
     if_goes_on (bytes_eq sign (codes "+")) (insertion (number_of u) (number_of v)) (if bytes_eq sign (codes "-") then deletion (number_of u) (number_of v) else Other)
     (insertion_goes_on (number_of u) (number_of v))

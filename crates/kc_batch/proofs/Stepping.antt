@@ -1,11 +1,12 @@
--- One line, and what a definition says of the lines behind it.
-use Rattle.std.proofs.Common.{ℕ, ◌≡◌, Bool, true, false, List, [], ◌∷◌, ◌++◌, refl, sym, ap, ◌∙◌, nat_le, length, inl, inr}
+-- One line, and what a definition says of the lines after it.
+use Rattle.std.proofs.Common.{◌≡◌, Bool, true, false, List, [], ◌∷◌, ◌++◌, refl, sym, ap, ◌∙◌, nat_le, length, inl, inr}
 use Rattle.std.specs.Prelude.{Option, Some, None, if◌then◌else◌, ◌⊎◌}
 use Rattle.std.specs.Option.{option_map}
 use Rattle.std.proofs.lemmas.Option.{same_Some}
 use Rattle.kc_graph.specs.declared.items.Item.{Item}
 use Rattle.kc_text.specs.declared.reason.Reason.{Reason}
 use Rattle.kc_text.specs.declared.reason.Reason.TheVariants.{LineLong, BadLine, BadVertex, TooMany, Truncated, InputLimit}
+use Rattle.kc_batch.specs.declared.rules.Rules.{Rules}
 use Rattle.kc_batch.specs.declared.token.Token.{Token}
 use Rattle.kc_batch.specs.declared.token.Kind.{Kind}
 use Rattle.kc_batch.specs.declared.token.Kind.TheVariants as kind
@@ -13,10 +14,10 @@ use Rattle.kc_batch.specs.declared.turn.Turn.TheVariants.{Add, Close, Pass, Stop
 use Rattle.kc_batch.specs.declared.batch.Next.{Next}
 use Rattle.kc_batch.specs.declared.batch.Next.TheVariants.{Refused, End}
 use Rattle.kc_batch.specs.Tokens.{onto_token, behind_kind, IsLastKind}
-use Rattle.kc_batch.specs.Turns.{is_inside, turn_of}
+use Rattle.kc_batch.specs.Turns.{is_inside, is_allowed, turn_of}
 use Rattle.kc_batch.specs.Batches.{whole, pass_by, after_end, items_from, batch_of, with_next}
 
--- what a definition F says of lines with one put before them, G says of the lines behind it
+-- what a definition F says of lines with one put before them, G says of the lines after it
 pub step_on : {A B X : Type 0} (F : B → X) (G : A → X) (put : A → B) (old : Option B) (new : Option A) → old ≡ option_map put new
     → ((rest : A) → F (put rest) ≡ G rest) → option_map F old ≡ option_map G new
 step_on F G put old None e h = rw e refl
@@ -61,60 +62,61 @@ unfolding after_end
 after_at_last t e = elim e [ inl a ↦ rw a refl | inr a ↦ rw a refl ]
 
 -- a line that doesn't stop a batch
-pub going_turn : (n : ℕ) (full : Bool) (k : Kind) → ((r : Reason) → turn_of n full k ≡ Stop r → ⊥) → (rest : List Token) → behind_kind k rest ≡ rest
-going_turn n full kind.BatchStart h rest = refl
-going_turn n full (kind.Item i) h rest = refl
-going_turn n full kind.BatchEnd h rest = refl
-going_turn n full kind.Other h rest = refl
-going_turn n full kind.TooLong h rest = refl
-going_turn n full kind.Limit h rest = absurd (h InputLimit refl)
-going_turn n full kind.InputEnd h rest = absurd (h Truncated refl)
+pub going_turn : (rules : Rules) (full : Bool) (k : Kind) → ((r : Reason) → turn_of rules full k ≡ Stop r → ⊥) → (rest : List Token) → behind_kind k rest ≡ rest
+going_turn rules full kind.BatchStart h rest = refl
+going_turn rules full (kind.Item i) h rest = refl
+going_turn rules full kind.BatchEnd h rest = refl
+going_turn rules full kind.Other h rest = refl
+going_turn rules full kind.TooLong h rest = refl
+going_turn rules full kind.Limit h rest = absurd (h InputLimit refl)
+going_turn rules full kind.InputEnd h rest = absurd (h Truncated refl)
 
-item_goes : (inside full : Bool) (i : Item) (r : Reason) → (if inside then (if full then Pass TooMany else Add i) else Pass BadVertex) ≡ Stop r → ⊥
-item_goes false full i r e = cc
-item_goes true true i r e = cc
-item_goes true false i r e = cc
+item_goes : (allowed inside full : Bool) (i : Item) (r : Reason) → (if allowed then (if inside then (if full then Pass TooMany else Add i) else Pass BadVertex) else Pass BadLine) ≡ Stop r → ⊥
+item_goes false inside full i r e = cc
+item_goes true false full i r e = cc
+item_goes true true true i r e = cc
+item_goes true true false i r e = cc
 
 -- a line that stops it
-pub stopping_turn : (n : ℕ) (full : Bool) (k : Kind) (r : Reason) → turn_of n full k ≡ Stop r → IsLastKind k × ((rest : List Token) → behind_kind k rest ≡ [])
-stopping_turn n full kind.BatchStart r e = absurd cc
-stopping_turn n full (kind.Item i) r e = absurd (item_goes (is_inside n i) full i r e)
-stopping_turn n full kind.BatchEnd r e = absurd cc
-stopping_turn n full kind.Other r e = absurd cc
-stopping_turn n full kind.TooLong r e = absurd cc
-stopping_turn n full kind.Limit r e = (tt, λ _. refl)
-stopping_turn n full kind.InputEnd r e = (tt, λ _. refl)
+pub stopping_turn : (rules : Rules) (full : Bool) (k : Kind) (r : Reason) → turn_of rules full k ≡ Stop r → IsLastKind k × ((rest : List Token) → behind_kind k rest ≡ [])
+stopping_turn rules full kind.BatchStart r e = absurd cc
+stopping_turn rules full (kind.Item i) r e = absurd (item_goes (is_allowed rules.profile i) (is_inside rules.n i) full i r e)
+stopping_turn rules full kind.BatchEnd r e = absurd cc
+stopping_turn rules full kind.Other r e = absurd cc
+stopping_turn rules full kind.TooLong r e = absurd cc
+stopping_turn rules full kind.Limit r e = (tt, λ _. refl)
+stopping_turn rules full kind.InputEnd r e = (tt, λ _. refl)
 
 -- one turn of a batch
-pub items_add : (n limit : ℕ) (items : List Item) (t : Token) (item : Item) (full : Bool) → full ≡ nat_le limit (length items) → turn_of n full t.kind ≡ Add item
-    → (rest : List Token) → items_from n limit items (onto_token t rest) ≡ items_from n limit (items ++ item ∷ []) rest
+pub items_add : (rules : Rules) (items : List Item) (t : Token) (item : Item) (full : Bool) → full ≡ nat_le rules.item_limit (length items) → turn_of rules full t.kind ≡ Add item
+    → (rest : List Token) → items_from rules items (onto_token t rest) ≡ items_from rules (items ++ item ∷ []) rest
 unfolding items_from
-items_add n limit items t item full f e rest =
-    let b = going_turn n full t.kind (λ r s. cc) rest in
-    let e' : turn_of n (nat_le limit (length items)) t.kind ≡ Add item = ap (λ x. turn_of n x t.kind) (sym f) ∙ e in
+items_add rules items t item full f e rest =
+    let b = going_turn rules full t.kind (λ r s. cc) rest in
+    let e' : turn_of rules (nat_le rules.item_limit (length items)) t.kind ≡ Add item = ap (λ x. turn_of rules x t.kind) (sym f) ∙ e in
     rw (e', b) refl
 
-pub items_close : (n limit : ℕ) (items : List Item) (t : Token) (full : Bool) → full ≡ nat_le limit (length items) → turn_of n full t.kind ≡ Close
-    → (rest : List Token) → items_from n limit items (onto_token t rest) ≡ (whole items t.number, rest)
+pub items_close : (rules : Rules) (items : List Item) (t : Token) (full : Bool) → full ≡ nat_le rules.item_limit (length items) → turn_of rules full t.kind ≡ Close
+    → (rest : List Token) → items_from rules items (onto_token t rest) ≡ (whole items t.number, rest)
 unfolding items_from
-items_close n limit items t full f e rest =
-    let b = going_turn n full t.kind (λ r s. cc) rest in
-    let e' : turn_of n (nat_le limit (length items)) t.kind ≡ Close = ap (λ x. turn_of n x t.kind) (sym f) ∙ e in
+items_close rules items t full f e rest =
+    let b = going_turn rules full t.kind (λ r s. cc) rest in
+    let e' : turn_of rules (nat_le rules.item_limit (length items)) t.kind ≡ Close = ap (λ x. turn_of rules x t.kind) (sym f) ∙ e in
     rw (e', b) refl
 
-pub items_pass : (n limit : ℕ) (items : List Item) (t : Token) (full : Bool) (r : Reason) → full ≡ nat_le limit (length items) → turn_of n full t.kind ≡ Pass r
-    → (rest : List Token) → items_from n limit items (onto_token t rest) ≡ (Refused t.number r, after_end rest)
+pub items_pass : (rules : Rules) (items : List Item) (t : Token) (full : Bool) (r : Reason) → full ≡ nat_le rules.item_limit (length items) → turn_of rules full t.kind ≡ Pass r
+    → (rest : List Token) → items_from rules items (onto_token t rest) ≡ (Refused t.number r, after_end rest)
 unfolding items_from
-items_pass n limit items t full r f e rest =
-    let b = going_turn n full t.kind (λ s p. cc) rest in
-    let e' : turn_of n (nat_le limit (length items)) t.kind ≡ Pass r = ap (λ x. turn_of n x t.kind) (sym f) ∙ e in
+items_pass rules items t full r f e rest =
+    let b = going_turn rules full t.kind (λ s p. cc) rest in
+    let e' : turn_of rules (nat_le rules.item_limit (length items)) t.kind ≡ Pass r = ap (λ x. turn_of rules x t.kind) (sym f) ∙ e in
     rw (e', b) refl
 
-pub items_stop : (n limit : ℕ) (items : List Item) (t : Token) (full : Bool) (r : Reason) → full ≡ nat_le limit (length items) → turn_of n full t.kind ≡ Stop r
-    → items_from n limit items (t ∷ []) ≡ (Refused t.number r, t ∷ [])
+pub items_stop : (rules : Rules) (items : List Item) (t : Token) (full : Bool) (r : Reason) → full ≡ nat_le rules.item_limit (length items) → turn_of rules full t.kind ≡ Stop r
+    → items_from rules items (t ∷ []) ≡ (Refused t.number r, t ∷ [])
 unfolding items_from
-items_stop n limit items t full r f e =
-    let e' : turn_of n (nat_le limit (length items)) t.kind ≡ Stop r = ap (λ x. turn_of n x t.kind) (sym f) ∙ e in
+items_stop rules items t full r f e =
+    let e' : turn_of rules (nat_le rules.item_limit (length items)) t.kind ≡ Stop r = ap (λ x. turn_of rules x t.kind) (sym f) ∙ e in
     rw e' refl
 
 -- a batch that passes over what follows
@@ -123,30 +125,30 @@ pub passed_over : (F : List Token → Next × List Token) (next : Next) (t : Tok
 passed_over F next t old None new e h p = rw (e, ← p) refl
 passed_over F next t old (Some rest) new e h p = rw (e, ← p) (ap Some (h rest))
 
-pub batch_start : (n limit : ℕ) (t : Token) → t.kind ≡ kind.BatchStart → (rest : List Token) → batch_of n limit (onto_token t rest) ≡ items_from n limit [] rest
+pub batch_start : (rules : Rules) (t : Token) → t.kind ≡ kind.BatchStart → (rest : List Token) → batch_of rules (onto_token t rest) ≡ items_from rules [] rest
 unfolding batch_of
-batch_start n limit t e rest = rw e refl
+batch_start rules t e rest = rw e refl
 
-pub batch_end : (n limit : ℕ) (t : Token) → t.kind ≡ kind.BatchEnd → (rest : List Token) → batch_of n limit (onto_token t rest) ≡ (Refused t.number BadLine, rest)
+pub batch_end : (rules : Rules) (t : Token) → t.kind ≡ kind.BatchEnd → (rest : List Token) → batch_of rules (onto_token t rest) ≡ (Refused t.number BadLine, rest)
 unfolding batch_of
-batch_end n limit t e rest = rw e refl
+batch_end rules t e rest = rw e refl
 
-pub batch_item : (n limit : ℕ) (t : Token) (i : Item) → t.kind ≡ kind.Item i → (rest : List Token) → batch_of n limit (onto_token t rest) ≡ (Refused t.number BadLine, after_end rest)
+pub batch_item : (rules : Rules) (t : Token) (i : Item) → t.kind ≡ kind.Item i → (rest : List Token) → batch_of rules (onto_token t rest) ≡ (Refused t.number BadLine, after_end rest)
 unfolding batch_of
-batch_item n limit t i e rest = rw e refl
+batch_item rules t i e rest = rw e refl
 
-pub batch_other : (n limit : ℕ) (t : Token) → t.kind ≡ kind.Other → (rest : List Token) → batch_of n limit (onto_token t rest) ≡ (Refused t.number BadLine, after_end rest)
+pub batch_other : (rules : Rules) (t : Token) → t.kind ≡ kind.Other → (rest : List Token) → batch_of rules (onto_token t rest) ≡ (Refused t.number BadLine, after_end rest)
 unfolding batch_of
-batch_other n limit t e rest = rw e refl
+batch_other rules t e rest = rw e refl
 
-pub batch_long : (n limit : ℕ) (t : Token) → t.kind ≡ kind.TooLong → (rest : List Token) → batch_of n limit (onto_token t rest) ≡ (Refused t.number LineLong, after_end rest)
+pub batch_long : (rules : Rules) (t : Token) → t.kind ≡ kind.TooLong → (rest : List Token) → batch_of rules (onto_token t rest) ≡ (Refused t.number LineLong, after_end rest)
 unfolding batch_of
-batch_long n limit t e rest = rw e refl
+batch_long rules t e rest = rw e refl
 
-pub batch_limit : (n limit : ℕ) (t : Token) → t.kind ≡ kind.Limit → batch_of n limit (t ∷ []) ≡ (Refused t.number InputLimit, t ∷ [])
+pub batch_limit : (rules : Rules) (t : Token) → t.kind ≡ kind.Limit → batch_of rules (t ∷ []) ≡ (Refused t.number InputLimit, t ∷ [])
 unfolding batch_of
-batch_limit n limit t e = rw e refl
+batch_limit rules t e = rw e refl
 
-pub batch_none : (n limit : ℕ) (t : Token) → t.kind ≡ kind.InputEnd → batch_of n limit (t ∷ []) ≡ (End, t ∷ [])
+pub batch_none : (rules : Rules) (t : Token) → t.kind ≡ kind.InputEnd → batch_of rules (t ∷ []) ≡ (End, t ∷ [])
 unfolding batch_of
-batch_none n limit t e = rw e refl
+batch_none rules t e = rw e refl

@@ -1,6 +1,7 @@
 -- What a batch input says: its header, and its batches.
 use Rattle.std.specs.Prelude.{ℕ, List}
 use Rattle.kc_text.specs.Lines.{lines}
+use Rattle.kc_batch.specs.declared.rules.Rules.{Rules}
 use Rattle.kc_batch.specs.HeaderShape.{HeaderShape}
 use Rattle.kc_batch.specs.declared.batch.Next.{Next}
 use Rattle.kc_batch.specs.Kept.{kept}
@@ -8,14 +9,18 @@ use Rattle.kc_batch.specs.Headers.{HeaderText, Accepted, Refused, header_of}
 use Rattle.kc_batch.specs.Tokens.{tokens}
 use Rattle.kc_batch.specs.Batches.{batches}
 
--- a header and the batches behind it, or a header that is refused at a line
+-- a header and the batches after it, or a header that is refused at a line
 pub data BatchInput : Type 0 where
   WithBatches : (header : HeaderShape) (batches : List Next) → BatchInput
   HeaderRefused : (line : ℕ) → BatchInput
 
+-- what batches after a header have to keep to, of which each has at most `item_limit` items
+abbrev pub rules_of : HeaderShape → ℕ → Rules
+rules_of header item_limit = record { n = header.n; profile = header.profile; item_limit = item_limit }
+
 -- with at most `item_limit` items a batch
 abbrev pub behind_header : ℕ → HeaderText → BatchInput
-behind_header item_limit (Accepted header rest) = WithBatches header (batches header.n item_limit (tokens rest))
+behind_header item_limit (Accepted header rest) = WithBatches header (batches (rules_of header item_limit) (tokens rest))
 behind_header item_limit (Refused line) = HeaderRefused line
 
 -- what bytes say

@@ -1,10 +1,11 @@
 -- The batches of an input, each with its items or its first fault. All lines are lines that aren't skipped, told as
 -- tokens; `Limit` or `InputEnd` is the last of them, so there is always one, and what stands for no line doesn't matter.
-use Rattle.std.specs.Prelude.{ℕ, ◌<◌, ◌≤◌, nat_le, List, [], ◌∷◌, ◌++◌, length, All, Option}
+use Rattle.std.specs.Prelude.{ℕ, ◌≡◌, true, ◌<◌, ◌≤◌, nat_le, List, [], ◌∷◌, ◌++◌, length, All, Option}
 use Rattle.std.specs.Option.{option_map}
 use Rattle.kc_graph.specs.declared.items.Item.{Item}
 use Rattle.kc_text.specs.declared.reason.Reason.TheVariants.{LineLong, BadLine, InputLimit}
 use Rattle.kc_text.specs.Reading.{Reading}
+use Rattle.kc_batch.specs.declared.rules.Rules.{Rules}
 use Rattle.kc_batch.specs.declared.token.Token.{Token}
 use Rattle.kc_batch.specs.declared.token.Kind.{Kind}
 use Rattle.kc_batch.specs.declared.token.Kind.TheVariants as kind
@@ -15,7 +16,7 @@ use Rattle.kc_batch.specs.declared.batch.Next.{Next}
 use Rattle.kc_batch.specs.declared.batch.Next.TheVariants.{Items, Refused, End}
 use Rattle.kc_batch.specs.Tokens.{tokens_left}
 use Rattle.kc_graph.specs.Cleaning.{IsInside}
-use Rattle.kc_batch.specs.Turns.{turn_of, IsBatchReason}
+use Rattle.kc_batch.specs.Turns.{is_allowed, turn_of, IsBatchReason}
 
 -- a batch without a fault
 abbrev pub whole : List Item → ℕ → Next
@@ -27,7 +28,7 @@ pass_by kind.Limit here rest later = here
 pass_by kind.InputEnd here rest later = here
 pass_by _ here rest later = later
 
--- the lines behind the next `end`; or the end of the input or its limit, if that comes before
+-- the lines after the next `end`; or the end of the input or its limit, if that comes before
 unfoldable pub after_end : List Token → List Token
 after_end [] = []
 after_end (t ∷ rest) = pass_by t.kind (t ∷ []) rest (after_end rest)
@@ -38,30 +39,30 @@ take_turn items t Close rest more = (whole items t.number, rest)
 take_turn items t (Pass reason) rest more = (Refused t.number reason, after_end rest)
 take_turn items t (Stop reason) rest more = (Refused t.number reason, t ∷ [])
 
--- the rest of a batch that has these items, and the lines behind it
-unfoldable pub items_from : ℕ → ℕ → List Item → List Token → Next × List Token
-items_from n limit items [] = (End, [])
-items_from n limit items (t ∷ rest) =
-    take_turn items t (turn_of n (nat_le limit (length items)) t.kind) rest (λ item. items_from n limit (items ++ item ∷ []) rest)
+-- the rest of a batch that has these items, and the lines after it
+unfoldable pub items_from : Rules → List Item → List Token → Next × List Token
+items_from rules items [] = (End, [])
+items_from rules items (t ∷ rest) =
+    take_turn items t (turn_of rules (nat_le rules.item_limit (length items)) t.kind) rest (λ item. items_from rules (items ++ item ∷ []) rest)
 
-abbrev pub begin_batch : ℕ → ℕ → Token → Kind → List Token → Next × List Token
-begin_batch n limit t kind.BatchStart rest = items_from n limit [] rest
-begin_batch n limit t kind.BatchEnd rest = (Refused t.number BadLine, rest)
-begin_batch n limit t (kind.Item item) rest = (Refused t.number BadLine, after_end rest)
-begin_batch n limit t kind.Other rest = (Refused t.number BadLine, after_end rest)
-begin_batch n limit t kind.TooLong rest = (Refused t.number LineLong, after_end rest)
-begin_batch n limit t kind.Limit rest = (Refused t.number InputLimit, t ∷ [])
-begin_batch n limit t kind.InputEnd rest = (End, t ∷ [])
+abbrev pub begin_batch : Rules → Token → Kind → List Token → Next × List Token
+begin_batch rules t kind.BatchStart rest = items_from rules [] rest
+begin_batch rules t kind.BatchEnd rest = (Refused t.number BadLine, rest)
+begin_batch rules t (kind.Item item) rest = (Refused t.number BadLine, after_end rest)
+begin_batch rules t kind.Other rest = (Refused t.number BadLine, after_end rest)
+begin_batch rules t kind.TooLong rest = (Refused t.number LineLong, after_end rest)
+begin_batch rules t kind.Limit rest = (Refused t.number InputLimit, t ∷ [])
+begin_batch rules t kind.InputEnd rest = (End, t ∷ [])
 
--- the next batch, and the lines behind it
-unfoldable pub batch_of : ℕ → ℕ → List Token → Next × List Token
-batch_of n limit [] = (End, [])
-batch_of n limit (t ∷ rest) = begin_batch n limit t t.kind rest
+-- the next batch, and the lines after it
+unfoldable pub batch_of : Rules → List Token → Next × List Token
+batch_of rules [] = (End, [])
+batch_of rules (t ∷ rest) = begin_batch rules t t.kind rest
 
 abbrev pub with_next : Next → List Token → Next × List Token
 with_next next rest = (next, rest)
 
--- where a line stands: between batches, within a batch that has these items, or behind a fault of one
+-- where a line stands: between batches, within a batch that has these items, or after a fault of one
 pub data Place : Type 0 where
   Between : Place
   Within : (items : List Item) → Place
@@ -89,22 +90,22 @@ step_passing t kind.InputEnd between passing = []
 step_passing t _ between passing = passing
 
 -- the batches of lines, of which the first stands there
-unfoldable pub batches_from : ℕ → ℕ → Place → List Token → List Next
-batches_from n limit place [] = []
-batches_from n limit Between (t ∷ rest) =
-    step_between t t.kind (batches_from n limit (Within []) rest) (batches_from n limit Between rest) (batches_from n limit Passing rest)
-batches_from n limit (Within items) (t ∷ rest) =
-    step_within items t (turn_of n (nat_le limit (length items)) t.kind) (λ item. batches_from n limit (Within (items ++ item ∷ [])) rest)
-    (batches_from n limit Between rest) (batches_from n limit Passing rest)
-batches_from n limit Passing (t ∷ rest) = step_passing t t.kind (batches_from n limit Between rest) (batches_from n limit Passing rest)
+unfoldable pub batches_from : Rules → Place → List Token → List Next
+batches_from rules place [] = []
+batches_from rules Between (t ∷ rest) =
+    step_between t t.kind (batches_from rules (Within []) rest) (batches_from rules Between rest) (batches_from rules Passing rest)
+batches_from rules (Within items) (t ∷ rest) =
+    step_within items t (turn_of rules (nat_le rules.item_limit (length items)) t.kind) (λ item. batches_from rules (Within (items ++ item ∷ [])) rest)
+    (batches_from rules Between rest) (batches_from rules Passing rest)
+batches_from rules Passing (t ∷ rest) = step_passing t t.kind (batches_from rules Between rest) (batches_from rules Passing rest)
 
--- all batches of the lines behind a header with n vertices, of at most `limit` items each
-abbrev pub batches : ℕ → ℕ → List Token → List Next
-batches n limit ts = batches_from n limit Between ts
+-- all batches of the lines after a header
+abbrev pub batches : Rules → List Token → List Next
+batches rules ts = batches_from rules Between ts
 
 -- the batches of the lines that a reader has still to give, where its source tells what it has left
-abbrev pub batches_left : ℕ → ℕ → Reading → Option (List ℕ) → Option (List Next)
-batches_left n limit r left = option_map (batches n limit) (tokens_left r left)
+abbrev pub batches_left : Rules → Reading → Option (List ℕ) → Option (List Next)
+batches_left rules r left = option_map (batches rules) (tokens_left r left)
 
 -- a batch and those that follow it: none is the end, and none follows one that is refused for the input limit
 abbrev pub behind_batch : Next → List Next → List Next
@@ -117,16 +118,17 @@ abbrev pub IsEnd : Next → Type 0
 IsEnd End = Unit {0}
 IsEnd _ = ⊥
 
--- a batch has at most `limit` items, and their vertices are below n
-pub record IsBatch (n limit : ℕ) (batch : Batch) : Type 0 where
-  pub few : length batch.items ≤ limit
-  pub inside : All (IsInside n) batch.items
+-- a batch has no more items than are allowed, their vertices are below n, and their forms are allowed
+pub record IsBatch (rules : Rules) (batch : Batch) : Type 0 where
+  pub few : length batch.items ≤ rules.item_limit
+  pub inside : All (IsInside rules.n) batch.items
+  pub allowed : All (λ item. is_allowed rules.profile item ≡ true) batch.items
 
 -- what is true of each answer
-abbrev pub IsNext : ℕ → ℕ → Next → Type 0
-IsNext n limit (Items batch) = IsBatch n limit batch
-IsNext n limit (Refused line reason) = IsBatchReason reason
-IsNext n limit End = Unit {0}
+abbrev pub IsNext : Rules → Next → Type 0
+IsNext rules (Items batch) = IsBatch rules batch
+IsNext rules (Refused line reason) = IsBatchReason reason
+IsNext rules End = Unit {0}
 
 -- a batch takes some of a reader's budget; the end, and a batch that is refused for the input limit, give none back
 abbrev pub TakesBatch : Next → ℕ → ℕ → Type 0

@@ -2,13 +2,13 @@
 use Rattle.std.specs.Prelude.{ℕ, ◌≡◌, ◌≤◌, nat_le, Bool, true, false, List, [], ◌∷◌, ◌++◌, length, All}
 use Rattle.kc_graph.specs.declared.items.Item.{Item}
 use Rattle.kc_text.specs.declared.reason.Reason.{Reason}
+use Rattle.kc_batch.specs.declared.rules.Rules.{Rules}
 use Rattle.kc_batch.specs.declared.token.Token.{Token}
 use Rattle.kc_batch.specs.declared.token.Kind.{Kind}
 use Rattle.kc_batch.specs.declared.token.Kind.TheVariants as kind
 use Rattle.kc_batch.specs.declared.turn.Turn.TheVariants.{Pass, Stop}
 use Rattle.kc_batch.specs.declared.batch.Next.TheVariants.{Refused}
-use Rattle.kc_graph.specs.Cleaning.{IsInside}
-use Rattle.kc_batch.specs.Turns.{turn_of}
+use Rattle.kc_batch.specs.Turns.{turn_of, IsItemOf}
 use Rattle.kc_batch.specs.Batches.{whole, after_end, batch_of}
 
 abbrev pub line_at : ℕ → Kind → Token
@@ -23,7 +23,7 @@ abbrev pub items_of : List (ℕ × Item) → List Item
 items_of [] = []
 items_of (l ∷ ls) = l.1 ∷ items_of ls
 
--- behind a fault a line of this kind is passed over, and more follows
+-- after a fault a line of this kind is passed over, and more follows
 abbrev pub is_passed : Kind → Bool
 is_passed kind.BatchEnd = false
 is_passed kind.Limit = false
@@ -32,13 +32,13 @@ is_passed _ = true
 
 -- `batch`, some items that are allowed, and then a line that ends the batch: `end`, a fault, or where the input ends
 pub record FirstFaultDecides : Type 0 where
-  pub accepted : (n limit first last : ℕ) (ls : List (ℕ × Item)) (rest : List Token) → All (λ l. IsInside n l.1) ls → length ls ≤ limit
-      → batch_of n limit (line_at first kind.BatchStart ∷ item_lines ls ++ line_at last kind.BatchEnd ∷ rest) ≡ (whole (items_of ls) last, rest)
-  pub refused : (n limit first last : ℕ) (ls : List (ℕ × Item)) (k : Kind) (reason : Reason) (rest : List Token) → All (λ l. IsInside n l.1) ls → length ls ≤ limit
-      → turn_of n (nat_le limit (length ls)) k ≡ Pass reason
-      → batch_of n limit (line_at first kind.BatchStart ∷ item_lines ls ++ line_at last k ∷ rest) ≡ (Refused last reason, after_end rest)
-  pub stopped : (n limit first last : ℕ) (ls : List (ℕ × Item)) (k : Kind) (reason : Reason) (rest : List Token) → All (λ l. IsInside n l.1) ls → length ls ≤ limit
-      → turn_of n (nat_le limit (length ls)) k ≡ Stop reason
-      → batch_of n limit (line_at first kind.BatchStart ∷ item_lines ls ++ line_at last k ∷ rest) ≡ (Refused last reason, line_at last k ∷ [])
+  pub accepted : (rules : Rules) (first last : ℕ) (ls : List (ℕ × Item)) (rest : List Token) → All (λ l. IsItemOf rules l.1) ls → length ls ≤ rules.item_limit
+      → batch_of rules (line_at first kind.BatchStart ∷ item_lines ls ++ line_at last kind.BatchEnd ∷ rest) ≡ (whole (items_of ls) last, rest)
+  pub refused : (rules : Rules) (first last : ℕ) (ls : List (ℕ × Item)) (k : Kind) (reason : Reason) (rest : List Token) → All (λ l. IsItemOf rules l.1) ls → length ls ≤ rules.item_limit
+      → turn_of rules (nat_le rules.item_limit (length ls)) k ≡ Pass reason
+      → batch_of rules (line_at first kind.BatchStart ∷ item_lines ls ++ line_at last k ∷ rest) ≡ (Refused last reason, after_end rest)
+  pub stopped : (rules : Rules) (first last : ℕ) (ls : List (ℕ × Item)) (k : Kind) (reason : Reason) (rest : List Token) → All (λ l. IsItemOf rules l.1) ls → length ls ≤ rules.item_limit
+      → turn_of rules (nat_le rules.item_limit (length ls)) k ≡ Stop reason
+      → batch_of rules (line_at first kind.BatchStart ∷ item_lines ls ++ line_at last k ∷ rest) ≡ (Refused last reason, line_at last k ∷ [])
   -- all lines go up to the next `end`, and with it
   pub passed : (ts rest : List Token) (last : ℕ) → All (λ t. is_passed t.kind ≡ true) ts → after_end (ts ++ line_at last kind.BatchEnd ∷ rest) ≡ rest

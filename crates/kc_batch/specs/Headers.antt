@@ -1,11 +1,12 @@
--- The header of a batch input: `kcore 1`, then `vertices N`, then up to 64 ask lines. All lines are lines that aren't
+-- The header of a batch input: `kcore 1` or `kcore 2`, then `vertices N`, then up to 64 ask lines. All lines are lines that aren't
 -- skipped; `Limit` or `End` is the last of them, so there is always one.
 use Rattle.std.specs.Prelude.{ℕ, ◌≡◌, ◌<◌, ◌≤◌, ◌*◌, nat_le, nat_lt, Bool, false, ◌&&◌, List, [], ◌∷◌, ◌++◌, length, All, Option, Some, None, Result, Ok, Err, if◌then◌else◌, codes}
 use Rattle.std.specs.Option.{option_map}
 use Rattle.std.specs.List.{list_all}
 use Rattle.std.specs.Str.{bytes_eq}
 use Rattle.kc_graph.specs.declared.limits.TheConstants.{MAX_VERTICES}
-use Rattle.kc_levels.specs.declared.profile.Profile.TheVariants.{One}
+use Rattle.kc_levels.specs.declared.profile.Profile.{Profile}
+use Rattle.kc_levels.specs.declared.profile.Profile.TheVariants.{One, Two}
 use Rattle.kc_text.specs.declared.line.Line.{Line}
 use Rattle.kc_text.specs.Words.{words}
 use Rattle.kc_text.specs.Numbers.{number_of}
@@ -15,10 +16,17 @@ use Rattle.kc_batch.specs.HeaderShape.{HeaderShape}
 use Rattle.kc_batch.specs.declared.header.HeaderFault.{HeaderFault}
 use Rattle.kc_batch.specs.declared.header.HeaderFault.TheVariants as fault
 
--- the two words `kcore` and `1`
-unfoldable pub is_magic : List (List ℕ) → Bool
-is_magic (name ∷ version ∷ []) = bytes_eq name (codes "kcore") && bytes_eq version (codes "1")
-is_magic _ = false
+-- the profile that a version tells: it is the word `1` or the word `2`
+abbrev pub profile_of : List ℕ → Option Profile
+profile_of version =
+    if bytes_eq version (codes "1") then Some One
+    else if bytes_eq version (codes "2") then Some Two
+    else None
+
+-- the profile that the two words `kcore` and a version tell
+unfoldable pub profile_in : List (List ℕ) → Option Profile
+profile_in (name ∷ version ∷ []) = if bytes_eq name (codes "kcore") then profile_of version else None
+profile_in _ = None
 
 -- a number of vertices, from 1 to the most that a graph has
 abbrev pub vertex_count : Option ℕ → Option ℕ
@@ -64,7 +72,7 @@ ask_in n _ = None
 abbrev pub next_ask : ℕ → List Ask → List (List ℕ) → Option Ask
 next_ask n asks ws = if nat_lt (length asks) 64 then ask_in n ws else None
 
--- what lines begin with: a header and the lines behind it, or a header that is refused at a line
+-- what lines begin with: a header and the lines after it, or a header that is refused at a line
 pub data HeaderText : Type 0 where
   Accepted : (header : HeaderShape) (rest : List Line) → HeaderText
   Refused : (line : ℕ) → HeaderText
@@ -73,26 +81,30 @@ abbrev pub on_ask : ℕ → Option Ask → (Ask → HeaderText) → HeaderText
 on_ask line None next = Refused line
 on_ask line (Some ask) next = next ask
 
--- behind `vertices N` and these asks: the header ends before the first line that is no ask line
-unfoldable pub asks_from : ℕ → List Ask → List Line → HeaderText
-asks_from n asks [] = Accepted (record { profile = One; n = n; asks = asks }) []
-asks_from n asks (line ∷ rest) =
-    if is_ask (words (text_of line.body)) then on_ask line.number (next_ask n asks (words (text_of line.body))) (λ ask. asks_from n (asks ++ ask ∷ []) rest)
-    else Accepted (record { profile = One; n = n; asks = asks }) (line ∷ rest)
+-- after `vertices N` and these asks: the header ends before the first line that is no ask line
+unfoldable pub asks_from : Profile → ℕ → List Ask → List Line → HeaderText
+asks_from p n asks [] = Accepted (record { profile = p; n = n; asks = asks }) []
+asks_from p n asks (line ∷ rest) =
+    if is_ask (words (text_of line.body)) then on_ask line.number (next_ask n asks (words (text_of line.body))) (λ ask. asks_from p n (asks ++ ask ∷ []) rest)
+    else Accepted (record { profile = p; n = n; asks = asks }) (line ∷ rest)
 
 abbrev pub on_vertices : ℕ → Option ℕ → (ℕ → HeaderText) → HeaderText
 on_vertices line None next = Refused line
 on_vertices line (Some n) next = next n
 
--- behind `kcore 1` the number of vertices is due
-unfoldable pub after_magic : List Line → HeaderText
-after_magic [] = Refused 0
-after_magic (line ∷ rest) = on_vertices line.number (vertices_in (words (text_of line.body))) (λ n. asks_from n [] rest)
+-- after the first line the number of vertices is due
+unfoldable pub after_profile : Profile → List Line → HeaderText
+after_profile p [] = Refused 0
+after_profile p (line ∷ rest) = on_vertices line.number (vertices_in (words (text_of line.body))) (λ n. asks_from p n [] rest)
 
--- `kcore 1` is due
+abbrev pub on_profile : ℕ → Option Profile → (Profile → HeaderText) → HeaderText
+on_profile line None next = Refused line
+on_profile line (Some p) next = next p
+
+-- `kcore 1` or `kcore 2` is due, which decides the profile
 unfoldable pub header_of : List Line → HeaderText
 header_of [] = Refused 0
-header_of (line ∷ rest) = if is_magic (words (text_of line.body)) then after_magic rest else Refused line.number
+header_of (line ∷ rest) = on_profile line.number (profile_in (words (text_of line.body))) (λ p. after_profile p rest)
 
 -- the ranges of an ask of n vertices
 pub record IsAsk (n : ℕ) (ask : Ask) : Type 0 where
@@ -108,11 +120,11 @@ pub record IsHeader (header : HeaderShape) : Type 0 where
   pub few : length header.asks ≤ 64
   pub asks : All (IsAsk header.n) header.asks
 
--- a refusal, whatever lines are behind it
+-- a refusal, whatever lines are after it
 abbrev pub refused_at : ℕ → List Line → HeaderText
 refused_at line rest = Refused line
 
--- what an answer says of lines that a rule tells: with Ok the header, and that the lines behind it are left; with
+-- what an answer says of lines that a rule tells: with Ok the header, and that the lines after it are left; with
 -- Refused that they are refused at this line
 abbrev pub Answers : (List Line → HeaderText) → Option (List Line) → Option (List Line) → Result HeaderShape HeaderFault → Type 0
 Answers rule before now (Ok header) = option_map rule before ≡ option_map (Accepted header) now

@@ -1,7 +1,7 @@
 -- What the definitions of headers and batches come to, on examples.
 use Rattle.std.specs.Prelude.{ℕ, ◌≡◌, List, [], ◌∷◌, ◌++◌, codes}
-use Rattle.kc_graph.specs.declared.items.Item.TheVariants.{Insert, Delete}
-use Rattle.kc_levels.specs.declared.profile.Profile.TheVariants.{One}
+use Rattle.kc_graph.specs.declared.items.Item.TheVariants.{Insert, Delete, Isolate}
+use Rattle.kc_levels.specs.declared.profile.Profile.TheVariants.{One, Two}
 use Rattle.kc_text.specs.declared.reason.Reason.TheVariants.{LineLong, BadLine, BadVertex, TooMany, Truncated, InputLimit}
 use Rattle.kc_batch.specs.declared.batch.Next.{Next}
 use Rattle.kc_batch.specs.declared.batch.Next.TheVariants.{Refused}
@@ -20,6 +20,13 @@ plain n batches = WithBatches (record { profile = One; n = n; asks = [] }) batch
 abbrev pub among_three : List ℕ → BatchInput
 among_three text = said (codes "kcore 1\nvertices 3\n" ++ text)
 
+-- batches of a graph with five vertices under the second profile
+abbrev pub second : List Next → BatchInput
+second batches = WithBatches (record { profile = Two; n = 5; asks = [] }) batches
+
+abbrev pub among_five : List ℕ → BatchInput
+among_five text = said (codes "kcore 2\nvertices 5\n" ++ text)
+
 -- a SNAP edge file as a batch: comments, tabs, carriage returns
 abbrev pub ReadsSnap : Type 0
 ReadsSnap = said (codes "kcore 1\r\nvertices 3\r\nbatch\r\n# Undirected graph\r\n# FromNodeId\tToNodeId\r\n0\t1\r\n1\t0\r\n1\t2\r\n2\t1\r\nend\r\n")
@@ -32,8 +39,11 @@ pub record ReadsHeaders : Type 0 where
       ≡ WithBatches (record { profile = One; n = 2; asks = record { times = 2; vertices = 0 ∷ [] } ∷ record { times = 1; vertices = 1 ∷ 0 ∷ 1 ∷ [] } ∷ [] }) []
   pub nothing : said [] ≡ HeaderRefused 1
   pub version : said (codes "kcore 01\nvertices 1\n") ≡ HeaderRefused 1
+  pub second_version : said (codes "kcore 2\nvertices 5\nask 1 4\n") ≡ WithBatches (record { profile = Two; n = 5; asks = record { times = 1; vertices = 4 ∷ [] } ∷ [] }) []
+  pub third_version : said (codes "kcore 3\nvertices 1\n") ≡ HeaderRefused 1
   pub no_vertices : said (codes "kcore 1\nvertices 0\n") ≡ HeaderRefused 2
-  pub too_many_vertices : said (codes "kcore 1\nvertices 1048577\n") ≡ HeaderRefused 2
+  pub most_vertices : said (codes "kcore 1\nvertices 16777216\n") ≡ plain 16777216 []
+  pub too_many_vertices : said (codes "kcore 1\nvertices 16777217\n") ≡ HeaderRefused 2
   pub no_second_line : said (codes "kcore 1\n\n# more\n") ≡ HeaderRefused 4
   pub limit : input_of 65536 9 1 (codes "kcore 1\nvertices 1\n") ≡ HeaderRefused 2
   pub long_line : input_of 7 100 1 (codes "kcore 1\nvertices 1\n") ≡ HeaderRefused 2
@@ -71,7 +81,20 @@ pub record RefusesBatches : Type 0 where
   pub truncated : among_three (codes "batch\n0 1\n") ≡ plain 3 (Refused 5 Truncated ∷ [])
   pub input_limit : input_of 65536 24 9 (codes "kcore 1\nvertices 3\nbatch\n0 1\nend\n") ≡ plain 3 (Refused 3 InputLimit ∷ [])
 
--- what is passed over behind a fault: all up to the next `end`, with nothing in it a further fault
+-- isolations: items under the second profile, a wrong line under the first; which fault goes first
+pub record ReadsIsolations : Type 0 where
+  pub item : among_five (codes "batch\n+ 0 1\nx 0\n\tx  04\r\n- 1 2\nend\n") ≡ second (whole (Insert 0 1 ∷ Isolate 0 ∷ Isolate 4 ∷ Delete 1 2 ∷ []) 8 ∷ [])
+  pub first_profile : among_three (codes "batch\nx 1\nend\n") ≡ plain 3 (Refused 4 BadLine ∷ [])
+  pub bad_line_before_bad_vertex : among_three (codes "batch\nx 9\nend\n") ≡ plain 3 (Refused 4 BadLine ∷ [])
+  pub bad_vertex : among_five (codes "batch\nx 5\nend\n") ≡ second (Refused 4 BadVertex ∷ [])
+  pub no_number : among_five (codes "batch\nx y\nend\n") ≡ second (Refused 4 BadLine ∷ [])
+  pub no_vertex : among_five (codes "batch\nx\nend\n") ≡ second (Refused 4 BadLine ∷ [])
+  pub two_vertices : among_five (codes "batch\nx 1 2\nend\n") ≡ second (Refused 4 BadLine ∷ [])
+  pub capital : among_five (codes "batch\nX 1\nend\n") ≡ second (Refused 4 BadLine ∷ [])
+  pub too_many : input_of 65536 1073741824 1 (codes "kcore 2\nvertices 5\nbatch\nx 1\nx 2\nend\n") ≡ second (Refused 5 TooMany ∷ [])
+  pub outside : among_five (codes "x 1\nend\n") ≡ second (Refused 3 BadLine ∷ [])
+
+-- what is passed over after a fault: all up to the next `end`, with nothing in it a further fault
 pub record PassesOver : Type 0 where
   pub first_fault : among_three (codes "batch\n0 3\n0 1 2 3\nbatch\nend\nbatch\nend\n") ≡ plain 3 (Refused 4 BadVertex ∷ whole [] 9 ∷ [])
   pub wrong_line : among_three (codes "0 1\nbatch\n0 1\nend\nend\nbatch\nend") ≡ plain 3 (Refused 3 BadLine ∷ Refused 7 BadLine ∷ whole [] 9 ∷ [])

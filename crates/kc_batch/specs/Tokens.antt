@@ -2,7 +2,7 @@
 use Rattle.std.specs.Prelude.{ℕ, ◌≡◌, ◌<◌, ◌≤◌, List, [], ◌∷◌, Option, Some, None, if◌then◌else◌, codes}
 use Rattle.std.specs.Str.{bytes_eq}
 use Rattle.std.specs.Option.{option_map}
-use Rattle.kc_graph.specs.declared.items.Item.TheVariants.{Insert, Delete}
+use Rattle.kc_graph.specs.declared.items.Item.TheVariants.{Insert, Delete, Isolate}
 use Rattle.kc_text.specs.declared.line.Line.{Line}
 use Rattle.kc_text.specs.declared.line.Body.{Body}
 use Rattle.kc_text.specs.declared.line.Body.TheVariants as body
@@ -26,6 +26,16 @@ deletion (Some u) (Some v) = Item (Delete u v)
 deletion (Some u) None = Other
 deletion None v = Other
 
+-- the isolation of v, where it is a number
+abbrev pub isolation : Option ℕ → Kind
+isolation (Some v) = Item (Isolate v)
+isolation None = Other
+
+-- what two words tell, of which these are the first and the numbers that they say: an insertion, or `x` and an isolation
+abbrev pub unsigned : List ℕ → Option ℕ → Option ℕ → Kind
+unsigned first (Some u) v = insertion (Some u) v
+unsigned first None v = if bytes_eq first (codes "x") then isolation v else Other
+
 -- the item that a sign, u and v tell, where u and v are numbers
 abbrev pub signed : List ℕ → Option ℕ → Option ℕ → Kind
 signed sign u v =
@@ -40,7 +50,7 @@ kind_of_words (word ∷ []) =
     if bytes_eq word (codes "batch") then BatchStart
     else if bytes_eq word (codes "end") then BatchEnd
     else Other
-kind_of_words (u ∷ v ∷ []) = insertion (number_of u) (number_of v)
+kind_of_words (first ∷ second ∷ []) = unsigned first (number_of first) (number_of second)
 kind_of_words (sign ∷ u ∷ v ∷ []) = signed sign (number_of u) (number_of v)
 kind_of_words (a ∷ b ∷ c ∷ d ∷ more) = Other
 
@@ -72,7 +82,7 @@ tokens (line ∷ rest) = record { number = line.number; kind = kind_of line.body
 abbrev pub tokens_left : Reading → Option (List ℕ) → Option (List Token)
 tokens_left r left = option_map tokens (kept_left r left)
 
--- the tokens that follow one of this kind: none behind the end of the input or its limit
+-- the tokens that follow one of this kind: none after the end of the input or its limit
 abbrev pub behind_kind : Kind → List Token → List Token
 behind_kind Limit rest = []
 behind_kind InputEnd rest = []

@@ -6,8 +6,10 @@ ghost use Rattle.kc_text.specs.Reading.{budget};
 ghost use Rattle.kc_batch.specs.Tokens.{tokens_left};
 
 use crate::Items;
+use crate::rules::Rules;
 use crate::token::{Kind, next_token};
 use crate::turn::{Turn, turn_at};
+use kc_levels::Profile;
 use kc_text::{LineFault, LineReader, Reason, Source};
 use std::alloc::{AllocError, Global};
 use thiserror::Error;
@@ -84,11 +86,10 @@ fn read_items<S: Source>(
     alloc: Global,
     reader: &mut LineReader,
     src: &mut S,
-    n: u32,
-    item_limit: u32,
+    rules: Rules,
 ) -> Result<Next, LineFault>
-    ensures batch { IfOk result (λ next. option_map (items_from n item_limit []) (tokens_left reader.old (S.left src.old)) ≡ option_map (with_next next) (tokens_left reader.new (S.left src.new))) }
-    ensures sound { IfOk result (IsNext n item_limit) }
+    ensures batch { IfOk result (λ next. option_map (items_from rules []) (tokens_left reader.old (S.left src.old)) ≡ option_map (with_next next) (tokens_left reader.new (S.left src.new))) }
+    ensures sound { IfOk result (IsNext rules) }
     ensures more { IfOk result (λ next. IsEnd next → ⊥) }
     ensures budget { OnOk result (budget reader.new ≤ budget reader.old) }
     ensures cause { ReadCause (S.faults src.old) (S.faults src.new) result }
@@ -97,7 +98,7 @@ fn read_items<S: Source>(
     loop {
         let token = next_token(alloc, reader, src)?;
         let line = token.number;
-        match turn_at(n, items.len() >= item_limit as usize, token.kind) {
+        match turn_at(rules, items.len() >= rules.item_limit as usize, token.kind) {
             Turn::Add(item) => match items.push(item) {
                 Ok(()) => {}
                 Err(e) => return Err(LineFault::Memory(e)),
@@ -112,16 +113,15 @@ fn read_items<S: Source>(
     }
 }
 
-// Reads the next batch, and what is passed over behind a fault of it.
+// Reads the next batch, and what is passed over after a fault of it.
 fn find_batch<S: Source>(
     alloc: Global,
     reader: &mut LineReader,
     src: &mut S,
-    n: u32,
-    item_limit: u32,
+    rules: Rules,
 ) -> Result<Next, LineFault>
-    ensures batch { IfOk result (λ next. option_map (batch_of n item_limit) (tokens_left reader.old (S.left src.old)) ≡ option_map (with_next next) (tokens_left reader.new (S.left src.new))) }
-    ensures sound { IfOk result (IsNext n item_limit) }
+    ensures batch { IfOk result (λ next. option_map (batch_of rules) (tokens_left reader.old (S.left src.old)) ≡ option_map (with_next next) (tokens_left reader.new (S.left src.new))) }
+    ensures sound { IfOk result (IsNext rules) }
     ensures takes { IfOk result (λ next. TakesBatch next (budget reader.old) (budget reader.new)) }
     ensures again { IfOk result (λ next. IsEnd next → tokens_left reader.new (S.left src.new) ≡ tokens_left reader.old (S.left src.old)) }
     ensures cause { ReadCause (S.faults src.old) (S.faults src.new) result }
@@ -130,7 +130,7 @@ fn find_batch<S: Source>(
     let line = token.number;
     match token.kind {
         Kind::BatchStart => {
-            let next = read_items(alloc, reader, src, n, item_limit)?;
+            let next = read_items(alloc, reader, src, rules)?;
             Ok(next)
         }
         Kind::BatchEnd => Ok(Next::Refused {
@@ -160,7 +160,7 @@ fn find_batch<S: Source>(
 }
 
 /// Reads the next batch of a graph of n vertices, as `batch_of` of `specs/Batches` says: its items, at most
-/// `item_limit`, or its first fault. Afterwards the reader stands behind it.
+/// `item_limit`, or its first fault. Under the first profile a line `x v` is a fault, `BadLine`. Afterwards the reader stands after it.
 ///
 /// Called again and again it gives the list `batches` of all batches, up to `End`, which each later call gives again,
 /// or up to a batch that is refused for `InputLimit`, which is the last and is refused so again at each later call.
@@ -172,21 +172,27 @@ pub fn next_batch<S: Source>(
     reader: &mut LineReader,
     src: &mut S,
     n: u32,
+    profile: Profile,
     item_limit: u32,
 ) -> Result<Next, BatchFault>
-    ensures batch { IfOk result (λ next. option_map (batch_of n item_limit) (tokens_left reader.old (S.left src.old)) ≡ option_map (with_next next) (tokens_left reader.new (S.left src.new))) }
-    ensures batches { IfOk result (λ next. batches_left n item_limit reader.old (S.left src.old) ≡ option_map (behind_batch next) (batches_left n item_limit reader.new (S.left src.new))) }
+    ensures batch { IfOk result (λ next. option_map (batch_of (record { n = n; profile = profile; item_limit = item_limit })) (tokens_left reader.old (S.left src.old)) ≡ option_map (with_next next) (tokens_left reader.new (S.left src.new))) }
+    ensures batches { IfOk result (λ next. batches_left (record { n = n; profile = profile; item_limit = item_limit }) reader.old (S.left src.old) ≡ option_map (behind_batch next) (batches_left (record { n = n; profile = profile; item_limit = item_limit }) reader.new (S.left src.new))) }
 
     // Whatever the source tells.
-    ensures sound { IfOk result (IsNext n item_limit) }
+    ensures sound { IfOk result (IsNext (record { n = n; profile = profile; item_limit = item_limit })) }
 
-    // Behind the end comes the end again.
+    // After the end comes the end again.
     ensures again { IfOk result (λ next. IsEnd next → tokens_left reader.new (S.left src.new) ≡ tokens_left reader.old (S.left src.old)) }
 
     // A caller's loop over the batches ends, since each batch takes some of the budget.
     ensures takes { IfOk result (λ next. TakesBatch next (budget reader.old) (budget reader.new)) }
     ensures cause { BatchCause (S.faults src.old) (S.faults src.new) result }
 {
-    let next = find_batch(alloc, reader, src, n, item_limit)?;
+    let rules = Rules {
+        n,
+        profile,
+        item_limit,
+    };
+    let next = find_batch(alloc, reader, src, rules)?;
     Ok(next)
 }

@@ -15,7 +15,7 @@ use std::alloc::{AllocError, AllocFailed, Global};
 use std::marker::Model;
 use thiserror::Error;
 
-/// The header of a batch input. In each, n is 1 to 1,048,576, there are at most 64 asks, and each ask keeps the ranges
+/// The header of a batch input. In each, n is 1 to `MAX_VERTICES`, there are at most 64 asks, and each ask keeps the ranges
 /// that [`Ask`] tells: `IsHeader` of `specs/Headers`.
 #[derive(Drop, Debug)]
 pub struct Header {
@@ -77,25 +77,34 @@ impl From<AllocError> for HeaderFault {
     }
 }
 
-ghost use Rattle.kc_batch.specs.Headers.{is_magic, vertices_in, header_of, after_magic, asks_from, Answers, IsHeader};
+ghost use Rattle.kc_batch.specs.Headers.{profile_of, profile_in, vertices_in, header_of, after_profile, asks_from, Answers, IsHeader};
 ghost use Rattle.kc_batch.specs.Causes.{HeaderCause};
 
-#[tactic(auto, unfolding(crate::specs::Headers::is_magic))]
-fn is_magic(text: &[u8]) -> bool
-    ensures { result ≡ is_magic (words text.now) }
+fn profile_of(version: &[u8]) -> Option<Profile>
+    ensures { result ≡ profile_of version.now }
 {
-    let Some((start, end)) = next_word(text, 0) else {
-        return false;
-    };
-    let name = &text[start..end];
-    let Some((start, end)) = next_word(text, end) else {
-        return false;
-    };
-    let version = &text[start..end];
-    if next_word(text, end).is_some() {
-        return false;
+    if is(version, b"1") {
+        Some(Profile::One)
+    } else if is(version, b"2") {
+        Some(Profile::Two)
+    } else {
+        None
     }
-    is(name, b"kcore") && is(version, b"1")
+}
+
+// The profile of a line `kcore 1` or `kcore 2`.
+#[tactic(auto, unfolding(crate::specs::Headers::profile_in))]
+fn profile_in(text: &[u8]) -> Option<Profile>
+    ensures { result ≡ profile_in (words text.now) }
+{
+    let (start, end) = next_word(text, 0)?;
+    let name = &text[start..end];
+    let (start, end) = next_word(text, end)?;
+    let version = &text[start..end];
+    if next_word(text, end).is_some() || !is(name, b"kcore") {
+        return None;
+    }
+    profile_of(version)
 }
 
 // The number of vertices of a line `vertices N`.
@@ -119,16 +128,17 @@ fn vertices_in(text: &[u8]) -> Option<u32>
     }
 }
 
-// Reads the ask lines behind `vertices N`, up to the first line that is none.
+// Reads the ask lines after `vertices N`, up to the first line that is none.
 fn read_asks<S: Source>(
     alloc: Global,
     reader: &mut LineReader,
     src: &mut S,
+    profile: Profile,
     n: u32,
 ) -> Result<Header, HeaderFault>
     requires some { 1 ≤ n }
     requires small { n ≤ MAX_VERTICES }
-    ensures header { Answers (asks_from n []) (kept_left reader.old (S.left src.old)) (kept_left reader.new (S.left src.new)) result }
+    ensures header { Answers (asks_from profile n []) (kept_left reader.old (S.left src.old)) (kept_left reader.new (S.left src.new)) result }
     ensures range { IfOk result IsHeader }
     ensures budget { OnOk result (budget reader.new ≤ budget reader.old + 1) }
     ensures cause { HeaderCause (S.faults src.old) (S.faults src.new) result }
@@ -139,11 +149,7 @@ fn read_asks<S: Source>(
         let text = text_of(&line);
         if !is_ask(text) {
             reader.put_back(line);
-            return Ok(Header {
-                profile: Profile::One,
-                n,
-                asks,
-            });
+            return Ok(Header { profile, n, asks });
         }
         match next_ask(alloc, text, n, asks.len())? {
             Some(ask) => asks.push(ask)?,
@@ -152,9 +158,30 @@ fn read_asks<S: Source>(
     }
 }
 
+// Reads the line `vertices N` and the ask lines after it.
+fn read_vertices<S: Source>(
+    alloc: Global,
+    reader: &mut LineReader,
+    src: &mut S,
+    profile: Profile,
+) -> Result<Header, HeaderFault>
+    ensures header { Answers (after_profile profile) (kept_left reader.old (S.left src.old)) (kept_left reader.new (S.left src.new)) result }
+    ensures range { IfOk result IsHeader }
+    ensures budget { OnOk result (budget reader.new ≤ budget reader.old + 1) }
+    ensures cause { HeaderCause (S.faults src.old) (S.faults src.new) result }
+{
+    let second = next_kept(alloc, reader, src)?;
+    match vertices_in(text_of(&second)) {
+        Some(n) => read_asks(alloc, reader, src, profile, n),
+        None => Err(HeaderFault::Refused {
+            line: second.number,
+        }),
+    }
+}
+
 impl Header {
-    /// Reads the header: `kcore 1`, `vertices N` and up to 64 ask lines, as `header_of` of `specs/Headers` says.
-    /// Afterwards the reader stands at the first line behind it.
+    /// Reads the header: `kcore 1` or `kcore 2`, `vertices N` and up to 64 ask lines, as `header_of` of `specs/Headers` says.
+    /// Afterwards the reader stands at the first line after it.
     ///
     /// `Refused` tells the first line that doesn't have its form, the 65th ask line, or the number of the reader's `End`
     /// or `Limit` in the place of one of the first two. `ReadFault` comes only where the source's count of faults rose,
@@ -168,20 +195,14 @@ impl Header {
         ensures header { Answers header_of (kept_left reader.old (S.left src.old)) (kept_left reader.new (S.left src.new)) result }
         ensures range { IfOk result IsHeader }
 
-        // The reader's budget bounds the number of batches behind the header.
+        // The reader's budget bounds the number of batches after the header.
         ensures budget { OnOk result (budget reader.new ≤ budget reader.old + 1) }
         ensures cause { HeaderCause (S.faults src.old) (S.faults src.new) result }
     {
         let first = next_kept(alloc, reader, src)?;
-        if !is_magic(text_of(&first)) {
-            return Err(HeaderFault::Refused { line: first.number });
-        }
-        let second = next_kept(alloc, reader, src)?;
-        match vertices_in(text_of(&second)) {
-            Some(n) => read_asks(alloc, reader, src, n),
-            None => Err(HeaderFault::Refused {
-                line: second.number,
-            }),
+        match profile_in(text_of(&first)) {
+            Some(profile) => read_vertices(alloc, reader, src, profile),
+            None => Err(HeaderFault::Refused { line: first.number }),
         }
     }
 }

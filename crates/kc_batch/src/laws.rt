@@ -2,9 +2,9 @@
 ghost use Rattle.kc_batch.specs.FaultLaw.{FirstFaultDecides};
 ghost use Rattle.kc_batch.specs.HeaderLaw.{FirstOtherLineEnds};
 ghost use Rattle.kc_batch.specs.RangeLaw.{BatchesKeepRanges};
-ghost use Rattle.kc_batch.specs.Laws.{ReadsSnap, ReadsHeaders, RefusesAsks, ReadsBatches, RefusesBatches, PassesOver};
+ghost use Rattle.kc_batch.specs.Laws.{ReadsSnap, ReadsHeaders, RefusesAsks, ReadsBatches, RefusesBatches, ReadsIsolations, PassesOver};
 
-/// The first fault of a batch decides, and what is passed over behind it.
+/// The first fault of a batch decides, and what is passed over after it.
 pub fn first_fault_decides()
     ensures { FirstFaultDecides }
 {}
@@ -39,7 +39,12 @@ pub fn batches_refused()
     ensures { RefusesBatches }
 {}
 
-/// What is passed over behind a fault.
+/// Lines that isolate a vertex, under both profiles.
+pub fn isolations_read()
+    ensures { ReadsIsolations }
+{}
+
+/// What is passed over after a fault.
 pub fn lines_passed_over()
     ensures { PassesOver }
 {}

@@ -10,6 +10,7 @@ mod header;
 mod items;
 mod kept;
 pub mod laws;
+mod rules;
 mod text;
 mod token;
 mod turn;
@@ -18,6 +19,7 @@ pub use ask::{Ask, Asks, Vertices};
 pub use batch::{Batch, BatchFault, Next, next_batch};
 pub use header::{Header, HeaderFault};
 pub use items::Items;
+pub use rules::Rules;
 
 #[cfg(test)]
 mod tests;

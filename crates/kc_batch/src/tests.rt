@@ -3,6 +3,7 @@ ghost use Rattle.std.specs.Prelude.{◌<◌, ◌≤◌, ◌^◌};
 
 use crate::{Ask, Asks, Batch, BatchFault, Header, HeaderFault, Items, Next, Vertices, next_batch};
 use kc_graph::Item;
+use kc_levels::Profile;
 use kc_text::{LineBuf, LineReader, MemSink, MemSource, Sink};
 use std::alloc::Global;
 use std::test::Fail;
@@ -42,14 +43,17 @@ fn tell_batch<K: Sink>(
 ) -> Result<(), Fail> {
     buf.number(alloc, batch.line)?;
     for item in batch.items.as_slice() {
-        let (sign, u, v): (&[u8], u32, u32) = match *item {
-            Item::Insert { u, v } => (b" +", u, v),
-            Item::Delete { u, v } => (b" -", u, v),
+        let (sign, u, v): (&[u8], u32, Option<u32>) = match *item {
+            Item::Insert { u, v } => (b" +", u, Some(v)),
+            Item::Delete { u, v } => (b" -", u, Some(v)),
+            Item::Isolate { v } => (b" x", v, None),
         };
         buf.text(alloc, sign)?;
         buf.number(alloc, u)?;
-        buf.text(alloc, b",")?;
-        buf.number(alloc, v)?;
+        if let Some(v) = v {
+            buf.text(alloc, b",")?;
+            buf.number(alloc, v)?;
+        }
     }
     buf.send(alloc, sink)?;
     Ok(())
@@ -116,7 +120,14 @@ fn told(
     };
     tell_header(alloc, &mut buf, &mut sink, &header)?;
     for _ in 0..4 {
-        let next = next_batch(alloc, &mut reader, &mut source, header.n, limits.2);
+        let next = next_batch(
+            alloc,
+            &mut reader,
+            &mut source,
+            header.n,
+            header.profile,
+            limits.2,
+        );
         if !tell_next(alloc, &mut buf, &mut sink, next)? {
             break;
         }
@@ -156,14 +167,17 @@ fn whole_inputs(rt: HostRuntime) -> Result<(), Fail> {
 
 #[test]
 fn headers_and_asks(rt: HostRuntime) -> Result<(), Fail> {
-    let rows: [Row; 10] = [
+    let rows: [Row; 13] = [
         (
             b"#\n kcore\t1\n\nvertices 0000000002\n ask  65536 1\nask 1 0 1 0\n",
             b"2 ask 65536,1 ask 1,0,1,0\n.\n",
         ),
         (b"kcore 1\n", b"!2\n"),
         (b"kcore 01\nvertices 1\n", b"!1\n"),
-        (b"kcore 1\nvertices 1048577\n", b"!2\n"),
+        (b"kcore 1\nvertices 16777216\n", b"16777216\n.\n"),
+        (b"kcore 02\nvertices 1\n", b"!1\n"),
+        (b"kcore 3\nvertices 1\n", b"!1\n"),
+        (b"kcore 1\nvertices 16777217\n", b"!2\n"),
         (b"kcore 1\nvertices 5\nask 65537 0\n", b"!3\n"),
         (b"kcore 1\nvertices 5\nask 0 0\n", b"!3\n"),
         (b"kcore 1\nvertices 5\nask 1 5\n", b"!3\n"),
@@ -221,7 +235,7 @@ fn faults_of_batches(rt: HostRuntime) -> Result<(), Fail> {
     Ok(())
 }
 
-// An input, cut behind each of its lines.
+// An input, cut after each of its lines.
 #[test]
 fn cut_inputs(rt: HostRuntime) -> Result<(), Fail> {
     let lines: [&[u8]; 9] = [
@@ -266,7 +280,7 @@ fn batches_without_a_header(rt: HostRuntime) -> Result<(), Fail> {
     let mut sink = MemSink::new(alloc, 100, 100, &[])?;
     let mut buf = LineBuf::new(alloc);
     for _ in 0..2 {
-        let next = next_batch(alloc, &mut reader, &mut source, 3, 2);
+        let next = next_batch(alloc, &mut reader, &mut source, 3, Profile::One, 2);
         tell_next(alloc, &mut buf, &mut sink, next)?;
     }
     assert_eq!(rt; sink.bytes(), b"4 too-many\n.\n".as_slice());

@@ -4,7 +4,7 @@ ghost use Rattle.std.specs.Option.{option_map};
 ghost use Rattle.kc_text.specs.Causes.{ReadCause};
 ghost use Rattle.kc_text.specs.Reading.{budget};
 ghost use Rattle.kc_text.specs.Words.{words, WordAt};
-ghost use Rattle.kc_batch.specs.Tokens.{insertion, deletion, signed, AreNumbers, kind_of_words, kind_of_text, tokens_left, onto_token, TakesToken, IsLastKind};
+ghost use Rattle.kc_batch.specs.Tokens.{insertion, deletion, isolation, unsigned, signed, AreNumbers, kind_of_words, kind_of_text, tokens_left, onto_token, TakesToken, IsLastKind};
 
 use crate::text::is;
 use kc_graph::Item;
@@ -16,7 +16,7 @@ use std::alloc::Global;
 pub enum Kind {
     /// `batch`
     BatchStart,
-    /// `+ u v` or `u v` for an insertion, `- u v` for a deletion; u and v are any numbers.
+    /// `+ u v` or `u v` for an insertion, `- u v` for a deletion, `x v` for an isolation; u and v are any numbers.
     Item(Item),
     /// `end`
     BatchEnd,
@@ -55,6 +55,25 @@ fn deletion(u: Option<u32>, v: Option<u32>) -> Kind
     }
 }
 
+fn isolation(v: Option<u32>) -> Kind
+    ensures { result ≡ isolation v }
+{
+    match v {
+        Some(v) => Kind::Item(Item::Isolate { v }),
+        None => Kind::Other,
+    }
+}
+
+fn unsigned(first: &[u8], u: Option<u32>, v: Option<u32>) -> Kind
+    ensures { result ≡ unsigned first.now u v }
+{
+    match u {
+        Some(u) => insertion(Some(u), v),
+        None if is(first, b"x") => isolation(v),
+        None => Kind::Other,
+    }
+}
+
 #[tactic(auto, unfolding(crate::specs::Tokens::kind_of_words))]
 fn kind_of_one(word: &[u8]) -> Kind
     ensures { result ≡ kind_of_words (word.now ∷ []) }
@@ -72,7 +91,7 @@ fn kind_of_one(word: &[u8]) -> Kind
 fn kind_of_two(first: &[u8], second: &[u8]) -> Kind
     ensures { result ≡ kind_of_words (first.now ∷ second.now ∷ []) }
 {
-    insertion(read_number(first), read_number(second))
+    unsigned(first, read_number(first), read_number(second))
 }
 
 fn signed(sign: &[u8], u: Option<u32>, v: Option<u32>) -> Kind

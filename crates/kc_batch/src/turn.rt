@@ -1,9 +1,11 @@
 //! What a line does within a batch.
 ghost use Rattle.std.specs.Prelude.{◌≡◌};
-ghost use Rattle.kc_batch.specs.Turns.{is_inside, turn_of, IsTurn};
+ghost use Rattle.kc_batch.specs.Turns.{is_inside, is_allowed, turn_of, IsTurn};
 
+use crate::rules::Rules;
 use crate::token::Kind;
 use kc_graph::Item;
+use kc_levels::Profile;
 use kc_text::Reason;
 
 /// What a line does within a batch.
@@ -24,19 +26,32 @@ fn is_inside(n: u32, item: Item) -> bool
 {
     match item {
         Item::Insert { u, v } | Item::Delete { u, v } => u < n && v < n,
+        Item::Isolate { v } => v < n,
     }
 }
 
-/// What a line of this kind does within a batch of a graph of n vertices. `full` says that the batch has as many items
-/// as are allowed.
+fn is_allowed(profile: Profile, item: Item) -> bool
+    ensures { result ≡ is_allowed profile item }
+{
+    match (profile, item) {
+        (Profile::One, Item::Isolate { .. }) => false,
+        _ => true,
+    }
+}
+
+/// What a line of this kind does within a batch that keeps to the rules. `full` says that the batch has as many items as
+/// are allowed.
 #[inline(always)]
-pub fn turn_at(n: u32, full: bool, kind: Kind) -> Turn
-    ensures turn { result ≡ turn_of n full kind }
-    ensures sound { IsTurn n full result }
+pub fn turn_at(rules: Rules, full: bool, kind: Kind) -> Turn
+    ensures turn { result ≡ turn_of rules full kind }
+    ensures sound { IsTurn rules full result }
 {
     match kind {
         Kind::Item(item) => {
-            if !is_inside(n, item) {
+            if !is_allowed(rules.profile, item) {
+                return Turn::Pass(Reason::BadLine);
+            }
+            if !is_inside(rules.n, item) {
                 return Turn::Pass(Reason::BadVertex);
             }
             if full {

@@ -8,12 +8,12 @@ use Rattle.std.proofs.lemmas.List.Elements.{All-cons, All-nil}
 use Rattle.kc_text.specs.Writing.{IsPrefix}
 use Rattle.kc_text.proofs.Known.{append_twice, prefix_longer, prefix_then}
 use Rattle.kc_history.specs.declared.entries.Entry.{Entry}
-use Rattle.kc_history.specs.declared.moves.Move.{Move}
+use Rattle.kc_levels.specs.declared.moves.Move.{Move}
 use Rattle.kc_groups.specs.declared.plans.PhasePlan.{PhasePlan}
 use Rattle.kc_groups.specs.WellFormed.{IsWellFormed}
 use Rattle.kc_report.specs.Lines.{line_of, direction_word, phase_line, member_word, label_word, group_line}
 
--- the texts of a list, split behind the one at place i
+-- the texts of a list, split after the one at place i
 record IsSplit {A : Type 0} (f : A → List ℕ) (xs : List A) (i : ℕ) (d : A) : Type 0 where
   behind : List ℕ
   here : flat_map f (take (suc i) xs) ≡ flat_map f (take i xs) ++ f (get_or xs i d)

@@ -73,7 +73,7 @@ fn write_batch_line<K: Sink>(
 /// new levels.
 ///
 /// Batches are numbered from 1, refused ones included; any number is written. Each plan of a phase is well formed. After
-/// `WriteFault`, which only a failed write gives, and after `Memory` the sink took a prefix of the lines. Those behind one that
+/// `WriteFault`, which only a failed write gives, and after `Memory` the sink took a prefix of the lines. Those after one that
 /// fails aren't tried.
 pub fn write_batch<K: Sink>(
     alloc: Global,
@@ -96,7 +96,7 @@ pub fn write_batch<K: Sink>(
     write_phases(alloc, buf, sink, phases)
 }
 
-// The line of a refused batch but for its line feed, behind what the buffer holds.
+// The line of a refused batch but for its line feed, after what the buffer holds.
 pub fn fill_refused(
     alloc: Global,
     buf: &mut LineBuf,

@@ -3,7 +3,7 @@ ghost use Rattle.std.specs.Bool.{OnTrue};
 ghost use Rattle.kc_graph.specs.Shape.{EdgesFrom};
 ghost use Rattle.kc_graph.specs.Changes.{AllPresent};
 ghost use Rattle.kc_levels.specs.LevelList.{IsBelow};
-ghost use Rattle.kc_groups.specs.WellFormed.{AreSmall, IsWellFormed};
+ghost use Rattle.kc_groups.specs.WellFormed.{IsWellFormed};
 
 use crate::write_batch;
 use kc_graph::{Cleaned, Edge, Edges, Graph, MAX_EDGES, MAX_VERTICES};
@@ -59,18 +59,6 @@ fn is_below(x: &Levels, y: &Levels) -> bool
     true
 }
 
-// Whether each level is below 4,096.
-fn are_small(x: &Levels) -> bool
-    ensures { OnTrue result (AreSmall x.now) }
-{
-    for level in x.as_slice() {
-        if *level >= 4096 {
-            return false;
-        }
-    }
-    true
-}
-
 // Whether each of the edges is in the graph.
 fn are_present(graph: &Graph, edges: &[Edge]) -> bool
     requires { EdgesFrom graph.now.vertices 0 0 edges.now }
@@ -110,8 +98,6 @@ fn plan<R: Abort>(
     assert!(rt; are_present(&graph, edges));
     assert!(rt; !add || is_below(&before, &after));
     assert!(rt; add || is_below(&after, &before));
-    assert!(rt; are_small(&before));
-    assert!(rt; are_small(&after));
     plan_phase(alloc, phase, add, edges, &before, &after, &graph)
 }
 

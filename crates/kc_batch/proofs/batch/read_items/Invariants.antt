@@ -1,17 +1,19 @@
-use Rattle.std.proofs.Common.{◌≡◌, ◌≤◌, [], length}
+use Rattle.std.proofs.Common.{◌≡◌, ◌≤◌, true, [], length}
 use Rattle.std.specs.Prelude.{All}
 use Rattle.std.specs.Option.{option_map}
 use Rattle.kc_text.specs.Reading.{budget}
 use Rattle.kc_batch.specs.Tokens.{tokens_left}
 use Rattle.kc_graph.specs.Cleaning.{IsInside}
+use Rattle.kc_batch.specs.Turns.{is_allowed}
 use Rattle.kc_batch.specs.Batches.{items_from}
 use Rattle.kc_batch.proofs.batch.read_items.Given as goal
 
 abbrev pub invariant-loop-items : goal.invariant-loop-items
 invariant-loop-items g l = record {
-  same : option_map (items_from l.n l.item_limit []) (tokens_left l.fn.reader (g.S.Source.left l.fn.src)) ≡ option_map (items_from l.n l.item_limit l.items) (tokens_left l.reader (g.S.Source.left l.src));
-  few : length l.items ≤ l.item_limit;
-  inside : All (IsInside l.n) l.items;
+  same : option_map (items_from l.rules []) (tokens_left l.fn.reader (g.S.Source.left l.fn.src)) ≡ option_map (items_from l.rules l.items) (tokens_left l.reader (g.S.Source.left l.src));
+  few : length l.items ≤ l.rules.item_limit;
+  inside : All (IsInside l.rules.n) l.items;
+  allowed : All (λ item. is_allowed l.rules.profile item ≡ true) l.items;
   budget : budget l.reader ≤ budget l.fn.reader;
   faults : g.S.Source.faults l.src ≡ g.S.Source.faults l.fn.src;
 }

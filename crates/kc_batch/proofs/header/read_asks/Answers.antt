@@ -1,6 +1,5 @@
 use Rattle.std.proofs.Common.{◌∙◌, sym, arith, [], ◌∷◌, length-append}
 use Rattle.std.proofs.lemmas.List.Elements.{All-push}
-use Rattle.kc_levels.specs.declared.profile.Profile.TheVariants.{One}
 use Rattle.kc_text.specs.Reading.{onto}
 use Rattle.kc_batch.specs.Headers.{asks_from, Accepted, refused_at, IsAsk}
 use Rattle.kc_batch.proofs.KeptLemmas.{told_goes}
@@ -12,8 +11,8 @@ pub returns-then-not-is_ask-clause-header : goal.returns-then-not-is_ask-clause-
 returns-then-not-is_ask-clause-header g c =
     let line = c.in_ok-line.line in
     let missing = rw c.text_of-text.ensures at (sym c.is_ask.ensures ∙ c.if-not-is_ask.true) in
-    c.loop-asks.invariant.same ∙ step_back (asks_from c.args.n c.loop-asks.asks) (Accepted (record { profile = One; n = c.args.n; asks = c.loop-asks.asks })) line _ _ _
-    c.in_ok-line.ensures.line (told_goes line _ _ c.in_ok-line.ensures.kept (c.put_back.ensures.left (g.S.Source.left c.next_kept.new.src))) (ask_missing c.args.n c.loop-asks.asks line missing)
+    c.loop-asks.invariant.same ∙ step_back (asks_from c.args.profile c.args.n c.loop-asks.asks) (Accepted (record { profile = c.args.profile; n = c.args.n; asks = c.loop-asks.asks })) line _ _ _
+    c.in_ok-line.ensures.line (told_goes line _ _ c.in_ok-line.ensures.kept (c.put_back.ensures.left (g.S.Source.left c.next_kept.new.src))) (ask_missing c.args.profile c.args.n c.loop-asks.asks line missing)
 
 pub returns-then-not-is_ask-clause-budget : goal.returns-then-not-is_ask-clause-budget
 returns-then-not-is_ask-clause-budget g c =
@@ -24,7 +23,7 @@ returns-in-None-clause-header g c =
     let line = c.in_ok-line.line in
     let there = rw c.text_of-text.ensures at (sym c.is_ask.ensures ∙ c.if-not-is_ask.false) in
     let none = rw (c.in-None.is, c.text_of-text.ensures, c.len.ensures) at c.in_ok-ask.ensures.ask in
-    c.loop-asks.invariant.same ∙ step_on (asks_from c.args.n c.loop-asks.asks) (refused_at line.number) (onto line) _ _ c.in_ok-line.ensures.line (ask_refused c.args.n c.loop-asks.asks line there (sym none))
+    c.loop-asks.invariant.same ∙ step_on (asks_from c.args.profile c.args.n c.loop-asks.asks) (refused_at line.number) (onto line) _ _ c.in_ok-line.ensures.line (ask_refused c.args.profile c.args.n c.loop-asks.asks line there (sym none))
 
 pub loop-asks-preserved-in_ok-push-in-Some : goal.loop-asks-preserved-in_ok-push-in-Some
 loop-asks-preserved-in_ok-push-in-Some g c =
@@ -36,8 +35,8 @@ loop-asks-preserved-in_ok-push-in-Some g c =
     let fits = rw c.in-Some.is at c.in_ok-ask.ensures.fits in
     let few = rw (c.in-Some.is, c.len.ensures) at c.in_ok-ask.ensures.few in
     record {
-      same = c.loop-asks.invariant.same ∙ step_on (asks_from c.args.n c.loop-asks.asks) (asks_from c.args.n c.push.new.self) (onto line) _ _ c.in_ok-line.ensures.line
-          (λ rest. rw now (ask_there c.args.n c.loop-asks.asks line ask there (sym found) rest));
+      same = c.loop-asks.invariant.same ∙ step_on (asks_from c.args.profile c.args.n c.loop-asks.asks) (asks_from c.args.profile c.args.n c.push.new.self) (onto line) _ _ c.in_ok-line.ensures.line
+          (λ rest. rw now (ask_there c.args.profile c.args.n c.loop-asks.asks line ask there (sym found) rest));
       few = rw (now, length-append c.loop-asks.asks (ask ∷ [])) (omega (arith, few));
       asks = rw now (All-push (IsAsk c.args.n) c.loop-asks.asks ask c.loop-asks.invariant.asks fits);
       budget = omega (arith, takes_no_less line.body _ _ c.in_ok-line.ensures.takes, c.loop-asks.invariant.budget);
@@ -54,8 +53,8 @@ loop-asks-preserved g c =
     let fits = rw c.in-Some.is at c.in_ok-ask.ensures.fits in
     let few = rw (c.in-Some.is, c.len.ensures) at c.in_ok-ask.ensures.few in
     record {
-      same = c.loop-asks.invariant.same ∙ step_on (asks_from c.args.n c.loop-asks.asks) (asks_from c.args.n c.push.new.self) (onto line) _ _ c.in_ok-line.ensures.line
-          (λ rest. rw now (ask_there c.args.n c.loop-asks.asks line ask there (sym found) rest));
+      same = c.loop-asks.invariant.same ∙ step_on (asks_from c.args.profile c.args.n c.loop-asks.asks) (asks_from c.args.profile c.args.n c.push.new.self) (onto line) _ _ c.in_ok-line.ensures.line
+          (λ rest. rw now (ask_there c.args.profile c.args.n c.loop-asks.asks line ask there (sym found) rest));
       few = rw (now, length-append c.loop-asks.asks (ask ∷ [])) (omega (arith, few));
       asks = rw now (All-push (IsAsk c.args.n) c.loop-asks.asks ask c.loop-asks.invariant.asks fits);
       budget = omega (arith, takes_no_less line.body _ _ c.in_ok-line.ensures.takes, c.loop-asks.invariant.budget);

@@ -8,7 +8,7 @@ use Rattle.kc_batch.proofs.header.read_asks.Given as goal
 
 abbrev pub invariant-loop-asks : goal.invariant-loop-asks
 invariant-loop-asks g l = record {
-  same : option_map (asks_from l.n []) (kept_left l.fn.reader (g.S.Source.left l.fn.src)) ≡ option_map (asks_from l.n l.asks) (kept_left l.reader (g.S.Source.left l.src));
+  same : option_map (asks_from l.profile l.n []) (kept_left l.fn.reader (g.S.Source.left l.fn.src)) ≡ option_map (asks_from l.profile l.n l.asks) (kept_left l.reader (g.S.Source.left l.src));
   few : length l.asks ≤ 64;
   asks : All (IsAsk l.n) l.asks;
   budget : budget l.reader ≤ budget l.fn.reader;

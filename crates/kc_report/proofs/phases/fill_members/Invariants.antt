@@ -1,6 +1,6 @@
 use Rattle.std.proofs.Common.{◌≡◌, ◌++◌, ◌∷◌, take}
 use Rattle.std.specs.List.{flat_map}
-use Rattle.kc_history.specs.declared.moves.Move.{Move}
+use Rattle.kc_levels.specs.declared.moves.Move.{Move}
 use Rattle.kc_report.specs.Lines.{member_word}
 use Rattle.kc_report.proofs.phases.fill_members.Given as goal
 
