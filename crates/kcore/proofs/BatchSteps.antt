@@ -6,15 +6,18 @@ use Rattle.std.specs.Prelude.{Option, None, All}
 use Rattle.std.specs.Io.KnownBytes.{append_known}
 use Rattle.kc_graph.specs.declared.cleaning.Cleaned.{Cleaned}
 use Rattle.kc_graph.specs.declared.items.Item.{Item}
-use Rattle.kc_graph.specs.declared.limits.TheConstants.{MAX_EDGES, MAX_VERTICES}
+use Rattle.kc_graph.specs.declared.limits.TheConstants.{MAX_EDGES, MAX_ITEMS}
 use Rattle.kc_graph.specs.Shape.{Pair, GraphShape, IsGraph}
 use Rattle.kc_graph.specs.Cleaning.{IsInside, cleaned}
-use Rattle.kc_graph.proofs.CleaningLemmas.{each_item_counts_once}
+use Rattle.kc_graph.proofs.CountingLemmas.{each_item_counts_once}
+use Rattle.kc_graph.proofs.CleaningLawLemmas.{cleaned_fits_graph}
 use Rattle.kc_text.specs.declared.reason.Reason.{Reason}
 use Rattle.kc_text.specs.Writing.{IsPrefix}
 use Rattle.kc_batch.specs.declared.batch.Batch.{Batch}
 use Rattle.kc_batch.specs.declared.batch.Next.{Next}
 use Rattle.kc_batch.specs.declared.batch.Next.TheVariants.{Items, Refused, End}
+use Rattle.kc_batch.specs.HeaderShape.{HeaderShape}
+use Rattle.kc_batch.specs.BatchInputs.{rules_of}
 use Rattle.kc_batch.specs.Batches.{IsNext}
 use Rattle.kc_text.proofs.Known.{append_none, prefix_none}
 use Rattle.kc_groups.specs.declared.plans.PhasePlan.{PhasePlan}
@@ -31,11 +34,11 @@ use Rattle.kcore.specs.Outcomes.{IsRefusedFor}
 use Rattle.kcore.specs.RunText.{step_text}
 use Rattle.kcore.proofs.Steps.{some_step}
 
--- a batch doesn't change more edges than it has items
-pub few_removed : (g : GraphShape) (items : List Item) → IsGraph g → All (IsInside g.vertices) items → length items ≤ 1048576 → length (cleaned g items).removed < 4294967296
-few_removed g items graph inside few = omega (arith, each_item_counts_once g items graph inside, few)
+-- a batch doesn't remove more edges than there are, nor add more than it has items
+pub few_removed : (g : GraphShape) (items : List Item) → IsGraph g → length g.edges ≤ MAX_EDGES → All (IsInside g.vertices) items → length (cleaned g items).removed < 4294967296
+few_removed g items graph room inside = let fits = cleaned_fits_graph g items graph inside in omega (arith, fits.removed_fewer, room)
 
-pub few_added : (g : GraphShape) (items : List Item) → IsGraph g → All (IsInside g.vertices) items → length items ≤ 1048576 → length (cleaned g items).added < 4294967296
+pub few_added : (g : GraphShape) (items : List Item) → IsGraph g → All (IsInside g.vertices) items → length items ≤ MAX_ITEMS → length (cleaned g items).added < 4294967296
 few_added g items graph inside few = omega (arith, each_item_counts_once g items graph inside, few)
 
 -- quiet edges are some of the edges of a phase
@@ -47,23 +50,21 @@ few_quiet_of phase add (e ∷ es) x y g plans a few =
     rw (a.entries.quiet, length-filter (is_quiet x y) (e ∷ es)) (omega (arith, few, count_by-le-length (is_quiet x y) (e ∷ es))) in
     rw a.alone (All-cons (λ (p : PhasePlan). length p.quiet.edges < 4294967296) a.plan [] quiet (All-nil (λ (p : PhasePlan). length p.quiet.edges < 4294967296)))
 
-pub few_quiet : (s t : State) (items : List Item) (plans : List PhasePlan) → IsGraph s.graph → All (IsInside s.graph.vertices) items → length items ≤ 1048576
+pub few_quiet : (s t : State) (items : List Item) (plans : List PhasePlan) → IsGraph s.graph → length s.graph.edges ≤ MAX_EDGES → All (IsInside s.graph.vertices) items → length items ≤ MAX_ITEMS
     → IsAfterPhases s (cleaned s.graph items) t plans → All (λ (p : PhasePlan). length p.quiet.edges < 4294967296) plans
-few_quiet s t items plans graph inside few a =
+few_quiet s t items plans graph room inside few a =
     let c = cleaned s.graph items in
     rw a.phases.all
     (All-append (λ (p : PhasePlan). length p.quiet.edges < 4294967296) a.phases.leaving a.phases.coming
-    (few_quiet_of (s.phases + 1) false c.removed s.levels a.after.levels.between s.graph a.phases.leaving a.phases.deletion (few_removed s.graph items graph inside few))
+    (few_quiet_of (s.phases + 1) false c.removed s.levels a.after.levels.between s.graph a.phases.leaving a.phases.deletion (few_removed s.graph items graph room inside))
     (few_quiet_of (s.phases + phases_for c.removed + 1) true c.added a.after.levels.between t.levels (graph_after_batch s.graph c) a.phases.coming a.phases.insertion (few_added s.graph items graph inside few)))
 
 with_some : (n : ℕ) (plans : List PhasePlan) → All (IsWellFormed n) plans → All (λ (p : PhasePlan). (m : ℕ) × IsWellFormed m p) plans
 with_some n plans all = λ i d h. (n, all i d h)
 
 -- phases are well formed
-pub well_formed : (s t : State) (items : List Item) (plans : List PhasePlan) → s.graph.vertices ≤ MAX_VERTICES → IsSound MAX_EDGES s → All (IsInside s.graph.vertices) items → length items ≤ 1048576
-    → IsAfterPhases s (cleaned s.graph items) t plans → All (λ (p : PhasePlan). (m : ℕ) × IsWellFormed m p) plans
-well_formed s t items plans small k inside few a =
-    with_some s.graph.vertices plans (phases_are_well_formed MAX_EDGES s t (cleaned s.graph items) plans small k (record { items = items; inside = inside; few = few; comes_to = refl }) a)
+pub well_formed : (s t : State) (items : List Item) (plans : List PhasePlan) → IsAfterPhases s (cleaned s.graph items) t plans → All (λ (p : PhasePlan). (m : ℕ) × IsWellFormed m p) plans
+well_formed s t items plans a = with_some s.graph.vertices plans (phases_are_well_formed s t (cleaned s.graph items) plans a)
 
 pub accepted_step : (report : Report) (number : ℕ) (s t : State) (b : Batch) (d : Cleaned) (plans : List PhasePlan) (before now : Option (List ℕ)) → refusal_of s (cleaned s.graph b.items) ≡ None
     → d ≡ cleaned s.graph b.items → IsAfterPhases s (cleaned s.graph b.items) t plans → now ≡ append_known before (accepted_text report number d plans)
@@ -93,10 +94,10 @@ refused_prefix report number s t b reason before now r p =
     record { step = stay s; is_step = rw r.refused refl; prefix = rw r.refused v }
 
 -- a batch of which nothing was written
-pub nothing_of : (report : Report) (number n : ℕ) (b : Next) (s : State) (before now : Option (List ℕ)) → IsSound MAX_EDGES s → s.graph.vertices ≡ n → IsNext n 1048576 b → now ≡ before
+pub nothing_of : (report : Report) (number : ℕ) (header : HeaderShape) (b : Next) (s : State) (before now : Option (List ℕ)) → IsSound MAX_EDGES s → s.graph.vertices ≡ header.n → IsNext (rules_of header MAX_ITEMS) b → now ≡ before
     → WroteSome report number b s before now
-nothing_of report number n b s before now k e i same =
-    let there = some_step s n b k e i in
+nothing_of report number header b s before now k e i same =
+    let there = some_step s header b k e i in
     record { step = there.0; is_step = there.1; prefix = prefix_none before now (step_text report number s b there.0.phases) same }
 
 -- a batch that the grammar refuses, and one that isn't there

@@ -13,11 +13,12 @@ use Rattle.kc_batch.specs.Kept.{kept}
 use Rattle.kc_text.specs.Lines.{lines}
 use Rattle.kc_batch.specs.Tokens.{tokens}
 use Rattle.kc_batch.specs.Batches.{batches}
-use Rattle.kc_batch.specs.BatchInputs.{BatchInput, WithBatches, HeaderRefused, behind_header, input_of}
+use Rattle.kc_batch.specs.BatchInputs.{rules_of, BatchInput, WithBatches, HeaderRefused, behind_header, input_of}
 use Rattle.kc_batch.proofs.BatchRanges.{batches_keep_ranges}
 use Rattle.kc_report.specs.Lines.{header_refused_line}
-use Rattle.kc_graph.specs.declared.limits.TheConstants.{MAX_EDGES}
+use Rattle.kc_graph.specs.declared.limits.TheConstants.{MAX_EDGES, MAX_ITEMS}
 use Rattle.kc_engine.specs.States.{State, IsSound}
+use Rattle.kcore.specs.declared.limits.TheConstants.{LINE_LIMIT, INPUT_LIMIT}
 use Rattle.kcore.specs.declared.report.Report.TheVariants.{Notes}
 use Rattle.kcore.specs.declared.stop.Stop.{Stop}
 use Rattle.kcore.specs.States.{Step, start, AreSteps, last_state}
@@ -30,7 +31,7 @@ use Rattle.kcore.specs.Corenesses.{AreCorenesses}
 use Rattle.kcore.specs.Laws.{InputHasOneExactText, FitsExactly}
 use Rattle.kcore.specs.Stops.{RunsBatches, Settles, WritesExact, WritesExactly}
 use Rattle.kcore.proofs.Steps.{sound_start}
-use Rattle.kcore.proofs.Runs.{holds_in, sound_last, one_run}
+use Rattle.kcore.proofs.Runs.{holds_in, sound_last, one_run, profile_last}
 use Rattle.kcore.proofs.SomeCorenesses.{some_corenesses, one_corenesses}
 use Rattle.kcore.proofs.Texts.{start_states, each_state_holds}
 
@@ -42,12 +43,12 @@ is_exact : (header : HeaderShape) (bs : List Next) (ts : List Step) (cs : List �
     → IsExact header bs (whole header bs ts cs) (some_refused (start header.profile header.n) bs ts)
 is_exact header bs ts cs a k = record { steps = ts; are_steps = a; corenesses = cs; are_corenesses = k; text_is = refl; refusal = refl }
 
-sound_behind : (header : HeaderShape) (ls : List Token) (ts : List Step) → AreSteps (start header.profile header.n) (batches header.n 1048576 ls) ts
+sound_behind : (header : HeaderShape) (ls : List Token) (ts : List Step) → AreSteps (start header.profile header.n) (batches (rules_of header MAX_ITEMS) ls) ts
     → IsSound MAX_EDGES (last_state (start header.profile header.n) ts) × ((last_state (start header.profile header.n) ts).graph.vertices ≡ header.n)
-sound_behind header ls ts a = sound_last header.n (start header.profile header.n) (batches header.n 1048576 ls) ts (sound_start header.profile header.n) refl (batches_keep_ranges header.n 1048576 ls) a
+sound_behind header ls ts a = sound_last header (start header.profile header.n) (batches (rules_of header MAX_ITEMS) ls) ts (sound_start header.profile header.n) refl (batches_keep_ranges (rules_of header MAX_ITEMS) ls) a
 
 -- nothing was written of the batches
-pub settles_nothing : (header : HeaderShape) (toks : Option (List Token)) (before now : Option (List ℕ)) (stop : Stop) → now ≡ before → Settles header (option_map (batches header.n 1048576) toks) before now (Err stop)
+pub settles_nothing : (header : HeaderShape) (toks : Option (List Token)) (before now : Option (List ℕ)) (stop : Stop) → now ≡ before → Settles header (option_map (batches (rules_of header MAX_ITEMS)) toks) before now (Err stop)
 settles_nothing header None before now stop e = tt
 settles_nothing header (Some ls) before now stop e =
     let there = start_states header ls in
@@ -58,17 +59,17 @@ pub settles_some : (header : HeaderShape) (told : Option (List Next)) (t : State
 settles_some header None t before now stop other w = tt
 settles_some header (Some bs) t before now stop other w = w
 
-pub notes_prefix : (header : HeaderShape) (toks : Option (List Token)) (before now : Option (List ℕ)) (stop other : Stop) → Settles header (option_map (batches header.n 1048576) toks) before now (Err other)
-    → WritesExact header (option_map (batches header.n 1048576) toks) before now (Err stop)
+pub notes_prefix : (header : HeaderShape) (toks : Option (List Token)) (before now : Option (List ℕ)) (stop other : Stop) → Settles header (option_map (batches (rules_of header MAX_ITEMS)) toks) before now (Err other)
+    → WritesExact header (option_map (batches (rules_of header MAX_ITEMS)) toks) before now (Err stop)
 notes_prefix header None before now stop other w = tt
 notes_prefix header (Some ls) before now stop other w =
     let sound = (sound_behind header ls w.steps w.are_steps).0 in
     let cs = some_corenesses (last_state (start header.profile header.n) w.steps).graph sound.graph in
     record {
-      text = whole header (batches header.n 1048576 ls) w.steps cs.0;
-      refused = some_refused (start header.profile header.n) (batches header.n 1048576 ls) w.steps;
-      is_text = is_exact header (batches header.n 1048576 ls) w.steps cs.0 w.are_steps cs.1;
-      prefix = prefix_longer before now (batch_lines Notes 1 (start header.profile header.n) (batches header.n 1048576 ls) w.steps) _ w.prefix;
+      text = whole header (batches (rules_of header MAX_ITEMS) ls) w.steps cs.0;
+      refused = some_refused (start header.profile header.n) (batches (rules_of header MAX_ITEMS) ls) w.steps;
+      is_text = is_exact header (batches (rules_of header MAX_ITEMS) ls) w.steps cs.0 w.are_steps cs.1;
+      prefix = prefix_longer before now (batch_lines Notes 1 (start header.profile header.n) (batches (rules_of header MAX_ITEMS) ls) w.steps) _ w.prefix;
     }
 
 -- the notes, and a prefix of the exact text
@@ -120,27 +121,27 @@ exact_header_refused_prefix line input None before now stop e p = rw e tt
 exact_header_refused_prefix line input (Some x) before now stop e p = rw e (record { text = header_refused_line line; refused = true; is_text = (refl, refl); prefix = p })
 
 -- each input has an exact text
-some_exact_text : (text : HeaderText) → (said : List ℕ) × ((refused : Bool) × IsExactText (behind_header 1048576 text) said refused)
+some_exact_text : (text : HeaderText) → (said : List ℕ) × ((refused : Bool) × IsExactText (behind_header MAX_ITEMS text) said refused)
 some_exact_text (Accepted header rest) =
-    let bs = batches header.n 1048576 (tokens rest) in
+    let bs = batches (rules_of header MAX_ITEMS) (tokens rest) in
     let there = start_states header (tokens rest) in
     let cs = some_corenesses (last_state (start header.profile header.n) there.0).graph (sound_behind header (tokens rest) there.0 there.1).0.graph in
     (whole header bs there.0 cs.0, (some_refused (start header.profile header.n) bs there.0, is_exact header bs there.0 cs.0 there.1 cs.1))
 some_exact_text (Refused line) = (header_refused_line line, (true, (refl, refl)))
 
 -- nothing was written
-pub exact_writes_nothing : (line_limit input_limit : ℕ) (left before now : Option (List ℕ)) (stop : Stop) → now ≡ before → WritesExactly (option_map (input_of line_limit input_limit 1048576) left) before now (Err stop)
+pub exact_writes_nothing : (line_limit input_limit : ℕ) (left before now : Option (List ℕ)) (stop : Stop) → now ≡ before → WritesExactly (option_map (input_of line_limit input_limit MAX_ITEMS) left) before now (Err stop)
 exact_writes_nothing line_limit input_limit None before now stop e = tt
 exact_writes_nothing line_limit input_limit (Some bytes) before now stop e =
     let there = some_exact_text (header_of (kept (lines line_limit input_limit bytes))) in
     record { text = there.0; refused = there.1.0; is_text = there.1.1; prefix = prefix_none before now there.0 e }
 
 -- the exact text is one
-one_of_header : (text : HeaderText) (a b : List ℕ) (x y : Bool) → IsExactText (behind_header 1048576 text) a x → IsExactText (behind_header 1048576 text) b y → (a ≡ b) × (x ≡ y)
+one_of_header : (text : HeaderText) (a b : List ℕ) (x y : Bool) → IsExactText (behind_header MAX_ITEMS text) a x → IsExactText (behind_header MAX_ITEMS text) b y → (a ≡ b) × (x ≡ y)
 one_of_header (Refused line) a b x y p q = (p.0 ∙ sym q.0, p.1 ∙ sym q.1)
 one_of_header (Accepted header rest) a b x y p q =
-    let bs = batches header.n 1048576 (tokens rest) in
-    let same : p.steps ≡ q.steps = one_run header.n (start header.profile header.n) bs p.steps q.steps (sound_start header.profile header.n) refl (batches_keep_ranges header.n 1048576 (tokens rest)) p.are_steps q.are_steps in
+    let bs = batches (rules_of header MAX_ITEMS) (tokens rest) in
+    let same : p.steps ≡ q.steps = one_run header (start header.profile header.n) bs p.steps q.steps (sound_start header.profile header.n) refl (batches_keep_ranges (rules_of header MAX_ITEMS) (tokens rest)) p.are_steps q.are_steps in
     let there : AreCorenesses (last_state (start header.profile header.n) q.steps).graph p.corenesses = rw (← same) p.are_corenesses in
     let one : p.corenesses ≡ q.corenesses = one_corenesses (last_state (start header.profile header.n) q.steps).graph p.corenesses q.corenesses there q.are_corenesses in (
       p.text_is ∙ ap (λ (ts : List Step). whole header bs ts p.corenesses) same ∙ ap (λ (cs : List ℕ). whole header bs q.steps cs) one ∙ sym q.text_is,
@@ -149,25 +150,27 @@ one_of_header (Accepted header rest) a b x y p q =
 
 pub input_has_one_exact_text : InputHasOneExactText
 input_has_one_exact_text bytes =
-    let text = header_of (kept (lines 65536 1073741824 bytes)) in
+    let text = header_of (kept (lines LINE_LIMIT INPUT_LIMIT bytes)) in
     let there = some_exact_text text in
     (there.0, (there.1.0, (there.1.1, λ a x p. one_of_header text a there.0 x there.1.0 p there.1.1)))
 
-fits_behind : (text : HeaderText) → FitsExactly (behind_header 1048576 text)
+fits_behind : (text : HeaderText) → FitsExactly (behind_header MAX_ITEMS text)
 fits_behind (Refused line) = tt
 fits_behind (Accepted header rest) = λ ts a cs k v h.
     let z = sound_behind header (tokens rest) ts a in
-    let i = holds_in (last_state (start header.profile header.n) ts) z.0 in
+    let same = profile_last (start header.profile header.n) (batches (rules_of header MAX_ITEMS) (tokens rest)) ts a in
+    let i = holds_in header.profile (last_state (start header.profile header.n) ts) same z.0 in
     let c = k.each v (rw z.1 h) in
     record {
       low = i.low v (get_or cs v 0) c;
       high = i.high v (get_or cs v 0) c;
       estimate = i.estimate v (get_or cs v 0) c;
       near = i.near v (get_or cs v 0) c;
+      nearer = λ two. i.nearer two v (get_or cs v 0) c;
     }
 
 pub holds : (command : Option Command) (left : Option (List ℕ)) → Holds command left
 holds None left = tt
 holds (Some command) None = tt
 holds (Some (Run workers)) (Some bytes) = each_state_holds bytes
-holds (Some Exact) (Some bytes) = (each_state_holds bytes, fits_behind (header_of (kept (lines 65536 1073741824 bytes))))
+holds (Some Exact) (Some bytes) = (each_state_holds bytes, fits_behind (header_of (kept (lines LINE_LIMIT INPUT_LIMIT bytes))))

@@ -2,6 +2,7 @@ pub mod Steps
 pub mod BatchSteps
 pub mod Runs
 pub mod Texts
+pub mod Causes
 pub mod Tails
 pub mod ExactTails
 pub mod SomeCorenesses

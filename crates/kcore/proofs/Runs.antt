@@ -1,5 +1,5 @@
 -- Batches in turn: their states, and what was written of their lines while they are read one after another.
-use Rattle.std.proofs.Common.{ℕ, ◌≡◌, ◌<◌, ◌+◌, Bool, true, false, ◌||◌, List, [], ◌∷◌, ◌++◌, append_assoc, refl, sym, ◌∙◌, subst}
+use Rattle.std.proofs.Common.{ℕ, ◌≡◌, ◌<◌, ◌≤◌, ◌*◌, ◌+◌, get_or, Bool, true, false, ◌||◌, List, [], ◌∷◌, ◌++◌, append_assoc, refl, sym, ◌∙◌, subst}
 use Rattle.std.specs.Prelude.{Option, Some, None, All, Err, Ok}
 use Rattle.std.specs.Option.{option_map}
 use Rattle.std.specs.Io.KnownBytes.{append_known}
@@ -14,65 +14,82 @@ use Rattle.kc_text.proofs.Known.{append_none, append_twice, prefix_none, prefix_
 use Rattle.kc_batch.specs.declared.token.Token.{Token}
 use Rattle.kc_batch.specs.declared.batch.Next.{Next}
 use Rattle.kc_batch.specs.declared.batch.Next.TheVariants.{Items, Refused, End}
+use Rattle.kc_batch.specs.HeaderShape.{HeaderShape}
+use Rattle.kc_batch.specs.BatchInputs.{rules_of}
 use Rattle.kc_batch.specs.Batches.{batches, behind_batch, IsNext, IsEnd, TakesBatch}
 use Rattle.kc_batch.proofs.BatchRanges.{batches_keep_ranges}
-use Rattle.kc_graph.specs.declared.limits.TheConstants.{MAX_EDGES}
+use Rattle.kc_graph.specs.declared.limits.TheConstants.{MAX_EDGES, MAX_ITEMS}
+use Rattle.kc_levels.specs.declared.profile.Profile.{Profile}
+use Rattle.kc_levels.specs.Thresholds.{est, group_of}
+use Rattle.kc_levels.specs.LevelList.{MeetsBoth}
 use Rattle.kc_engine.specs.States.{State, IsSound}
 use Rattle.kcore.specs.declared.report.Report.{Report}
 use Rattle.kcore.specs.declared.stop.Stop.{Stop}
 use Rattle.kcore.specs.States.{Step, IsStep, AreSteps, last_state, is_refused}
 use Rattle.kcore.specs.RunText.{step_text, batch_lines, some_refused}
 use Rattle.kcore.specs.Stops.{is_last_batch, WroteSome, WritesStep, WritesBatches, WritesSomeBatches, RunsBatches}
-use Rattle.kcore.proofs.Steps.{some_step, sound_step, one_step}
+use Rattle.kcore.proofs.Steps.{some_step, sound_step, profile_step, one_step}
 
--- there are states behind any batches
-pub some_states : (n : ℕ) (s : State) (bs : List Next) → IsSound MAX_EDGES s → s.graph.vertices ≡ n → All (IsNext n 1048576) bs → (ts : List Step) × AreSteps s bs ts
-some_states n s [] k e all = ([], tt)
-some_states n s (b ∷ bs) k e all =
-    let i = All-head (IsNext n 1048576) b bs all in
-    let one = some_step s n b k e i in
-    let x = sound_step s n b one.0 k e i one.1 in
-    let rest = some_states n one.0.state bs x.0 x.1 (All-tail (IsNext n 1048576) b bs all) in
+-- there are states after any batches
+pub some_states : (header : HeaderShape) (s : State) (bs : List Next) → IsSound MAX_EDGES s → s.graph.vertices ≡ header.n → All (IsNext (rules_of header MAX_ITEMS)) bs → (ts : List Step) × AreSteps s bs ts
+some_states header s [] k e all = ([], tt)
+some_states header s (b ∷ bs) k e all =
+    let i = All-head (IsNext (rules_of header MAX_ITEMS)) b bs all in
+    let one = some_step s header b k e i in
+    let x = sound_step s header b one.0 k e i one.1 in
+    let rest = some_states header one.0.state bs x.0 x.1 (All-tail (IsNext (rules_of header MAX_ITEMS)) b bs all) in
     (one.0 ∷ rest.0, (one.1, rest.1))
 
 -- there are only these
-pub one_run : (n : ℕ) (s : State) (bs : List Next) (ts us : List Step) → IsSound MAX_EDGES s → s.graph.vertices ≡ n → All (IsNext n 1048576) bs → AreSteps s bs ts → AreSteps s bs us → ts ≡ us
-one_run n s [] [] [] k e all a b = refl
-one_run n s [] [] (u ∷ us) k e all a b = absurd b
-one_run n s [] (t ∷ ts) us k e all a b = absurd a
-one_run n s (b ∷ bs) [] us k e all x y = absurd x
-one_run n s (b ∷ bs) (t ∷ ts) [] k e all x y = absurd y
-one_run n s (b ∷ bs) (t ∷ ts) (u ∷ us) k e all x y =
-    let i = All-head (IsNext n 1048576) b bs all in
-    let same : t ≡ u = one_step s n b t u k e i x.0 y.0 in
-    let z = sound_step s n b t k e i x.0 in
-    let rest : ts ≡ us = one_run n t.state bs ts us z.0 z.1 (All-tail (IsNext n 1048576) b bs all) x.1 (subst (λ (w : Step). AreSteps w.state bs us) (sym same) y.1) in
+pub one_run : (header : HeaderShape) (s : State) (bs : List Next) (ts us : List Step) → IsSound MAX_EDGES s → s.graph.vertices ≡ header.n → All (IsNext (rules_of header MAX_ITEMS)) bs → AreSteps s bs ts → AreSteps s bs us → ts ≡ us
+one_run header s [] [] [] k e all a b = refl
+one_run header s [] [] (u ∷ us) k e all a b = absurd b
+one_run header s [] (t ∷ ts) us k e all a b = absurd a
+one_run header s (b ∷ bs) [] us k e all x y = absurd x
+one_run header s (b ∷ bs) (t ∷ ts) [] k e all x y = absurd y
+one_run header s (b ∷ bs) (t ∷ ts) (u ∷ us) k e all x y =
+    let i = All-head (IsNext (rules_of header MAX_ITEMS)) b bs all in
+    let same : t ≡ u = one_step s header b t u k e i x.0 y.0 in
+    let z = sound_step s header b t k e i x.0 in
+    let rest : ts ≡ us = one_run header t.state bs ts us z.0 z.1 (All-tail (IsNext (rules_of header MAX_ITEMS)) b bs all) x.1 (subst (λ (w : Step). AreSteps w.state bs us) (sym same) y.1) in
     rw (same, rest) refl
 
--- the state behind all of them is sound too, with as many vertices
-pub sound_last : (n : ℕ) (s : State) (bs : List Next) (ts : List Step) → IsSound MAX_EDGES s → s.graph.vertices ≡ n → All (IsNext n 1048576) bs → AreSteps s bs ts
-    → IsSound MAX_EDGES (last_state s ts) × ((last_state s ts).graph.vertices ≡ n)
-sound_last n s bs [] k e all a = (k, e)
-sound_last n s [] (t ∷ ts) k e all a = absurd a
-sound_last n s (b ∷ bs) (t ∷ ts) k e all a =
-    let z = sound_step s n b t k e (All-head (IsNext n 1048576) b bs all) a.0 in
-    sound_last n t.state bs ts z.0 z.1 (All-tail (IsNext n 1048576) b bs all) a.1
+-- the state after all of them is sound too, with as many vertices
+pub sound_last : (header : HeaderShape) (s : State) (bs : List Next) (ts : List Step) → IsSound MAX_EDGES s → s.graph.vertices ≡ header.n → All (IsNext (rules_of header MAX_ITEMS)) bs → AreSteps s bs ts
+    → IsSound MAX_EDGES (last_state s ts) × ((last_state s ts).graph.vertices ≡ header.n)
+sound_last header s bs [] k e all a = (k, e)
+sound_last header s [] (t ∷ ts) k e all a = absurd a
+sound_last header s (b ∷ bs) (t ∷ ts) k e all a =
+    let z = sound_step s header b t k e (All-head (IsNext (rules_of header MAX_ITEMS)) b bs all) a.0 in
+    sound_last header t.state bs ts z.0 z.1 (All-tail (IsNext (rules_of header MAX_ITEMS)) b bs all) a.1
 
-pub holds_in : (s : State) → IsSound MAX_EDGES s → HoldsIn s
-holds_in s k = record {
+-- and with the same profile
+pub profile_last : (s : State) (bs : List Next) (ts : List Step) → AreSteps s bs ts → (last_state s ts).profile ≡ s.profile
+profile_last s bs [] a = refl
+profile_last s [] (t ∷ ts) a = absurd a
+profile_last s (b ∷ bs) (t ∷ ts) a = profile_last t.state bs ts a.1 ∙ profile_step s b t a.0
+
+pub holds_in : (p : Profile) (s : State) → s.profile ≡ p → IsSound MAX_EDGES s → HoldsIn p s
+holds_in p s same k = record {
+  profile = same;
   both = k.both;
   low = λ v c i. lo_bounds_coreness s.profile s.graph s.levels k.graph k.both.lower v c i;
   high = λ v c i. high_bounds_coreness s.profile s.graph s.levels k.both.upper v c i;
   estimate = λ v c i. estimate_is_near_coreness.estimate s.profile s.graph s.levels k.graph k.both v c i;
   near = λ v c i. estimate_is_near_coreness.coreness s.profile s.graph s.levels k.graph k.both v c i;
+  nearer = λ two v c i.
+      subst (λ (q : Profile). MeetsBoth q s.graph s.levels → c ≤ 2 * est q (group_of q s.graph.vertices (get_or s.levels v 0))) (sym (same ∙ two))
+      (λ both. estimate_is_near_coreness.nearer s.graph s.levels k.graph both v c i) k.both;
 }
 
-pub all_hold : (n : ℕ) (s : State) (bs : List Next) (ts : List Step) → IsSound MAX_EDGES s → s.graph.vertices ≡ n → All (IsNext n 1048576) bs → AreSteps s bs ts → All (λ (t : Step). HoldsIn t.state) ts
-all_hold n s bs [] k e all a = All-nil (λ (t : Step). HoldsIn t.state)
-all_hold n s [] (t ∷ ts) k e all a = absurd a
-all_hold n s (b ∷ bs) (t ∷ ts) k e all a =
-    let z = sound_step s n b t k e (All-head (IsNext n 1048576) b bs all) a.0 in
-    All-cons (λ (u : Step). HoldsIn u.state) t ts (holds_in t.state z.0) (all_hold n t.state bs ts z.0 z.1 (All-tail (IsNext n 1048576) b bs all) a.1)
+pub all_hold : (p : Profile) (header : HeaderShape) (s : State) (bs : List Next) (ts : List Step) → s.profile ≡ p → IsSound MAX_EDGES s → s.graph.vertices ≡ header.n → All (IsNext (rules_of header MAX_ITEMS)) bs → AreSteps s bs ts
+    → All (λ (t : Step). HoldsIn p t.state) ts
+all_hold p header s bs [] same k e all a = All-nil (λ (t : Step). HoldsIn p t.state)
+all_hold p header s [] (t ∷ ts) same k e all a = absurd a
+all_hold p header s (b ∷ bs) (t ∷ ts) same k e all a =
+    let kept = profile_step s b t a.0 ∙ same in
+    let z = sound_step s header b t k e (All-head (IsNext (rules_of header MAX_ITEMS)) b bs all) a.0 in
+    All-cons (λ (u : Step). HoldsIn p u.state) t ts (holds_in p t.state kept z.0) (all_hold p header t.state bs ts kept z.0 z.1 (All-tail (IsNext (rules_of header MAX_ITEMS)) b bs all) a.1)
 
 -- what more batches come to, seen from the first of all
 pub record IsLed (report : Report) (s0 : State) (bs0 : List Next) (k : ℕ) (s : State) (bs : List Next) (ts : List Step) (said : List ℕ) (refused : Bool) : Type 0 where
@@ -82,7 +99,7 @@ pub record IsLed (report : Report) (s0 : State) (bs0 : List Next) (k : ℕ) (s :
   pub last : last_state s0 steps ≡ last_state s ts
   pub refusal : some_refused s0 bs0 steps ≡ refused || some_refused s bs ts
 
--- some of the batches were read and their lines written: s is the state behind them, and k the number of the next
+-- some of the batches were read and their lines written: s is the state after them, and k the number of the next
 pub record Leads (report : Report) (s0 : State) (bs0 : List Next) (k : ℕ) (s : State) (bs : List Next) (before now : Option (List ℕ)) (refused : Bool) : Type 0 where
   pub said : List ℕ
   pub taken : now ≡ append_known before said
@@ -214,20 +231,20 @@ told_end report s0 (Some bs0) k s next (Some bs) (Some rest) before now refused 
     leads_end report s0 bs0 k s before now refused (subst (λ (xs : List Next). Leads report s0 bs0 k s xs before now refused) same h)
 
 -- no further batch was read
-pub told_unread : (report : Report) (n : ℕ) (s0 t : State) (told0 : Option (List Next)) (k : ℕ) (s : State) (toks : Option (List Token)) (before now : Option (List ℕ)) (refused : Bool) (stop : Stop)
-    → IsSound MAX_EDGES s → s.graph.vertices ≡ n → LeadsTold report s0 told0 k s (option_map (batches n 1048576) toks) before now refused → RunsBatches report s0 t told0 before now (Err stop)
-told_unread report n s0 t None k s toks before now refused stop sound e h = tt
-told_unread report n s0 t (Some bs0) k s None before now refused stop sound e h = absurd h
-told_unread report n s0 t (Some bs0) k s (Some ts) before now refused stop sound e h =
-    let there = some_states n s (batches n 1048576 ts) sound e (batches_keep_ranges n 1048576 ts) in
-    leads_some report s0 bs0 k s (batches n 1048576 ts) there.0 before now now refused h there.1 (prefix_none now now (batch_lines report k s (batches n 1048576 ts) there.0) refl)
+pub told_unread : (report : Report) (header : HeaderShape) (s0 t : State) (told0 : Option (List Next)) (k : ℕ) (s : State) (toks : Option (List Token)) (before now : Option (List ℕ)) (refused : Bool) (stop : Stop)
+    → IsSound MAX_EDGES s → s.graph.vertices ≡ header.n → LeadsTold report s0 told0 k s (option_map (batches (rules_of header MAX_ITEMS)) toks) before now refused → RunsBatches report s0 t told0 before now (Err stop)
+told_unread report header s0 t None k s toks before now refused stop sound e h = tt
+told_unread report header s0 t (Some bs0) k s None before now refused stop sound e h = absurd h
+told_unread report header s0 t (Some bs0) k s (Some ts) before now refused stop sound e h =
+    let there = some_states header s (batches (rules_of header MAX_ITEMS) ts) sound e (batches_keep_ranges (rules_of header MAX_ITEMS) ts) in
+    leads_some report s0 bs0 k s (batches (rules_of header MAX_ITEMS) ts) there.0 before now now refused h there.1 (prefix_none now now (batch_lines report k s (batches (rules_of header MAX_ITEMS) ts) there.0) refl)
 
 -- a prefix of what is due of one was written
-some_lines : (report : Report) (n k : ℕ) (s0 : State) (bs0 : List Next) (s : State) (next : Next) (rest : List Next) (before now later : Option (List ℕ)) (refused : Bool) → IsSound MAX_EDGES s → s.graph.vertices ≡ n
-    → All (IsNext n 1048576) (next ∷ rest) → Leads report s0 bs0 k s (next ∷ rest) before now refused → WroteSome report k next s now later → WritesSomeBatches report s0 bs0 before later
-some_lines report n k s0 bs0 s next rest before now later refused sound e all h w =
-    let x = sound_step s n next w.step sound e (All-head (IsNext n 1048576) next rest all) w.is_step in
-    let there = some_states n w.step.state rest x.0 x.1 (All-tail (IsNext n 1048576) next rest all) in
+some_lines : (report : Report) (header : HeaderShape) (k : ℕ) (s0 : State) (bs0 : List Next) (s : State) (next : Next) (rest : List Next) (before now later : Option (List ℕ)) (refused : Bool) → IsSound MAX_EDGES s → s.graph.vertices ≡ header.n
+    → All (IsNext (rules_of header MAX_ITEMS)) (next ∷ rest) → Leads report s0 bs0 k s (next ∷ rest) before now refused → WroteSome report k next s now later → WritesSomeBatches report s0 bs0 before later
+some_lines report header k s0 bs0 s next rest before now later refused sound e all h w =
+    let x = sound_step s header next w.step sound e (All-head (IsNext (rules_of header MAX_ITEMS)) next rest all) w.is_step in
+    let there = some_states header w.step.state rest x.0 x.1 (All-tail (IsNext (rules_of header MAX_ITEMS)) next rest all) in
     leads_some report s0 bs0 k s (next ∷ rest) (w.step ∷ there.0) before now later refused h (w.is_step, there.1)
     (prefix_longer now later (step_text report k s next w.step.phases) (batch_lines report (k + 1) w.step.state rest there.0) w.prefix)
 
@@ -244,16 +261,16 @@ some_more (Refused line EdgeLimit) rest m = (rest, refl)
 some_more (Refused line PhaseLimit) rest m = (rest, refl)
 some_more End rest m = absurd (m tt)
 
-pub told_stopped : (report : Report) (n : ℕ) (s0 t : State) (told0 : Option (List Next)) (k : ℕ) (s : State) (next : Next) (toks : Option (List Token)) (new : Option (List Next)) (before now later : Option (List ℕ)) (refused : Bool) (stop : Stop)
-    → IsSound MAX_EDGES s → s.graph.vertices ≡ n → option_map (batches n 1048576) toks ≡ option_map (behind_batch next) new → (IsEnd next → ⊥) → LeadsTold report s0 told0 k s (option_map (batches n 1048576) toks) before now refused
+pub told_stopped : (report : Report) (header : HeaderShape) (s0 t : State) (told0 : Option (List Next)) (k : ℕ) (s : State) (next : Next) (toks : Option (List Token)) (new : Option (List Next)) (before now later : Option (List ℕ)) (refused : Bool) (stop : Stop)
+    → IsSound MAX_EDGES s → s.graph.vertices ≡ header.n → option_map (batches (rules_of header MAX_ITEMS)) toks ≡ option_map (behind_batch next) new → (IsEnd next → ⊥) → LeadsTold report s0 told0 k s (option_map (batches (rules_of header MAX_ITEMS)) toks) before now refused
     → WroteSome report k next s now later → RunsBatches report s0 t told0 before later (Err stop)
-told_stopped report n s0 t None k s next toks new before now later refused stop sound e f m h p = tt
-told_stopped report n s0 t (Some bs0) k s next None new before now later refused stop sound e f m h p = absurd h
-told_stopped report n s0 t (Some bs0) k s next (Some ts) None before now later refused stop sound e f m h p = absurd cc
-told_stopped report n s0 t (Some bs0) k s next (Some ts) (Some rest) before now later refused stop sound e f m h p =
+told_stopped report header s0 t None k s next toks new before now later refused stop sound e f m h p = tt
+told_stopped report header s0 t (Some bs0) k s next None new before now later refused stop sound e f m h p = absurd h
+told_stopped report header s0 t (Some bs0) k s next (Some ts) None before now later refused stop sound e f m h p = absurd cc
+told_stopped report header s0 t (Some bs0) k s next (Some ts) (Some rest) before now later refused stop sound e f m h p =
     let more = some_more next rest m in
-    let same : batches n 1048576 ts ≡ next ∷ more.0 = same_Some _ _ f ∙ more.1 in
-    some_lines report n k s0 bs0 s next more.0 before now later refused sound e (subst (λ (xs : List Next). All (IsNext n 1048576) xs) same (batches_keep_ranges n 1048576 ts))
+    let same : batches (rules_of header MAX_ITEMS) ts ≡ next ∷ more.0 = same_Some _ _ f ∙ more.1 in
+    some_lines report header k s0 bs0 s next more.0 before now later refused sound e (subst (λ (xs : List Next). All (IsNext (rules_of header MAX_ITEMS)) xs) same (batches_keep_ranges (rules_of header MAX_ITEMS) ts))
     (subst (λ (xs : List Next). Leads report s0 bs0 k s xs before now refused) same h) p
 
 -- a batch that isn't the last takes some of the reader's budget

@@ -19,12 +19,12 @@ unfoldable pub exact_vertex_lines : State → List ℕ → ℕ → List ℕ
 exact_vertex_lines s corenesses zero = []
 exact_vertex_lines s corenesses (suc k) = exact_vertex_lines s corenesses k ++ exact_vertex_text s corenesses k
 
--- what is written behind the notes
+-- what is written after the notes
 abbrev pub exact_text : ℕ → State → List ℕ → List ℕ
 exact_text n s corenesses = exact_head_text n ++ (exact_vertex_lines s corenesses n ++ end_line)
 
 -- a whole text of a header with these batches, and whether some of them are refused: a note of each that is, and then the
--- exact text of the graph and the levels behind the last
+-- exact text of the graph and the levels after the last
 pub record IsExact (header : HeaderShape) (batches : List Next) (text : List ℕ) (refused : Bool) : Type 0 where
   pub steps : List Step
   pub are_steps : AreSteps (start header.profile header.n) batches steps

@@ -1,5 +1,6 @@
 -- The text of `run`: what is written for an input.
 use Rattle.std.specs.Prelude.{ℕ, zero, suc, ◌≡◌, ◌+◌, ◌-◌, Bool, true, false, ◌||◌, List, [], ◌∷◌, ◌++◌, get_or}
+use Rattle.kc_graph.specs.declared.limits.TheConstants.{MAX_ITEMS}
 use Rattle.kc_graph.specs.Cleaning.{cleaned}
 use Rattle.kc_levels.specs.declared.profile.Profile.{Profile}
 use Rattle.kc_levels.specs.declared.thresholds.Estimate.{Estimate}
@@ -12,6 +13,7 @@ use Rattle.kc_batch.specs.BatchInputs.{BatchInput, WithBatches, HeaderRefused, i
 use Rattle.kc_report.specs.Lines.{head_text, header_refused_line, vertex_line, end_line}
 use Rattle.kc_groups.specs.declared.plans.PhasePlan.{PhasePlan}
 use Rattle.kc_engine.specs.States.{State}
+use Rattle.kcore.specs.declared.limits.TheConstants.{LINE_LIMIT, INPUT_LIMIT}
 use Rattle.kcore.specs.declared.report.Report.{Report}
 use Rattle.kcore.specs.declared.report.Report.TheVariants.{Lines}
 use Rattle.kcore.specs.Reports.{refused_text, cleaned_text}
@@ -56,7 +58,7 @@ unfoldable pub vertex_lines : State → ℕ → List ℕ
 vertex_lines s zero = []
 vertex_lines s (suc k) = vertex_lines s k ++ vertex_text s k
 
--- what is written behind all batches of n vertices
+-- what is written after all batches of n vertices
 abbrev pub tail_text : ℕ → State → List ℕ
 tail_text n s = vertex_lines s n ++ end_line
 
@@ -72,7 +74,7 @@ pub record IsRun (header : HeaderShape) (batches : List Next) (text : List ℕ) 
 -- what bytes say to the program: lines have at most 65,536 bytes, the input at most 1,073,741,824, and a batch at most
 -- 1,048,576 items
 abbrev pub input_said : List ℕ → BatchInput
-input_said bytes = input_of 65536 1073741824 1048576 bytes
+input_said bytes = input_of LINE_LIMIT INPUT_LIMIT MAX_ITEMS bytes
 
 -- the text of an input, and whether the input, or a part of it, is refused
 abbrev pub IsRunText : BatchInput → List ℕ → Bool → Type 0

@@ -48,12 +48,12 @@ abbrev pub WritesExactly : Option BatchInput → Option (List ℕ) → Option (L
 WritesExactly None before now result = Unit {0}
 WritesExactly (Some input) before now result = WritesText (IsExactText input) before now result
 
--- the same behind a header, for its batches
+-- the same after a header, for its batches
 abbrev pub WritesExact : HeaderShape → Option (List Next) → Option (List ℕ) → Option (List ℕ) → Result Bool Stop → Type 0
 WritesExact header None before now result = Unit {0}
 WritesExact header (Some batches) before now result = WritesText (IsExact header batches) before now result
 
--- a run behind a header, for its batches
+-- a run after a header, for its batches
 abbrev pub WritesRun : HeaderShape → Option (List Next) → Option (List ℕ) → Option (List ℕ) → Result Bool Stop → Type 0
 WritesRun header None before now result = Unit {0}
 WritesRun header (Some batches) before now result = WritesText (IsRun header batches) before now result
@@ -125,7 +125,7 @@ status_of (Err ReadFault) = status.ReadFault
 status_of (Err WriteFault) = status.WriteFault
 status_of (Err Memory) = status.Memory
 
--- the batches behind a header were applied, and notes of the refused ones written, where they are told
+-- the batches after a header were applied, and notes of the refused ones written, where they are told
 abbrev pub Settles : HeaderShape → Option (List Next) → Option (List ℕ) → Option (List ℕ) → Result Settled Stop → Type 0
 Settles header told before now (Ok settled) = RunsBatches Notes (start header.profile header.n) settled.engine.state told before now (Ok settled.refused)
 Settles header None before now (Err stop) = Unit {0}

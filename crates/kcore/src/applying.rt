@@ -22,7 +22,7 @@ pub enum Outcome {
 }
 
 /// The engine before the first batch of a graph of n vertices, whose phases use up to `workers` threads, 1 to 64. The error is
-/// want of memory.
+/// running out of memory.
 pub fn open(alloc: Global, profile: Profile, n: u32, workers: u32) -> Result<Engine, AllocError>
     requires some { 1 ≤ n }
     requires small { n ≤ MAX_VERTICES }
@@ -44,7 +44,7 @@ pub fn open(alloc: Global, profile: Profile, n: u32, workers: u32) -> Result<Eng
 }
 
 /// Applies a batch without a fault: its items are cleaned, and then it is refused and changes nothing, or its edges leave and
-/// come in. The error is want of memory; the engine isn't used again.
+/// come in. Fails only if memory runs out; the engine isn't used again.
 ///
 /// Costs what `clean` and `Engine::plan` cost.
 pub fn apply<R: Threads + Sync, G: Gate + Sync>(
@@ -66,7 +66,7 @@ pub fn apply<R: Threads + Sync, G: Gate + Sync>(
         Err(EngineFault::EdgeLimit { .. }) => Ok(Outcome::Refused(Reason::EdgeLimit)),
         Err(EngineFault::PhaseLimit { .. }) => Ok(Outcome::Refused(Reason::PhaseLimit)),
         Err(EngineFault::Memory(e)) => Err(e),
-        // An earlier batch met want of memory, and the run ended there.
+        // An earlier batch ran out of memory, and the run ended there.
         Err(EngineFault::Halted) => Err(AllocError),
     }
 }

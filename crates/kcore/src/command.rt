@@ -10,7 +10,7 @@ use kc_text::{Words, read_number};
 pub enum Command {
     /// `run W`: apply the batches of an input in turn with W workers, 1 to 64, and print each batch and then each vertex.
     Run { workers: u32 },
-    /// `exact`: apply the batches of an input in turn, and print the coreness of each vertex behind them.
+    /// `exact`: apply the batches of an input in turn, and print the coreness of each vertex after them.
     Exact,
 }
 

@@ -1,9 +1,11 @@
-//! The command `exact`: the coreness of each vertex behind the batches of an input.
+//! The command `exact`: the coreness of each vertex after the batches of an input.
 ghost use Rattle.std.specs.Prelude.{◌≡◌, ◌≤◌, ◌<◌, ◌^◌, ◌+◌, ◌++◌, [], length, Option};
 ghost use Rattle.std.specs.Option.{option_map};
 ghost use Rattle.kc_text.specs.Reading.{budget};
 ghost use Rattle.kc_text.specs.Writing.{Appends, WriteCause};
+ghost use Rattle.kc_graph.specs.declared.limits.TheConstants.{MAX_ITEMS};
 ghost use Rattle.kc_batch.specs.Batches.{batches_left};
+ghost use Rattle.kc_batch.specs.BatchInputs.{rules_of};
 ghost use Rattle.kc_batch.specs.Headers.{IsHeader};
 ghost use Rattle.kc_report.specs.Buffer.{IsCleared};
 ghost use Rattle.kc_report.specs.Lines.{end_line};
@@ -12,7 +14,8 @@ ghost use Rattle.kcore.specs.RunText.{input_said};
 ghost use Rattle.kcore.specs.ExactText.{exact_vertex_text, exact_vertex_lines, exact_text};
 ghost use Rattle.kcore.specs.Stops.{WritesExact, WritesExactly, StopCause};
 
-use crate::run::{INPUT_LIMIT, LINE_LIMIT, settle};
+use crate::limits::{INPUT_LIMIT, LINE_LIMIT};
+use crate::run::settle;
 use crate::stop::Stop;
 use kc_batch::{Header, HeaderFault};
 use kc_bound::exact_coreness;
@@ -67,7 +70,7 @@ fn write_vertices<K: Sink>(
     Ok(())
 }
 
-// Writes what is behind the vertices' head: their lines, and the last line.
+// Writes what is after the vertices' head: their lines, and the last line.
 fn write_behind_head<K: Sink>(
     alloc: Global,
     buf: &mut LineBuf,
@@ -107,7 +110,7 @@ fn write_exact<K: Sink>(
     write_behind_head(alloc, buf, sink, n, engine, corenesses)
 }
 
-// Does what is behind a header. Says whether a batch was refused.
+// Does what is after a header. Says whether a batch was refused.
 fn exact_header<R: Threads + Sync, S: Source, K: Sink, G: Gate + Sync>(
     rt: &R,
     alloc: Global,
@@ -119,7 +122,7 @@ fn exact_header<R: Threads + Sync, S: Source, K: Sink, G: Gate + Sync>(
 ) -> Result<bool, Stop>
     requires header { IsHeader header.now }
     requires budget { budget reader.old ≤ 2 ^ 30 + 1 }
-    ensures text { WritesExact header.now (batches_left header.now.n 1048576 reader.old (S.left src.old)) (K.taken sink.old) (K.taken sink.new) result }
+    ensures text { WritesExact header.now (batches_left (rules_of header.now MAX_ITEMS) reader.old (S.left src.old)) (K.taken sink.old) (K.taken sink.new) result }
     ensures cause { StopCause (S.faults src.old) (S.faults src.new) (K.faults sink.old) (K.faults sink.new) result }
 {
     let mut buf = LineBuf::new(alloc);
@@ -136,7 +139,7 @@ fn exact_header<R: Threads + Sync, S: Source, K: Sink, G: Gate + Sync>(
     Ok(settled.refused)
 }
 
-/// Reads a batch input, applies its batches in turn and writes the exact text behind the notes of the refused ones. Says
+/// Reads a batch input, applies its batches in turn and writes the exact text after the notes of the refused ones. Says
 /// whether something was refused.
 pub fn exact_input<R: Threads + Sync, S: Source, K: Sink, G: Gate + Sync>(
     rt: &R,

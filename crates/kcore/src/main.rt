@@ -6,12 +6,16 @@
 //! in `exact`.
 #![tactic(auto)]
 
-ghost use Rattle.kcore.specs.Commands.{EndsAs};
+ghost use Rattle.std.specs.Prelude.{◌≡◌, drop, map, string_bytes, IfOk};
+ghost use Rattle.std.specs.Vec.Iter.{into_iter_items};
+ghost use Rattle.kcore.specs.declared.status.Status.{Status};
+ghost use Rattle.kcore.specs.Commands.{EndsAs, exit_number};
 
 mod applying;
 mod command;
 mod exact;
 pub mod laws;
+mod limits;
 mod report;
 mod run;
 mod status;
@@ -25,8 +29,8 @@ mod word;
 use kc_rounds::OpenGate;
 use kc_text::{StdSink, StdSource, Words};
 use status::Status;
-use std::alloc::Global;
-use std::env;
+use std::alloc::{AllocError, Global};
+use std::env::{self, Args};
 use std::io::{BufWriter, ErrorKind, Write};
 use std::process::ExitCode;
 use std::rt::Env;
@@ -35,24 +39,28 @@ use top::run_command;
 // The bytes of the output that are kept back at most.
 const BUFFER: usize = 65_536;
 
-// The words of the command line without the program's name. Where one of them isn't text they name no command.
-fn words_of<R: Env + AllocGlobal>(rt: &R) -> Result<Words, Status> {
-    let args = match env::args(rt) {
-        Ok(args) => args,
-        Err(e) => {
-            return Err(match e.kind() {
-                ErrorKind::OutOfMemory => Status::Memory,
-                _ => Status::Usage,
-            });
-        }
-    };
-    let mut words = Words::new(rt.alloc());
-    for word in args.skip(1) {
-        if words.push(rt.alloc(), word.as_str().as_bytes()).is_err() {
-            return Err(Status::Memory);
-        }
+// The words of a command line without its first, the program's name.
+fn words_from(alloc: Global, args: Args) -> Result<Words, AllocError>
+    ensures { IfOk result (λ words. words ≡ drop 1 (map string_bytes (into_iter_items args))) }
+{
+    let mut args = args;
+    let _name = args.next();
+    let mut words = Words::new(alloc);
+    while let Some(word) = args.next() {
+        words.push(alloc, word.as_str().as_bytes())?;
     }
     Ok(words)
+}
+
+// The words of the command line. Where one of them isn't text they name no command.
+fn words_of<R: Env + AllocGlobal>(rt: &R) -> Result<Words, Status> {
+    match env::args(rt) {
+        Ok(args) => words_from(rt.alloc(), args).map_err(|_| Status::Memory),
+        Err(e) => match e.kind() {
+            ErrorKind::OutOfMemory => Err(Status::Memory),
+            _ => Err(Status::Usage),
+        },
+    }
 }
 
 fn main(rt: HostRuntime) -> ExitCode {
@@ -73,7 +81,14 @@ fn main(rt: HostRuntime) -> ExitCode {
         &mut output,
         &OpenGate::new(),
     );
-    ExitCode::from(ended(status, &mut output).exit_number())
+    ExitCode::from(exit_number_of(status, &mut output))
+}
+
+// The exit number of the program, where its command ended so. The output is flushed.
+fn exit_number_of<W: Write + Drop>(status: Status, output: &mut StdSink<W>) -> u8
+    ensures { (last : Status) × (EndsAs status last output.old output.new × (result ≡ exit_number last)) }
+{
+    ended(status, output).exit_number()
 }
 
 // The status of the program. What the writer still holds goes out now; where that fails, a command that came to its

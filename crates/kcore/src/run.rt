@@ -2,29 +2,27 @@
 ghost use Rattle.std.specs.Prelude.{◌≡◌, ◌≤◌, ◌^◌, ◌+◌, [], Option, OnOk, IfOk};
 ghost use Rattle.std.specs.Option.{option_map};
 ghost use Rattle.kc_text.specs.Reading.{budget};
-ghost use Rattle.kc_batch.specs.Batches.{batches_left, IsNext, IsEnd};
+ghost use Rattle.kc_batch.specs.Batches.{batches_left, IsEnd};
+ghost use Rattle.kc_batch.specs.BatchInputs.{rules_of};
 ghost use Rattle.kc_batch.specs.Headers.{IsHeader};
-ghost use Rattle.kcore.specs.States.{IsOpen};
+ghost use Rattle.kcore.specs.States.{IsOpen, IsBatchFor};
 ghost use Rattle.kcore.specs.RunText.{input_said};
 ghost use Rattle.kcore.specs.Stops.{is_last_batch, RunsBatches, Settles, Writes, WritesRun, WritesStep, StopCause, WriteStop};
 
 use crate::applying::{Outcome, apply, open};
+use crate::limits::{INPUT_LIMIT, LINE_LIMIT};
 use crate::report::Report;
 use crate::stop::Stop;
 use crate::vertices::write_tail;
 use kc_batch::{Header, HeaderFault, Next, next_batch};
 use kc_engine::Engine;
 use kc_graph::MAX_ITEMS;
+use kc_levels::Profile;
 use kc_report::{write_head, write_header_refused};
 use kc_rounds::Gate;
 use kc_text::{LineBuf, LineReader, Reason, Sink, Source};
 use std::alloc::Global;
 use std::thread::Threads;
-
-// The greatest number of bytes of a line, and of the input.
-pub const LINE_LIMIT: u32 = 65_536;
-
-pub const INPUT_LIMIT: u32 = 1_073_741_824;
 
 // Applies the batch with this number and writes what is due of it. Says whether it is refused.
 fn run_batch<R: Threads + Sync, K: Sink, G: Gate + Sync>(
@@ -39,7 +37,7 @@ fn run_batch<R: Threads + Sync, K: Sink, G: Gate + Sync>(
     next: Next,
 ) -> Result<bool, Stop>
     requires open { IsOpen engine.old }
-    requires batch { IsNext engine.old.state.graph.vertices 1048576 next }
+    requires batch { IsBatchFor engine.old.state.graph.vertices next }
     requires empty { buf.old ≡ [] }
     ensures step { WritesStep report number next engine.old.state engine.new.state (K.taken sink.old) (K.taken sink.new) result }
     ensures open { OnOk result (IsOpen engine.new) }
@@ -85,6 +83,7 @@ fn run_batches<R: Threads + Sync, S: Source, K: Sink, G: Gate + Sync>(
     alloc: Global,
     gate: &G,
     n: u32,
+    profile: Profile,
     engine: &mut Engine,
     buf: &mut LineBuf,
     reader: &mut LineReader,
@@ -96,7 +95,7 @@ fn run_batches<R: Threads + Sync, S: Source, K: Sink, G: Gate + Sync>(
     requires vertices { engine.old.state.graph.vertices ≡ n }
     requires empty { buf.old ≡ [] }
     requires budget { budget reader.old ≤ 2 ^ 30 + 1 }
-    ensures text { RunsBatches report engine.old.state engine.new.state (batches_left n 1048576 reader.old (S.left src.old)) (K.taken sink.old) (K.taken sink.new) result }
+    ensures text { RunsBatches report engine.old.state engine.new.state (batches_left (record { n = n; profile = profile; item_limit = MAX_ITEMS }) reader.old (S.left src.old)) (K.taken sink.old) (K.taken sink.new) result }
     ensures open { OnOk result (IsOpen engine.new) }
     ensures vertices { OnOk result (engine.new.state.graph.vertices ≡ n) }
     ensures empty { OnOk result (buf.new ≡ []) }
@@ -105,7 +104,7 @@ fn run_batches<R: Threads + Sync, S: Source, K: Sink, G: Gate + Sync>(
     let mut number = 0;
     let mut refused = false;
     loop {
-        let next = next_batch(alloc, reader, src, n, MAX_ITEMS)?;
+        let next = next_batch(alloc, reader, src, n, profile, MAX_ITEMS)?;
         if let Next::End = next {
             return Ok(refused);
         }
@@ -128,7 +127,7 @@ pub struct Settled {
     pub refused: bool,
 }
 
-/// Applies the batches behind a header, and writes a note of each that is refused. The buffer is empty, and is again
+/// Applies the batches after a header, and writes a note of each that is refused. The buffer is empty, and is again
 /// after Ok.
 pub fn settle<R: Threads + Sync, S: Source, K: Sink, G: Gate + Sync>(
     rt: &R,
@@ -143,7 +142,7 @@ pub fn settle<R: Threads + Sync, S: Source, K: Sink, G: Gate + Sync>(
     requires header { IsHeader header.now }
     requires empty { buf.old ≡ [] }
     requires budget { budget reader.old ≤ 2 ^ 30 + 1 }
-    ensures text { Settles header.now (batches_left header.now.n 1048576 reader.old (S.left src.old)) (K.taken sink.old) (K.taken sink.new) result }
+    ensures text { Settles header.now (batches_left (rules_of header.now MAX_ITEMS) reader.old (S.left src.old)) (K.taken sink.old) (K.taken sink.new) result }
     ensures open { IfOk result (λ settled. IsOpen settled.engine) }
     ensures vertices { IfOk result (λ settled. settled.engine.state.graph.vertices ≡ header.now.n) }
     ensures empty { OnOk result (buf.new ≡ []) }
@@ -156,6 +155,7 @@ pub fn settle<R: Threads + Sync, S: Source, K: Sink, G: Gate + Sync>(
         alloc,
         gate,
         n,
+        header.profile,
         &mut engine,
         buf,
         reader,
@@ -166,7 +166,7 @@ pub fn settle<R: Threads + Sync, S: Source, K: Sink, G: Gate + Sync>(
     Ok(Settled { engine, refused })
 }
 
-// Runs what is behind a header. Says whether a batch was refused.
+// Runs what is after a header. Says whether a batch was refused.
 fn run_header<R: Threads + Sync, S: Source, K: Sink, G: Gate + Sync>(
     rt: &R,
     alloc: Global,
@@ -180,7 +180,7 @@ fn run_header<R: Threads + Sync, S: Source, K: Sink, G: Gate + Sync>(
     requires few_workers { (1 ≤ workers) × (workers ≤ 64) }
     requires header { IsHeader header.now }
     requires budget { budget reader.old ≤ 2 ^ 30 + 1 }
-    ensures text { WritesRun header.now (batches_left header.now.n 1048576 reader.old (S.left src.old)) (K.taken sink.old) (K.taken sink.new) result }
+    ensures text { WritesRun header.now (batches_left (rules_of header.now MAX_ITEMS) reader.old (S.left src.old)) (K.taken sink.old) (K.taken sink.new) result }
     ensures cause { StopCause (S.faults src.old) (S.faults src.new) (K.faults sink.old) (K.faults sink.new) result }
 {
     let mut buf = LineBuf::new(alloc);
@@ -192,6 +192,7 @@ fn run_header<R: Threads + Sync, S: Source, K: Sink, G: Gate + Sync>(
         alloc,
         gate,
         n,
+        header.profile,
         &mut engine,
         &mut buf,
         reader,

@@ -37,7 +37,7 @@ fn answer<R: Threads + Sync>(
 
 #[test]
 fn runs_in_any_pieces(rt: HostRuntime) -> Result<(), Fail> {
-    let rows: [(&[u8], &[u8], Status); 22] = [
+    let rows: [(&[u8], &[u8], Status); 27] = [
         // A path.
         (
             b"kcore 1\nvertices 5\nbatch\n+ 0 1\n1 2\nend\n",
@@ -130,11 +130,11 @@ fn runs_in_any_pieces(rt: HostRuntime) -> Result<(), Fail> {
             Status::Refused,
         ),
         (
-            b"kcore 1\nvertices 1048577\n",
+            b"kcore 1\nvertices 16777217\n",
             b"refused line 2 header\n",
             Status::Refused,
         ),
-        (b"kcore 2\n", b"refused line 1 header\n", Status::Refused),
+        (b"kcore 3\n", b"refused line 1 header\n", Status::Refused),
         // No batch, and no last line feed.
         (
             b"kcore 1\nvertices 1",
@@ -147,7 +147,7 @@ fn runs_in_any_pieces(rt: HostRuntime) -> Result<(), Fail> {
             b"kcore-run 1\nvertices 2\nbatch 1 loops 0 repeats 0 idle 0 removed 0 added 1\nphase 1 insert quiet 0\ngroup 1 0 0:1 1:1\nvertex 0 level 1 est 2 low 1 high 2 up 1 down 1\nvertex 1 level 1 est 2 low 1 high 2 up 1 down 1\nend\n",
             Status::Done,
         ),
-        // An ask behind a batch, and one that isn't whole.
+        // An ask after a batch, and one that isn't whole.
         (
             b"kcore 1\nvertices 1\nbatch\nend\nask 1 0\nend\nbatch\nend\n",
             b"kcore-run 1\nvertices 1\nbatch 1 loops 0 repeats 0 idle 0 removed 0 added 0\nbatch 2 refused line 5 bad-line\nbatch 3 loops 0 repeats 0 idle 0 removed 0 added 0\nvertex 0 level 0 est 0 low 0 high 0 up 0 down 0\nend\n",
@@ -156,6 +156,35 @@ fn runs_in_any_pieces(rt: HostRuntime) -> Result<(), Fail> {
         (
             b"kcore 1\nvertices 1\nask 1 1\n",
             b"refused line 3 header\n",
+            Status::Refused,
+        ),
+        // A path in the second profile.
+        (
+            b"kcore 2\nvertices 5\nbatch\n0 1\n1 2\nend\n",
+            b"kcore-run 1\nvertices 5\nbatch 1 loops 0 repeats 0 idle 0 removed 0 added 2\nphase 1 insert quiet 0\ngroup 1 0 0:1 1:2 2:1\nvertex 0 level 1 est 2 low 1 high 1 up 1 down 1\nvertex 1 level 2 est 2 low 1 high 1 up 0 down 2\nvertex 2 level 1 est 2 low 1 high 1 up 1 down 1\nvertex 3 level 0 est 0 low 0 high 0 up 0 down 0\nvertex 4 level 0 est 0 low 0 high 0 up 0 down 0\nend\n",
+            Status::Done,
+        ),
+        // The vertex in the middle is isolated.
+        (
+            b"kcore 2\nvertices 5\nbatch\n0 1\n1 2\nend\nbatch\nx 1\nend\n",
+            b"kcore-run 1\nvertices 5\nbatch 1 loops 0 repeats 0 idle 0 removed 0 added 2\nphase 1 insert quiet 0\ngroup 1 0 0:1 1:2 2:1\nbatch 2 loops 0 repeats 0 idle 0 removed 2 added 0\nphase 2 delete quiet 0\ngroup 2 0 0:0 1:0 2:0\nvertex 0 level 0 est 0 low 0 high 0 up 0 down 0\nvertex 1 level 0 est 0 low 0 high 0 up 0 down 0\nvertex 2 level 0 est 0 low 0 high 0 up 0 down 0\nvertex 3 level 0 est 0 low 0 high 0 up 0 down 0\nvertex 4 level 0 est 0 low 0 high 0 up 0 down 0\nend\n",
+            Status::Done,
+        ),
+        // An isolation takes an insertion back, and finds no edge.
+        (
+            b"kcore 2\nvertices 5\nbatch\n+ 0 1\nx 0\n+ 0 2\nend\n",
+            b"kcore-run 1\nvertices 5\nbatch 1 loops 0 repeats 1 idle 1 removed 0 added 1\nphase 1 insert quiet 0\ngroup 1 0 0:1 2:1\nvertex 0 level 1 est 2 low 1 high 1 up 1 down 1\nvertex 1 level 0 est 0 low 0 high 0 up 0 down 0\nvertex 2 level 1 est 2 low 1 high 1 up 1 down 1\nvertex 3 level 0 est 0 low 0 high 0 up 0 down 0\nvertex 4 level 0 est 0 low 0 high 0 up 0 down 0\nend\n",
+            Status::Done,
+        ),
+        // An isolation of no vertex, and one in the first profile.
+        (
+            b"kcore 2\nvertices 5\nbatch\nx 5\nend\n",
+            b"kcore-run 1\nvertices 5\nbatch 1 refused line 4 bad-vertex\nvertex 0 level 0 est 0 low 0 high 0 up 0 down 0\nvertex 1 level 0 est 0 low 0 high 0 up 0 down 0\nvertex 2 level 0 est 0 low 0 high 0 up 0 down 0\nvertex 3 level 0 est 0 low 0 high 0 up 0 down 0\nvertex 4 level 0 est 0 low 0 high 0 up 0 down 0\nend\n",
+            Status::Refused,
+        ),
+        (
+            b"kcore 1\nvertices 5\nbatch\nx 1\nend\n",
+            b"kcore-run 1\nvertices 5\nbatch 1 refused line 4 bad-line\nvertex 0 level 0 est 0 low 0 high 0 up 0 down 0\nvertex 1 level 0 est 0 low 0 high 0 up 0 down 0\nvertex 2 level 0 est 0 low 0 high 0 up 0 down 0\nvertex 3 level 0 est 0 low 0 high 0 up 0 down 0\nvertex 4 level 0 est 0 low 0 high 0 up 0 down 0\nend\n",
             Status::Refused,
         ),
     ];

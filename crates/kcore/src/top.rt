@@ -38,8 +38,8 @@ fn status_of(ended: Result<bool, Stop>) -> Status
 /// No text depends on the number of workers.
 ///
 /// In each state that the input leads to both invariants hold, and what is printed of a vertex bounds its coreness:
-/// `low <= coreness <= high`, `est <= 2 * coreness` and `coreness <= 3 * est`. So it is on each line of a vertex in an exact
-/// text, for the coreness that stands there.
+/// `low <= coreness <= high`, `est <= 2 * coreness` and `coreness <= 3 * est`, and where the header gives the second profile
+/// also `coreness <= 2 * est`. So it is on each line of a vertex in an exact text, for the coreness that stands there.
 ///
 /// `ReadFault` and `WriteFault` come only where the count of faults of `input`, of `output` rose in this call, and
 /// every other count is as it was. So with words of a command, bytes told and no count risen the answer is `Done` or

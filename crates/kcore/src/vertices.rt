@@ -7,12 +7,11 @@ ghost use Rattle.kcore.specs.States.{IsOpen};
 ghost use Rattle.kcore.specs.RunText.{vertex_text, vertex_lines, tail_text};
 
 use kc_engine::Engine;
-use kc_levels::at_least;
 use kc_report::{write_end, write_vertex};
 use kc_text::{LineBuf, SendFault, Sink};
 use std::alloc::Global;
 
-// Writes the line of v. Two passes over its neighbours.
+// Writes the line of v.
 fn write_one<K: Sink>(
     alloc: Global,
     buf: &mut LineBuf,
@@ -27,15 +26,14 @@ fn write_one<K: Sink>(
     ensures buffer { IsCleared buf.new result }
     ensures cause { WriteCause (K.faults sink.old) (K.faults sink.new) result }
 {
-    let levels = engine.levels();
-    let level = levels.get(v);
+    let level = engine.levels().get(v);
     let estimate = engine.thresholds().estimate(level);
-    let up = at_least(engine.graph(), levels, v, level);
-    let down = at_least(engine.graph(), levels, v, level.saturating_sub(1));
+    let up = engine.at_least_own(v);
+    let down = engine.at_least_below(v);
     write_vertex(alloc, buf, sink, v, level, estimate, up, down)
 }
 
-// Writes the lines of all n vertices. Two passes over the neighbours of each.
+// Writes the lines of all n vertices.
 fn write_vertices<K: Sink>(
     alloc: Global,
     buf: &mut LineBuf,
@@ -56,7 +54,7 @@ fn write_vertices<K: Sink>(
     Ok(())
 }
 
-/// Writes what is behind all batches of a graph of n vertices: their lines, and the last line.
+/// Writes what is after all batches of a graph of n vertices: their lines, and the last line.
 pub fn write_tail<K: Sink>(
     alloc: Global,
     buf: &mut LineBuf,

@@ -50,7 +50,7 @@ fn insert_edges(
 /// levels that are at least the old ones, within the top, and meet the upper invariant in the new graph.
 ///
 /// `added` is ascending, and none of its edges is in the graph. The upper invariant holds before the call.
-/// The error is want of memory; graph and levels are then unspecified.
+/// Fails only if memory runs out; graph and levels are then unspecified.
 ///
 /// A vertex is looked at only where an edge came in at it, it rose, or a neighbour rose to its level; a
 /// look and a rise are one pass over its neighbours each. Besides there are one pass over all vertices

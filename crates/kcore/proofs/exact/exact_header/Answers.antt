@@ -3,6 +3,7 @@ use Rattle.std.proofs.lemmas.Result.{err_from_is_err_and}
 use Rattle.kc_batch.specs.Tokens.{tokens_left}
 use Rattle.kc_graph.specs.Shape.{GraphShape}
 use Rattle.kcore.specs.Corenesses.{AreCorenesses}
+use Rattle.kcore.proofs.Causes.{sent_cause}
 use Rattle.kcore.proofs.ExactTexts.{notes_prefix, notes_written, exact_prefix, exact_written}
 use Rattle.kcore.proofs.exact.exact_header.Goals as goal
 
@@ -34,3 +35,8 @@ returns-clause-text g c =
     rw (← c.header.view_is)
     (exact_written (record { profile = c.header.inside.profile; n = c.header.inside.n; asks = c.header.inside.asks }) _ c.in_ok-settled.settled.engine.state c.in_ok-corenesses.corenesses.items _ _ _
     c.in_ok-settled.settled.refused w k (rw c.as_slice.ensures.value at c.in_ok-write_exact.ensures.text))
+
+pub returns-in_err-write_exact-clause-cause : goal.returns-in_err-write_exact-clause-cause
+returns-in_err-write_exact-clause-cause g c =
+    let p = err_from_is_err_and c.from_residual-in_err-write_exact.result c.from_residual-in_err-write_exact.ensures.1 in
+    rw p.1 (sent_cause _ _ _ _ _ _ p.0 c.in_ok-settled.ensures.cause.0 c.in_ok-settled.ensures.cause.1 c.in_err-write_exact.ensures.cause p.2)

@@ -1,7 +1,9 @@
 use Rattle.std.proofs.Common.{◌∙◌, sym, refl, arith}
 use Rattle.std.proofs.lemmas.Result.{err_from_is_err_and}
+use Rattle.kc_graph.specs.declared.limits.TheConstants.{MAX_ITEMS}
 use Rattle.kc_batch.specs.Kept.{kept_left}
 use Rattle.kc_batch.proofs.InputLemmas.{told_input, told_accepted, told_refused}
+use Rattle.kcore.specs.declared.limits.TheConstants.{LINE_LIMIT, INPUT_LIMIT}
 use Rattle.kcore.proofs.ExactTexts.{exact_of_header, exact_header_refused, exact_header_refused_prefix, exact_writes_nothing}
 use Rattle.kcore.specs.declared.stop.Stop.TheVariants.{ReadFault, Memory}
 use Rattle.kcore.proofs.exact.exact_input.Goals as goal
@@ -9,7 +11,7 @@ use Rattle.kcore.proofs.exact.exact_input.Goals as goal
 pub returns-in_err-reader-clause-text : goal.returns-in_err-reader-clause-text
 returns-in_err-reader-clause-text g c =
     let p = err_from_is_err_and c.from_residual.result c.from_residual.ensures.1 in
-    rw p.1 (exact_writes_nothing 65536 1073741824 _ _ _ p.0 refl)
+    rw p.1 (exact_writes_nothing LINE_LIMIT INPUT_LIMIT _ _ _ p.0 refl)
 
 pub exact_header-requires-clause-budget : goal.exact_header-requires-clause-budget
 exact_header-requires-clause-budget g c κs within = omega (arith, c.in-Ok.ensures.budget, c.in_ok-reader.ensures.budget)
@@ -17,27 +19,27 @@ exact_header-requires-clause-budget g c κs within = omega (arith, c.in-Ok.ensur
 pub returns-in_err-write_header_refused-in-Err-Refused-clause-text : goal.returns-in_err-write_header_refused-in-Err-Refused-clause-text
 returns-in_err-write_header_refused-in-Err-Refused-clause-text g c =
     let left = g.S.Source.left c.args.src.now in
-    let told = told_input 65536 1073741824 1048576 c.in_ok-reader.reader left (c.in_ok-reader.ensures.lines left) in
+    let told = told_input LINE_LIMIT INPUT_LIMIT MAX_ITEMS c.in_ok-reader.reader left (c.in_ok-reader.ensures.lines left) in
     let p = err_from_is_err_and c.from_residual-in_err-write_header_refused-in-Err-Refused.result c.from_residual-in_err-write_header_refused-in-Err-Refused.ensures.1 in
     rw p.1
-    (exact_header_refused_prefix c.in-Err-Refused.line _ (kept_left c.read.new.reader (g.S.Source.left c.read.new.src)) _ _ p.0 (sym told ∙ told_refused 1048576 c.in-Err-Refused.line _ _ (rw c.in-Err-Refused.field-0-is at c.in-Err-Refused.ensures.header))
+    (exact_header_refused_prefix c.in-Err-Refused.line _ (kept_left c.read.new.reader (g.S.Source.left c.read.new.src)) _ _ p.0 (sym told ∙ told_refused MAX_ITEMS c.in-Err-Refused.line _ _ (rw c.in-Err-Refused.field-0-is at c.in-Err-Refused.ensures.header))
     (rw c.in-Err-Refused.field-0-is at c.in_err-write_header_refused-in-Err-Refused.ensures.text))
 
 pub returns-in-Err-Refused-clause-text : goal.returns-in-Err-Refused-clause-text
 returns-in-Err-Refused-clause-text g c =
     let left = g.S.Source.left c.args.src.now in
-    let told = told_input 65536 1073741824 1048576 c.in_ok-reader.reader left (c.in_ok-reader.ensures.lines left) in
-    exact_header_refused c.in-Err-Refused.line _ (kept_left c.read.new.reader (g.S.Source.left c.read.new.src)) _ _ (sym told ∙ told_refused 1048576 c.in-Err-Refused.line _ _ (rw c.in-Err-Refused.field-0-is at c.in-Err-Refused.ensures.header))
+    let told = told_input LINE_LIMIT INPUT_LIMIT MAX_ITEMS c.in_ok-reader.reader left (c.in_ok-reader.ensures.lines left) in
+    exact_header_refused c.in-Err-Refused.line _ (kept_left c.read.new.reader (g.S.Source.left c.read.new.src)) _ _ (sym told ∙ told_refused MAX_ITEMS c.in-Err-Refused.line _ _ (rw c.in-Err-Refused.field-0-is at c.in-Err-Refused.ensures.header))
     (rw c.in-Err-Refused.field-0-is at c.in_ok-write_header_refused-in-Err-Refused.ensures.text)
 
 pub returns-in-Err-ReadFault-clause-text : goal.returns-in-Err-ReadFault-clause-text
-returns-in-Err-ReadFault-clause-text g c = exact_writes_nothing 65536 1073741824 _ _ _ ReadFault refl
+returns-in-Err-ReadFault-clause-text g c = exact_writes_nothing LINE_LIMIT INPUT_LIMIT _ _ _ ReadFault refl
 
 pub returns-clause-text : goal.returns-clause-text
-returns-clause-text g c = exact_writes_nothing 65536 1073741824 _ _ _ Memory refl
+returns-clause-text g c = exact_writes_nothing LINE_LIMIT INPUT_LIMIT _ _ _ Memory refl
 
 pub returns-in-Ok-clause-text : goal.returns-in-Ok-clause-text
 returns-in-Ok-clause-text g c =
     let left = g.S.Source.left c.args.src.now in
-    let told = told_input 65536 1073741824 1048576 c.in_ok-reader.reader left (c.in_ok-reader.ensures.lines left) in
-    exact_of_header c.in-Ok.header _ _ _ _ c.exact_header.result (sym told ∙ told_accepted 1048576 c.in-Ok.header _ _ c.in-Ok.ensures.header) c.exact_header.ensures.text
+    let told = told_input LINE_LIMIT INPUT_LIMIT MAX_ITEMS c.in_ok-reader.reader left (c.in_ok-reader.ensures.lines left) in
+    exact_of_header c.in-Ok.header _ _ _ _ c.exact_header.result (sym told ∙ told_accepted MAX_ITEMS c.in-Ok.header _ _ c.in-Ok.ensures.header) c.exact_header.ensures.text

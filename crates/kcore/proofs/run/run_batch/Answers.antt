@@ -1,4 +1,4 @@
-use Rattle.std.proofs.Common.{refl}
+use Rattle.std.proofs.Common.{refl, []}
 use Rattle.std.proofs.lemmas.Result.{err_from_is_err_and}
 use Rattle.kcore.proofs.BatchSteps.{few_removed, few_added, few_quiet, well_formed, accepted_step, accepted_prefix, refused_step, refused_prefix, nothing_of, refused_line_written, refused_line_prefix, end_written}
 use Rattle.kcore.proofs.run.run_batch.Goals as goal
@@ -6,26 +6,25 @@ use Rattle.kcore.proofs.run.run_batch.Goals as goal
 pub write_accepted-requires-clause-few_removed : goal.write_accepted-requires-clause-few_removed
 write_accepted-requires-clause-few_removed g c =
     let o = rw (c.as_slice.ensures, c.in-Accepted.is) at c.in_ok-cleaned-in-Items.ensures.outcome in
-    let b = rw c.in-Items.is at c.requires.batch in
-    rw o.1 (few_removed c.args.engine.now.state.graph c.in-Items.batch.items c.requires.open.sound.graph b.inside b.few)
+    let b = rw c.in-Items.is at c.requires.batch.1 in
+    rw o.1 (few_removed c.args.engine.now.state.graph c.in-Items.batch.items c.requires.open.sound.graph c.requires.open.sound.few_edges b.inside)
 
 pub write_accepted-requires-clause-few_added : goal.write_accepted-requires-clause-few_added
 write_accepted-requires-clause-few_added g c =
     let o = rw (c.as_slice.ensures, c.in-Accepted.is) at c.in_ok-cleaned-in-Items.ensures.outcome in
-    let b = rw c.in-Items.is at c.requires.batch in
+    let b = rw c.in-Items.is at c.requires.batch.1 in
     rw o.1 (few_added c.args.engine.now.state.graph c.in-Items.batch.items c.requires.open.sound.graph b.inside b.few)
 
 pub write_accepted-requires-clause-few_quiet : goal.write_accepted-requires-clause-few_quiet
 write_accepted-requires-clause-few_quiet g c =
     let o = rw (c.as_slice.ensures, c.in-Accepted.is) at c.in_ok-cleaned-in-Items.ensures.outcome in
-    let b = rw c.in-Items.is at c.requires.batch in
-    rw c.as_slice-in-Accepted.ensures (few_quiet c.args.engine.now.state c.apply.new.engine.state c.in-Items.batch.items c.in-Accepted.phases c.requires.open.sound.graph b.inside b.few o.2)
+    let b = rw c.in-Items.is at c.requires.batch.1 in
+    rw c.as_slice-in-Accepted.ensures (few_quiet c.args.engine.now.state c.apply.new.engine.state c.in-Items.batch.items c.in-Accepted.phases c.requires.open.sound.graph c.requires.open.sound.few_edges b.inside b.few o.2)
 
 pub write_accepted-requires-clause-well_formed : goal.write_accepted-requires-clause-well_formed
 write_accepted-requires-clause-well_formed g c =
     let o = rw (c.as_slice.ensures, c.in-Accepted.is) at c.in_ok-cleaned-in-Items.ensures.outcome in
-    let b = rw c.in-Items.is at c.requires.batch in
-    rw c.as_slice-in-Accepted.ensures (well_formed c.args.engine.now.state c.apply.new.engine.state c.in-Items.batch.items c.in-Accepted.phases (rw c.graph.ensures.value at c.vertices-n.ensures.small) c.requires.open.sound b.inside b.few o.2)
+    rw c.as_slice-in-Accepted.ensures (well_formed c.args.engine.now.state c.apply.new.engine.state c.in-Items.batch.items c.in-Accepted.phases o.2)
 
 pub returns-in_err-write_accepted-in-Accepted-clause-step : goal.returns-in_err-write_accepted-in-Accepted-clause-step
 returns-in_err-write_accepted-in-Accepted-clause-step g c =
@@ -56,7 +55,7 @@ returns-in-Items-clause-step g c =
 pub returns-in_err-cleaned-in-Items-clause-step : goal.returns-in_err-cleaned-in-Items-clause-step
 returns-in_err-cleaned-in-Items-clause-step g c =
     let p = err_from_is_err_and c.from_residual.result c.from_residual.ensures.1 in
-    rw p.1 (nothing_of c.args.report c.args.number c.args.engine.now.state.graph.vertices c.args.next c.args.engine.now.state _ _ c.requires.open.sound refl c.requires.batch refl)
+    rw p.1 (nothing_of c.args.report c.args.number (record { profile = c.requires.batch.0; n = c.args.engine.now.state.graph.vertices; asks = [] }) c.args.next c.args.engine.now.state _ _ c.requires.open.sound refl c.requires.batch.1 refl)
 
 pub returns-in_err-write_refusal-in-Refused-clause-step : goal.returns-in_err-write_refusal-in-Refused-clause-step
 returns-in_err-write_refusal-in-Refused-clause-step g c =

@@ -1,4 +1,5 @@
 use Rattle.std.proofs.Common.{◌≡◌, ◌≤◌, ◌+◌, ◌^◌, []}
+use Rattle.kc_graph.specs.declared.limits.TheConstants.{MAX_ITEMS}
 use Rattle.kc_text.specs.Reading.{budget}
 use Rattle.kc_batch.specs.Batches.{batches_left}
 use Rattle.kcore.specs.States.{IsOpen}
@@ -10,7 +11,7 @@ invariant-loop-next g l = record {
   open_for : IsOpen l.engine;
   vertices : l.engine.state.graph.vertices ≡ l.fn.n;
   empty : l.buf ≡ [];
-  told : LeadsTold l.fn.report l.fn.engine.state (batches_left l.fn.n 1048576 l.fn.reader (g.S.Source.left l.fn.src)) (l.number + 1) l.engine.state (batches_left l.fn.n 1048576 l.reader (g.S.Source.left l.src)) (g.K.Sink.taken l.fn.sink) (g.K.Sink.taken l.sink) l.refused;
+  told : LeadsTold l.fn.report l.fn.engine.state (batches_left (record { n = l.fn.n; profile = l.fn.profile; item_limit = MAX_ITEMS }) l.fn.reader (g.S.Source.left l.fn.src)) (l.number + 1) l.engine.state (batches_left (record { n = l.fn.n; profile = l.fn.profile; item_limit = MAX_ITEMS }) l.reader (g.S.Source.left l.src)) (g.K.Sink.taken l.fn.sink) (g.K.Sink.taken l.sink) l.refused;
   few : l.number + budget l.reader ≤ 2 ^ 30 + 1;
   read_faults : g.S.Source.faults l.src ≡ g.S.Source.faults l.fn.src;
   write_faults : g.K.Sink.faults l.sink ≡ g.K.Sink.faults l.fn.sink;

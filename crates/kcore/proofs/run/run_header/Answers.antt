@@ -1,5 +1,7 @@
+use Rattle.std.proofs.Common.{◌∙◌}
 use Rattle.std.proofs.lemmas.Result.{err_from_is_err_and}
 use Rattle.kc_batch.specs.Tokens.{tokens_left}
+use Rattle.kcore.proofs.Causes.{sent_cause}
 use Rattle.kcore.proofs.Texts.{head_prefix, head_written, batches_prefix, tail_prefix, tail_written}
 use Rattle.kcore.proofs.run.run_header.Goals as goal
 
@@ -29,3 +31,8 @@ pub returns-clause-text : goal.returns-clause-text
 returns-clause-text g c =
     let w = rw c.in_ok-engine.ensures.state at c.in_ok-refused.ensures.text in
     rw (← c.header.view_is) (tail_written (record { profile = c.header.inside.profile; n = c.header.inside.n; asks = c.header.inside.asks }) _ c.run_batches.new.engine.state _ _ _ _ c.in_ok-refused.refused c.in_ok-write_head.ensures.text w c.in_ok-write_tail.ensures.text)
+
+pub returns-in_err-write_tail-clause-cause : goal.returns-in_err-write_tail-clause-cause
+returns-in_err-write_tail-clause-cause g c =
+    let p = err_from_is_err_and c.from_residual-in_err-write_tail.result c.from_residual-in_err-write_tail.ensures.1 in
+    rw p.1 (sent_cause _ _ _ _ _ _ p.0 c.in_ok-refused.ensures.cause.0 (c.in_ok-refused.ensures.cause.1 ∙ c.in_ok-write_head.ensures.cause) c.in_err-write_tail.ensures.cause p.2)

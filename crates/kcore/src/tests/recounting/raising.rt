@@ -19,7 +19,7 @@ fn breaks_upper(graph: &Graph, levels: &Levels, th: &Thresholds, v: u32) -> bool
     requires capped { slice_index levels.now v ≤ top_level th.now.profile th.now.vertices }
     ensures breaks { OnTrue result (¬ MeetsUpper th.now.profile graph.now levels.now v) }
     ensures meets { OnFalse result (MeetsUpper th.now.profile graph.now levels.now v) }
-    ensures can_rise { OnTrue result (slice_index levels.now v < 4095) }
+    ensures can_rise { OnTrue result (slice_index levels.now v < 65535) }
 {
     !check_upper(graph, levels, th, v)
 }
@@ -50,7 +50,7 @@ fn add_neighbours_on(
 
 /// Raises vertices that wait, each time by one level, until none breaks the upper invariant.
 ///
-/// The error is want of memory; levels and queue are then unspecified.
+/// Fails only if memory runs out; levels and queue are then unspecified.
 pub fn raise_waiting(
     graph: &Graph,
     levels: &mut Levels,

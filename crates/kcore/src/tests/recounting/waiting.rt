@@ -39,7 +39,7 @@ impl Waiting {
         })
     }
 
-    /// Lets `v` wait after all others, unless it waits already. The error is want of memory, and nothing
+    /// Lets `v` wait after all others, unless it waits already. Fails only if memory runs out, and nothing
     /// is changed then.
     pub fn add(&mut self, v: u32) -> Result<(), AllocError>
         requires { v < self.old.vertices }
