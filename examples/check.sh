@@ -1,12 +1,13 @@
 #!/usr/bin/env bash
-# Runs the program on each example: it has to write the text beside it, and to exit with 1 where it refuses something.
-# Then tries `snap_to_kcore.py`, where there is a python3. Silent where all is well.
+# Runs the program on each example: it has to write the text beside it, and to exit with 1 where it refuses something. Tries each
+# exit number. Then tries `snap_to_kcore.py`, where there is a python3, and `draw.py`, where there is matplotlib too. Silent
+# where all is well.
 #     examples/check.sh PROGRAM
 set -u
 program=$(realpath "$1") || exit 1
 cd "$(dirname "$0")" || exit 1
 out=$(mktemp) && err=$(mktemp) || exit 1
-trap 'rm -f "$out" "$err"' EXIT
+trap 'rm -f "$out" "$out.svg" "$err"' EXIT
 failed=0
 wrong() { echo "examples/$1"; failed=1; }
 
@@ -19,8 +20,28 @@ for input in *.kc; do
   [ $exited = $wanted ] || wrong "$input: exit number $exited"
 done
 
-"$program" exact <karate.kc >"$out"
-[ $? = 0 ] && cmp -s "$out" karate_exact.txt || wrong "karate.kc: another exact text than in karate_exact.txt"
+for text in *_exact.txt; do
+  input=${text%_exact.txt}.kc
+  "$program" exact <"$input" >"$out"
+  [ $? = 0 ] && cmp -s "$out" "$text" || wrong "$input: another exact text than in $text"
+done
+
+# Words that name no command: nothing is written.
+for words in "" run "run 0" "run 65" "run x" "run 1 1" "exact 1" final --help --version; do
+  "$program" $words <path.kc >"$out" 2>"$err"
+  exited=$?
+  [ $exited = 2 ] && [ ! -s "$out" ] && [ ! -s "$err" ] || wrong "path.kc: '$words': exit number $exited"
+done
+
+# An input that can't be read: a folder. A graph that doesn't fit into the memory that there is.
+for words in "run 1" exact; do
+  "$program" $words <. >"$out" 2>"$err"
+  exited=$?
+  [ $exited = 3 ] && [ ! -s "$out" ] && [ ! -s "$err" ] || wrong "$words of a folder: exit number $exited"
+  (ulimit -v 20000 && printf 'kcore 1\nvertices 1048576\n' | "$program" $words >"$out" 2>"$err")
+  exited=$?
+  [ $exited = 5 ] && [ ! -s "$err" ] || wrong "$words with 20 MB for 1048576 vertices: exit number $exited"
+done
 
 # A text that can't be written: the device is full.
 if [ -c /dev/full ]; then
@@ -54,13 +75,45 @@ refuses() {
 
 python3 snap_to_kcore.py --batch 20 <karate.snap | cmp -s - karate_batches.kc || wrong "karate_batches.kc: another text"
 converts '# x\n7\t0\r\n\n %% y\n0 7\n3 3' 'kcore 1\nvertices 8\nbatch\n7 0\n0 7\nend\nbatch\n3 3\nend\n' --batch 2
-converts '0 1048575 -1\n' 'kcore 1\nvertices 1048576\nbatch\n0 1048575\nend\n' --two-columns
-note='# renumbered in ascending order: the 3 ids 9 to 1048576 are the vertices 0 to 2'
-converts '1048576 9\n10 9\n' "$note\nkcore 1\nvertices 3\nbatch\n2 0\n1 0\nend\n"
+converts '0 16777215 -1\n' 'kcore 1\nvertices 16777216\nbatch\n0 16777215\nend\n' --two-columns
+note='# renumbered in ascending order: the 3 ids 9 to 16777216 are the vertices 0 to 2'
+converts '16777216 9\n10 9\n' "$note\nkcore 1\nvertices 3\nbatch\n2 0\n1 0\nend\n"
+converts '0 1\n' 'kcore 2\nvertices 2\nbatch\n0 1\nend\n' --profile 2
 refuses 1 "line 3: 'x' isn't" '0 1\n# x\n2 x\n'
 refuses 1 "line 1: '-1' isn't" '-1 2\n'
 refuses 1 'line 2: one id' '0 1\n2\n'
 refuses 1 'line 1: 3 columns' '0 1 5\n'
 refuses 2 'from 1 to 1048576' '0 1\n' --batch 0
 refuses 2 'from 1 to 1048576' '0 1\n' --batch 1048577
+refuses 2 'invalid choice' '0 1\n' --profile 3
+
+# A python3 that has matplotlib, which may be another one than the first on the path.
+python=
+for one in python3 /usr/bin/python3; do
+  if [ -z "$python" ] && "$one" -c 'import matplotlib' 2>"$err"; then python=$one; fi
+done
+if [ -z "$python" ]; then
+  echo "examples/draw.py isn't tried: there is no matplotlib" >&2
+  exit $failed
+fi
+
+# draws NUMBER WORDS..: the script exits with this number, and makes the picture only where that is 0.
+draws() {
+  rm -f "$out.svg"
+  "$python" draw.py "${@:2}" "$out.svg" 2>"$err"
+  exited=$?
+  if [ -s "$out.svg" ]; then made=0; else made=1; fi
+  [ $exited = "$1" ] && [ $made = "$1" ] || wrong "draw.py ${*:2}: exit number $exited"
+}
+draws 0 run karate_batches.txt
+draws 0 run refused.txt
+draws 0 graph karate.kc karate.txt
+draws 0 graph refused.kc refused.txt
+draws 1 run karate.kc
+draws 1 graph karate.kc karate_exact.txt
+# A circle for each of the 34 vertices, and as many numbers.
+draws 0 graph karate.kc karate.txt
+for v in $(seq 0 33); do
+  grep -q "<!-- $v -->" "$out.svg" || wrong "draw.py graph karate.kc karate.txt: no number $v"
+done
 exit $failed

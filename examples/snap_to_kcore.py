@@ -8,7 +8,7 @@ Each line becomes one item `u v`, in the order of the file; a directed edge beco
 Self loops, repeats and edges that stand in both directions are passed on: `kcore` takes care of them, and its batch
 lines count them.
 
-Where all ids are below 1048576 they stay as they are, and the number of vertices is the greatest id plus 1. Else they
+Where all ids are below 16777216 they stay as they are, and the number of vertices is the greatest id plus 1. Else they
 are renumbered in ascending order: the least id becomes vertex 0, the next one vertex 1. A comment in the output says
 so. This prints the ids in that order, one a line, that of vertex 0 first:
 
@@ -16,6 +16,8 @@ so. This prints the ids in that order, one a line, that of vertex 0 first:
 
 A line with more than two columns is refused, since `kcore` knows neither weights nor times. With --two-columns the
 others are left out, and each line is an edge, whatever its weight or time.
+
+With --profile 2 the output begins with `kcore 2`: finer levels, and estimates within a factor of two on both sides.
 
 What can't be used is told on standard error, and nothing is written. Exit number: 0 all is written, 1 the input can't
 be used or a read or a write failed, 2 the words of the command line are wrong. `kcore` holds at most 16777216 edges,
@@ -26,9 +28,9 @@ import sys
 from array import array
 
 # What `kcore run` takes.
-MAX_VERTICES = 1_048_576
+MAX_VERTICES = 16_777_216
 MAX_ITEMS = 1_048_576
-MAX_BATCHES = 1_048_575
+MAX_BATCHES = 16_777_215
 MAX_BYTES = 1_073_741_824
 
 # The longest id, and the longest piece of a word in a message.
@@ -82,17 +84,17 @@ def read_edges(file, two_columns):
     return places, ends
 
 
-def head_and_vertices(places):
+def head_and_vertices(places, profile):
     """The lines before the batches, and the vertex of each place as text."""
     greatest = max(places, default=0)
     if greatest < MAX_VERTICES:
-        return f"kcore 1\nvertices {greatest + 1}\n", [str(one) for one in places]
+        return f"kcore {profile}\nvertices {greatest + 1}\n", [str(one) for one in places]
     vertices = [""] * len(places)
     for vertex, one in enumerate(sorted(places)):
         vertices[places[one]] = str(vertex)
     note = (f"# renumbered in ascending order: the {len(places)} ids {min(places)} to {greatest}"
             f" are the vertices 0 to {len(places) - 1}\n")
-    return f"{note}kcore 1\nvertices {len(places)}\n", vertices
+    return f"{note}kcore {profile}\nvertices {len(places)}\n", vertices
 
 
 def check_size(head, vertices, ends, items):
@@ -122,16 +124,17 @@ def items_from(word):
 
 def main():
     parser = argparse.ArgumentParser(
-        usage="snap_to_kcore.py [--batch ITEMS] [--two-columns] < graph.txt > graph.kc",
+        usage="snap_to_kcore.py [--batch ITEMS] [--profile 1|2] [--two-columns] < graph.txt > graph.kc",
         description=__doc__, formatter_class=argparse.RawDescriptionHelpFormatter, allow_abbrev=False)
     parser.add_argument("--batch", metavar="ITEMS", type=items_from, default=100_000,
                         help=f"items a batch, 1 to {MAX_ITEMS}; 100000 if not given")
-    parser.add_argument("--two-columns", action="store_true", help="leave out all columns behind the second")
+    parser.add_argument("--profile", choices=("1", "2"), default="1", help="how fine the levels are; 1 if not given")
+    parser.add_argument("--two-columns", action="store_true", help="leave out all columns after the second")
     chosen = parser.parse_args()
     try:
         with open(0, "rb", closefd=False) as file:
             places, ends = read_edges(file, chosen.two_columns)
-        head, vertices = head_and_vertices(places)
+        head, vertices = head_and_vertices(places, chosen.profile)
         check_size(head, vertices, ends, chosen.batch)
         with open(1, "wb", closefd=False) as file:
             write_input(file, head, vertices, ends, chosen.batch)
