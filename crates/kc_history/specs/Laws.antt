@@ -1,7 +1,9 @@
 -- Laws of histories, each the contract of a function of `laws`.
-use Rattle.std.specs.Prelude.{ℕ, ◌+◌, ◌≤◌, ◌≡◌, List, [], ◌++◌, length, take, replicate}
+use Rattle.std.specs.Prelude.{ℕ, ◌+◌, ◌≤◌, ◌≡◌, List, [], ◌∷◌, ◌++◌, length, take, replicate}
 use Rattle.kc_history.specs.declared.entries.Entry.{Entry}
+use Rattle.kc_history.specs.declared.replies.Reply.{Reply}
 use Rattle.kc_history.specs.Points.{graph_after, levels_after, graph_at, levels_at}
+use Rattle.kc_history.specs.Replies.{IsLevelAt, AreExplained, vertices_of, zeros}
 
 -- a point of a history is the same point of every history that this one begins
 pub record PointsStay : Type 0 where
@@ -22,3 +24,22 @@ pub record EntriesLeadOn : Type 0 where
 pub record PointsLeadOn : Type 0 where
   pub graph : (n : ℕ) (history more : List Entry) (p : ℕ) → graph_at n (history ++ more) (length history + p) ≡ graph_after (graph_at n history (length history)) (take p more)
   pub levels : (n : ℕ) (history more : List Entry) (p : ℕ) → levels_at n (history ++ more) (length history + p) ≡ levels_after (levels_at n history (length history)) (take p more)
+
+-- replies that a history explains are explained by every history that it begins
+abbrev pub LongerExplains : Type 0
+LongerExplains = (n : ℕ) (history more : List Entry) (from : ℕ) (rs : List Reply) → AreExplained n history from rs → AreExplained n (history ++ more) from rs
+
+-- replies that are explained from a point on are explained from each earlier point on
+abbrev pub EarlierExplains : Type 0
+EarlierExplains = (n : ℕ) (history : List Entry) (early late : ℕ) (rs : List Reply) → early ≤ late → AreExplained n history late rs → AreExplained n history early rs
+
+-- a reply that tells the level of its vertex at the end of the history can follow
+abbrev pub EndExplainsMore : Type 0
+EndExplainsMore =
+    (n : ℕ) (history : List Entry) (from : ℕ) (rs : List Reply) (r : Reply) → from ≤ length history → AreExplained n history from rs → IsLevelAt n history (length history) r →
+    AreExplained n history from (rs ++ r ∷ [])
+
+-- each history explains replies of level 0 to any questions, by its start
+pub record StartExplainsZeros : Type 0 where
+  pub explained : (n : ℕ) (history : List Entry) (vs : List ℕ) → AreExplained n history 0 (zeros vs)
+  pub vertices : (vs : List ℕ) → vertices_of (zeros vs) ≡ vs

@@ -1,3 +1,4 @@
 pub mod Points
 pub mod Ends
+pub mod Replies
 pub mod Laws

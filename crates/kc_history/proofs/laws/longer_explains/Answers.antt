@@ -1,0 +1,5 @@
+use Rattle.kc_history.proofs.ReplyLemmas as law
+use Rattle.kc_history.proofs.laws.longer_explains.Goals as goal
+
+pub returns : goal.returns
+returns c = law.longer_explains
