@@ -14,13 +14,13 @@ use Rattle.kc_history.specs.declared.entries.Entry.{Entry}
 use Rattle.kc_history.specs.Points as points
 use Rattle.kc_history.proofs.PointLemmas as history
 use Rattle.kc_groups.specs.declared.plans.PhasePlan.{PhasePlan}
-use Rattle.kc_groups.specs.Entries.{entries_of, AreEntries}
+use Rattle.kc_groups.specs.Entries.{entries_of, entries_in, AreEntries}
 use Rattle.kc_groups.specs.WellFormed.{IsWellFormed}
 use Rattle.kc_groups.proofs.PlanLaw.{plan_is_one, plan_is_well_formed}
 use Rattle.kc_groups.proofs.LeadLaw.{entries_lead_over}
 use Rattle.kc_engine.specs.declared.plans.BatchPlan.{BatchPlan}
 use Rattle.kc_engine.specs.States.{State, IsSound}
-use Rattle.kc_engine.specs.Batches.{IsCleaning, phases_for, AreLoweredIn, AreRaisedIn, graph_after_batch, AreLevelsAfter, IsAfterBatch, IsOnePhase, ArePhaseOf, ArePhases, IsPlanOf, IsAfterPhases, entries_in}
+use Rattle.kc_engine.specs.Batches.{IsCleaning, phases_for, AreLoweredIn, AreRaisedIn, graph_after_batch, AreLevelsAfter, IsAfterBatch, IsOnePhase, ArePhaseOf, ArePhases, IsPlanOf, IsAfterPhases}
 use Rattle.kc_engine.specs.Laws.{PhasesAreOne, PhasesAreNumberedOn, PhasesAreWellFormed, PhasesLeadOver, PhasesLeadOn}
 use Rattle.kc_engine.proofs.BatchLemmas.{fits, IsAt, at_state, after_lowered, at_after, one_lowered, ascend_later, batch_has_one_state, vertices_after}
 use Rattle.kc_engine.proofs.RelinkLemmas.{deletion_is_phase, insertion_is_phase}

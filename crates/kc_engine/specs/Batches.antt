@@ -9,9 +9,8 @@ use Rattle.kc_levels.specs.declared.profile.Profile.{Profile}
 use Rattle.kc_levels.specs.LevelList.{IsRaised, IsLowered}
 use Rattle.kc_levels.specs.Moved.{moved_count}
 use Rattle.kc_history.specs.declared.limits.TheConstants.{MAX_PHASE}
-use Rattle.kc_history.specs.declared.entries.Entry.{Entry}
 use Rattle.kc_groups.specs.declared.plans.PhasePlan.{PhasePlan}
-use Rattle.kc_groups.specs.Entries.{entries_of, AreEntries}
+use Rattle.kc_groups.specs.Entries.{AreEntries}
 use Rattle.kc_engine.specs.declared.plans.BatchPlan.{BatchPlan}
 use Rattle.kc_engine.specs.declared.faults.EngineFault.{EngineFault}
 use Rattle.kc_engine.specs.declared.faults.EngineFault.TheVariants.{EdgeLimit, PhaseLimit}
@@ -112,8 +111,3 @@ pub record IsPlanOf (p : Profile) (before : ℕ) (g : GraphShape) (c : Cleaned) 
 pub record IsAfterPhases (s : State) (c : Cleaned) (t : State) (plans : List PhasePlan) : Type 0 where
   pub after : IsAfterBatch s c t
   pub phases : ArePhases s.phases s.graph c s.levels after.levels.between t.levels plans
-
--- the entries of phases, in the order in which they take effect
-abbrev pub entries_in : List PhasePlan → List Entry
-entries_in [] = []
-entries_in (p ∷ ps) = entries_of p ++ entries_in ps

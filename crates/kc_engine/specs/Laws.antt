@@ -10,7 +10,8 @@ use Rattle.kc_history.specs.Points as points
 use Rattle.kc_groups.specs.declared.plans.PhasePlan.{PhasePlan}
 use Rattle.kc_groups.specs.WellFormed.{IsWellFormed}
 use Rattle.kc_engine.specs.States.{State, start, IsSound}
-use Rattle.kc_engine.specs.Batches.{IsCleaning, refusal_of, IsAfterBatch, IsAfterPhases, entries_in}
+use Rattle.kc_engine.specs.Batches.{IsCleaning, refusal_of, IsAfterBatch, IsAfterPhases}
+use Rattle.kc_groups.specs.Entries.{entries_in}
 
 -- the first state is sound
 abbrev pub StartIsSound : Type 0

@@ -1,5 +1,5 @@
 -- The entries of a phase that changes the levels x to y. Its edges come in where `add` is true, and leave where it is false.
-use Rattle.std.specs.Prelude.{ℕ, ◌≡◌, ◌==◌, ◌||◌, ◌&&◌, Bool, not, List, [], ◌∷◌, Some, None, get_or, map, filter}
+use Rattle.std.specs.Prelude.{ℕ, ◌≡◌, ◌==◌, ◌||◌, ◌&&◌, Bool, not, List, [], ◌∷◌, ◌++◌, Some, None, get_or, map, filter}
 use Rattle.std.proofs.Common.{suc, zero}
 use Rattle.kc_graph.specs.Shape.{GraphShape, Pair}
 use Rattle.kc_levels.specs.Moved.{is_moved, pushed_if, move_of}
@@ -37,6 +37,11 @@ group_entry phase add edges x y labels n l = record { phase = phase; label = Som
 -- the entries of a plan, in the order in which they take effect
 abbrev pub entries_of : PhasePlan → List Entry
 entries_of plan = plan.quiet ∷ plan.groups
+
+-- the entries of plans, one plan after another
+abbrev pub entries_in : List PhasePlan → List Entry
+entries_in [] = []
+entries_in (plan ∷ plans) = entries_of plan ++ entries_in plans
 
 -- the plan holds the entries of the phase: the quiet one, and one for each label, labels ascending
 pub record AreEntries (phase : ℕ) (add : Bool) (edges : List Pair) (x y : List ℕ) (g : GraphShape) (plan : PhasePlan) : Type 0 where

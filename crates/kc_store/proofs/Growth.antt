@@ -4,8 +4,8 @@ use Rattle.std.specs.List.{slice_get}
 use Rattle.kc_history.specs.declared.entries.Entry.{Entry}
 use Rattle.kc_history.specs.Ends.{begins_phase, phases_in}
 use Rattle.kc_groups.specs.declared.plans.PhasePlan.{PhasePlan}
-use Rattle.kc_groups.specs.Entries.{entries_of}
-use Rattle.kc_store.specs.Plans.{entries_in, IsFormed}
+use Rattle.kc_groups.specs.Entries.{entries_of, entries_in}
+use Rattle.kc_store.specs.Plans.{IsFormed}
 use Rattle.kc_store.specs.States.{empty_plan}
 use Rattle.kc_store.specs.Rule.{AllFormed, IsGrown}
 

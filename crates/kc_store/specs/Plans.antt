@@ -1,11 +1,10 @@
 -- A plan by the places of its groups and moves.
-use Rattle.std.specs.Prelude.{◌≡◌, ◌≢◌, ◌<◌, length, ℕ, Bool, List, [], ◌∷◌, ◌++◌, Option, Some, None, get_or, if◌then◌else◌}
+use Rattle.std.specs.Prelude.{◌≡◌, ◌≢◌, ◌<◌, length, ℕ, Bool, List, [], ◌∷◌, Option, Some, None, get_or, if◌then◌else◌}
 use Rattle.std.specs.List.{slice_get}
 use Rattle.kc_history.specs.declared.entries.Entry.{Entry}
 pub use Rattle.kc_levels.specs.declared.moves.Move.{Move}
 use Rattle.kc_history.specs.Ends.{last_move, is_label}
 use Rattle.kc_groups.specs.declared.plans.PhasePlan.{PhasePlan}
-use Rattle.kc_groups.specs.Entries.{entries_of}
 
 -- the group at place g of a plan
 abbrev pub group_at : PhasePlan → ℕ → Entry
@@ -15,11 +14,6 @@ group_at plan g = get_or plan.groups g plan.quiet
 abbrev pub group_of : ℕ → List Entry → Option Entry
 group_of g [] = None
 group_of g (e ∷ es) = if is_label g e.label then Some e else group_of g es
-
--- the entries of plans, one plan after another
-abbrev pub entries_in : List PhasePlan → List Entry
-entries_in [] = []
-entries_in (plan ∷ plans) = entries_of plan ++ entries_in plans
 
 -- a list of moves in which no vertex has two
 abbrev pub AreDistinct : List Move → Type 0

@@ -22,14 +22,14 @@ use Rattle.kc_graph.specs.declared.limits.TheConstants.{MAX_VERTICES}
 use Rattle.kc_history.specs.declared.entries.Entry.{Entry}
 use Rattle.kc_history.specs.Ends.{last_move, level_of, stamp_of, phases_in}
 use Rattle.kc_groups.specs.declared.plans.PhasePlan.{PhasePlan}
-use Rattle.kc_groups.specs.Entries.{entries_of}
+use Rattle.kc_groups.specs.Entries.{entries_of, entries_in}
 use Rattle.kc_store.specs.declared.roles.WriterState.{WriterState}
 use Rattle.kc_store.specs.declared.roles.Loan.{Loan}
 use Rattle.kc_store.specs.declared.roles.MarkerState.{MarkerState}
 use Rattle.kc_store.specs.declared.roles.Pending.{Pending}
 use Rattle.kc_store.specs.declared.roles.Role.{Role}
 use Rattle.kc_store.specs.declared.roles.Role.TheVariants.{Spent, Writes, Marks, Reads, Looks, FoundBelow}
-use Rattle.kc_store.specs.Plans.{Move, group_of, entries_in, IsFormed}
+use Rattle.kc_store.specs.Plans.{Move, group_of, IsFormed}
 use Rattle.kc_store.specs.States.{empty_plan}
 
 -- a group that is not published yet: its vertices are on their old levels
