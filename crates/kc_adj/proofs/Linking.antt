@@ -1,17 +1,19 @@
 -- What an edge changes in the counts of its ends.
-use Rattle.std.proofs.Common.{ℕ, ◌+◌, ◌-◌, ◌≤◌, ◌<◌, ◌≡◌, ◌≢◌, inl, inr, true, false, cond, leb, List, length, get_or, set, ap, sym, ◌∙◌, arith}
+use Rattle.std.proofs.Common.{ℕ, ◌+◌, ◌-◌, ◌≤◌, ◌<◌, ◌≡◌, ◌≢◌, inl, inr, true, false, cond, leb, List, [], ◌∷◌, length, get_or, set, drop, ap, sym, ◌∙◌, arith, subst}
 use Rattle.std.specs.Prelude.{count_by}
 use Rattle.std.proofs.lemmas.Bool.{cases_eq}
-use Rattle.std.proofs.lemmas.List.{length-set, get_or-set_same, get_or-set_other}
-use Rattle.kc_graph.specs.declared.limits.TheConstants.{MAX_VERTICES}
+use Rattle.std.proofs.lemmas.List.{length-set, get_or-set_same, get_or-set_other, drop_more, drop_all}
+use Rattle.kc_graph.specs.declared.limits.TheConstants.{MAX_VERTICES, MAX_EDGES}
 use Rattle.kc_graph.specs.Numbers.{has_number}
-use Rattle.kc_graph.specs.Shape.{GraphShape, Pair, IsGraph, neighbours_of, has_edge, with_edge, without_edge}
+use Rattle.kc_graph.specs.Shape.{GraphShape, Pair, EdgesFrom, IsGraph, neighbours_of, has_edge, with_edge, without_edge, with_edges, without_edges}
+use Rattle.kc_graph.specs.Changes.{AllAbsent, AllPresent}
+use Rattle.kc_graph.proofs.ChangeLemmas.{can_add_ascending, can_remove_ascending, is_graph-with_edge, is_graph-without_edge, vertices-with_edges}
 use Rattle.kc_graph.proofs.CountLemmas.{count_by-put, count_by-without}
 use Rattle.kc_graph.proofs.EdgeLemmas.{joined_comm, joined_in_order}
 use Rattle.kc_graph.proofs.NeighbourLemmas.{has_number-neighbours_of, neighbours_rise, neighbours_of_insert_low, neighbours_of_insert_high, neighbours_of_insert_other, neighbours_of_remove_low, neighbours_of_remove_high, neighbours_of_remove_other}
 use Rattle.kc_levels.specs.LevelList.{at_least}
 use Rattle.kc_adj.specs.LeveledGraph.{LeveledGraph, IsCounted, IsAdjacency}
-use Rattle.kc_adj.specs.Linking.{share, linked, unlinked}
+use Rattle.kc_adj.specs.Linking.{share, linked, unlinked, AwaitsEdges, LosesEdges}
 use Rattle.kc_adj.proofs.Counted.{count-few}
 
 -- what holds of the numbers at a and b after writes there, and of the old number elsewhere, holds at each place
@@ -132,3 +134,82 @@ module _ (g : GraphShape) (x own below : List ℕ) (a b : ℕ) (self : LeveledGr
           own_counts = counted_unlinked g x a b graph order inside there 0 own adj.own_counts;
           below_counts = counted_unlinked g x a b graph order inside there 1 below adj.below_counts;
         })
+
+-- all edges come in, or leave: the step of a loop over them at place i
+module _ (g : GraphShape) (x own below : List ℕ) (es : List Pair) (i : ℕ) (e : Pair) (at : i < length es) (e_is : e ≡ get_or es i (0, 0)) (order : e.0 < e.1) where
+  rest_is : drop i es ≡ e ∷ drop (i + 1) es
+  rest_is = drop_more es i (0, 0) at ∙ ap (λ (f : Pair). f ∷ drop (i + 1) es) (sym e_is)
+
+  module _ (s' : AwaitsEdges g x own below (drop i es)) where
+    s : AwaitsEdges g x own below (e ∷ drop (i + 1) es)
+    s = rw rest_is at s'
+
+    pub awaited_inside : e.1 < length x
+    awaited_inside = omega (arith, s.addable.0, s.counted.sized)
+
+    awaited_few : g.vertices ≤ MAX_VERTICES → (d v : ℕ) (counts : List ℕ) → IsCounted s.before x d counts → v ≤ e.1 → get_or counts v 0 < 2147483648
+    awaited_few small d v counts c le =
+        let few : get_or counts v 0 < s.before.vertices = count-few s.before x d counts v s.graph c (omega (arith, s.addable.0)) in
+        omega (arith, few, small, ap (λ (h : GraphShape). h.vertices) s.becomes, vertices-with_edges s.before (e ∷ drop (i + 1) es))
+
+    pub awaited_own : g.vertices ≤ MAX_VERTICES → (v : ℕ) → v ≤ e.1 → get_or own v 0 < 2147483648
+    awaited_own small v le = awaited_few small 0 v own s.counted.own_counts le
+
+    pub awaited_below : g.vertices ≤ MAX_VERTICES → (v : ℕ) → v ≤ e.1 → get_or below v 0 < 2147483648
+    awaited_below small v le = awaited_few small 1 v below s.counted.below_counts le
+
+    pub awaiting_next : (own' below' : List ℕ) → own' ≡ linked x 0 e.0 e.1 own → below' ≡ linked x 1 e.0 e.1 below → AwaitsEdges g x own' below' (drop (i + 1) es)
+    awaiting_next own' below' is1 is2 = record {
+      before = with_edge s.before e;
+      graph = is_graph-with_edge s.before e s.graph order s.addable.0;
+      addable = s.addable.3;
+      becomes = s.becomes;
+      counted = rw (is1, is2) (record {
+        sized = s.counted.sized;
+        own_counts = counted_linked s.before x e.0 e.1 s.graph order s.addable.0 s.addable.1 0 own s.counted.own_counts;
+        below_counts = counted_linked s.before x e.0 e.1 s.graph order s.addable.0 s.addable.1 1 below s.counted.below_counts;
+      });
+    }
+
+  module _ (s' : LosesEdges g x own below (drop i es)) where
+    t : LosesEdges g x own below (e ∷ drop (i + 1) es)
+    t = rw rest_is at s'
+
+    pub lost_inside : e.1 < length x
+    lost_inside = omega (arith, t.removable.0, t.counted.sized)
+
+    pub lost_own_low : share x 0 e.0 e.1 ≤ get_or own e.0 0
+    lost_own_low = share_low t.before x e.0 e.1 t.graph order t.removable.0 t.removable.1 0 own t.counted.own_counts
+
+    pub lost_own_high : share x 0 e.1 e.0 ≤ get_or own e.1 0
+    lost_own_high = share_high t.before x e.0 e.1 t.graph order t.removable.0 t.removable.1 0 own t.counted.own_counts
+
+    pub lost_below_low : share x 1 e.0 e.1 ≤ get_or below e.0 0
+    lost_below_low = share_low t.before x e.0 e.1 t.graph order t.removable.0 t.removable.1 1 below t.counted.below_counts
+
+    pub lost_below_high : share x 1 e.1 e.0 ≤ get_or below e.1 0
+    lost_below_high = share_high t.before x e.0 e.1 t.graph order t.removable.0 t.removable.1 1 below t.counted.below_counts
+
+    pub losing_next : (own' below' : List ℕ) → own' ≡ unlinked x 0 e.0 e.1 own → below' ≡ unlinked x 1 e.0 e.1 below → LosesEdges g x own' below' (drop (i + 1) es)
+    losing_next own' below' is1 is2 = record {
+      before = without_edge t.before e;
+      graph = is_graph-without_edge t.before e t.graph;
+      removable = t.removable.2;
+      becomes = t.becomes;
+      counted = rw (is1, is2) (record {
+        sized = t.counted.sized;
+        own_counts = counted_unlinked t.before x e.0 e.1 t.graph order t.removable.0 t.removable.1 0 own t.counted.own_counts;
+        below_counts = counted_unlinked t.before x e.0 e.1 t.graph order t.removable.0 t.removable.1 1 below t.counted.below_counts;
+      });
+    }
+
+-- all edges are in, or out
+pub awaited_all : (g : GraphShape) (x own below : List ℕ) (es : List Pair) (i : ℕ) → length es ≤ i → AwaitsEdges g x own below (drop i es) → IsAdjacency g x own below
+awaited_all g x own below es i end s' =
+    let s : AwaitsEdges g x own below [] = rw (drop_all i es end) at s' in
+    subst (λ (h : GraphShape). IsAdjacency h x own below) s.becomes s.counted
+
+pub lost_all : (g : GraphShape) (x own below : List ℕ) (es : List Pair) (i : ℕ) → length es ≤ i → LosesEdges g x own below (drop i es) → IsAdjacency g x own below
+lost_all g x own below es i end s' =
+    let s : LosesEdges g x own below [] = rw (drop_all i es end) at s' in
+    subst (λ (h : GraphShape). IsAdjacency h x own below) s.becomes s.counted

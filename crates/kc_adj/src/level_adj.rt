@@ -1,5 +1,6 @@
-ghost use Rattle.std.specs.Prelude.{◌≡◌, ◌+◌, ◌-◌, ◌<◌, ◌≤◌, ◌↔◌, [], IsTrue, OnOk, OnErr, IfOk, true, false, length, replicate, slice_index, slice_set};
-ghost use Rattle.kc_graph.specs.Shape.{IsGraph, neighbours_of, has_edge, with_edge, without_edge};
+ghost use Rattle.std.specs.Prelude.{◌≡◌, ◌+◌, ◌*◌, ◌-◌, ◌<◌, ◌≤◌, ◌↔◌, [], IsTrue, OnOk, OnErr, IfOk, true, false, length, replicate, slice_index, slice_set};
+ghost use Rattle.kc_graph.specs.Shape.{EdgesFrom, IsGraph, neighbours_of, has_edge, with_edge, without_edge, with_edges, without_edges};
+ghost use Rattle.kc_graph.specs.Changes.{AllAbsent, AllPresent};
 ghost use Rattle.kc_levels.specs.Thresholds.{top_level};
 ghost use Rattle.kc_levels.specs.LevelList.{at_least, MeetsLower, IsDesired};
 ghost use Rattle.kc_adj.specs.LeveledGraph.{LeveledGraph, IsCounted};
@@ -18,7 +19,7 @@ use std::sync::ledger::Ledger;
 ///
 /// Contracts see it as a `LeveledGraph`: the graph and the list of the levels. A level is 0 to 65,535.
 ///
-/// Besides the graph it takes 10 bytes a vertex. `link`, `unlink`, `rise`, `lift` and `fall` count one step
+/// Besides the graph it takes 10 bytes a vertex. `link`, `link_all`, `unlink`, `unlink_all`, `rise`, `lift` and `fall` count one step
 /// for themselves, and one for each half-edge that they visit: a neighbour of the vertex that moves, or an end of the edge.
 #[derive(Drop)]
 pub struct LevelAdj {
@@ -186,6 +187,61 @@ impl LevelAdj {
         steps.tick();
         steps.tick();
         steps.tick();
+    }
+
+    /// Puts in ascending edges that are not there (`with_edges`); at most `MAX_EDGES` edges are there afterwards. Levels stay.
+    ///
+    /// Counts 3 steps an edge. Fails only if memory runs out, and all is then unchanged, the steps too.
+    ///
+    /// Costs what `Graph::insert_all` costs.
+    pub fn link_all<L: Ledger>(
+        &mut self,
+        alloc: Global,
+        edges: &[Edge],
+        steps: &mut Steps<L>,
+    ) -> Result<(), AllocError>
+        requires ascending { EdgesFrom self.old.graph.vertices 0 0 edges.now }
+        requires absent { AllAbsent self.old.graph edges.now }
+        requires room { length self.old.graph.edges + length edges.now ≤ MAX_EDGES }
+        ensures ok { OnOk result (self.new ≡ record self.old { graph = with_edges self.old.graph edges.now }) }
+        ensures cost { OnOk result (steps.new ≡ steps.old + 3 * length edges.now) }
+        ensures err { OnErr result (self.new ≡ self.old) }
+        ensures steps_kept { OnErr result (steps.new ≡ steps.old) }
+    {
+        let _n = self.graph.vertices();
+        self.graph.insert_all(alloc, edges)?;
+        links::link_all(&self.graph, &self.levels, &mut self.counts, edges);
+        steps.add(edges.len());
+        steps.add(edges.len());
+        steps.add(edges.len());
+        Ok(())
+    }
+
+    /// Takes out ascending edges that are there (`without_edges`). Levels stay.
+    ///
+    /// Counts 3 steps an edge. Fails only if memory runs out, and all is then unchanged, the steps too.
+    ///
+    /// Costs what `Graph::remove_all` costs.
+    pub fn unlink_all<L: Ledger>(
+        &mut self,
+        alloc: Global,
+        edges: &[Edge],
+        steps: &mut Steps<L>,
+    ) -> Result<(), AllocError>
+        requires ascending { EdgesFrom self.old.graph.vertices 0 0 edges.now }
+        requires present { AllPresent self.old.graph edges.now }
+        ensures ok { OnOk result (self.new ≡ record self.old { graph = without_edges self.old.graph edges.now }) }
+        ensures cost { OnOk result (steps.new ≡ steps.old + 3 * length edges.now) }
+        ensures err { OnErr result (self.new ≡ self.old) }
+        ensures steps_kept { OnErr result (steps.new ≡ steps.old) }
+    {
+        let _n = self.graph.vertices();
+        self.graph.remove_all(alloc, edges)?;
+        links::unlink_all(&self.graph, &self.levels, &mut self.counts, edges);
+        steps.add(edges.len());
+        steps.add(edges.len());
+        steps.add(edges.len());
+        Ok(())
     }
 
     /// Puts `v` one level up; its level is below 65,535. Takes no memory.

@@ -1,8 +1,11 @@
 // How the counts change when an edge comes in or leaves.
 
 ghost use Rattle.std.specs.Prelude.{◌≡◌, ◌<◌, ◌≤◌, ◌^◌, length, slice_index};
-ghost use Rattle.kc_adj.specs.Linking.{share, linked, unlinked};
+ghost use Rattle.kc_adj.specs.LeveledGraph.{IsAdjacency};
+ghost use Rattle.kc_adj.specs.Linking.{share, linked, unlinked, AwaitsEdges, LosesEdges};
 
+use crate::counts::Counts;
+use kc_graph::{Edge, Graph};
 use kc_levels::Levels;
 
 // 1 where w counts at v, which counts from `less` levels below its own on.
@@ -47,4 +50,27 @@ pub fn unlink(levels: &Levels, counts: &mut Vec<u32>, less: u16, a: u32, b: u32)
     let high = counts[b as usize] - share(levels, less, b, a);
     counts[a as usize] = low;
     counts[b as usize] = high;
+}
+
+/// Counts edges that came into the graph.
+pub fn link_all(graph: &Graph, levels: &Levels, counts: &mut Counts, edges: &[Edge])
+    requires { AwaitsEdges graph.now levels.now counts.old.own.items counts.old.below.items edges.now }
+    ensures { IsAdjacency graph.now levels.now counts.new.own.items counts.new.below.items }
+{
+    let _n = graph.vertices();
+    for e in edges {
+        link(levels, &mut counts.own, 0, e.a, e.b);
+        link(levels, &mut counts.below, 1, e.a, e.b);
+    }
+}
+
+/// Counts edges that left the graph no more.
+pub fn unlink_all(graph: &Graph, levels: &Levels, counts: &mut Counts, edges: &[Edge])
+    requires { LosesEdges graph.now levels.now counts.old.own.items counts.old.below.items edges.now }
+    ensures { IsAdjacency graph.now levels.now counts.new.own.items counts.new.below.items }
+{
+    for e in edges {
+        unlink(levels, &mut counts.own, 0, e.a, e.b);
+        unlink(levels, &mut counts.below, 1, e.a, e.b);
+    }
 }

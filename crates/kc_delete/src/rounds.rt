@@ -25,14 +25,36 @@ pub struct Tally {
     pub moves: u32,
 }
 
-// Takes the edges out, in order. Levels stay.
-fn unlink_edges<L: Ledger>(adj: &mut LevelAdj, removed: &[Edge], steps: &mut Steps<L>)
+// The least number of edges whose halves are worth a sort, so that the row of each vertex is gone through once.
+const LEAST_TOGETHER: usize = 65_536;
+
+// Takes the edges out, one after another. Levels stay.
+fn unlink_each<L: Ledger>(adj: &mut LevelAdj, removed: &[Edge], steps: &mut Steps<L>)
     requires removable { CanRemove adj.old.graph removed.now }
     ensures { adj.new ≡ record adj.old { graph = without_edges adj.old.graph removed.now } }
 {
     for e in removed {
         adj.unlink(*e, steps);
     }
+}
+
+// Takes the edges out. Levels stay. Fails only if memory runs out.
+fn unlink_edges<L: Ledger>(
+    alloc: Global,
+    adj: &mut LevelAdj,
+    removed: &[Edge],
+    steps: &mut Steps<L>,
+) -> Result<(), AllocError>
+    requires ascending { EdgesFrom adj.old.graph.vertices 0 0 removed.now }
+    requires present { AllPresent adj.old.graph removed.now }
+    ensures { OnOk result (adj.new ≡ record adj.old { graph = without_edges adj.old.graph removed.now }) }
+{
+    if removed.len() < LEAST_TOGETHER {
+        unlink_each(adj, removed, steps);
+        return Ok(());
+    }
+    adj.unlink_all(alloc, removed, steps)?;
+    Ok(())
 }
 
 // Lets the ends of the edges wait that have too few neighbours to stand on their levels.
@@ -101,7 +123,7 @@ pub fn delete_phase<R: Threads + Sync, G: Gate + Sync, L: Ledger>(
 {
     let _n = adj.graph().vertices();
     let _levels = adj.levels();
-    unlink_edges(adj, removed, steps);
+    unlink_edges(alloc, adj, removed, steps)?;
     add_short_ends(adj, th, removed, &mut work.waiting)?;
     settle(
         rounds,

@@ -14,3 +14,6 @@ pub mod CleaningLemmas
 pub mod LaterLemmas
 pub mod CountingLemmas
 pub mod CleaningLawLemmas
+pub mod MergeLemmas
+pub mod HalfLemmas
+pub mod GivenLemmas

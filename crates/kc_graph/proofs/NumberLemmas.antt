@@ -1,5 +1,6 @@
 -- Lemmas on ascending lists of numbers.
-use Rattle.std.proofs.Common.{ℕ, suc, zero, ◌+◌, ◌-◌, ◌≤◌, ◌<◌, ◌≡◌, ◌≢◌, Bool, true, false, ◌||◌, ◌&&◌, eqb, ltb, List, [], ◌∷◌, ◌++◌, length, get_or, refl, arith, subst}
+use Rattle.std.proofs.Common.{ℕ, suc, zero, ◌+◌, ◌-◌, ◌≤◌, ◌<◌, ◌≡◌, ◌≢◌, Bool, true, false, ◌||◌, ◌&&◌, eqb, ltb, List, [], ◌∷◌, ◌++◌, length, get_or, refl, arith, subst, ap, sym, ◌∙◌, inl, inr, true≢false}
+use Rattle.std.proofs.lemmas.Bool.{cases_eq, cases_lt}
 use Rattle.std.proofs.lemmas.Bool.Decides.{nat_tests}
 use Rattle.std.proofs.lemmas.List.{get_or_default}
 use Rattle.std.specs.Prelude.{All, IsTrue, not, ◌↔◌}
@@ -153,3 +154,28 @@ all_below-last x last xs up some is = (from_last, to_last)
 
     to_last : All (λ y. y < x) xs → IsTrue (ltb last x)
     to_last all = let less = all (length xs - 1) 0 (omega arith) in grind (arith, nat_tests, less, is)
+
+-- rising lists of the same numbers are the same
+pub same_rising : (low : ℕ) (xs ys : List ℕ) → RisesFrom low xs → RisesFrom low ys → ((v : ℕ) → has_number v xs ≡ has_number v ys) → xs ≡ ys
+same_rising low [] [] up down same = refl
+same_rising low [] (y ∷ ys) up down same = absurd (true≢false (sym (same y ∙ grind (arith, nat_tests))))
+same_rising low (x ∷ xs) [] up down same = absurd (true≢false (sym (sym (same x) ∙ grind (arith, nat_tests))))
+same_rising low (x ∷ xs) (y ∷ ys) up down same = elim (cases_eq x y) [
+  | inl e ↦ rw e (ap (λ zs. y ∷ zs) (same_rising (suc y) xs ys (rw (← e) up.1) down.1 (λ v. later v e)))
+  | inr ne ↦ elim (cases_lt x y) [
+    | inl lt ↦ absurd (true≢false (sym (here x xs) ∙ same x ∙ has_number_below y x (y ∷ ys) (omega arith, down.1) lt))
+    | inr ge ↦ absurd (true≢false (sym (here y ys) ∙ sym (same y) ∙ has_number_below x y (x ∷ xs) (omega arith, up.1) (omega (arith, ge, ne))))
+  ]
+]
+  where
+    here : (v : ℕ) (vs : List ℕ) → has_number v (v ∷ vs) ≡ true
+    here v vs = grind (arith, nat_tests)
+
+    later : (v : ℕ) → x ≡ y → has_number v xs ≡ has_number v ys
+    later v e = elim (cases_eq v y) [
+      | inl is ↦ has_number_below (suc x) v xs up.1 (omega (arith, e, is)) ∙ sym (has_number_below (suc y) v ys down.1 (omega (arith, is)))
+      | inr ne ↦ sym (past x xs (omega (arith, ne, e))) ∙ same v ∙ past y ys (omega (arith, ne))
+    ]
+      where
+        past : (u : ℕ) (us : List ℕ) → u ≢ v → has_number v (u ∷ us) ≡ has_number v us
+        past u us ne = grind (arith, nat_tests, ne)

@@ -3,6 +3,7 @@ pub mod Shape
 pub mod Changes
 pub mod EdgeLists
 pub mod KeptRows
+pub mod Halves
 pub mod Cleaning
 pub mod Keys
 pub mod Later

@@ -1,8 +1,10 @@
-ghost use Rattle.std.specs.Prelude.{◌≡◌, ℕ, ◌<◌, ◌≤◌, [], length, false, true, All, IfOk, OnOk, OnErr};
+ghost use Rattle.std.specs.Prelude.{◌≡◌, ℕ, ◌+◌, ◌<◌, ◌≤◌, [], length, false, true, All, IfOk, OnOk, OnErr};
 ghost use Rattle.kc_graph.specs.Numbers.{RisesFrom};
-ghost use Rattle.kc_graph.specs.Shape.{GraphShape, IsGraph, neighbours_of, has_edge, with_edge, without_edge};
+ghost use Rattle.kc_graph.specs.Shape.{GraphShape, EdgesFrom, IsGraph, neighbours_of, has_edge, with_edge, without_edge, with_edges, without_edges};
+ghost use Rattle.kc_graph.specs.Changes.{AllAbsent, AllPresent};
 
 use crate::edges::Edge;
+use crate::halves::sorted_halves;
 use crate::limits::{MAX_EDGES, MAX_VERTICES};
 use crate::links;
 use crate::rows::Row;
@@ -117,6 +119,46 @@ impl Graph {
     {
         links::part(&mut self.rows, e.a, e.b);
         self.count -= 1;
+    }
+
+    /// Puts in ascending edges that are not there (`with_edges`); at most `MAX_EDGES` edges are there afterwards.
+    ///
+    /// Fails only if memory runs out, and the graph is then unchanged.
+    ///
+    /// Costs a sort of two pairs an edge, for which it takes memory, and for each vertex that gets neighbours one pass over them
+    /// and over those that it had above the least of them.
+    pub fn insert_all(&mut self, alloc: Global, edges: &[Edge]) -> Result<(), AllocError>
+        requires ascending { EdgesFrom self.old.vertices 0 0 edges.now }
+        requires absent { AllAbsent self.old edges.now }
+        requires room { length self.old.edges + length edges.now ≤ MAX_EDGES }
+        ensures ok { OnOk result (self.new ≡ with_edges self.old edges.now) }
+        ensures err { OnErr result (self.new ≡ self.old) }
+    {
+        let halves = sorted_halves(alloc, edges)?;
+        if let Err(error) = links::give_all(&mut self.rows, &halves) {
+            links::take_all(&mut self.rows, &halves);
+            return Err(error);
+        }
+        self.count += edges.len() as u32;
+        Ok(())
+    }
+
+    /// Takes out ascending edges that are there (`without_edges`).
+    ///
+    /// Fails only if memory runs out, and the graph is then unchanged.
+    ///
+    /// Costs a sort of two pairs an edge, for which it takes memory, and for each vertex that loses neighbours one pass over those
+    /// that it had.
+    pub fn remove_all(&mut self, alloc: Global, edges: &[Edge]) -> Result<(), AllocError>
+        requires ascending { EdgesFrom self.old.vertices 0 0 edges.now }
+        requires present { AllPresent self.old edges.now }
+        ensures ok { OnOk result (self.new ≡ without_edges self.old edges.now) }
+        ensures err { OnErr result (self.new ≡ self.old) }
+    {
+        let halves = sorted_halves(alloc, edges)?;
+        links::take_all(&mut self.rows, &halves);
+        self.count -= edges.len() as u32;
+        Ok(())
     }
 }
 

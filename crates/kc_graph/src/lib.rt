@@ -8,12 +8,14 @@ mod cleaning;
 mod edge_lists;
 mod edges;
 mod graphs;
+mod halves;
 mod items;
 mod keys;
 mod later;
 pub mod laws;
 mod limits;
 mod links;
+mod merging;
 mod rows;
 mod touched;
 

@@ -1,7 +1,10 @@
-ghost use Rattle.std.specs.Prelude.{◌≡◌, ◌<◌, [], length, false, slice_index_or, OnOk, OnErr};
+ghost use Rattle.std.specs.Prelude.{◌≡◌, ℕ, ◌<◌, [], length, true, false, slice_index_or, OnOk, OnErr};
 ghost use Rattle.kc_graph.specs.Numbers.{has_number};
+ghost use Rattle.kc_graph.specs.Shape.{has_edge};
 ghost use Rattle.kc_graph.specs.KeptRows.{rows_joined, rows_parted};
+ghost use Rattle.kc_graph.specs.Halves.{AreGiven, AreGivenSome, AreTaken};
 
+use crate::halves::{Half, run_len};
 use crate::rows::Row;
 use std::alloc::AllocError;
 
@@ -29,4 +32,34 @@ pub fn part(rows: &mut Vec<Row>, a: u32, b: u32)
 {
     rows[a as usize].remove(b);
     rows[b as usize].remove(a);
+}
+
+/// Puts the other end of each half into the row of its vertex, by one merge for each run of halves of one vertex. After a refusal
+/// some may have been put in.
+pub fn give_all(rows: &mut Vec<Row>, halves: &[Half]) -> Result<(), AllocError>
+    requires { (v x : ℕ) → has_edge (v, x) halves.now ≡ true → v < length rows.old.items }
+    ensures ok { OnOk result (AreGiven rows.old.items rows.new.items halves.now) }
+    ensures err { OnErr result (AreGivenSome rows.old.items rows.new.items halves.now) }
+{
+    let mut rest = halves;
+    while let Some(first) = rest.first() {
+        let (run, later) = rest.split_at(run_len(rest));
+        rows[first.v as usize].insert_all(run)?;
+        rest = later;
+    }
+    Ok(())
+}
+
+/// Takes the other end of each half out of the row of its vertex, where it is there, by one pass for each run of halves of one
+/// vertex.
+pub fn take_all(rows: &mut Vec<Row>, halves: &[Half])
+    requires { (v x : ℕ) → has_edge (v, x) halves.now ≡ true → v < length rows.old.items }
+    ensures { AreTaken rows.old.items rows.new.items halves.now }
+{
+    let mut rest = halves;
+    while let Some(first) = rest.first() {
+        let (run, later) = rest.split_at(run_len(rest));
+        rows[first.v as usize].remove_all(run);
+        rest = later;
+    }
 }

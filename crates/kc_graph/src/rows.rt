@@ -1,6 +1,9 @@
-ghost use Rattle.std.specs.Prelude.{◌≡◌, ℕ, ◌<◌, ◌↔◌, [], List, IsTrue, OnOk, OnErr, All};
+ghost use Rattle.std.specs.Prelude.{◌≡◌, ℕ, ◌<◌, ◌↔◌, ◌||◌, not, [], List, IsTrue, OnOk, OnErr, All, filter};
 ghost use Rattle.kc_graph.specs.Numbers.{has_number, put, without, RisesFrom, Found};
+ghost use Rattle.kc_graph.specs.Halves.{has_second, SecondsRise};
 
+use crate::halves::Half;
+use crate::merging::{close, keep_others, merge_back};
 use std::alloc::{AllocError, Global};
 use std::marker::Model;
 
@@ -85,5 +88,30 @@ impl Row {
         if let Ok(place) = place_of(&self.items, x) {
             let _ = self.items.remove(place);
         }
+    }
+
+    /// Puts the other ends of the halves at their places, by one pass from the greatest down; those that the row has stay as they
+    /// are. After a refusal the row is as before.
+    pub fn insert_all(&mut self, incoming: &[Half]) -> Result<(), AllocError>
+        requires { SecondsRise incoming.now }
+        ensures ok { OnOk result ((x : ℕ) → has_number x self.new ≡ has_number x self.old || has_second x incoming.now) }
+        ensures rises { RisesFrom 0 self.new }
+        ensures err { OnErr result (self.new ≡ self.old) }
+    {
+        let old = self.items.len();
+        self.items.resize(old + incoming.len(), 0)?;
+        let (end, next) = merge_back(&mut self.items, old, incoming);
+        close(&mut self.items, end, next);
+        Ok(())
+    }
+
+    /// Takes the other ends of the halves out, by one pass.
+    pub fn remove_all(&mut self, outgoing: &[Half])
+        requires { SecondsRise outgoing.now }
+        ensures value { self.new ≡ filter (λ x. not (has_second x outgoing.now)) self.old }
+        ensures rises { RisesFrom 0 self.new }
+    {
+        let kept = keep_others(&mut self.items, outgoing);
+        self.items.truncate(kept);
     }
 }

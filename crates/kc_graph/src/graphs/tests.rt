@@ -1,3 +1,8 @@
+ghost use Rattle.std.specs.Prelude.{◌≡◌, ◌≤◌, true, false, length};
+ghost use Rattle.std.specs.Bool.{OnTrue};
+ghost use Rattle.kc_graph.specs.Shape.{EdgesFrom};
+ghost use Rattle.kc_graph.specs.Changes.{AllAbsent, AllPresent};
+
 use super::*;
 use std::process::Abort;
 use std::test::Fail;
@@ -104,4 +109,72 @@ fn long_rows_stay_in_order(rt: HostRuntime) -> Result<(), Fail> {
         assert_eq!(rt; w as usize, i + 1);
     }
     Ok(())
+}
+
+// Whether each of the edges is in the graph.
+fn are_present(graph: &Graph, edges: &[Edge]) -> bool
+    requires { EdgesFrom graph.now.vertices 0 0 edges.now }
+    ensures { OnTrue result (AllPresent graph.now edges.now) }
+{
+    for e in edges {
+        if !graph.has(*e) {
+            return false;
+        }
+    }
+    true
+}
+
+// Whether none of the edges is in the graph.
+fn are_absent(graph: &Graph, edges: &[Edge]) -> bool
+    requires { EdgesFrom graph.now.vertices 0 0 edges.now }
+    ensures { OnTrue result (AllAbsent graph.now edges.now) }
+{
+    for e in edges {
+        if graph.has(*e) {
+            return false;
+        }
+    }
+    true
+}
+
+// Puts 0-2, 1-3 and then the edges into a graph on 5 vertices, and takes them out again. Each row is as these edges say.
+fn check_together(
+    rt: &impl Abort,
+    alloc: Global,
+    edges: &[Edge],
+    v: u32,
+    with: &[u32],
+    without: &[u32],
+) -> Result<(), Fail>
+    requires ascending { EdgesFrom 5 0 0 edges.now }
+    requires few { length edges.now ≤ 10 }
+{
+    let mut graph = Graph::new(alloc, 5)?;
+    put_in(rt, alloc, &mut graph, (0, 2))?;
+    put_in(rt, alloc, &mut graph, (1, 3))?;
+    assert!(rt; graph.vertices() == 5 && graph.edge_count() == 2);
+    assert!(rt; are_absent(&graph, edges));
+    graph.insert_all(alloc, edges)?;
+    assert_shape(rt, &graph, 2 + edges.len(), v, with);
+    assert!(rt; graph.vertices() == 5);
+    assert!(rt; are_present(&graph, edges));
+    graph.remove_all(alloc, edges)?;
+    assert_shape(rt, &graph, 2, v, without);
+    Ok(())
+}
+
+const TOGETHER: [Edge; 5] = [
+    Edge { a: 0, b: 1 },
+    Edge { a: 0, b: 3 },
+    Edge { a: 0, b: 4 },
+    Edge { a: 1, b: 2 },
+    Edge { a: 2, b: 3 },
+];
+
+#[test]
+fn edges_come_and_leave_together(rt: HostRuntime) -> Result<(), Fail> {
+    check_together(&rt, rt.alloc(), &TOGETHER, 0, &[1, 2, 3, 4], &[2])?;
+    check_together(&rt, rt.alloc(), &TOGETHER, 2, &[0, 1, 3], &[0])?;
+    check_together(&rt, rt.alloc(), &TOGETHER, 3, &[0, 1, 2], &[1])?;
+    check_together(&rt, rt.alloc(), &TOGETHER, 4, &[0], &[])
 }

@@ -1,7 +1,7 @@
 use Rattle.std.proofs.Common.{◌≡◌, ℕ, Bool, List, false, replicate, length, ap, sym, ◌∙◌, subst}
 use Rattle.std.proofs.lemmas.List.{length-replicate}
 use Rattle.kc_graph.specs.Shape.{GraphShape}
-use Rattle.kc_graph.proofs.ChangeLemmas.{can_remove_ascending, vertices-without_edges, is_graph-without_edges}
+use Rattle.kc_graph.proofs.ChangeLemmas.{vertices-without_edges, is_graph-without_edges}
 use Rattle.kc_levels.specs.Moved.{moves_between}
 use Rattle.kc_adj.specs.LeveledGraph.{LeveledGraph}
 use Rattle.kc_delete.specs.Working.{IsReady}
@@ -9,61 +9,58 @@ use Rattle.kc_delete.proofs.SettlingLemmas.{settling_first}
 use Rattle.kc_delete.proofs.FallenLemmas.{none_marked}
 use Rattle.kc_delete.proofs.rounds.delete_phase.Goals as goal
 
-pub unlink_edges-requires : goal.unlink_edges-requires
-unlink_edges-requires g c = record { removable = can_remove_ascending c.args.adj.now.graph 0 0 c.args.removed.now c.requires.ascending c.requires.present }
-
 pub add_short_ends-requires-clause-scale : goal.add_short_ends-requires-clause-scale
 add_short_ends-requires-clause-scale g c =
-    rw c.unlink_edges.ensures (c.requires.scale ∙ sym (vertices-without_edges c.args.adj.now.graph c.args.removed.now))
+    rw c.in_ok-unlink_edges.ensures (c.requires.scale ∙ sym (vertices-without_edges c.args.adj.now.graph c.args.removed.now))
 
 pub add_short_ends-requires-clause-capped : goal.add_short_ends-requires-clause-capped
 add_short_ends-requires-clause-capped g c =
-    rw (c.unlink_edges.ensures, vertices-without_edges c.args.adj.now.graph c.args.removed.now) c.requires.capped
+    rw (c.in_ok-unlink_edges.ensures, vertices-without_edges c.args.adj.now.graph c.args.removed.now) c.requires.capped
 
 pub add_short_ends-requires-clause-sized : goal.add_short_ends-requires-clause-sized
 add_short_ends-requires-clause-sized g c =
     let ready = subst (IsReady c.args.adj.now) (sym c.work.view_is) c.requires.ready in
-    rw (c.unlink_edges.ensures, vertices-without_edges c.args.adj.now.graph c.args.removed.now)
+    rw (c.in_ok-unlink_edges.ensures, vertices-without_edges c.args.adj.now.graph c.args.removed.now)
     (ap (λ (bs : List Bool). length bs) ready.none_waits ∙ length-replicate c.args.adj.now.graph.vertices false)
 
 pub add_short_ends-requires-clause-ascending : goal.add_short_ends-requires-clause-ascending
 add_short_ends-requires-clause-ascending g c =
-    rw (c.unlink_edges.ensures, vertices-without_edges c.args.adj.now.graph c.args.removed.now) c.requires.ascending
+    rw (c.in_ok-unlink_edges.ensures, vertices-without_edges c.args.adj.now.graph c.args.removed.now) c.requires.ascending
 
 pub settle-requires-clause-graph : goal.settle-requires-clause-graph
 settle-requires-clause-graph g c κs o =
-    rw c.unlink_edges.ensures (is_graph-without_edges c.args.adj.now.graph c.args.removed.now (rw c.graph.ensures at c.vertices-n.ensures.graph))
+    rw c.in_ok-unlink_edges.ensures (is_graph-without_edges c.args.adj.now.graph c.args.removed.now (rw c.graph.ensures at c.vertices-n.ensures.graph))
 
 pub settle-requires-clause-scale : goal.settle-requires-clause-scale
 settle-requires-clause-scale g c κs o =
-    rw c.unlink_edges.ensures (c.requires.scale ∙ sym (vertices-without_edges c.args.adj.now.graph c.args.removed.now))
+    rw c.in_ok-unlink_edges.ensures (c.requires.scale ∙ sym (vertices-without_edges c.args.adj.now.graph c.args.removed.now))
 
 pub settle-requires-clause-capped : goal.settle-requires-clause-capped
 settle-requires-clause-capped g c κs o =
-    rw (c.unlink_edges.ensures, vertices-without_edges c.args.adj.now.graph c.args.removed.now) c.requires.capped
+    rw (c.in_ok-unlink_edges.ensures, vertices-without_edges c.args.adj.now.graph c.args.removed.now) c.requires.capped
 
 pub settle-requires-clause-settling : goal.settle-requires-clause-settling
 settle-requires-clause-settling g c κs o =
-    let sized = rw (c.unlink_edges.ensures, vertices-without_edges c.args.adj.now.graph c.args.removed.now) at c.in_ok-add_short_ends.ensures.sized in
-    let looked = rw c.unlink_edges.ensures at c.in_ok-add_short_ends.ensures.looked in
-    rw c.unlink_edges.ensures
+    let sized = rw (c.in_ok-unlink_edges.ensures, vertices-without_edges c.args.adj.now.graph c.args.removed.now) at c.in_ok-add_short_ends.ensures.sized in
+    let looked = rw c.in_ok-unlink_edges.ensures at c.in_ok-add_short_ends.ensures.looked in
+    rw c.in_ok-unlink_edges.ensures
     (settling_first c.args.th.now.profile c.args.adj.now.graph c.args.adj.now.levels c.add_short_ends.new.waiting c.args.removed.now c.levels-levels.ensures.sized sized c.requires.lower looked)
 
 pub settle-requires-clause-before : goal.settle-requires-clause-before
 settle-requires-clause-before g c κs o =
     let ready = subst (IsReady c.args.adj.now) (sym c.work.view_is) c.requires.ready in
-    rw c.unlink_edges.ensures ready.before
+    rw c.in_ok-unlink_edges.ensures ready.before
 
 pub take_moves-requires-clause-sized : goal.take_moves-requires-clause-sized
 take_moves-requires-clause-sized g c =
-    let same : c.settle.new.adj.graph.vertices ≡ c.args.adj.now.graph.vertices = ap (λ (h : GraphShape). h.vertices) (c.in_ok-settle.ensures.graph ∙ ap (λ (a : LeveledGraph). a.graph) c.unlink_edges.ensures) ∙ vertices-without_edges c.args.adj.now.graph c.args.removed.now in
-    let before : c.settle.new.fallen.before ≡ c.args.adj.now.levels = c.in_ok-settle.ensures.before ∙ ap (λ (a : LeveledGraph). a.levels) c.unlink_edges.ensures in
+    let same : c.settle.new.adj.graph.vertices ≡ c.args.adj.now.graph.vertices = ap (λ (h : GraphShape). h.vertices) (c.in_ok-settle.ensures.graph ∙ ap (λ (a : LeveledGraph). a.graph) c.in_ok-unlink_edges.ensures) ∙ vertices-without_edges c.args.adj.now.graph c.args.removed.now in
+    let before : c.settle.new.fallen.before ≡ c.args.adj.now.levels = c.in_ok-settle.ensures.before ∙ ap (λ (a : LeveledGraph). a.levels) c.in_ok-unlink_edges.ensures in
     ap (λ (x : List ℕ). length x) c.levels.ensures.value ∙ c.levels.ensures.sized ∙ same ∙ sym (ap (λ (x : List ℕ). length x) before ∙ c.levels-levels.ensures.sized)
 
 pub returns-clause-moves : goal.returns-clause-moves
 returns-clause-moves g c =
-    let same : c.settle.new.adj.graph.vertices ≡ c.args.adj.now.graph.vertices = ap (λ (h : GraphShape). h.vertices) (c.in_ok-settle.ensures.graph ∙ ap (λ (a : LeveledGraph). a.graph) c.unlink_edges.ensures) ∙ vertices-without_edges c.args.adj.now.graph c.args.removed.now in
-    let before : c.settle.new.fallen.before ≡ c.args.adj.now.levels = c.in_ok-settle.ensures.before ∙ ap (λ (a : LeveledGraph). a.levels) c.unlink_edges.ensures in
+    let same : c.settle.new.adj.graph.vertices ≡ c.args.adj.now.graph.vertices = ap (λ (h : GraphShape). h.vertices) (c.in_ok-settle.ensures.graph ∙ ap (λ (a : LeveledGraph). a.graph) c.in_ok-unlink_edges.ensures) ∙ vertices-without_edges c.args.adj.now.graph c.args.removed.now in
+    let before : c.settle.new.fallen.before ≡ c.args.adj.now.levels = c.in_ok-settle.ensures.before ∙ ap (λ (a : LeveledGraph). a.levels) c.in_ok-unlink_edges.ensures in
     c.in_ok-moves.ensures.moves
     ∙ ap (λ (x : List ℕ). moves_between (length x) x c.levels.result.now) before
     ∙ ap (λ (y : List ℕ). moves_between (length c.args.adj.now.levels) c.args.adj.now.levels y) c.levels.ensures.value

@@ -1,14 +1,11 @@
 use Rattle.std.proofs.Common.{◌≡◌, ◌+◌, ℕ, List, length, ap, sym, ◌∙◌, subst, arith}
 use Rattle.kc_graph.specs.Shape.{GraphShape}
-use Rattle.kc_graph.proofs.ChangeLemmas.{can_add_ascending, vertices-with_edges, inside_from_ascending}
+use Rattle.kc_graph.proofs.ChangeLemmas.{vertices-with_edges, inside_from_ascending}
 use Rattle.kc_levels.specs.Thresholds.{top_level}
 use Rattle.kc_insert.specs.Working.{IsReady}
 use Rattle.kc_insert.proofs.Followed.{counted_added}
 use Rattle.kc_insert.proofs.Ready.{ready_taken}
 use Rattle.kc_insert.proofs.insertion.insert_phase.Goals as goal
-
-pub link_edges-requires-clause-addable : goal.link_edges-requires-clause-addable
-link_edges-requires-clause-addable g c = can_add_ascending c.args.adj.now.graph 0 0 c.args.added.now c.requires.ascending c.requires.absent c.requires.room
 
 pub copy_ends-requires-clause-sized : goal.copy_ends-requires-clause-sized
 copy_ends-requires-clause-sized g c =

@@ -1,6 +1,6 @@
 use Rattle.std.proofs.Common.{◌≡◌, ◌+◌, ◌*◌, drop}
 use Rattle.kc_insert.proofs.Linking.{IsLinking}
-use Rattle.kc_insert.proofs.filling.link_edges.Given as goal
+use Rattle.kc_insert.proofs.filling.link_each.Given as goal
 
 abbrev pub invariant-loop-e : goal.invariant-loop-e
 invariant-loop-e g l =

@@ -1,7 +1,7 @@
 use Rattle.std.proofs.Common.{◌≡◌, drop}
 use Rattle.kc_graph.specs.Shape.{without_edges}
 use Rattle.kc_graph.specs.Changes.{CanRemove}
-use Rattle.kc_delete.proofs.rounds.unlink_edges.Given as goal
+use Rattle.kc_delete.proofs.rounds.unlink_each.Given as goal
 
 abbrev pub invariant-loop-e : goal.invariant-loop-e
 invariant-loop-e g l =

@@ -1,0 +1,218 @@
+-- Lemmas on half-edges that come into rows, or leave them.
+use Rattle.std.proofs.Common.{ℕ, suc, zero, ◌+◌, ◌≤◌, ◌<◌, ◌≡◌, ◌≢◌, inl, inr, Bool, true, false, ◌||◌, ◌&&◌, cond, eqb, List, [], ◌∷◌, ◌++◌, length, get_or, set, take, refl, ap, sym, ◌∙◌, arith}
+use Rattle.std.proofs.lemmas.Bool.{cases_eq}
+use Rattle.std.proofs.lemmas.Bool.Decides.{nat_tests}
+use Rattle.std.proofs.lemmas.List.{length-set, get_or-set_same, get_or-set_other, take_more}
+use Rattle.std.proofs.lemmas.List.Sorted.{list_any-IsPermutation}
+use Rattle.std.specs.List.{list_any}
+use Rattle.std.specs.List.Sorted.{IsPermutation}
+use Rattle.std.specs.Prelude.{filter, not, Result, Ok, Err, OnErr}
+use Rattle.kc_graph.specs.Numbers.{RisesFrom, has_number}
+use Rattle.kc_graph.specs.Shape.{Pair, same_edge, has_edge, joined}
+use Rattle.kc_graph.specs.Halves.{has_second, AreOf, AreGiven, AreGivenSome, AreTaken}
+
+pub has_edge-append : (e : Pair) (es fs : List Pair) → has_edge e (es ++ fs) ≡ has_edge e es || has_edge e fs
+has_edge-append e [] fs = refl
+has_edge-append e (d ∷ ds) fs = regroup (same_edge e d) (has_edge-append e ds fs)
+  where
+    regroup : (b : Bool) → has_edge e (ds ++ fs) ≡ has_edge e ds || has_edge e fs → (b || has_edge e (ds ++ fs)) ≡ ((b || has_edge e ds) || has_edge e fs)
+    regroup true rest = refl
+    regroup false rest = rest
+
+or_false : (b : Bool) → b || false ≡ b
+or_false true = refl
+or_false false = refl
+
+has_edge-push : (e f : Pair) (es : List Pair) → has_edge e (es ++ f ∷ []) ≡ has_edge e es || same_edge e f
+has_edge-push e f es = has_edge-append e es (f ∷ []) ∙ ap (λ b. has_edge e es || b) (or_false (same_edge e f))
+
+has_edge_any : (e : Pair) (es : List Pair) → has_edge e es ≡ list_any (same_edge e) es
+has_edge_any e [] = refl
+has_edge_any e (f ∷ fs) = ap (λ b. same_edge e f || b) (has_edge_any e fs)
+
+pub has_edge-permutation : (e : Pair) (es fs : List Pair) → IsPermutation es fs → has_edge e fs ≡ has_edge e es
+has_edge-permutation e es fs same = has_edge_any e fs ∙ sym (list_any-IsPermutation (same_edge e) es fs same) ∙ sym (has_edge_any e es)
+
+-- both halves of one more edge
+pub both_next : (es hs : List Pair) (i v w : ℕ) (e : Pair) → i < length es → e ≡ get_or es i (0, 0) → has_edge (v, w) hs ≡ joined v w (take i es) → has_edge (v, w) ((hs ++ e ∷ []) ++ (e.1, e.0) ∷ []) ≡ joined v w (take (i + 1) es)
+both_next es hs i v w e h is before =
+    has_edge-push (v, w) (e.1, e.0) (hs ++ e ∷ [])
+    ∙ ap (λ b. b || same_edge (v, w) (e.1, e.0)) (has_edge-push (v, w) e hs ∙ ap (λ b. b || same_edge (v, w) e) before)
+    ∙ regroup (has_edge (v, w) (take i es)) (has_edge (w, v) (take i es)) (same_edge (v, w) e) (same_edge (v, w) (e.1, e.0)) (same_edge (w, v) e) turned
+    ∙ sym (rw (take_more es i (0, 0) h, ← is, has_edge-push (v, w) e (take i es), has_edge-push (w, v) e (take i es)) refl)
+  where
+    turned : same_edge (v, w) (e.1, e.0) ≡ same_edge (w, v) e
+    turned = grind (arith, nat_tests)
+
+    regroup : (a b c d f : Bool) → d ≡ f → (((a || b) || c) || d) ≡ ((a || c) || (b || f))
+    regroup true b c d f e = refl
+    regroup false true true d f e = refl
+    regroup false true false d f e = refl
+    regroup false false true d f e = refl
+    regroup false false false d f e = e
+
+-- halves of one vertex
+
+of_later : (v : ℕ) (h : Pair) (hs : List Pair) → AreOf v (h ∷ hs) → AreOf v hs
+of_later v h hs all k lt = all (suc k) (omega arith)
+
+pub of_same : (v x : ℕ) (hs : List Pair) → AreOf v hs → has_edge (v, x) hs ≡ has_second x hs
+of_same v x [] all = refl
+of_same v x (h ∷ hs) all =
+    let here : h.0 ≡ v = all 0 (omega arith) in
+    let later : has_edge (v, x) hs ≡ has_second x hs = of_same v x hs (of_later v h hs all) in
+    grind (arith, nat_tests)
+
+pub of_other : (v u x : ℕ) (hs : List Pair) → AreOf v hs → u ≢ v → has_edge (u, x) hs ≡ false
+of_other v u x [] all ne = refl
+of_other v u x (h ∷ hs) all ne =
+    let here : h.0 ≡ v = all 0 (omega arith) in
+    let later : has_edge (u, x) hs ≡ false = of_other v u x hs (of_later v h hs all) ne in
+    grind (arith, nat_tests)
+
+-- the vertices of all halves have rows
+abbrev pub AreInside : ℕ → List Pair → Type 0
+AreInside n hs = (v x : ℕ) → has_edge (v, x) hs ≡ true → v < n
+
+pub first_inside : (n : ℕ) (hs : List Pair) → AreInside n hs → 0 < length hs → (get_or hs 0 (0, 0)).0 < n
+first_inside n [] inside h = absurd (omega arith)
+first_inside n (f ∷ fs) inside h = inside f.0 f.1 (grind (arith, nat_tests))
+
+later_inside : (n : ℕ) (run later : List Pair) → AreInside n (run ++ later) → AreInside n later
+later_inside n run later inside v x there = inside v x (has_edge-append (v, x) run later ∙ ap (λ b. has_edge (v, x) run || b) there ∙ or_true (has_edge (v, x) run))
+  where
+    or_true : (b : Bool) → b || true ≡ true
+    or_true true = refl
+    or_true false = refl
+
+rise_set : (rows : List (List ℕ)) (v : ℕ) (row : List ℕ) → v < length rows → RisesFrom 0 row → ((u : ℕ) → RisesFrom 0 (get_or rows u [])) → (u : ℕ) → RisesFrom 0 (get_or (set rows v row) u [])
+rise_set rows v row h up all u = elim (cases_eq u v) [
+  | inl e ↦ rw (e, get_or-set_same rows v row [] h) up
+  | inr ne ↦ rw (get_or-set_other rows v u row [] ne) (all u)
+]
+
+-- halves come into rows, and `rest` is to come
+pub record IsGiving (old rows : List (List ℕ)) (rest halves : List Pair) : Type 0 where
+  pub sized : length rows ≡ length old
+  pub inside : AreInside (length old) rest
+  pub rise : ((v : ℕ) → RisesFrom 0 (get_or old v [])) → (v : ℕ) → RisesFrom 0 (get_or rows v [])
+  pub kept : (v x : ℕ) → has_number x (get_or old v []) ≡ true → has_number x (get_or rows v []) ≡ true
+  pub has : (v x : ℕ) → v < length old → has_number x (get_or rows v []) || has_edge (v, x) rest ≡ has_number x (get_or old v []) || has_edge (v, x) halves
+
+pub giving_first : (rows : List (List ℕ)) (halves : List Pair) → AreInside (length rows) halves → IsGiving rows rows halves halves
+giving_first rows halves inside = record {
+  sized = refl;
+  inside = inside;
+  rise = λ all. all;
+  kept = λ v x there. there;
+  has = λ v x h. refl;
+}
+
+pub giving_next : (old rows : List (List ℕ)) (rest halves run later : List Pair) (v : ℕ) (row : List ℕ) → IsGiving old rows rest halves → rest ≡ run ++ later → AreOf v run → v < length rows → RisesFrom 0 row → ((x : ℕ) → has_number x row ≡ has_number x (get_or rows v []) || has_second x run) → IsGiving old (set rows v row) later halves
+giving_next old rows rest halves run later v row s split of h up new = record {
+  sized = length-set rows v row ∙ s.sized;
+  inside = later_inside (length old) run later (rw split at s.inside);
+  rise = λ all. rise_set rows v row h up (s.rise all);
+  kept = λ u x there. elim (cases_eq u v) [
+    | inl e ↦ rw (e, get_or-set_same rows v row [] h) (new x ∙ ap (λ b. b || has_second x run) (s.kept v x (rw e at there)))
+    | inr ne ↦ rw (get_or-set_other rows v u row [] ne) (s.kept u x there)
+  ];
+  has = λ u x lt. elim (cases_eq u v) [
+    | inl e ↦ rw (e, get_or-set_same rows v row [] h, new x) (regroup (has_number x (get_or rows v [])) (has_second x run) (has_edge (v, x) later) ∙ told v x (of_same v x run of) ∙ s.has v x (rw e at lt))
+    | inr ne ↦ rw (get_or-set_other rows v u row [] ne) (told u x (of_other v u x run of ne) ∙ s.has u x lt)
+  ];
+}
+  where
+    regroup : (a b c : Bool) → ((a || b) || c) ≡ (a || (b || c))
+    regroup true b c = refl
+    regroup false b c = refl
+
+    told : (u x : ℕ) {b : Bool} → has_edge (u, x) run ≡ b → (has_number x (get_or rows u []) || (b || has_edge (u, x) later)) ≡ (has_number x (get_or rows u []) || has_edge (u, x) rest)
+    told u x is = ap (λ c. has_number x (get_or rows u []) || c) (ap (λ c. c || has_edge (u, x) later) (sym is) ∙ sym (has_edge-append (u, x) run later) ∙ ap (λ (es : List Pair). has_edge (u, x) es) (sym split))
+
+pub given : (old rows : List (List ℕ)) (rest halves : List Pair) → IsGiving old rows rest halves → rest ≡ [] → AreGiven old rows halves
+given old rows rest halves s none = record {
+  sized = s.sized;
+  rise = s.rise;
+  has = λ v x h. sym (or_false (has_number x (get_or rows v []))) ∙ ap (λ (es : List Pair). has_number x (get_or rows v []) || has_edge (v, x) es) (sym none) ∙ s.has v x h;
+}
+
+pub given_some : (old rows : List (List ℕ)) (rest halves : List Pair) → IsGiving old rows rest halves → AreGivenSome old rows halves
+given_some old rows rest halves s = record {
+  sized = s.sized;
+  rise = s.rise;
+  kept = s.kept;
+  only = λ v x h there. sym (s.has v x h) ∙ ap (λ b. b || has_edge (v, x) rest) there;
+}
+
+-- halves leave rows, and `rest` is to leave
+pub record IsTaking (old rows : List (List ℕ)) (rest halves : List Pair) : Type 0 where
+  pub sized : length rows ≡ length old
+  pub inside : AreInside (length old) rest
+  pub rise : ((v : ℕ) → RisesFrom 0 (get_or old v [])) → (v : ℕ) → RisesFrom 0 (get_or rows v [])
+  pub has : (v x : ℕ) → v < length old → not (has_edge (v, x) rest) && has_number x (get_or rows v []) ≡ not (has_edge (v, x) halves) && has_number x (get_or old v [])
+
+pub taking_first : (rows : List (List ℕ)) (halves : List Pair) → AreInside (length rows) halves → IsTaking rows rows halves halves
+taking_first rows halves inside = record {
+  sized = refl;
+  inside = inside;
+  rise = λ all. all;
+  has = λ v x h. refl;
+}
+
+has_number-filter : (x : ℕ) (p : ℕ → Bool) (xs : List ℕ) → has_number x (filter p xs) ≡ p x && has_number x xs
+has_number-filter x p [] = and_false (p x)
+  where
+    and_false : (b : Bool) → false ≡ b && false
+    and_false true = refl
+    and_false false = refl
+has_number-filter x p (y ∷ ys) = elim (cases_eq y x) [
+  | inl e ↦ rw (e) (at (p x) refl (has_number-filter x p ys))
+  | inr ne ↦ other (p y) (has_number-filter x p ys) (differ ne)
+]
+  where
+    open_test : (z : ℕ) → eqb z z ≡ true
+    open_test z = grind (arith, nat_tests)
+
+    differ : y ≢ x → eqb y x ≡ false
+    differ ne = grind (arith, nat_tests, ne)
+
+    at : (b : Bool) → p x ≡ b → has_number x (filter p ys) ≡ p x && has_number x ys → has_number x (cond (p x) (x ∷ filter p ys) (filter p ys)) ≡ p x && (eqb x x || has_number x ys)
+    at true is rest = rw (is, open_test x) refl
+    at false is rest = rw is (rest ∙ ap (λ b. b && has_number x ys) is)
+
+    other : (b : Bool) → has_number x (filter p ys) ≡ p x && has_number x ys → eqb y x ≡ false → has_number x (cond b (y ∷ filter p ys) (filter p ys)) ≡ p x && (eqb y x || has_number x ys)
+    other true rest ne = rw ne rest
+    other false rest ne = rw ne rest
+
+pub taking_next : (old rows : List (List ℕ)) (rest halves run later : List Pair) (v : ℕ) (row : List ℕ) → IsTaking old rows rest halves → rest ≡ run ++ later → AreOf v run → v < length rows → RisesFrom 0 row → row ≡ filter (λ x. not (has_second x run)) (get_or rows v []) → IsTaking old (set rows v row) later halves
+taking_next old rows rest halves run later v row s split of h up new = record {
+  sized = length-set rows v row ∙ s.sized;
+  inside = later_inside (length old) run later (rw split at s.inside);
+  rise = λ all. rise_set rows v row h up (s.rise all);
+  has = λ u x lt. elim (cases_eq u v) [
+    | inl e ↦ rw (e, get_or-set_same rows v row [] h, new, has_number-filter x (λ y. not (has_second y run)) (get_or rows v [])) (regroup (has_number x (get_or rows v [])) (has_second x run) (has_edge (v, x) later) ∙ told v x (of_same v x run of) ∙ s.has v x (rw e at lt))
+    | inr ne ↦ rw (get_or-set_other rows v u row [] ne) (told u x (of_other v u x run of ne) ∙ s.has u x lt)
+  ];
+}
+  where
+    regroup : (a b c : Bool) → (not c && (not b && a)) ≡ (not (b || c) && a)
+    regroup a true true = refl
+    regroup a true false = refl
+    regroup a false true = refl
+    regroup a false false = refl
+
+    told : (u x : ℕ) {b : Bool} → has_edge (u, x) run ≡ b → (not (b || has_edge (u, x) later) && has_number x (get_or rows u [])) ≡ (not (has_edge (u, x) rest) && has_number x (get_or rows u []))
+    told u x is = ap (λ c. not c && has_number x (get_or rows u [])) (ap (λ c. c || has_edge (u, x) later) (sym is) ∙ sym (has_edge-append (u, x) run later) ∙ ap (λ (es : List Pair). has_edge (u, x) es) (sym split))
+
+pub taken : (old rows : List (List ℕ)) (rest halves : List Pair) → IsTaking old rows rest halves → rest ≡ [] → AreTaken old rows halves
+taken old rows rest halves s none = record {
+  sized = s.sized;
+  rise = s.rise;
+  has = λ v x h. ap (λ (es : List Pair). not (has_edge (v, x) es) && has_number x (get_or rows v [])) (sym none) ∙ s.has v x h;
+}
+
+-- what holds whatever the result is holds of an error
+pub on_err : {A E : Type 0} (r : Result A E) (P : Type 0) → P → OnErr r P
+on_err (Ok x) P p = tt
+on_err (Err e) P p = p

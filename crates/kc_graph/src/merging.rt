@@ -1,0 +1,85 @@
+// Ascending numbers that come into an ascending list, or leave it, by one pass.
+
+ghost use Rattle.std.specs.Prelude.{◌≡◌, ℕ, ◌+◌, ◌≤◌, ◌<◌, ◌++◌, ◌||◌, not, length, take, drop, filter, slice_index_or};
+ghost use Rattle.kc_graph.specs.Numbers.{has_number, RisesFrom};
+ghost use Rattle.kc_graph.specs.Halves.{has_second, SecondsRise};
+
+use crate::halves::Half;
+
+/// Merges the first `old` numbers with those that come in, from the greatest down, to the end of the list. Gives where the rest of
+/// the old ones, which stay in their place, ends, and where the merged ones begin: the places between are free.
+pub fn merge_back(items: &mut Vec<u32>, old: usize, incoming: &[Half]) -> (usize, usize)
+    requires room { length items.old.items ≡ old + length incoming.now }
+    requires rises { RisesFrom 0 (take old items.old.items) }
+    requires incoming { SecondsRise incoming.now }
+    ensures order { result.0 ≤ result.1 }
+    ensures within { result.1 ≤ length items.new.items }
+    ensures rises { RisesFrom 0 (take result.0 items.new.items ++ drop result.1 items.new.items) }
+    ensures has { (x : ℕ) → has_number x (take result.0 items.new.items ++ drop result.1 items.new.items) ≡ has_number x (take old items.old.items) || has_second x incoming.now }
+{
+    let mut i = old;
+    let mut j = incoming.len();
+    let mut at = items.len();
+    while j > 0 {
+        let w = incoming[j - 1].other();
+        at -= 1;
+        if i > 0 && w <= items[i - 1] {
+            i -= 1;
+            let x = items[i];
+            if x == w {
+                j -= 1;
+            }
+            items[at] = x;
+        } else {
+            j -= 1;
+            items[at] = w;
+        }
+    }
+    (i, at)
+}
+
+/// Takes out what stands from one place up to another.
+pub fn close(items: &mut Vec<u32>, from: usize, to: usize)
+    requires order { from ≤ to }
+    requires within { to ≤ length items.old.items }
+    ensures { items.new.items ≡ take from items.old.items ++ drop to items.old.items }
+{
+    for _ in from..to {
+        let _ = items.remove(from);
+    }
+}
+
+// The first place from j on whose number isn't below x.
+fn first_from(outgoing: &[Half], j: usize, x: u32) -> usize
+    requires { j ≤ length outgoing.now }
+    ensures from { j ≤ result }
+    ensures within { result ≤ length outgoing.now }
+    ensures passed { (k : ℕ) → j ≤ k → k < result → (slice_index_or outgoing.now k (0, 0)).1 < x }
+    ensures here { result < length outgoing.now → x ≤ (slice_index_or outgoing.now result (0, 0)).1 }
+{
+    let mut j = j;
+    while j < outgoing.len() && outgoing[j].other() < x {
+        j += 1;
+    }
+    j
+}
+
+/// Moves the numbers that stay to the front, in their order, and says how many they are.
+pub fn keep_others(items: &mut Vec<u32>, outgoing: &[Half]) -> usize
+    requires rises { RisesFrom 0 items.old.items }
+    requires outgoing { SecondsRise outgoing.now }
+    ensures within { result ≤ length items.new.items }
+    ensures kept { take result items.new.items ≡ filter (λ x. not (has_second x outgoing.now)) items.old.items }
+{
+    let mut kept = 0;
+    let mut j = 0;
+    for i in 0..items.len() {
+        let x = items[i];
+        j = first_from(outgoing, j, x);
+        if j == outgoing.len() || outgoing[j].other() != x {
+            items[kept] = x;
+            kept += 1;
+        }
+    }
+    kept
+}
