@@ -9,3 +9,4 @@ pub mod Peels
 pub mod Sorting
 pub mod Existence
 pub mod Members
+pub mod PointLaw

@@ -1,3 +1,4 @@
 pub mod Cores
+pub mod Nearness
 pub mod Laws
 pub mod Peeling

@@ -1,6 +1,6 @@
 // Laws of the definitions. The functions do nothing: each has a law as its contract.
 
-ghost use Rattle.kc_bound.specs.Laws.{CoresAreLists, EachHasCoreness, CorenessIsOne, HighBoundsCoreness, LoBoundsCoreness, EstimateIsNearCoreness};
+ghost use Rattle.kc_bound.specs.Laws.{CoresAreLists, EachHasCoreness, CorenessIsOne, HighBoundsCoreness, LoBoundsCoreness, EstimateIsNearCoreness, BothAreNear, EachPointIsNear};
 
 /// Each core is the members of a list of vertices, so it is the same to speak of sets and of lists.
 pub fn cores_are_lists()
@@ -29,4 +29,11 @@ pub fn lo_bounds_coreness()
 /// its coreness is at most three times the estimate, in the second profile at most twice the estimate.
 pub fn estimate_is_near_coreness()
     ensures { EstimateIsNearCoreness }
+{}
+
+/// At each point of a history of phases both invariants hold, so the coreness of each vertex lies between the bounds that its
+/// level stands for, and its estimate is near. They hold wherever both invariants do.
+pub fn each_point_is_near()
+    ensures both { BothAreNear }
+    ensures point { EachPointIsNear }
 {}

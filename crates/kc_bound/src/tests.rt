@@ -1,3 +1,5 @@
+mod points;
+
 use crate::exact_coreness;
 use kc_graph::{Edge, Graph};
 use std::test::Fail;

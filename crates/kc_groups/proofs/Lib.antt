@@ -15,3 +15,4 @@ pub mod LeadLaw
 pub mod BetweenLaw
 pub mod AscendLaw
 pub mod SizeLaw
+pub mod PhaseLaw

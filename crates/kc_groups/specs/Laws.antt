@@ -1,9 +1,10 @@
 -- Laws of the entries of a phase, each the contract of a function of `laws`.
-use Rattle.std.specs.Prelude.{ℕ, ◌≡◌, ◌<◌, Bool, true, false, cond, List, Some, length, get_or, count_by, take, All, Contains}
+use Rattle.std.specs.Prelude.{ℕ, ◌≡◌, ◌<◌, Bool, true, false, cond, List, Some, length, get_or, count_by, take, All, Contains, ◌++◌}
 use Rattle.kc_graph.specs.Numbers.{RisesFrom}
 use Rattle.kc_graph.specs.Shape.{GraphShape, Pair, IsGraph, EdgesFrom, has_edge, with_edges, without_edges}
 use Rattle.kc_graph.specs.Changes.{AllPresent}
 use Rattle.kc_levels.specs.Moved.{is_moved, move_of}
+use Rattle.kc_levels.specs.declared.profile.Profile.{Profile}
 use Rattle.kc_levels.specs.LevelList.{IsBelow}
 use Rattle.kc_levels.specs.Between.{IsBetween}
 use Rattle.kc_levels.specs.declared.moves.Move.{Move}
@@ -11,7 +12,8 @@ use Rattle.kc_history.specs.declared.entries.Entry.{Entry}
 use Rattle.kc_history.specs.Points.{graph_after, levels_after}
 use Rattle.kc_groups.specs.declared.plans.PhasePlan.{PhasePlan}
 use Rattle.kc_groups.specs.Links.{IsLabel, AreLabels}
-use Rattle.kc_groups.specs.Entries.{entries_of, AreEntries}
+use Rattle.kc_groups.specs.Entries.{entries_of, entries_in, AreEntries}
+use Rattle.kc_groups.specs.Phases.{LeadOn}
 use Rattle.kc_groups.specs.WellFormed.{IsWellFormed, vertices_of}
 
 -- there is exactly one list of labels
@@ -82,3 +84,10 @@ pub record PointsLieBetween : Type 0 where
 pub record PlanAscends : Type 0 where
   pub moves : (phase : ℕ) (add : Bool) (edges : List Pair) (x y : List ℕ) (g : GraphShape) (plan : PhasePlan) → AreEntries phase add edges x y g plan → All (λ e. RisesFrom 0 (vertices_of e)) plan.groups
   pub edges : (phase : ℕ) (add : Bool) (edges : List Pair) (x y : List ℕ) (g : GraphShape) (plan : PhasePlan) → IsPhase edges x y g → AreEntries phase add edges x y g plan → All (λ e. EdgesFrom g.vertices 0 0 e.edges) (entries_of plan)
+
+-- the entries of phases, one after another, lead from the graph and levels before the first phase to those after the last; and
+-- phases that follow lead on from there
+pub record PhasesLead : Type 0 where
+  pub graph : (p : Profile) (g h : GraphShape) (x y : List ℕ) (plans : List PhasePlan) → IsGraph g → length x ≡ g.vertices → LeadOn p g x plans h y → graph_after g (entries_in plans) ≡ h
+  pub levels : (p : Profile) (g h : GraphShape) (x y : List ℕ) (plans : List PhasePlan) → IsGraph g → length x ≡ g.vertices → LeadOn p g x plans h y → levels_after x (entries_in plans) ≡ y
+  pub on : (p : Profile) (g h k : GraphShape) (x y z : List ℕ) (plans more : List PhasePlan) → LeadOn p g x plans h y → LeadOn p h y more k z → LeadOn p g x (plans ++ more) k z

@@ -4,6 +4,7 @@ pub mod Forest
 pub mod Gathering
 pub mod Entries
 pub mod Dealing
+pub mod Phases
 pub mod WellFormed
 pub mod Laws
 pub mod Sizes

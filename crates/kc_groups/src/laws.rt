@@ -1,6 +1,6 @@
 // Laws of the definitions. The functions do nothing: each has laws as its contract.
 
-ghost use Rattle.kc_groups.specs.Laws.{LabelsAreOne, PlanIsOne, PlanIsWellFormed, MovesAreInTheirGroups, EdgesAreDealtOnce, EntriesLeadOver, PointsLieBetween, PlanAscends};
+ghost use Rattle.kc_groups.specs.Laws.{LabelsAreOne, PlanIsOne, PlanIsWellFormed, MovesAreInTheirGroups, EdgesAreDealtOnce, EntriesLeadOver, PointsLieBetween, PlanAscends, PhasesLead};
 
 /// Each graph with two lists of levels has exactly one list of labels.
 pub fn labels_are_one()
@@ -41,4 +41,10 @@ pub fn points_lie_between()
 /// Moves ascend by vertex in each entry of a phase, and its edges ascend.
 pub fn plan_ascends()
     ensures { PlanAscends }
+{}
+
+/// The entries of phases, one after another, lead from the graph and levels before the first to those after the last, and more
+/// phases lead on from there.
+pub fn phases_lead()
+    ensures { PhasesLead }
 {}
