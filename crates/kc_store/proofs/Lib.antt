@@ -5,7 +5,7 @@ mod Beginning
 mod Storing
 mod Places
 mod LastLevels
-mod Forms
+pub mod Forms
 mod Seats
 mod Loads
 mod Growth
@@ -14,4 +14,4 @@ mod Joins
 mod Calls
 mod Views
 mod PassViews
-mod Shows
+pub mod Shows

@@ -44,26 +44,32 @@ cleared_more g i old mid new h is = subst (HasCleared g (i + 1) old) (sym is) re
       (λ o. Contains-append_left mid.cleared (vertex_at old.plan g i ∷ []) (vertex_at old.plan g j) (h.each j (omega (arith, lt, o))));
 }
 
-pub lent_none : (m : MarkerState) → HasMarkedLent 0 m m
-lent_none m = record { same = refl; each = λ i lt. absurd (omega (arith, lt)) }
+pub lent_none : (m : MarkerState) → HasMarkedLent m.loan.from m m
+lent_none m = record { same = refl; each = λ i le lt. absurd (omega (arith, le, lt)) }
+
+pub lent_fewer : (i k : ℕ) (old new : MarkerState) → k ≤ i → HasMarkedLent i old new → HasMarkedLent k old new
+lent_fewer i k old new few h = record { same = h.same; each = λ j le lt. h.each j le (omega (arith, lt, few)) }
 
 pub lent_more : (i : ℕ) (old mid new : MarkerState) → HasMarkedLent i old mid → new ≡ marker_marked (vertex_at old.plan old.loan.group i) mid → HasMarkedLent (i + 1) old new
 lent_more i old mid new h is = subst (HasMarkedLent (i + 1) old) (sym is) record {
   same = ap (marker_marked (vertex_at old.plan old.loan.group i)) h.same;
-  each = λ j lt. dite (ℕ_discrete j i)
+  each = λ j le lt. dite (ℕ_discrete j i)
       (λ s. subst (λ (k : ℕ). Contains (mid.marked ++ vertex_at old.plan old.loan.group i ∷ []) (vertex_at old.plan old.loan.group k)) (sym s) (Contains-push mid.marked (vertex_at old.plan old.loan.group i)))
-      (λ o. Contains-append_left mid.marked (vertex_at old.plan old.loan.group i ∷ []) (vertex_at old.plan old.loan.group j) (h.each j (omega (arith, lt, o))));
+      (λ o. Contains-append_left mid.marked (vertex_at old.plan old.loan.group i ∷ []) (vertex_at old.plan old.loan.group j) (h.each j le (omega (arith, lt, o))));
 }
 
-pub lent_none_cleared : (m : MarkerState) → HasClearedLent 0 m m
-lent_none_cleared m = record { same = refl; each = λ i lt. absurd (omega (arith, lt)) }
+pub lent_none_cleared : (m : MarkerState) → HasClearedLent m.loan.from m m
+lent_none_cleared m = record { same = refl; each = λ i le lt. absurd (omega (arith, le, lt)) }
+
+pub lent_fewer_cleared : (i k : ℕ) (old new : MarkerState) → k ≤ i → HasClearedLent i old new → HasClearedLent k old new
+lent_fewer_cleared i k old new few h = record { same = h.same; each = λ j le lt. h.each j le (omega (arith, lt, few)) }
 
 pub lent_more_cleared : (i : ℕ) (old mid new : MarkerState) → HasClearedLent i old mid → new ≡ marker_cleared (vertex_at old.plan old.loan.group i) mid → HasClearedLent (i + 1) old new
 lent_more_cleared i old mid new h is = subst (HasClearedLent (i + 1) old) (sym is) record {
   same = ap (marker_cleared (vertex_at old.plan old.loan.group i)) h.same;
-  each = λ j lt. dite (ℕ_discrete j i)
+  each = λ j le lt. dite (ℕ_discrete j i)
       (λ s. subst (λ (k : ℕ). Contains (mid.cleared ++ vertex_at old.plan old.loan.group i ∷ []) (vertex_at old.plan old.loan.group k)) (sym s) (Contains-push mid.cleared (vertex_at old.plan old.loan.group i)))
-      (λ o. Contains-append_left mid.cleared (vertex_at old.plan old.loan.group i ∷ []) (vertex_at old.plan old.loan.group j) (h.each j (omega (arith, lt, o))));
+      (λ o. Contains-append_left mid.cleared (vertex_at old.plan old.loan.group i ∷ []) (vertex_at old.plan old.loan.group j) (h.each j le (omega (arith, lt, o))));
 }
 
 no_more : (es : List Entry) → length es ≡ 0 → es ≡ []
@@ -178,7 +184,7 @@ lent_back g moves old new m at h is size =
     let number : m.loan.number ≡ old.lent = ap (λ (z : MarkerState). z.loan.number) h.same in
     let loans : new.loans ≡ [] = ap (λ (s : WriterState). s.loans) is ∙ ((λ i. without_loan (number i) (loan_of g 0 moves old ∷ at.loans i)) ∙ loan_gone (loan_of g 0 moves old)) in (
       record { plan_is = ap (λ (s : WriterState). s.plan) is; published = ap (λ (s : WriterState). s.published) is ∙ at.published; loans = loans },
-      all_moves new.marked old.plan g moves size (λ i lt. subst (λ (vs : List ℕ). Contains vs (vertex_at old.plan g i)) (sym (ap (λ (s : WriterState). s.marked) is)) (Contains-append_right old.marked m.marked (vertex_at old.plan g i) (h.each i lt))),
+      all_moves new.marked old.plan g moves size (λ i lt. subst (λ (vs : List ℕ). Contains vs (vertex_at old.plan g i)) (sym (ap (λ (s : WriterState). s.marked) is)) (Contains-append_right old.marked m.marked (vertex_at old.plan g i) (h.each i (omega arith) lt))),
     )
 
 -- after a marker for a whole published group was lent, cleared it and was given back
@@ -187,7 +193,7 @@ lent_back_cleared g moves old new m at h is size =
     let number : m.loan.number ≡ old.lent = ap (λ (z : MarkerState). z.loan.number) h.same in
     let loans : new.loans ≡ [] = ap (λ (s : WriterState). s.loans) is ∙ ((λ i. without_loan (number i) (loan_of g 0 moves old ∷ at.loans i)) ∙ loan_gone (loan_of g 0 moves old)) in (
       record { plan_is = ap (λ (s : WriterState). s.plan) is; published = ap (λ (s : WriterState). s.published) is ∙ at.published; loans = loans },
-      all_moves new.cleared old.plan g moves size (λ i lt. subst (λ (vs : List ℕ). Contains vs (vertex_at old.plan g i)) (sym (ap (λ (s : WriterState). s.cleared) is)) (Contains-append_right old.cleared m.cleared (vertex_at old.plan g i) (h.each i lt))),
+      all_moves new.cleared old.plan g moves size (λ i lt. subst (λ (vs : List ℕ). Contains vs (vertex_at old.plan g i)) (sym (ap (λ (s : WriterState). s.cleared) is)) (Contains-append_right old.cleared m.cleared (vertex_at old.plan g i) (h.each i (omega arith) lt))),
     )
 
 pub marked_next : (g moves : ℕ) (old new : WriterState) → IsAt old.plan g old → HasMarked g moves old new → moves ≡ length (group_at old.plan g).moves → IsAt old.plan g new × AllMovesIn new.marked (group_at old.plan g)

@@ -15,10 +15,10 @@ pub record HasMarked (g count : ℕ) (old new : WriterState) : Type 0 where
   pub loans : new.loans ≡ old.loans
   pub each : (i : ℕ) → i < count → Contains new.marked (vertex_at old.plan g i)
 
--- the first `count` moves of its group are marked by a marker
-pub record HasMarkedLent (count : ℕ) (old new : MarkerState) : Type 0 where
+-- the moves of its range up to the number `end`, that one left out, are marked by a marker
+pub record HasMarkedLent (end : ℕ) (old new : MarkerState) : Type 0 where
   pub same : new ≡ record old { noted = new.noted; marked = new.marked }
-  pub each : (i : ℕ) → i < count → Contains new.marked (vertex_at old.plan old.loan.group i)
+  pub each : (i : ℕ) → old.loan.from ≤ i → i < end → Contains new.marked (vertex_at old.plan old.loan.group i)
 
 -- the first `count` moves of the group at place g are cleared, and those that were cleared before
 pub record HasCleared (g count : ℕ) (old new : WriterState) : Type 0 where
@@ -26,10 +26,10 @@ pub record HasCleared (g count : ℕ) (old new : WriterState) : Type 0 where
   pub kept : (v : ℕ) → Contains old.cleared v → Contains new.cleared v
   pub each : (i : ℕ) → i < count → Contains new.cleared (vertex_at old.plan g i)
 
--- the first `count` moves of its group are cleared by a marker
-pub record HasClearedLent (count : ℕ) (old new : MarkerState) : Type 0 where
+-- the moves of its range up to the number `end`, that one left out, are cleared by a marker
+pub record HasClearedLent (end : ℕ) (old new : MarkerState) : Type 0 where
   pub same : new ≡ record old { cleared = new.cleared }
-  pub each : (i : ℕ) → i < count → Contains new.cleared (vertex_at old.plan old.loan.group i)
+  pub each : (i : ℕ) → old.loan.from ≤ i → i < end → Contains new.cleared (vertex_at old.plan old.loan.group i)
 
 -- the next group is marked, published and cleared
 pub record HasShownGroup (g : ℕ) (old new : WriterState) : Type 0 where

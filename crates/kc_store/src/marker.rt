@@ -1,6 +1,7 @@
 ghost use Rattle.std.specs.Prelude.{◌≡◌, ◌<◌, ◌≤◌, true, false};
 ghost use Rattle.kc_groups.specs.WellFormed.{vertex_at};
 ghost use Rattle.kc_store.specs.States.{marker_marked, marker_cleared};
+ghost use Rattle.kc_store.specs.Showing.{HasMarkedLent, HasClearedLent};
 
 use crate::moves::{move_at, phase_of, word_of};
 use crate::rule::{LentClears, LentMarks, LentNotes, Place};
@@ -18,6 +19,9 @@ pub struct Marker {
     pub(crate) seat: Place,
     // The place of the group in the plan, as in what the seat knows.
     pub(crate) group: u32,
+    // Its range, as in what the seat knows.
+    pub(crate) from: u32,
+    pub(crate) to: u32,
 }
 
 impl Model for Marker {
@@ -28,7 +32,7 @@ impl Model for Marker {
 
     ghost view = { λ m. marker_shape m.seat };
 
-    ghost invariant = { λ m. IsMarker m.seat × (m.group ≡ (marker_of m.seat.me.0).loan.group) };
+    ghost invariant = { λ m. IsMarker m.seat × (m.group ≡ (marker_of m.seat.me.0).loan.group) × (m.from ≡ (marker_of m.seat.me.0).loan.from) × (m.to ≡ (marker_of m.seat.me.0).loan.to) };
 }
 
 impl Marker {
@@ -68,5 +72,42 @@ impl Marker {
             .table
             .shared
             .store::<LentClears>(seat, m.vertex as usize + 1, pack(m.new, 0, 0));
+    }
+
+    // The first move of its range, and the one after the last.
+    fn range(&self) -> (u32, u32)
+        ensures { result ≡ (self.now.state.loan.from, self.now.state.loan.to) }
+    {
+        (self.from, self.to)
+    }
+
+    /// Marks each move of the marker's range, in order. The group was not published when the marker was lent, and the plan is the one of
+    /// that time.
+    pub fn mark_all(&mut self, store: &Store, plan: &PhasePlan)
+        requires table { self.old.table ≡ store.now.table }
+        requires plan { plan.now ≡ self.old.state.plan }
+        requires early { self.old.state.loan.published ≡ false }
+        ensures table { self.new.table ≡ self.old.table }
+        ensures marked { HasMarkedLent self.old.state.loan.to self.old.state self.new.state }
+    {
+        let (from, to) = self.range();
+        for i in from..to {
+            self.mark(store, plan, i);
+        }
+    }
+
+    /// Clears each move of the marker's range, in order. The group was published when the marker was lent, and the plan is the one of
+    /// that time.
+    pub fn clear_all(&mut self, store: &Store, plan: &PhasePlan)
+        requires table { self.old.table ≡ store.now.table }
+        requires plan { plan.now ≡ self.old.state.plan }
+        requires late { self.old.state.loan.published ≡ true }
+        ensures table { self.new.table ≡ self.old.table }
+        ensures cleared { HasClearedLent self.old.state.loan.to self.old.state self.new.state }
+    {
+        let (from, to) = self.range();
+        for i in from..to {
+            self.clear(store, plan, i);
+        }
     }
 }

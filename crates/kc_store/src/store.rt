@@ -67,6 +67,13 @@ impl Store {
         Ok((Store { table, n }, Writer { seat }))
     }
 
+    /// The number of vertices.
+    pub fn vertices(&self) -> u32
+        ensures { result ≡ self.now.vertices }
+    {
+        self.n
+    }
+
     /// The level of v at a point of the history that is not before what the pass had seen. The pass has then seen the history up
     /// to that point. The pass is of this store, and v is below n.
     ///

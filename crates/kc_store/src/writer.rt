@@ -150,6 +150,8 @@ impl Writer {
         Marker {
             seat: store.table.shared.split_seat::<Lends<J>>(&mut self.seat),
             group: g,
+            from,
+            to,
         }
     }
 
@@ -173,7 +175,7 @@ impl Writer {
         requires marker { marker.table ≡ store.now.table }
         ensures { self.new ≡ record self.old { state = with_returned marker.state self.old.state } }
     {
-        let Marker { seat, group: _ } = marker;
+        let Marker { seat, .. } = marker;
         store
             .table
             .shared

@@ -5,9 +5,9 @@ ghost use Rattle.kc_history.specs.declared.limits.TheConstants.{MAX_PHASE};
 ghost use Rattle.kc_groups.specs.WellFormed.{IsWellFormed};
 ghost use Rattle.kc_store.specs.Plans.{group_at};
 ghost use Rattle.kc_store.specs.States.{AllMovesIn, MayBegin, last_level};
-ghost use Rattle.kc_store.specs.Showing.{HasMarked, HasMarkedLent, HasCleared, HasClearedLent, HasShownGroup, HasShown, AreCurrent, IsAt, IsIdle};
+ghost use Rattle.kc_store.specs.Showing.{HasMarked, HasCleared, HasShownGroup, HasShown, AreCurrent, IsAt, IsIdle};
 
-use crate::{Marker, Store, Writer};
+use crate::{Store, Writer};
 use kc_groups::PhasePlan;
 use kc_groups::sizes::plans_are_small;
 use kc_history::Entry;
@@ -130,20 +130,6 @@ fn mark_next(store: &Store, writer: &mut Writer, plan: &PhasePlan, place: u32, m
     mark_group(store, writer, plan, place, moves);
 }
 
-// Marks each move of a marker's group.
-fn mark_lent(store: &Store, marker: &mut Marker, plan: &PhasePlan, moves: u32)
-    requires table { marker.old.table ≡ store.now.table }
-    requires plan { plan.now ≡ marker.old.state.plan }
-    requires range { (marker.old.state.loan.from ≡ 0) × (marker.old.state.loan.to ≡ moves) }
-    requires early { marker.old.state.loan.published ≡ false }
-    ensures table { marker.new.table ≡ marker.old.table }
-    ensures marked { HasMarkedLent moves marker.old.state marker.new.state }
-{
-    for i in 0..moves {
-        marker.mark(store, plan, i);
-    }
-}
-
 // Marks the next group by one marker.
 fn lend_next(store: &Store, writer: &mut Writer, plan: &PhasePlan, g: u32, moves: u32)
     requires table { writer.old.table ≡ store.now.table }
@@ -155,7 +141,7 @@ fn lend_next(store: &Store, writer: &mut Writer, plan: &PhasePlan, g: u32, moves
     ensures marked { AllMovesIn writer.new.state.marked (group_at plan.now g) }
 {
     let mut marker = writer.lend(store, plan, g, 0, moves);
-    mark_lent(store, &mut marker, plan, moves);
+    marker.mark_all(store, plan);
     writer.give_back(store, marker);
 }
 
@@ -194,20 +180,6 @@ pub(crate) fn publish_next(store: &Store, writer: &mut Writer, plan: &PhasePlan,
     writer.publish(store, plan, place);
 }
 
-// Clears each move of a marker's group.
-fn clear_lent(store: &Store, marker: &mut Marker, plan: &PhasePlan, moves: u32)
-    requires table { marker.old.table ≡ store.now.table }
-    requires plan { plan.now ≡ marker.old.state.plan }
-    requires range { (marker.old.state.loan.from ≡ 0) × (marker.old.state.loan.to ≡ moves) }
-    requires late { marker.old.state.loan.published ≡ true }
-    ensures table { marker.new.table ≡ marker.old.table }
-    ensures cleared { HasClearedLent moves marker.old.state marker.new.state }
-{
-    for i in 0..moves {
-        marker.clear(store, plan, i);
-    }
-}
-
 // Clears the last published group by one marker.
 pub(crate) fn lend_last(store: &Store, writer: &mut Writer, plan: &PhasePlan, g: u32, moves: u32)
     requires table { writer.old.table ≡ store.now.table }
@@ -219,7 +191,7 @@ pub(crate) fn lend_last(store: &Store, writer: &mut Writer, plan: &PhasePlan, g:
     ensures cleared { AllMovesIn writer.new.state.cleared (group_at plan.now g) }
 {
     let mut marker = writer.lend(store, plan, g, 0, moves);
-    clear_lent(store, &mut marker, plan, moves);
+    marker.clear_all(store, plan);
     writer.give_back(store, marker);
 }
 
