@@ -44,7 +44,7 @@ texts_prefix f xs i d x before now later h is e t =
     rw s.all (prefix_longer before later (flat_map f (take (suc i) xs)) s.behind (rw s.here (prefix_then before now later (flat_map f (take i xs)) (f (get_or xs i d)) e next)))
 
 -- one more member was put together
-pub members_more : (f : Move → List ℕ) (xs : List Move) (i : ℕ) (d : Move) (old buffer more : List ℕ) → i < length xs → buffer ≡ old ++ flat_map f (take i xs) → more ≡ buffer ++ f (get_or xs i d) → more ≡ old ++ flat_map f (take (i + 1) xs)
+pub members_more : {A : Type 0} (f : A → List ℕ) (xs : List A) (i : ℕ) (d : A) (old buffer more : List ℕ) → i < length xs → buffer ≡ old ++ flat_map f (take i xs) → more ≡ buffer ++ f (get_or xs i d) → more ≡ old ++ flat_map f (take (i + 1) xs)
 members_more f xs i d old buffer more h e t =
     let s = split_at f xs i d h in
     rw (add-one, s.here) (t ∙ ap (λ (b : List ℕ). b ++ f (get_or xs i d)) e ∙ append_assoc old (flat_map f (take i xs)) (f (get_or xs i d)))
@@ -59,7 +59,7 @@ member_at xs i d m old buffer a b h is e ea eb =
     members_more (λ (k : Move). 32 ∷ member_word k) xs i d old buffer b h e (member_filled m buffer a b ea eb ∙ ap (λ (k : Move). buffer ++ 32 ∷ member_word k) is)
 
 -- words that are joined, each but the first with its blank
-joined : {A : Type 0} (word : List ℕ) (f : A → List ℕ) (xs : List A) → join_with_byte 32 (word ∷ map f xs) ≡ word ++ flat_map (λ x. 32 ∷ f x) xs
+pub joined : {A : Type 0} (word : List ℕ) (f : A → List ℕ) (xs : List A) → join_with_byte 32 (word ∷ map f xs) ≡ word ++ flat_map (λ x. 32 ∷ f x) xs
 joined word f [] = sym (append-nil word)
 joined word f (x ∷ xs) = ap (λ (t : List ℕ). word ++ 32 ∷ t) (joined (f x) f xs)
 

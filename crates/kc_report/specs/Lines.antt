@@ -4,6 +4,7 @@ use Rattle.std.specs.List.{join_with_byte, flat_map}
 use Rattle.kc_graph.specs.declared.cleaning.Cleaned.{Cleaned}
 use Rattle.kc_groups.specs.declared.plans.PhasePlan.{PhasePlan}
 use Rattle.kc_history.specs.declared.entries.Entry.{Entry}
+use Rattle.kc_history.specs.declared.replies.Reply.{Reply}
 use Rattle.kc_levels.specs.declared.moves.Move.{Move}
 use Rattle.kc_levels.specs.declared.thresholds.Estimate.{Estimate}
 use Rattle.kc_text.specs.declared.reason.Reason.{Reason}
@@ -70,6 +71,14 @@ refused_line number line reason =
 -- the one line where the header is refused
 abbrev pub header_refused_line : ℕ → List ℕ
 header_refused_line line = line_of (codes "refused" ∷ codes "line" ∷ decimal line ∷ codes "header" ∷ [])
+
+-- a vertex that was asked for, and the level that was told of it
+abbrev pub reply_word : Reply → List ℕ
+reply_word r = decimal r.vertex ++ (61 ∷ decimal r.level)
+
+-- a reader: its number, and its replies
+abbrev pub reader_line : ℕ → List Reply → List ℕ
+reader_line number replies = line_of (codes "reader" ∷ decimal number ∷ map reply_word replies)
 
 -- a vertex: its level, what the level says of its coreness, and how many neighbours it has on its level or above, and
 -- on the level below or above

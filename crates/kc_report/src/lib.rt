@@ -1,8 +1,8 @@
 //! The lines that a run writes, and those of an exact text.
 //!
 //! Each call asks for an empty line buffer, puts a line together in it and sends it whole. The sink takes the lines of
-//! the definition that the call names. A line has at most 106 bytes, and one of a group as many more as its vertices take; the
-//! buffer keeps their memory for the next one.
+//! the definition that the call names. A line has at most 106 bytes, and one of a group or of a reader as many more as its
+//! vertices take; the buffer keeps their memory for the next one.
 //!
 //! After either fault the sink took a prefix of the lines. `WriteFault` comes only where a write to the sink failed in
 //! this call; the buffer is empty then, as after success. `Memory` says that there was none for a line; the buffer may
@@ -15,6 +15,7 @@ mod fill;
 mod head;
 mod notes;
 mod phases;
+mod readers;
 #[cfg(test)]
 mod tests;
 mod vertices;
@@ -23,4 +24,5 @@ pub use batches::{write_batch, write_refused};
 pub use exact::{write_coreness, write_exact_head};
 pub use head::{write_end, write_head, write_header_refused};
 pub use notes::write_note;
+pub use readers::write_reader;
 pub use vertices::write_vertex;

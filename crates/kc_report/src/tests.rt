@@ -3,9 +3,10 @@ ghost use Rattle.std.specs.Prelude.{◌≡◌, ◌≤◌, IfOk, length};
 
 use crate::{
     write_batch, write_coreness, write_end, write_exact_head, write_head, write_header_refused,
-    write_note, write_refused, write_vertex,
+    write_note, write_reader, write_refused, write_vertex,
 };
 use kc_graph::{Cleaned, Edge, Edges};
+use kc_history::Reply;
 use kc_levels::Estimate;
 use kc_text::{LineBuf, MemSink, Reason, SendFault};
 use std::alloc::{AllocError, Global};
@@ -169,5 +170,35 @@ fn lines_of_an_exact_text(rt: HostRuntime) -> Result<(), Fail> {
             end\n";
         assert_eq!(rt; sink.bytes(), want, "in pieces of {piece}");
     }
+    Ok(())
+}
+
+// The second reader has no reply. Each line is one call of the sink, of which the fourth fails.
+#[test]
+fn lines_of_readers(rt: HostRuntime) -> Result<(), Fail> {
+    let alloc = rt.alloc();
+    let replies = [
+        Reply {
+            vertex: 4294967295,
+            level: 65535,
+        },
+        Reply {
+            vertex: 0,
+            level: 7,
+        },
+        Reply {
+            vertex: 0,
+            level: 0,
+        },
+    ];
+    let mut sink = MemSink::new(alloc, 1000, 1000, &[4])?;
+    let mut buf = LineBuf::new(alloc);
+    write_reader(alloc, &mut buf, &mut sink, 0, &replies)?;
+    write_reader(alloc, &mut buf, &mut sink, 1, &[])?;
+    write_reader(alloc, &mut buf, &mut sink, 4294967295, &replies[1..])?;
+    let failed = write_reader(alloc, &mut buf, &mut sink, 3, &replies);
+    assert!(rt; matches!(failed, Err(SendFault::WriteFault)));
+    let want: &[u8] = b"reader 0 4294967295=65535 0=7 0=0\nreader 1\nreader 4294967295 0=7 0=0\n";
+    assert_eq!(rt; sink.bytes(), want);
     Ok(())
 }

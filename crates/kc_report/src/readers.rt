@@ -1,0 +1,58 @@
+//! The lines of readers.
+ghost use Rattle.std.specs.Prelude.{◌≡◌, [], ◌∷◌, ◌++◌, OnOk, decimal};
+ghost use Rattle.std.specs.List.{flat_map};
+ghost use Rattle.kc_text.specs.Writing.{Appends, WriteCause};
+ghost use Rattle.kc_report.specs.Buffer.{IsCleared};
+ghost use Rattle.kc_report.specs.Lines.{reply_word, reader_line};
+
+use crate::fill::fill_named;
+use kc_history::Reply;
+use kc_text::{LineBuf, SendFault, Sink};
+use std::alloc::{AllocError, Global};
+
+// Appends for each reply a blank, its vertex and its level.
+fn fill_replies(alloc: Global, buf: &mut LineBuf, replies: &[Reply]) -> Result<(), AllocError>
+    ensures { OnOk result (buf.new ≡ buf.old ++ flat_map (λ r. 32 ∷ reply_word r) replies.now) }
+{
+    for r in replies {
+        fill_named(alloc, buf, b" ", r.vertex)?;
+        fill_named(alloc, buf, b"=", u32::from(r.level))?;
+    }
+    Ok(())
+}
+
+fn fill_reader(
+    alloc: Global,
+    buf: &mut LineBuf,
+    reader: u32,
+    replies: &[Reply],
+) -> Result<(), AllocError>
+    requires { buf.old ≡ [] }
+    ensures { OnOk result (buf.new ++ 10 ∷ [] ≡ reader_line reader replies.now) }
+{
+    fill_named(alloc, buf, b"reader ", reader)?;
+    fill_replies(alloc, buf, replies)
+}
+
+/// Writes the line of a reader (`reader_line`): its number, and its replies in their order, each the vertex and the level that was
+/// told of it.
+///
+/// Readers are numbered from 0; any number is written, and any replies: where there are none, the number stands alone. After
+/// `WriteFault`, which only a failed write gives, and after `Memory` the sink took a prefix of the line.
+pub fn write_reader<K: Sink>(
+    alloc: Global,
+    buf: &mut LineBuf,
+    sink: &mut K,
+    reader: u32,
+    replies: &[Reply],
+) -> Result<(), SendFault>
+    requires { buf.old ≡ [] }
+    ensures text { Appends (K.taken sink.old) (K.taken sink.new) (reader_line reader replies.now) result }
+    ensures buffer { IsCleared buf.new result }
+    ensures cause { WriteCause (K.faults sink.old) (K.faults sink.new) result }
+{
+    match fill_reader(alloc, buf, reader, replies) {
+        Ok(()) => buf.send(alloc, sink),
+        Err(fault) => Err(SendFault::Memory(fault)),
+    }
+}
