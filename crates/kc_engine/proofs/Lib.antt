@@ -2,3 +2,8 @@ pub mod BatchLemmas
 pub mod RelinkLemmas
 pub mod MoveLemmas
 pub mod PhaseLaw
+pub mod LeadLaw
+pub mod ShowLaw
+pub mod Loans
+pub mod Groups
+pub mod PhaseSteps

@@ -196,14 +196,14 @@ well_formed_made (Err e) p before g c x y a = tt
 pub phases_are_well_formed : PhasesAreWellFormed
 phases_are_well_formed s t c plans a = well_formed s.phases s.graph c s.levels a.after.levels.between t.levels plans a.phases
 
-entries_in-append : (ps qs : List PhasePlan) → entries_in (ps ++ qs) ≡ entries_in ps ++ entries_in qs
+pub entries_in-append : (ps qs : List PhasePlan) → entries_in (ps ++ qs) ≡ entries_in ps ++ entries_in qs
 entries_in-append [] qs = refl
 entries_in-append (p ∷ ps) qs = ap (λ (es : List Entry). entries_of p ++ es) (entries_in-append ps qs) ∙ sym (append_assoc (entries_of p) (entries_in ps) (entries_in qs))
 
 -- what the entries of a phase lead to
-record IsLed (g h : GraphShape) (x y : List ℕ) (plans : List PhasePlan) : Type 0 where
-  graph : points.graph_after g (entries_in plans) ≡ h
-  levels : points.levels_after x (entries_in plans) ≡ y
+pub record IsLed (g h : GraphShape) (x y : List ℕ) (plans : List PhasePlan) : Type 0 where
+  pub graph : points.graph_after g (entries_in plans) ≡ h
+  pub levels : points.levels_after x (entries_in plans) ≡ y
 
 led_by_one : (g h : GraphShape) (x y : List ℕ) (plans : List PhasePlan) (p : PhasePlan) → plans ≡ p ∷ [] → points.graph_after g (entries_of p) ≡ h → points.levels_after x (entries_of p) ≡ y → IsLed g h x y plans
 led_by_one g h x y plans p alone graph levels =
@@ -220,7 +220,7 @@ led_by_none g x y plans none same = record {
 }
 
 -- the phase in which edges leave
-led_out : (p : Profile) (phase : ℕ) (es : List Pair) (x y : List ℕ) (g : GraphShape) (plans : List PhasePlan) → IsGraph g → length x ≡ g.vertices → length y ≡ g.vertices → EdgesFrom g.vertices 0 0 es → AllPresent g es
+pub led_out : (p : Profile) (phase : ℕ) (es : List Pair) (x y : List ℕ) (g : GraphShape) (plans : List PhasePlan) → IsGraph g → length x ≡ g.vertices → length y ≡ g.vertices → EdgesFrom g.vertices 0 0 es → AllPresent g es
     → AreLoweredIn p g es x y → ArePhaseOf phase false es x y g plans → IsLed g (without_edges g es) x y plans
 led_out p phase [] x y g plans graph sx sy up present low a = led_by_none g x y plans a low
 led_out p phase (e ∷ es) x y g plans graph sx sy up present low a =

@@ -8,6 +8,7 @@ use Rattle.kc_history.specs.declared.limits.TheConstants.{MAX_PHASE}
 use Rattle.kc_history.specs.declared.entries.Entry.{Entry}
 use Rattle.kc_history.specs.Points as points
 use Rattle.kc_groups.specs.declared.plans.PhasePlan.{PhasePlan}
+use Rattle.kc_groups.specs.Phases.{LeadOn}
 use Rattle.kc_groups.specs.WellFormed.{IsWellFormed}
 use Rattle.kc_engine.specs.States.{State, start, IsSound}
 use Rattle.kc_engine.specs.Batches.{IsCleaning, refusal_of, IsAfterBatch, IsAfterPhases}
@@ -66,3 +67,9 @@ abbrev pub PhasesLeadOn : Type 0
 PhasesLeadOn =
     (limit n : ℕ) (history : List Entry) (s t : State) (c : Cleaned) (plans : List PhasePlan) → IsSound limit s → IsCleaning s.graph c → IsAfterPhases s c t plans →
     IsHistoryOf n history s → IsHistoryOf n (history ++ entries_in plans) t
+
+-- the phases of the batch lead, one after another, from the graph and levels before it to those after it
+abbrev pub PhasesLeadOneByOne : Type 0
+PhasesLeadOneByOne =
+    (limit : ℕ) (s t : State) (c : Cleaned) (plans : List PhasePlan) → IsSound limit s → IsCleaning s.graph c → IsAfterPhases s c t plans →
+    LeadOn s.profile s.graph s.levels plans t.graph t.levels

@@ -15,31 +15,38 @@ use Rattle.kc_engine.specs.Batches.{refusal_of, moves_through, IsAfterBatch, Are
 -- what contracts see of an `Engine`; once it has halted, graph and levels of the state are unspecified
 pub record EngineView : Type 0 where
   pub state : State
+  -- what its thresholds are for
+  pub scale : Scale
   pub workers : ℕ
   pub edge_limit : ℕ
   pub halted : Bool
+  -- whether a plan waits to be shown
+  pub waits : Bool
 
 -- an engine of this shape before its first batch
 abbrev pub opened : Shape → EngineView
-opened shape = record { state = start shape.profile shape.n shape.phases_before; workers = shape.workers; edge_limit = shape.edge_limit; halted = false }
+opened shape = record { state = start shape.profile shape.n shape.phases_before; scale = record { profile = shape.profile; vertices = shape.n }; workers = shape.workers; edge_limit = shape.edge_limit; halted = false; waits = false }
 
--- what an engine keeps: unless it has halted, its thresholds are for its graph, its state is sound, and a phase may begin
-pub record IsKept (th : Scale) (work : PhaseWork) (e : EngineView) : Type 0 where
+-- what an engine keeps: it has a place for the marker of each worker, no plan waits once it has halted, and unless it has halted its
+-- thresholds are for its graph, its state is sound, and a phase may begin
+pub record IsKept (places : ℕ) (work : PhaseWork) (e : EngineView) : Type 0 where
   pub some_workers : 1 ≤ e.workers
   pub few_workers : e.workers ≤ 64
+  pub one_each : places ≡ e.workers
   pub limit : e.edge_limit ≤ MAX_EDGES
-  pub scale : e.halted ≡ false → th.vertices ≡ e.state.graph.vertices
+  pub running : e.waits ≡ true → e.halted ≡ false
+  pub scale : e.halted ≡ false → e.scale.vertices ≡ e.state.graph.vertices
   pub sound : e.halted ≡ false → IsSound e.edge_limit e.state
   pub ready : e.halted ≡ false → AreReady e.state.profile (record { graph = e.state.graph; levels = e.state.levels }) work
 
--- the batch was accepted: f is the engine e after it, and the plan has its phases
+-- the batch was accepted: f is the engine e after it, the plan has its phases, and waits to be shown
 pub record IsPlanned (e : EngineView) (c : Cleaned) (plan : BatchPlan) (f : EngineView) : Type 0 where
   pub running : e.halted ≡ false
   pub accepted : refusal_of e.edge_limit e.state c ≡ None
   pub after : IsAfterBatch e.state c f.state
   pub phases : ArePhases e.state.phases e.state.graph c e.state.levels after.levels.between f.state.levels plan.phases
   pub moves : plan.moves ≡ moves_through e.state.graph.vertices e.state.levels after.levels.between f.state.levels
-  pub rest : f ≡ record e { state = f.state }
+  pub rest : f ≡ record e { state = f.state; waits = true }
 
 -- the batch was refused for this reason, and the engine is as before
 pub record IsRefused (e : EngineView) (c : Cleaned) (fault : EngineFault) (f : EngineView) : Type 0 where

@@ -1,28 +1,33 @@
-ghost use Rattle.std.specs.Prelude.{◌≡◌, ◌-◌, ◌<◌, ◌≤◌, false, IfOk, OnOk, All, slice_index};
+ghost use Rattle.std.specs.Prelude.{◌≡◌, ◌-◌, ◌<◌, ◌≤◌, true, false, IfOk, OnOk, All, slice_index};
 ghost use Rattle.kc_levels.specs.LevelList.{at_least, MeetsBoth};
 ghost use Rattle.kc_groups.specs.WellFormed.{IsWellFormed};
 ghost use Rattle.kc_engine.specs.States.{IsSound};
 ghost use Rattle.kc_engine.specs.Batches.{IsCleaning, refusal_of};
 ghost use Rattle.kc_engine.specs.Planning.{opened, Answers};
+ghost use Rattle.kc_engine.specs.Showing.{AreShown, Continues};
+ghost use Rattle.kc_store.specs.Showing.{IsIdle};
 
 use crate::faults::EngineFault;
 use crate::phases::{phase_count, run_phases};
 use crate::plans::BatchPlan;
 use crate::shape::Shape;
+use crate::showing::{MarkerPlaces, show_phases};
 use crate::work::PhaseWork;
 use kc_adj::LevelAdj;
 use kc_graph::{Cleaned, Graph, MAX_EDGES, MAX_VERTICES};
 use kc_history::MAX_PHASE;
 use kc_levels::{Levels, Thresholds};
 use kc_rounds::Gate;
+use kc_store::{Store, Writer};
 use std::alloc::{AllocError, Global};
 use std::marker::Model;
 use std::thread::Threads;
 
 /// A graph with levels, which cleaned batches change one after another.
 ///
-/// Contracts see it as an `EngineView`: its state (`State`), workers and edge limit, and whether it has halted. Unless it has
-/// halted its state is sound (`IsSound`): both invariants hold, and no number is above its limit.
+/// Contracts see it as an `EngineView`: its state (`State`), what its thresholds are for, workers and edge limit, whether it has halted, and
+/// whether a plan waits to be shown. Unless it has halted its state is sound (`IsSound`): both invariants hold, and no number is
+/// above its limit.
 ///
 /// Besides the graph it keeps 25 bytes a vertex: 10 for levels and counts, and 15 for what phases work with.
 #[derive(Drop)]
@@ -37,6 +42,10 @@ pub struct Engine {
     edge_limit: u32,
     // Whether there was no memory for a batch: graph and levels may then be those in the middle of a phase.
     halted: bool,
+    // Whether a plan waits to be shown.
+    waits: bool,
+    // Where the markers stand that it lends while it shows a plan: one place a worker.
+    places: MarkerPlaces,
 }
 
 impl Model for Engine {
@@ -44,13 +53,13 @@ impl Model for Engine {
 
     ghost Value = { EngineView };
 
-    ghost view = { λ e. record { state = record { profile = e.thresholds.profile; graph = e.adj.graph; levels = e.adj.levels; phases = e.phases }; workers = e.workers; edge_limit = e.edge_limit; halted = e.halted } };
+    ghost view = { λ e. record { state = record { profile = e.thresholds.profile; graph = e.adj.graph; levels = e.adj.levels; phases = e.phases }; scale = e.thresholds; workers = e.workers; edge_limit = e.edge_limit; halted = e.halted; waits = e.waits } };
 
-    ghost invariant = { λ e. IsKept e.thresholds e.work (record { state = record { profile = e.thresholds.profile; graph = e.adj.graph; levels = e.adj.levels; phases = e.phases }; workers = e.workers; edge_limit = e.edge_limit; halted = e.halted }) };
+    ghost invariant = { λ e. IsKept e.places e.work (record { state = record { profile = e.thresholds.profile; graph = e.adj.graph; levels = e.adj.levels; phases = e.phases }; scale = e.thresholds; workers = e.workers; edge_limit = e.edge_limit; halted = e.halted; waits = e.waits }) };
 }
 
 impl Engine {
-    /// The engine of this shape before its first batch (`opened`): no edges, all levels 0, not halted.
+    /// The engine of this shape before its first batch (`opened`): no edges, all levels 0, not halted, and no plan waits to be shown.
     ///
     /// The numbers of the shape are within their ranges. Takes memory and time for n vertices. Fails only if memory runs out.
     pub fn open(alloc: Global, shape: Shape) -> Result<Engine, AllocError>
@@ -65,6 +74,7 @@ impl Engine {
         let thresholds = Thresholds::new(alloc, shape.profile, shape.n)?;
         let adj = LevelAdj::new(alloc, shape.n)?;
         let work = PhaseWork::new(alloc, &thresholds, &adj)?;
+        let places = MarkerPlaces::new(alloc, shape.workers)?;
         Ok(Engine {
             thresholds,
             adj,
@@ -73,6 +83,8 @@ impl Engine {
             workers: shape.workers,
             edge_limit: shape.edge_limit,
             halted: false,
+            waits: false,
+            places,
         })
     }
 
@@ -101,7 +113,8 @@ impl Engine {
     ///
     /// First the edges of `removed` leave and the levels fall to the lowered list (`IsLowered`), then the edges of `added` come
     /// in and the levels rise to the raised list (`IsRaised`). Each is a phase of its own and takes the next number; there is
-    /// none for an empty list. Unless the engine has halted, `cleaned` is what `clean` gives for this graph.
+    /// none for an empty list. No plan waits to be shown, and unless the engine has halted, `cleaned` is what `clean` gives for this
+    /// graph. After `Ok` the plan waits.
     ///
     /// The faults, of which the first that applies comes, before memory is asked for:
     /// - `Halted` exactly where an earlier batch ran out of memory;
@@ -126,6 +139,7 @@ impl Engine {
         gate: &G,
         cleaned: &Cleaned,
     ) -> Result<BatchPlan, EngineFault>
+        requires none_waits { self.old.waits ≡ false }
         requires cleaning { self.old.halted ≡ false → IsCleaning self.old.state.graph cleaned.now }
         ensures answer { Answers self.old cleaned.now result self.new }
         ensures both { OnOk result (MeetsBoth self.new.state.profile self.new.state.graph self.new.state.levels) }
@@ -154,7 +168,47 @@ impl Engine {
         .map_err(EngineFault::Memory)?;
         self.phases += phase_count(cleaned);
         self.halted = false;
+        self.waits = true;
         Ok(plan)
+    }
+
+    /// Shows the plan that waits: each of its phases takes effect in the store, one group after another, and the writer's history grows by
+    /// their entries (`AreShown`). Afterwards no plan waits, and the engine is otherwise unchanged.
+    ///
+    /// The store is the writer's and for the vertices of the graph. Each group of the writer's last begun phase is published, each of
+    /// its moves cleared, and no marker is out; so it is again afterwards. The plan continues the writer's history to the engine
+    /// (`Continues`).
+    ///
+    /// The moves of a group are cut into ranges of their number divided by the workers, rounded up. The ranges are marked, the group is
+    /// published, and the ranges are cleared. At the start of each range the gate is told `Piece` with its index, for marking and for
+    /// clearing, and before each publication `Publishing`. The ranges of a group go to threads where it has 8,192 moves or more, or is the
+    /// first one that the engine shows, and are done one after another otherwise; where no thread can be made the calling thread does the
+    /// range. Takes no memory, and never waits.
+    ///
+    /// Costs two stores to mark a move and one to clear it.
+    pub fn show<R: Threads + Sync, G: Gate + Sync>(
+        &mut self,
+        rt: &R,
+        gate: &G,
+        store: &Store,
+        writer: &mut Writer,
+        plan: &BatchPlan,
+    )
+        requires waits { self.old.waits ≡ true }
+        requires table { writer.old.table ≡ store.now.table }
+        requires vertices { writer.old.state.vertices ≡ self.old.state.graph.vertices }
+        requires idle { IsIdle writer.old.state }
+        requires continues { Continues writer.old.state self.old.state plan.now.phases }
+        ensures engine { self.new ≡ record self.old { waits = false } }
+        ensures table { writer.new.table ≡ writer.old.table }
+        ensures shown { AreShown plan.now.phases writer.old.state writer.new.state }
+        ensures phase { writer.new.state.phase ≡ self.new.state.phases }
+    {
+        let n = self.adj.graph().vertices();
+        let phases = plan.phases.as_slice();
+        let places = &mut self.places;
+        show_phases(rt, gate, store, writer, phases, places, n);
+        self.waits = false;
     }
 
     /// The graph, of which nothing is specified once the engine has halted.
@@ -192,6 +246,7 @@ impl Engine {
 
     /// The thresholds that the levels go by. They are for the vertices of the graph, unless the engine has halted.
     pub fn thresholds(&self) -> &Thresholds
+        ensures value { result.now ≡ self.now.scale }
         ensures profile { result.now.profile ≡ self.now.state.profile }
         ensures scale { self.now.halted ≡ false → result.now.vertices ≡ self.now.state.graph.vertices }
     {

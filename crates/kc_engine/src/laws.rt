@@ -1,6 +1,7 @@
 // Laws of the definitions. The functions do nothing: each has laws as its contract.
 
-ghost use Rattle.kc_engine.specs.Laws.{StartIsSound, BatchHasOneState, BatchKeepsSound, BatchKeepsBoth, PhasesAreOne, PhasesAreNumberedOn, PhasesAreWellFormed, PhasesLeadOver, PhasesLeadOn};
+ghost use Rattle.kc_engine.specs.Laws.{StartIsSound, BatchHasOneState, BatchKeepsSound, BatchKeepsBoth, PhasesAreOne, PhasesAreNumberedOn, PhasesAreWellFormed, PhasesLeadOver, PhasesLeadOn, PhasesLeadOneByOne};
+ghost use Rattle.kc_engine.specs.Showing.{PhasesContinue, ShownIsAbreast};
 
 /// Before the first batch the state is sound.
 pub fn start_is_sound()
@@ -37,4 +38,17 @@ pub fn phases_are_well_formed()
 pub fn phases_lead_over()
     ensures over { PhasesLeadOver }
     ensures on { PhasesLeadOn }
+{}
+
+/// Each phase of a batch leads from the graph and levels before it to those after it: its edges come in and the levels rise, or
+/// they leave and the levels fall.
+pub fn phases_lead_one_by_one()
+    ensures { PhasesLeadOneByOne }
+{}
+
+/// The phases of a batch continue the history of a writer that is abreast of the state before it, and once they are shown the
+/// writer is abreast of the state after it.
+pub fn phases_continue()
+    ensures continues { PhasesContinue }
+    ensures abreast { ShownIsAbreast }
 {}

@@ -13,6 +13,7 @@ mod phases;
 mod plan_lists;
 mod plans;
 mod shape;
+mod showing;
 mod work;
 
 pub use engine::Engine;

@@ -1,9 +1,10 @@
-ghost use Rattle.std.specs.Prelude.{◌≡◌, ◌≤◌, ◌<◌, false, All, OnOk, IfOk};
-ghost use Rattle.std.specs.Bool.{OnTrue};
-ghost use Rattle.kc_graph.specs.Cleaning.{IsInside};
+ghost use Rattle.std.specs.Prelude.{◌≡◌, ◌<◌};
 
-use crate::{BatchPlan, Engine, EngineFault, MAX_PHASE, Shape};
-use kc_graph::{Edge, Item, MAX_EDGES, MAX_ITEMS, MAX_VERTICES, clean};
+mod showing;
+mod trial;
+
+use crate::{BatchPlan, EngineFault, MAX_PHASE, Shape};
+use kc_graph::{Edge, Item, MAX_EDGES};
 use kc_groups::PhasePlan;
 use kc_history::{Entry, Move};
 use kc_levels::Profile;
@@ -12,6 +13,7 @@ use std::alloc::{AllocError, Global};
 use std::process::Abort;
 use std::test::Fail;
 use std::thread::Threads;
+use trial::Trial;
 
 fn put(u: u32, v: u32) -> Item {
     Item::Insert { u, v }
@@ -19,36 +21,6 @@ fn put(u: u32, v: u32) -> Item {
 
 fn take(u: u32, v: u32) -> Item {
     Item::Delete { u, v }
-}
-
-// Whether the vertices of the item are below n.
-fn is_inside(item: Item, n: u32) -> bool
-    ensures { OnTrue result (IsInside n item) }
-{
-    match item {
-        Item::Insert { u, v } => u < n && v < n,
-        Item::Delete { u, v } => u < n && v < n,
-        Item::Isolate { v } => v < n,
-    }
-}
-
-// Whether the vertices of all the items are below n.
-fn are_inside(items: &[Item], n: u32) -> bool
-    ensures { OnTrue result (All (IsInside n) items.now) }
-{
-    for item in items {
-        if !is_inside(*item, n) {
-            return false;
-        }
-    }
-    true
-}
-
-// Whether the engine has these levels and so many edges, and had so many phases.
-fn is_as(engine: &Engine, levels: &[u16], edges: u32, phases: u32) -> bool {
-    engine.levels().as_slice() == levels
-        && engine.graph().edge_count() == edges
-        && engine.phases() == phases
 }
 
 // What becomes of a batch of these items: the number of moves, or the number with which it is refused.
@@ -59,20 +31,14 @@ enum Outcome {
     PhaseLimit(u32),
 }
 
-// Plans a batch of these items. The engine hasn't halted.
+// Plans a batch of these items, and shows the plan.
 fn run<R: Threads + Sync + Abort>(
     rt: &R,
     alloc: Global,
-    engine: &mut Engine,
+    trial: &mut Trial,
     items: &[Item],
-) -> Result<Outcome, AllocError>
-    requires running { engine.old.halted ≡ false }
-    ensures running { OnOk result (engine.new.halted ≡ false) }
-{
-    assert!(rt; items.len() <= MAX_ITEMS as usize);
-    assert!(rt; are_inside(items, engine.graph().vertices()));
-    let cleaned = clean(rt, alloc, engine.graph(), items)?;
-    match engine.plan(rt, alloc, &OpenGate::new(), &cleaned) {
+) -> Result<Outcome, AllocError> {
+    match trial.apply(rt, alloc, &OpenGate::new(), items) {
         Ok(plan) => Ok(Outcome::Moves(plan.moves)),
         Err(EngineFault::Halted) => Err(AllocError),
         Err(EngineFault::EdgeLimit { edges }) => Ok(Outcome::EdgeLimit(edges)),
@@ -81,20 +47,14 @@ fn run<R: Threads + Sync + Abort>(
     }
 }
 
-// The plan of a batch of these items, which isn't refused. The engine hasn't halted.
+// The plan of a batch of these items, which isn't refused. It is shown.
 fn planned<R: Threads + Sync + Abort>(
     rt: &R,
     alloc: Global,
-    engine: &mut Engine,
+    trial: &mut Trial,
     items: &[Item],
-) -> Result<BatchPlan, AllocError>
-    requires running { engine.old.halted ≡ false }
-    ensures running { OnOk result (engine.new.halted ≡ false) }
-{
-    assert!(rt; items.len() <= MAX_ITEMS as usize);
-    assert!(rt; are_inside(items, engine.graph().vertices()));
-    let cleaned = clean(rt, alloc, engine.graph(), items)?;
-    match engine.plan(rt, alloc, &OpenGate::new(), &cleaned) {
+) -> Result<BatchPlan, AllocError> {
+    match trial.apply(rt, alloc, &OpenGate::new(), items) {
         Ok(plan) => Ok(plan),
         Err(_) => Err(AllocError),
     }
@@ -168,55 +128,39 @@ fn moved(vertex: u32, old: u16, new: u16) -> Move {
     Move { vertex, old, new }
 }
 
-// The engine for n vertices with the program's limits.
-fn opened(alloc: Global, n: u32) -> Result<Engine, AllocError>
-    requires some { 1 ≤ n }
-    requires small { n ≤ MAX_VERTICES }
-    ensures { IfOk result (λ engine. engine.halted ≡ false) }
-{
-    let shape = Shape {
-        profile: Profile::One,
-        n,
-        workers: 1,
-        phases_before: 0,
-        edge_limit: MAX_EDGES,
-    };
-    Engine::open(alloc, shape)
-}
-
 #[test]
 fn a_star_rises_and_falls_again(rt: HostRuntime) -> Result<(), Fail> {
-    let mut engine = opened(rt.alloc(), 5)?;
+    let mut trial = Trial::new(rt.alloc(), 5)?;
     let star = [put(0, 1), put(0, 2), put(0, 3), put(0, 4)];
-    let outcome = run(&rt, rt.alloc(), &mut engine, &star)?;
+    let outcome = run(&rt, rt.alloc(), &mut trial, &star)?;
     assert_eq!(rt; outcome, Outcome::Moves(5));
-    assert!(rt; is_as(&engine, &[2, 1, 1, 1, 1], 4, 1));
+    assert!(rt; trial.is_as(&[2, 1, 1, 1, 1], 4, 1));
     let none = [take(0, 1), take(0, 2), take(0, 3), take(0, 4)];
-    let outcome = run(&rt, rt.alloc(), &mut engine, &none)?;
+    let outcome = run(&rt, rt.alloc(), &mut trial, &none)?;
     assert_eq!(rt; outcome, Outcome::Moves(5));
-    assert!(rt; is_as(&engine, &[0, 0, 0, 0, 0], 0, 2));
+    assert!(rt; trial.is_as(&[0, 0, 0, 0, 0], 0, 2));
     Ok(())
 }
 
 #[test]
 fn levels_depend_on_what_was_before(rt: HostRuntime) -> Result<(), Fail> {
-    let mut engine = opened(rt.alloc(), 5)?;
+    let mut trial = Trial::new(rt.alloc(), 5)?;
     let path = [put(0, 1), put(0, 2)];
-    let outcome = run(&rt, rt.alloc(), &mut engine, &path)?;
+    let outcome = run(&rt, rt.alloc(), &mut trial, &path)?;
     assert_eq!(rt; outcome, Outcome::Moves(3));
-    assert!(rt; is_as(&engine, &[1, 1, 1, 0, 0], 2, 1));
-    let outcome = run(&rt, rt.alloc(), &mut engine, &[put(0, 3)])?;
+    assert!(rt; trial.is_as(&[1, 1, 1, 0, 0], 2, 1));
+    let outcome = run(&rt, rt.alloc(), &mut trial, &[put(0, 3)])?;
     assert_eq!(rt; outcome, Outcome::Moves(2));
-    assert!(rt; is_as(&engine, &[2, 1, 1, 1, 0], 3, 2));
-    let outcome = run(&rt, rt.alloc(), &mut engine, &[take(0, 3)])?;
+    assert!(rt; trial.is_as(&[2, 1, 1, 1, 0], 3, 2));
+    let outcome = run(&rt, rt.alloc(), &mut trial, &[take(0, 3)])?;
     assert_eq!(rt; outcome, Outcome::Moves(1));
-    assert!(rt; is_as(&engine, &[2, 1, 1, 0, 0], 2, 3));
+    assert!(rt; trial.is_as(&[2, 1, 1, 0, 0], 2, 3));
     Ok(())
 }
 
 #[test]
 fn nobody_falls_without_need(rt: HostRuntime) -> Result<(), Fail> {
-    let mut engine = opened(rt.alloc(), 5)?;
+    let mut trial = Trial::new(rt.alloc(), 5)?;
     let four = [
         put(0, 1),
         put(0, 2),
@@ -225,12 +169,12 @@ fn nobody_falls_without_need(rt: HostRuntime) -> Result<(), Fail> {
         put(1, 3),
         put(2, 3),
     ];
-    let outcome = run(&rt, rt.alloc(), &mut engine, &four)?;
+    let outcome = run(&rt, rt.alloc(), &mut trial, &four)?;
     assert_eq!(rt; outcome, Outcome::Moves(4));
-    assert!(rt; is_as(&engine, &[6, 6, 6, 6, 0], 6, 1));
-    let plan = planned(&rt, rt.alloc(), &mut engine, &[take(0, 1)])?;
+    assert!(rt; trial.is_as(&[6, 6, 6, 6, 0], 6, 1));
+    let plan = planned(&rt, rt.alloc(), &mut trial, &[take(0, 1)])?;
     assert_eq!(rt; plan.moves, 0);
-    assert!(rt; is_as(&engine, &[6, 6, 6, 6, 0], 5, 2));
+    assert!(rt; trial.is_as(&[6, 6, 6, 6, 0], 5, 2));
     let phases = plan.phases.as_slice();
     assert_eq!(rt; phases.len(), 1);
     assert!(rt; is_phase(&phases[0], 2, false, &[edge(0, 1)], 0));
@@ -239,8 +183,8 @@ fn nobody_falls_without_need(rt: HostRuntime) -> Result<(), Fail> {
 
 #[test]
 fn a_path_rises_as_one_group(rt: HostRuntime) -> Result<(), Fail> {
-    let mut engine = opened(rt.alloc(), 5)?;
-    let plan = planned(&rt, rt.alloc(), &mut engine, &[put(0, 1), put(1, 2)])?;
+    let mut trial = Trial::new(rt.alloc(), 5)?;
+    let plan = planned(&rt, rt.alloc(), &mut trial, &[put(0, 1), put(1, 2)])?;
     let rises = [moved(0, 0, 1), moved(1, 0, 1), moved(2, 0, 1)];
     check_single(&rt, &plan, 1, true, &rises, &[edge(0, 1), edge(1, 2)]);
     Ok(())
@@ -249,7 +193,7 @@ fn a_path_rises_as_one_group(rt: HostRuntime) -> Result<(), Fail> {
 // The complete graph on four vertices, and a fifth one that comes to it.
 #[test]
 fn a_neighbour_that_stays_is_in_no_group(rt: HostRuntime) -> Result<(), Fail> {
-    let mut engine = opened(rt.alloc(), 5)?;
+    let mut trial = Trial::new(rt.alloc(), 5)?;
     let four = [
         put(0, 1),
         put(0, 2),
@@ -258,9 +202,9 @@ fn a_neighbour_that_stays_is_in_no_group(rt: HostRuntime) -> Result<(), Fail> {
         put(1, 3),
         put(2, 3),
     ];
-    let plan = planned(&rt, rt.alloc(), &mut engine, &four)?;
+    let plan = planned(&rt, rt.alloc(), &mut trial, &four)?;
     assert_eq!(rt; plan.phases.len(), 1);
-    let plan = planned(&rt, rt.alloc(), &mut engine, &[put(3, 4)])?;
+    let plan = planned(&rt, rt.alloc(), &mut trial, &[put(3, 4)])?;
     check_single(&rt, &plan, 2, true, &[moved(4, 0, 1)], &[edge(3, 4)]);
     Ok(())
 }
@@ -268,20 +212,20 @@ fn a_neighbour_that_stays_is_in_no_group(rt: HostRuntime) -> Result<(), Fail> {
 // The complete graph on eight vertices: vertex 0 keeps two neighbours.
 #[test]
 fn a_vertex_falls_part_of_the_way(rt: HostRuntime) -> Result<(), Fail> {
-    let mut engine = opened(rt.alloc(), 8)?;
+    let mut trial = Trial::new(rt.alloc(), 8)?;
     let mut eight = Vec::new(rt.alloc());
     for a in 0..7 {
         for b in a + 1..8 {
             eight.push(put(a, b))?;
         }
     }
-    let outcome = run(&rt, rt.alloc(), &mut engine, &eight)?;
+    let outcome = run(&rt, rt.alloc(), &mut trial, &eight)?;
     assert_eq!(rt; outcome, Outcome::Moves(8));
-    assert!(rt; is_as(&engine, &[19, 19, 19, 19, 19, 19, 19, 19], 28, 1));
+    assert!(rt; trial.is_as(&[19, 19, 19, 19, 19, 19, 19, 19], 28, 1));
     let five = [take(0, 1), take(0, 2), take(0, 3), take(0, 4), take(0, 5)];
-    let plan = planned(&rt, rt.alloc(), &mut engine, &five)?;
+    let plan = planned(&rt, rt.alloc(), &mut trial, &five)?;
     assert_eq!(rt; plan.moves, 1);
-    assert!(rt; is_as(&engine, &[13, 19, 19, 19, 19, 19, 19, 19], 23, 2));
+    assert!(rt; trial.is_as(&[13, 19, 19, 19, 19, 19, 19, 19], 23, 2));
     let edges = [edge(0, 1), edge(0, 2), edge(0, 3), edge(0, 4), edge(0, 5)];
     check_single(&rt, &plan, 2, false, &[moved(0, 19, 13)], &edges);
     Ok(())
@@ -289,13 +233,13 @@ fn a_vertex_falls_part_of_the_way(rt: HostRuntime) -> Result<(), Fail> {
 
 #[test]
 fn edges_leave_before_others_come_in(rt: HostRuntime) -> Result<(), Fail> {
-    let mut engine = opened(rt.alloc(), 5)?;
-    let outcome = run(&rt, rt.alloc(), &mut engine, &[put(0, 1)])?;
+    let mut trial = Trial::new(rt.alloc(), 5)?;
+    let outcome = run(&rt, rt.alloc(), &mut trial, &[put(0, 1)])?;
     assert_eq!(rt; outcome, Outcome::Moves(2));
-    assert!(rt; is_as(&engine, &[1, 1, 0, 0, 0], 1, 1));
-    let plan = planned(&rt, rt.alloc(), &mut engine, &[take(0, 1), put(0, 2)])?;
+    assert!(rt; trial.is_as(&[1, 1, 0, 0, 0], 1, 1));
+    let plan = planned(&rt, rt.alloc(), &mut trial, &[take(0, 1), put(0, 2)])?;
     assert_eq!(rt; plan.moves, 4);
-    assert!(rt; is_as(&engine, &[1, 0, 1, 0, 0], 1, 3));
+    assert!(rt; trial.is_as(&[1, 0, 1, 0, 0], 1, 3));
     let phases = plan.phases.as_slice();
     assert_eq!(rt; phases.len(), 2);
     assert!(rt; is_phase(&phases[0], 2, false, &[], 1));
@@ -317,16 +261,16 @@ fn phases_are_limited(rt: HostRuntime) -> Result<(), Fail> {
         phases_before: 16_777_214,
         edge_limit: MAX_EDGES,
     };
-    let mut engine = Engine::open(rt.alloc(), shape)?;
-    let outcome = run(&rt, rt.alloc(), &mut engine, &[put(0, 1)])?;
+    let mut trial = Trial::open(rt.alloc(), shape)?;
+    let outcome = run(&rt, rt.alloc(), &mut trial, &[put(0, 1)])?;
     assert_eq!(rt; outcome, Outcome::Moves(2));
-    assert!(rt; is_as(&engine, &[1, 1], 1, 16_777_215));
-    let outcome = run(&rt, rt.alloc(), &mut engine, &[take(0, 1)])?;
+    assert!(rt; trial.is_as(&[1, 1], 1, 16_777_215));
+    let outcome = run(&rt, rt.alloc(), &mut trial, &[take(0, 1)])?;
     assert_eq!(rt; outcome, Outcome::PhaseLimit(16_777_216));
-    assert!(rt; is_as(&engine, &[1, 1], 1, 16_777_215));
-    let outcome = run(&rt, rt.alloc(), &mut engine, &[put(1, 0)])?;
+    assert!(rt; trial.is_as(&[1, 1], 1, 16_777_215));
+    let outcome = run(&rt, rt.alloc(), &mut trial, &[put(1, 0)])?;
     assert_eq!(rt; outcome, Outcome::Moves(0));
-    assert!(rt; is_as(&engine, &[1, 1], 1, 16_777_215));
+    assert!(rt; trial.is_as(&[1, 1], 1, 16_777_215));
     Ok(())
 }
 
@@ -340,17 +284,17 @@ fn edges_are_limited(rt: HostRuntime) -> Result<(), Fail> {
         phases_before: MAX_PHASE - 3,
         edge_limit: 1,
     };
-    let mut engine = Engine::open(rt.alloc(), shape)?;
-    let outcome = run(&rt, rt.alloc(), &mut engine, &[put(0, 1)])?;
+    let mut trial = Trial::open(rt.alloc(), shape)?;
+    let outcome = run(&rt, rt.alloc(), &mut trial, &[put(0, 1)])?;
     assert_eq!(rt; outcome, Outcome::Moves(2));
-    let outcome = run(&rt, rt.alloc(), &mut engine, &[put(1, 2)])?;
+    let outcome = run(&rt, rt.alloc(), &mut trial, &[put(1, 2)])?;
     assert_eq!(rt; outcome, Outcome::EdgeLimit(2));
-    assert!(rt; is_as(&engine, &[1, 1, 0], 1, MAX_PHASE - 2));
-    let outcome = run(&rt, rt.alloc(), &mut engine, &[put(1, 2), take(0, 1)])?;
+    assert!(rt; trial.is_as(&[1, 1, 0], 1, MAX_PHASE - 2));
+    let outcome = run(&rt, rt.alloc(), &mut trial, &[put(1, 2), take(0, 1)])?;
     assert_eq!(rt; outcome, Outcome::Moves(4));
-    assert!(rt; is_as(&engine, &[0, 1, 1], 1, MAX_PHASE));
-    let outcome = run(&rt, rt.alloc(), &mut engine, &[put(0, 1), put(0, 2)])?;
+    assert!(rt; trial.is_as(&[0, 1, 1], 1, MAX_PHASE));
+    let outcome = run(&rt, rt.alloc(), &mut trial, &[put(0, 1), put(0, 2)])?;
     assert_eq!(rt; outcome, Outcome::EdgeLimit(3));
-    assert!(rt; is_as(&engine, &[0, 1, 1], 1, MAX_PHASE));
+    assert!(rt; trial.is_as(&[0, 1, 1], 1, MAX_PHASE));
     Ok(())
 }

@@ -8,7 +8,9 @@ invariant_of-result c =
     record {
       some_workers = c.requires.some_workers;
       few_workers = c.requires.few_workers;
+      one_each = c.in_ok-places.ensures;
       limit = c.requires.few_edges;
+      running = λ h. refl;
       scale = λ h. rw (c.in_ok-thresholds.ensures, c.in_ok-adj.ensures) refl;
       sound = λ h. rw (c.in_ok-thresholds.ensures, c.in_ok-adj.ensures) (start_is_sound shape.profile shape.n shape.phases_before shape.edge_limit c.requires.few_phases);
       ready = λ h. c.in_ok-work.ensures;

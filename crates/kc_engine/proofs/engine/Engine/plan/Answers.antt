@@ -8,7 +8,7 @@ use Rattle.kc_engine.proofs.engine.Engine.plan.Given.{Over}
 use Rattle.kc_engine.proofs.engine.Engine.plan.Goals as goal
 
 -- the phases were run
-done : (g : Over) (c : goal.After-self-3-1 g) → c.run_phases.result ≡ Ok c.in_ok-plan.plan
+done : (g : Over) (c : goal.After-self-4-1 g) → c.run_phases.result ≡ Ok c.in_ok-plan.plan
 done g c = ok_before c.run_phases.result c.map_err.result c.in_ok-plan.plan _ c.in_ok-plan.was c.map_err.ensures.cases c.map_err.ensures.variant
 
 pub run_phases-requires-clause-fits : goal.run_phases-requires-clause-fits
@@ -31,7 +31,9 @@ invariant_of-self-2 g c =
     record {
       some_workers = c.self.invariant.some_workers;
       few_workers = c.self.invariant.few_workers;
+      one_each = c.self.invariant.one_each;
       limit = c.self.invariant.limit;
+      running = λ h. refl;
       scale = λ h. c.self.invariant.scale c.if-self.false ∙ sym (ap (λ (k : GraphShape). k.vertices) graph ∙ vertices_after e.adj.graph c.args.cleaned.now);
       sound = λ h.
           sound_behind e.edge_limit s c.args.cleaned.now adj.graph adj.levels c.phase_count.result c.self.invariant.limit (c.self.invariant.sound c.if-self.false)

@@ -1,0 +1,15 @@
+// Phases take effect in a store, one after another and group by group, by several workers.
+//
+// `show_phases` begins each phase of a batch. It cuts the moves of a group into ranges, one for each worker, marks the ranges side
+// by side, publishes the group, and clears the ranges side by side. The ranges are lent to markers that stand in `MarkerPlaces`,
+// so that no call takes memory. `specs/Lending` says what becomes of the markers.
+
+mod group;
+mod lending;
+mod phases;
+mod places;
+mod side_by_side;
+mod sizes;
+
+pub(crate) use phases::show_phases;
+pub(crate) use places::MarkerPlaces;

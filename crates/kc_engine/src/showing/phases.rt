@@ -1,0 +1,68 @@
+ghost use Rattle.std.specs.Prelude.{◌≡◌, ◌+◌, ◌≤◌, length};
+ghost use Rattle.kc_store.specs.States.{MayBegin};
+ghost use Rattle.kc_store.specs.Showing.{HasShown, IsIdle};
+ghost use Rattle.kc_engine.specs.Showing.{GoOn, AreShown};
+
+use crate::showing::places::MarkerPlaces;
+use crate::showing::sizes::{groups_of, moves_of};
+use kc_groups::PhasePlan;
+use kc_history::MAX_PHASE;
+use kc_rounds::Gate;
+use kc_store::{Store, Writer};
+use std::thread::Threads;
+
+// Begins the phase of a plan, and shows each of its groups.
+fn show_phase<R: Threads + Sync, G: Gate + Sync>(
+    rt: &R,
+    gate: &G,
+    store: &Store,
+    writer: &mut Writer,
+    plan: &PhasePlan,
+    places: &mut MarkerPlaces,
+    n: u32,
+)
+    requires table { writer.old.table ≡ store.now.table }
+    requires vertices { n ≡ writer.old.state.vertices }
+    requires begins { MayBegin writer.old.state plan.now }
+    ensures same { places.new ≡ places.old }
+    ensures table { writer.new.table ≡ writer.old.table }
+    ensures shown { HasShown plan.now (length plan.now.groups) writer.old.state writer.new.state }
+{
+    writer.begin(store, plan);
+    for g in 0..groups_of(plan, n) {
+        let moves = moves_of(plan, n, g);
+        places.show_group(rt, gate, store, writer, plan, g, moves);
+    }
+}
+
+// Shows phases, one after another: the writer's history grows by their entries (`AreShown`).
+//
+// The store is the writer's and for n vertices. Each group of the last begun phase is published, each of its moves cleared, and no marker is
+// out; so it is again afterwards. The phases go on from the writer's history (`GoOn`), and the number of the last is at most `MAX_PHASE`.
+//
+// The moves of a group are cut into ranges of their number divided by the workers, rounded up. Each range is marked and cleared in a thread of
+// its own where one can be made, or all in this thread one after another where the group is short and not the first one shown with
+// these places. The gate is told `Piece` with the range's index at the start of each range, for marking and for clearing, and `Publishing`
+// before each publication. Takes no memory, and never waits.
+pub(crate) fn show_phases<R: Threads + Sync, G: Gate + Sync>(
+    rt: &R,
+    gate: &G,
+    store: &Store,
+    writer: &mut Writer,
+    phases: &[PhasePlan],
+    places: &mut MarkerPlaces,
+    n: u32,
+)
+    requires table { writer.old.table ≡ store.now.table }
+    requires vertices { n ≡ writer.old.state.vertices }
+    requires idle { IsIdle writer.old.state }
+    requires phases { GoOn n writer.old.state.phase writer.old.state.history phases.now }
+    requires few { writer.old.state.phase + length phases.now ≤ MAX_PHASE }
+    ensures same { places.new ≡ places.old }
+    ensures table { writer.new.table ≡ writer.old.table }
+    ensures shown { AreShown phases.now writer.old.state writer.new.state }
+{
+    for i in 0..phases.len() {
+        show_phase(rt, gate, store, writer, &phases[i], places, n);
+    }
+}

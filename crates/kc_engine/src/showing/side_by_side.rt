@@ -1,0 +1,119 @@
+// Markers work at the same time, each on its own range.
+ghost use Rattle.std.specs.Prelude.{◌≡◌, ℕ, ◌<◌, ◌≤◌, ◌^◌, length, vec_len, vec_capacity, All, slice_index_or};
+ghost use Rattle.kc_engine.specs.Lending.{MayMark, MayClear, HasMarkedRange, HasClearedRange, AreMarked, AreCleared};
+
+use kc_groups::PhasePlan;
+use kc_rounds::{Gate, Spot};
+use kc_store::{Marker, Store};
+use std::thread;
+use std::thread::Threads;
+
+// Marks the range of the marker with this index. The gate is told the index first.
+fn mark_range<G: Gate>(gate: &G, store: &Store, plan: &PhasePlan, index: usize, marker: &mut Marker)
+    requires few { index < 2 ^ 32 }
+    requires may { MayMark store.now.table plan.now marker.old }
+    ensures { HasMarkedRange marker.old marker.new }
+{
+    gate.at(Spot::Piece {
+        index: index as u32,
+    });
+    marker.mark_all(store, plan);
+}
+
+// Clears the range of the marker with this index. The gate is told the index first.
+fn clear_range<G: Gate>(
+    gate: &G,
+    store: &Store,
+    plan: &PhasePlan,
+    index: usize,
+    marker: &mut Marker,
+)
+    requires few { index < 2 ^ 32 }
+    requires may { MayClear store.now.table plan.now marker.old }
+    ensures { HasClearedRange marker.old marker.new }
+{
+    gate.at(Spot::Piece {
+        index: index as u32,
+    });
+    marker.clear_all(store, plan);
+}
+
+// Each marker marks its range, in at most so many threads.
+fn mark_each<R: Threads + Sync, G: Gate + Sync>(
+    rt: &R,
+    gate: &G,
+    store: &Store,
+    plan: &PhasePlan,
+    threads: usize,
+    markers: &mut [Marker],
+)
+    requires threads { 0 < threads }
+    requires few { length markers.old ≤ 64 }
+    requires may { All (MayMark store.now.table plan.now) markers.old }
+    ensures { (i : ℕ) (d : _) → i < length markers.old → HasMarkedRange (slice_index_or markers.old i d) (slice_index_or markers.new i d) }
+{
+    thread::for_each_mut(
+        rt,
+        markers,
+        threads,
+        &|index: usize, marker: &mut Marker| mark_range(gate, store, plan, index, marker),
+    );
+}
+
+// Each marker clears its range, in at most so many threads.
+fn clear_each<R: Threads + Sync, G: Gate + Sync>(
+    rt: &R,
+    gate: &G,
+    store: &Store,
+    plan: &PhasePlan,
+    threads: usize,
+    markers: &mut [Marker],
+)
+    requires threads { 0 < threads }
+    requires few { length markers.old ≤ 64 }
+    requires may { All (MayClear store.now.table plan.now) markers.old }
+    ensures { (i : ℕ) (d : _) → i < length markers.old → HasClearedRange (slice_index_or markers.old i d) (slice_index_or markers.new i d) }
+{
+    thread::for_each_mut(
+        rt,
+        markers,
+        threads,
+        &|index: usize, marker: &mut Marker| clear_range(gate, store, plan, index, marker),
+    );
+}
+
+// Each marker of the list marks its range, in at most so many threads.
+pub(crate) fn mark_lent<R: Threads + Sync, G: Gate + Sync>(
+    rt: &R,
+    gate: &G,
+    store: &Store,
+    plan: &PhasePlan,
+    threads: usize,
+    markers: &mut Vec<Marker>,
+)
+    requires threads { 0 < threads }
+    requires few { vec_len markers.old ≤ 64 }
+    requires may { All (MayMark store.now.table plan.now) markers.old.items }
+    ensures marked { AreMarked markers.old.items markers.new.items }
+    ensures room { vec_capacity markers.new ≡ vec_capacity markers.old }
+{
+    mark_each(rt, gate, store, plan, threads, markers.as_mut_slice());
+}
+
+// Each marker of the list clears its range, in at most so many threads.
+pub(crate) fn clear_lent<R: Threads + Sync, G: Gate + Sync>(
+    rt: &R,
+    gate: &G,
+    store: &Store,
+    plan: &PhasePlan,
+    threads: usize,
+    markers: &mut Vec<Marker>,
+)
+    requires threads { 0 < threads }
+    requires few { vec_len markers.old ≤ 64 }
+    requires may { All (MayClear store.now.table plan.now) markers.old.items }
+    ensures cleared { AreCleared markers.old.items markers.new.items }
+    ensures room { vec_capacity markers.new ≡ vec_capacity markers.old }
+{
+    clear_each(rt, gate, store, plan, threads, markers.as_mut_slice());
+}
