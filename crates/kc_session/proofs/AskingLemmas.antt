@@ -1,0 +1,169 @@
+-- Replies while an agent puts its questions.
+use Rattle.std.proofs.Common.{ℕ, suc, zero, ◌≡◌, ◌+◌, ◌*◌, ◌<◌, ◌≤◌, List, [], ◌∷◌, ◌++◌, length, get_or, set, take, refl, ap, sym, ◌∙◌, arith, subst, append_assoc, append-nil, length-append, true, false}
+use Rattle.std.specs.Prelude.{All}
+use Rattle.std.proofs.lemmas.List.Elements.{All-nil, All-cons, All-head, All-tail}
+use mathlib.Core.List.{IsPrefix}
+use Rattle.kc_history.specs.declared.entries.Entry.{Entry}
+use Rattle.kc_history.specs.declared.replies.Reply.{Reply}
+use Rattle.kc_history.specs.Replies.{AreExplained, vertices_of, zeros}
+use Rattle.kc_history.proofs.ReplyLemmas.{longer_explains, end_explains_more, start_explains_zeros}
+use Rattle.kc_batch.specs.declared.ask.Ask.{Ask}
+use Rattle.kc_store.specs.Seats.{PassShape}
+use Rattle.kc_store.specs.States.{last_level}
+use Rattle.kc_session.specs.Agents.{AgentShape, IsAgent, IsKept, agent_shape, repeated, questions}
+use Rattle.kc_session.proofs.Lists.{take_set, take_snoc, take_all}
+
+zeros-append : (vs ws : List ℕ) → zeros (vs ++ ws) ≡ zeros vs ++ zeros ws
+zeros-append [] ws = refl
+zeros-append (v ∷ vs) ws = ap (λ (rs : List Reply). record { vertex = v; level = 0 } ∷ rs) (zeros-append vs ws)
+
+-- replies of level 0 as they are put together
+pub zeros_more : (vs : List ℕ) (i : ℕ) (d v : ℕ) (first rs more : List Reply) → i < length vs → v ≡ get_or vs i d → rs ≡ first ++ zeros (take i vs) → more ≡ rs ++ record { vertex = v; level = 0 } ∷ [] → more ≡ first ++ zeros (take (i + 1) vs)
+zeros_more vs i d v first rs more lt is h e =
+    e ∙ (ap (λ (ts : List Reply). ts ++ record { vertex = v; level = 0 } ∷ []) h ∙ (append_assoc first (zeros (take i vs)) (record { vertex = v; level = 0 } ∷ [])
+    ∙ ap (λ (ts : List Reply). first ++ ts) (sym (zeros-append (take i vs) (v ∷ [])) ∙ ap (λ (ws : List ℕ). zeros ws) (sym (take_snoc vs i d v lt is)))))
+
+pub repeated_more : (k : ℕ) (vs : List ℕ) (rs more : List Reply) → rs ≡ zeros (repeated k vs) → more ≡ rs ++ zeros vs → more ≡ zeros (repeated (k + 1) vs)
+repeated_more k vs rs more h is = let e : k + 1 ≡ suc k = omega arith in is ∙ (ap (λ (ts : List Reply). ts ++ zeros vs) h ∙ (sym (zeros-append (repeated k vs) vs) ∙ ap (λ j. zeros (repeated j vs)) (sym e)))
+
+-- vertices of replies
+vertices_set : (xs : List Reply) (i : ℕ) (d r : Reply) → i < length xs → r.vertex ≡ (get_or xs i d).vertex → vertices_of (set xs i r) ≡ vertices_of xs
+vertices_set [] i d r lt is = absurd (omega (arith, lt))
+vertices_set (x ∷ xs) zero d r lt is = ap (λ (v : ℕ). v ∷ vertices_of xs) is
+vertices_set (x ∷ xs) (suc i) d r lt is = ap (λ (vs : List ℕ). x.vertex ∷ vs) (vertices_set xs i d r (omega (arith, lt)) is)
+
+length-vertices : (rs : List Reply) → length (vertices_of rs) ≡ length rs
+length-vertices [] = refl
+length-vertices (r ∷ rs) = ap suc (length-vertices rs)
+
+all_below : (n : ℕ) (rs : List Reply) (vs : List ℕ) → vertices_of rs ≡ vs → All (λ v. v < n) vs → All (λ (r : Reply). r.vertex < n) rs
+all_below n [] vs e all = All-nil (λ (r : Reply). r.vertex < n)
+all_below n (r ∷ rs) [] e all = cc
+all_below n (r ∷ rs) (v ∷ vs) e all =
+    let a : r.vertex ≡ v = cc in
+    let b : vertices_of rs ≡ vs = cc in
+    All-cons (λ (r : Reply). r.vertex < n) r rs (subst (λ u. u < n) (sym a) (All-head (λ u. u < n) v vs all)) (all_below n rs vs b (All-tail (λ u. u < n) v vs all))
+
+pub all_same_below : (n : ℕ) (xs ys : List Reply) → vertices_of xs ≡ vertices_of ys → All (λ (r : Reply). r.vertex < n) ys → All (λ (r : Reply). r.vertex < n) xs
+all_same_below n [] ys e all = All-nil (λ (r : Reply). r.vertex < n)
+all_same_below n (x ∷ xs) [] e all = cc
+all_same_below n (x ∷ xs) (y ∷ ys) e all =
+    let a : x.vertex ≡ y.vertex = cc in
+    let b : vertices_of xs ≡ vertices_of ys = cc in
+    All-cons (λ (r : Reply). r.vertex < n) x xs (subst (λ v. v < n) (sym a) (All-head (λ (r : Reply). r.vertex < n) y ys all)) (all_same_below n xs ys b (All-tail (λ (r : Reply). r.vertex < n) y ys all))
+
+all_append : (n : ℕ) (vs ws : List ℕ) → All (λ v. v < n) vs → All (λ v. v < n) ws → All (λ v. v < n) (vs ++ ws)
+all_append n [] ws a b = b
+all_append n (v ∷ vs) ws a b = All-cons (λ u. u < n) v (vs ++ ws) (All-head (λ u. u < n) v vs a) (all_append n vs ws (All-tail (λ u. u < n) v vs a) b)
+
+all_repeated : (n k : ℕ) (vs : List ℕ) → All (λ v. v < n) vs → All (λ v. v < n) (repeated k vs)
+all_repeated n zero vs all = All-nil (λ v. v < n)
+all_repeated n (suc k) vs all = all_append n (repeated k vs) vs (all_repeated n k vs all) all
+
+-- the questions of an agent are below its number of vertices, and few
+pub replies_below : (n : ℕ) (ask : Ask) (rs asked : List Reply) → vertices_of rs ≡ vertices_of asked → vertices_of asked ≡ questions ask → All (λ v. v < n) ask.vertices → All (λ (r : Reply). r.vertex < n) rs
+replies_below n ask rs asked e f all = all_below n rs (questions ask) (e ∙ f) (all_repeated n ask.times ask.vertices all)
+
+length-repeated : (k : ℕ) (vs : List ℕ) → length (repeated k vs) ≡ k * length vs
+length-repeated zero vs = omega arith
+length-repeated (suc k) vs = let e = length-append (repeated k vs) vs in let f = length-repeated k vs in let g : suc k * length vs ≡ k * length vs + length vs = omega arith in omega (arith, e, f, g)
+
+pub replies_few : (ask : Ask) (rs : List Reply) → vertices_of rs ≡ questions ask → ask.times * length ask.vertices ≤ 65536 → length rs ≤ 65536
+replies_few ask rs e few =
+    let a = length-vertices rs in
+    let b = ap (λ (vs : List ℕ). length vs) e in
+    let d = length-repeated ask.times ask.vertices in
+    omega (arith, a, b, d, few)
+
+-- the first i questions were put
+pub record IsAsking (n : ℕ) (first : PassShape) (asked : List Reply) (i : ℕ) (pass : PassShape) (replies : List Reply) : Type 0 where
+  pub same : pass ≡ record first { seen = pass.seen }
+  pub made_in : pass.made ≤ length pass.seen
+  pub later : IsPrefix first.seen pass.seen
+  pub vertices : vertices_of replies ≡ vertices_of asked
+  pub sized : length replies ≡ length asked
+  pub explained : AreExplained n pass.seen first.made (take i replies)
+
+pub asking_none : (n : ℕ) (first : PassShape) (asked : List Reply) → first.made ≤ length first.seen → IsAsking n first asked 0 first asked
+asking_none n first asked le = record { same = refl; made_in = le; later = ([], append-nil first.seen); vertices = refl; sized = refl; explained = tt }
+
+length-set : (xs : List Reply) (i : ℕ) (r : Reply) → length (set xs i r) ≡ length xs
+length-set [] i r = refl
+length-set (x ∷ xs) zero r = refl
+length-set (x ∷ xs) (suc i) r = ap suc (length-set xs i r)
+
+pub prefix_explains : (n : ℕ) (a b : List Entry) (from : ℕ) (rs : List Reply) → IsPrefix a b → AreExplained n a from rs → AreExplained n b from rs
+prefix_explains n a b from rs p h = subst (λ (c : List Entry). AreExplained n c from rs) p.1 (longer_explains n a p.0 from rs h)
+
+pub asking_more : (n : ℕ) (first : PassShape) (asked : List Reply) (i : ℕ) (pass next : PassShape) (replies : List Reply) (d r : Reply) → IsAsking n first asked i pass replies → i < length replies
+    → next ≡ record pass { seen = next.seen } → IsPrefix pass.seen next.seen → r.vertex ≡ (get_or replies i d).vertex → last_level n next.seen r.vertex ≡ r.level
+    → IsAsking n first asked (i + 1) next (set replies i r)
+asking_more n first asked i pass next replies d r h lt same p vertex level =
+    let made : next.made ≡ pass.made = ap (λ (s : PassShape). s.made) same in
+    let before : pass.made ≡ first.made = ap (λ (s : PassShape). s.made) h.same in
+    let grown : length pass.seen ≤ length next.seen = (let e = ap (λ (es : List Entry). length es) p.1 in let f = length-append pass.seen p.0 in omega (arith, e, f)) in
+    let made_in : next.made ≤ length next.seen = (let x = h.made_in in omega (arith, made, x, grown)) in
+    record {
+      same = same ∙ ap (λ (s : PassShape). record s { seen = next.seen }) h.same;
+      made_in = made_in;
+      later = (h.later.0 ++ p.0, sym (append_assoc first.seen h.later.0 p.0) ∙ (ap (λ (es : List Entry). es ++ p.0) h.later.1 ∙ p.1));
+      vertices = vertices_set replies i d r lt vertex ∙ h.vertices;
+      sized = length-set replies i r ∙ h.sized;
+      explained = subst (λ (rs : List Reply). AreExplained n next.seen first.made rs) (sym (take_set replies i r lt))
+          (end_explains_more n next.seen first.made (take i replies) r (omega (arith, made_in, made, before)) (prefix_explains n pass.seen next.seen first.made (take i replies) p h.explained) (record { inside = omega arith; level = level }));
+    }
+
+pub asked_all : (n : ℕ) (seen : List Entry) (made i : ℕ) (rs : List Reply) → i ≡ length rs → AreExplained n seen made (take i rs) → AreExplained n seen made rs
+asked_all n seen made i rs all h = subst (λ (ts : List Reply). AreExplained n seen made ts) (ap (λ j. take j rs) all ∙ take_all rs) h
+
+-- an agent that has just been opened
+pub fresh_is_kept : (n reader : ℕ) (pass : PassShape) (rs : List Reply) (ask : Ask) → pass.made ≡ length pass.seen → rs ≡ zeros (questions ask) → All (λ v. v < n) ask.vertices → ask.times * length ask.vertices ≤ 65536
+    → IsKept (agent_shape pass n reader ask rs false) rs
+fresh_is_kept n reader pass rs ask made none below few = record {
+  agent = record { first = refl; all = λ h. absurd (no h); explained = tt };
+  made_in = omega (arith, made);
+  below = below;
+  few = few;
+  vertices = ap (λ (ts : List Reply). vertices_of ts) none ∙ start_explains_zeros.vertices (questions ask);
+}
+  where
+    no : false ≡ true → ⊥
+    no h = cc
+
+first_all : (rs : List Reply) (vs : List ℕ) → vertices_of rs ≡ vs → vertices_of rs ≡ take (length rs) vs
+first_all rs vs e =
+    let n : length rs ≡ length vs = sym (length-vertices rs) ∙ ap (λ (ws : List ℕ). length ws) e in
+    e ∙ sym (ap (λ j. take j vs) n ∙ take_all vs)
+
+-- an agent that has just run
+pub run_is_kept : (n reader : ℕ) (before after : PassShape) (kept rs : List Reply) (ask : Ask) → IsKept (agent_shape before n reader ask kept false) kept → after ≡ record before { seen = after.seen } → IsPrefix before.seen after.seen
+    → vertices_of rs ≡ vertices_of kept → AreExplained n after.seen before.made rs → IsKept (agent_shape after n reader ask rs true) rs
+run_is_kept n reader before after kept rs ask is same later vertices explained =
+    let made : after.made ≡ before.made = ap (λ (s : PassShape). s.made) same in
+    let all : vertices_of rs ≡ questions ask = vertices ∙ is.vertices in
+    record {
+      agent = record { first = first_all rs (questions ask) all; all = λ h. all; explained = subst (λ k. AreExplained n after.seen k rs) (sym made) explained };
+      made_in = (let e = ap (λ (es : List Entry). length es) later.1 in let f = length-append before.seen later.0 in let x = is.made_in in omega (arith, e, f, x, made));
+      below = is.below;
+      few = is.few;
+      vertices = all;
+    }
+
+-- an agent that is closed
+pub record IsClosing (self : AgentShape) (history : List Entry) (rs : List Reply) : Type 0 where
+  pub replies : rs ≡ self.replies
+  pub first : vertices_of rs ≡ take (length rs) (questions self.ask)
+  pub all : self.has_run ≡ true → vertices_of rs ≡ questions self.ask
+  pub explained : AreExplained self.store.vertices history self.made rs
+
+pub closing : (inside self : AgentShape) (kept rs : List Reply) (history : List Entry) → inside ≡ self → IsKept inside kept → rs ≡ inside.replies → IsPrefix inside.seen history → IsClosing self history rs
+closing inside self kept rs history view is e later =
+    let agent : IsAgent self = subst (λ (a : AgentShape). IsAgent a) view is.agent in
+    let same : rs ≡ self.replies = e ∙ ap (λ (a : AgentShape). a.replies) view in
+    let more : IsPrefix self.seen history = subst (λ (a : AgentShape). IsPrefix a.seen history) view later in
+    record {
+      replies = same;
+      first = subst (λ (ts : List Reply). vertices_of ts ≡ take (length ts) (questions self.ask)) (sym same) agent.first;
+      all = λ h. ap (λ (ts : List Reply). vertices_of ts) same ∙ agent.all h;
+      explained = subst (λ (ts : List Reply). AreExplained self.store.vertices history self.made ts) (sym same) (prefix_explains self.store.vertices self.seen history self.made self.replies more agent.explained);
+    }

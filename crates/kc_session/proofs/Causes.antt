@@ -1,0 +1,21 @@
+-- Why a session stops where a part of it does.
+use Rattle.std.proofs.Common.{ℕ, ◌≡◌, ◌∙◌, subst}
+use Rattle.std.specs.Prelude.{Result, Ok, Err}
+use Rattle.kc_text.specs.declared.buf.SendFault.{SendFault}
+use Rattle.kc_text.specs.declared.buf.SendFault.TheVariants as send
+use Rattle.kc_text.specs.Causes.{Rose}
+use Rattle.kc_text.specs.Writing.{WriteCause}
+use Rattle.kc_session.specs.declared.fault.SessionFault.{SessionFault}
+use Rattle.kc_session.specs.declared.fault.SessionFault.TheVariants.{ReadFault, WriteFault, Memory}
+use Rattle.kc_session.specs.Faults.{FaultCause, fault_of_send}
+
+-- a fault of a part is the whole's
+pub same_cause : (A B : Type 0) (r0 r1 w0 w1 : ℕ) (f y : SessionFault) → y ≡ f → FaultCause {T = A} r0 r1 w0 w1 (Err f) → FaultCause {T = B} r0 r1 w0 w1 (Err y)
+same_cause A B r0 r1 w0 w1 ReadFault y e h = rw e h
+same_cause A B r0 r1 w0 w1 WriteFault y e h = rw e h
+same_cause A B r0 r1 w0 w1 (Memory a) y e h = rw e h
+
+-- the counts of faults are as they were before a write that fails, so its cause is the whole's
+pub sent_cause : (A B : Type 0) (r0 r1 w0 w1 w2 : ℕ) (f : SendFault) (y : SessionFault) → r1 ≡ r0 → w1 ≡ w0 → WriteCause {T = A} w1 w2 (Err f) → y ≡ fault_of_send f → FaultCause {T = B} r0 r1 w0 w2 (Err y)
+sent_cause A B r0 r1 w0 w1 w2 send.WriteFault y source sink rose is = rw is (source, subst (λ (w : ℕ). Rose w w2) sink rose)
+sent_cause A B r0 r1 w0 w1 w2 (send.Memory a) y source sink same is = rw is (source, same ∙ sink)

@@ -1,0 +1,16 @@
+pub mod AgentLists
+pub mod AskingLemmas
+pub mod Lists
+pub mod PassLemmas
+pub mod ReaderTexts
+pub mod Tails
+pub mod Steps
+pub mod BatchSteps
+pub mod CountLemmas
+pub mod ApplyLemmas
+pub mod Runs
+pub mod Settles
+pub mod Causes
+pub mod SessionTexts
+pub mod LastLines
+pub mod SumLemmas

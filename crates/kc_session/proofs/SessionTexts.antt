@@ -1,0 +1,253 @@
+-- The whole text of a session, from its parts.
+use Rattle.std.proofs.Common.{ℕ, suc, zero, ◌≡◌, ◌+◌, ◌*◌, ◌≤◌, ◌<◌, List, [], ◌∷◌, ◌++◌, length, refl, sym, ap, ◌∙◌, arith, subst, append_assoc, append-nil}
+use Rattle.std.specs.Prelude.{Option, Some, None, Result, Ok, Err, All}
+use Rattle.std.specs.Option.{option_map}
+use Rattle.std.specs.Io.KnownBytes.{append_known}
+use Rattle.std.proofs.lemmas.List.Sums.{sum_by-cons}
+use Rattle.std.proofs.lemmas.List.Elements.{All-nil, All-cons, All-head, All-tail}
+use Rattle.kc_graph.specs.declared.cleaning.Cleaned.{Cleaned}
+use Rattle.kc_graph.specs.declared.limits.TheConstants.{MAX_EDGES, MAX_ITEMS}
+use Rattle.kc_graph.specs.Cleaning.{cleaned}
+use Rattle.kc_text.specs.Writing.{IsPrefix}
+use Rattle.kc_text.proofs.Known.{append_twice, prefix_none, prefix_all, prefix_longer, prefix_then}
+use Rattle.kc_history.specs.declared.entries.Entry.{Entry}
+use Rattle.kc_history.specs.declared.replies.Reply.{Reply}
+use Rattle.kc_history.specs.Replies.{AreExplained, zeros}
+use Rattle.kc_history.proofs.ReplyLemmas.{start_explains_zeros}
+use Rattle.kc_batch.specs.declared.ask.Ask.{Ask}
+use Rattle.kc_batch.specs.declared.token.Token.{Token}
+use Rattle.kc_batch.specs.declared.batch.Next.{Next}
+use Rattle.kc_batch.specs.declared.batch.Next.TheVariants.{Items, Refused, End}
+use Rattle.kc_batch.specs.HeaderShape.{HeaderShape}
+use Rattle.kc_batch.specs.Headers.{IsAsk}
+use Rattle.kc_batch.specs.Batches.{batches, IsNext}
+use Rattle.kc_batch.specs.BatchInputs.{rules_of}
+use Rattle.kc_batch.proofs.BatchRanges.{batches_keep_ranges}
+use Rattle.kc_groups.specs.Entries.{entries_in}
+use Rattle.kc_report.specs.Lines.{head_text}
+use Rattle.kc_engine.specs.declared.faults.EngineFault.{EngineFault}
+use Rattle.kc_engine.specs.States.{State, IsSound}
+use Rattle.kc_engine.specs.Batches.{IsCleaning}
+use Rattle.kc_engine.specs.Laws.{IsHistoryOf}
+use Rattle.kc_engine.proofs.PhaseLaw.{phases_lead_on}
+use Rattle.kc_session.specs.declared.counts.Counts.{Counts}
+use Rattle.kc_session.specs.declared.ended.Ended.{Ended}
+use Rattle.kc_session.specs.declared.fault.SessionFault.{SessionFault}
+use Rattle.kc_session.specs.declared.report.Report.TheVariants.{Lines}
+use Rattle.kc_session.specs.Agents.{AgentShape, questions}
+use Rattle.kc_session.specs.Asking.{Fit, HaveRun, AreClosed, agents_for}
+use Rattle.kc_session.specs.Counts.{counts_of, refused_in}
+use Rattle.kc_session.specs.Ended.{IsEnded, replies_in, greatest}
+use Rattle.kc_session.specs.ReaderLines.{reader_lines}
+use Rattle.kc_session.specs.RunText.{batch_lines}
+use Rattle.kc_session.specs.Running.{RunsBatches, RanBatches, WroteSomeBatches}
+use Rattle.kc_session.specs.SessionText.{IsSession, rest_text, body_text, session_text, WroteSession, WroteSomeOfSession, WritesSession}
+use Rattle.kc_session.specs.States.{Step, stay, start, refusal_of, IsAfterCleaned, IsStep, AreSteps, last_state, history_of}
+use Rattle.kc_session.proofs.Steps.{sound_start, sound_step, cleaning}
+use Rattle.kc_store.specs.Seats.{StoreShape}
+use Rattle.kc_levels.specs.declared.profile.Profile.{Profile}
+use Rattle.kc_session.proofs.AgentLists.{closed_fit, closed_explained}
+use Rattle.kc_session.proofs.AskingLemmas.{replies_few}
+use Rattle.kc_session.proofs.Settles.{start_states}
+
+-- a history that ends where a batch begins ends, with the batch's entries, where it leads
+end_stay : (n : ℕ) (history : List Entry) (s : State) (t : Step) → IsHistoryOf n history s → t ≡ stay s → IsHistoryOf n (history ++ entries_in t.phases) t.state
+end_stay n history s t h is =
+    let same : history ≡ history ++ entries_in t.phases = sym (append-nil history) ∙ ap (λ (z : Step). history ++ entries_in z.phases) (sym is) in
+    let there : s ≡ t.state = ap (λ (z : Step). z.state) (sym is) in
+    subst (λ (z : List Entry × State). IsHistoryOf n z.0 z.1) (λ i. (same i, there i)) h
+
+end_cleaned : (n : ℕ) (history : List Entry) (s : State) (c : Cleaned) (r : Option EngineFault) (t : Step) → IsSound MAX_EDGES s → IsCleaning s.graph c → IsHistoryOf n history s → IsAfterCleaned s c r t → IsHistoryOf n (history ++ entries_in t.phases) t.state
+end_cleaned n history s c (Some fault) t sound clean h a = end_stay n history s t h a
+end_cleaned n history s c None t sound clean h a = phases_lead_on MAX_EDGES n history s t.state c t.phases sound clean a h
+
+end_step : (header : HeaderShape) (history : List Entry) (s : State) (b : Next) (t : Step) → IsSound MAX_EDGES s → s.graph.vertices ≡ header.n → IsNext (rules_of header MAX_ITEMS) b → IsHistoryOf header.n history s → IsStep s b t → IsHistoryOf header.n (history ++ entries_in t.phases) t.state
+end_step header history s (Items batch) t sound e i h a =
+    let c = cleaned s.graph batch.items in
+    end_cleaned header.n history s c (refusal_of s c) t sound (cleaning s header batch.items batch.line e i) h a
+end_step header history s (Refused line reason) t sound e i h a = end_stay header.n history s t h a
+end_step header history s End t sound e i h a = end_stay header.n history s t h a
+
+pub end_steps : (header : HeaderShape) (history : List Entry) (s : State) (bs : List Next) (ts : List Step) → IsSound MAX_EDGES s → s.graph.vertices ≡ header.n → All (IsNext (rules_of header MAX_ITEMS)) bs → IsHistoryOf header.n history s → AreSteps s bs ts
+    → IsHistoryOf header.n (history ++ history_of ts) (last_state s ts)
+end_steps header history s [] [] sound e all h a = subst (λ (es : List Entry). IsHistoryOf header.n es s) (sym (append-nil history)) h
+end_steps header history s [] (t ∷ ts) sound e all h a = absurd a
+end_steps header history s (b ∷ bs) [] sound e all h a = absurd a
+end_steps header history s (b ∷ bs) (t ∷ ts) sound e all h a =
+    let i = All-head (IsNext (rules_of header MAX_ITEMS)) b bs all in
+    let z = sound_step s header b t sound e i a.0 in
+    subst (λ (es : List Entry). IsHistoryOf header.n es (last_state t.state ts)) (append_assoc history (entries_in t.phases) (history_of ts))
+    (end_steps header (history ++ entries_in t.phases) t.state bs ts z.0 z.1 (All-tail (IsNext (rules_of header MAX_ITEMS)) b bs all) (end_step header history s b t sound e i h a.0) a.1)
+
+-- replies that fit the asks, and that this history explains
+pub record AreReplies (n : ℕ) (history : List Entry) (asks : List Ask) (lists : List (List Reply)) : Type 0 where
+  pub fit : Fit asks lists
+  pub explained : All (AreExplained n history 0) lists
+
+abbrev zero_lists : List Ask → List (List Reply)
+zero_lists [] = []
+zero_lists (a ∷ asks) = zeros (questions a) ∷ zero_lists asks
+
+zeros_fit : (asks : List Ask) → Fit asks (zero_lists asks)
+zeros_fit [] = tt
+zeros_fit (a ∷ asks) = (start_explains_zeros.vertices (questions a), zeros_fit asks)
+
+zeros_explained : (n : ℕ) (history : List Entry) (asks : List Ask) → All (AreExplained n history 0) (zero_lists asks)
+zeros_explained n history [] = All-nil (AreExplained n history 0)
+zeros_explained n history (a ∷ asks) = All-cons (AreExplained n history 0) (zeros (questions a)) (zero_lists asks) (start_explains_zeros.explained n history (questions a)) (zeros_explained n history asks)
+
+some_replies : (n : ℕ) (history : List Entry) (asks : List Ask) → AreReplies n history asks (zero_lists asks)
+some_replies n history asks = record { fit = zeros_fit asks; explained = zeros_explained n history asks }
+
+abbrev is_session : (header : HeaderShape) (ls : List Token) (ts : List Step) (lists : List (List Reply)) → AreSteps (start header.profile header.n) (batches (rules_of header MAX_ITEMS) ls) ts → AreReplies header.n (history_of ts) header.asks lists
+    → IsSession header (batches (rules_of header MAX_ITEMS) ls)
+is_session header ls ts lists a r = record {
+  steps = ts;
+  are_steps = a;
+  history = history_of ts;
+  history_is = refl;
+  ends = end_steps header [] (start header.profile header.n) (batches (rules_of header MAX_ITEMS) ls) ts (sound_start header.profile header.n) refl (batches_keep_ranges (rules_of header MAX_ITEMS) ls) (record { graph = refl; levels = refl }) a;
+  replies = lists;
+  fit = r.fit;
+  explained = r.explained;
+}
+
+-- a prefix of the head was written, or all of it
+pub head_prefix : (header : HeaderShape) (toks : Option (List Token)) (before now : Option (List ℕ)) (fault : SessionFault) → IsPrefix before now (head_text header.n)
+    → WritesSession session_text header (option_map (batches (rules_of header MAX_ITEMS)) toks) before now (Err fault)
+head_prefix header None before now fault p = tt
+head_prefix header (Some ls) before now fault p =
+    let there = start_states header ls in
+    record {
+      session = is_session header ls there.0 (zero_lists header.asks) there.1 (some_replies header.n (history_of there.0) header.asks);
+      prefix = prefix_longer before now (head_text header.n) _ p;
+    }
+
+pub head_written : (header : HeaderShape) (toks : Option (List Token)) (before now : Option (List ℕ)) (fault : SessionFault) → now ≡ append_known before (head_text header.n)
+    → WritesSession session_text header (option_map (batches (rules_of header MAX_ITEMS)) toks) before now (Err fault)
+head_written header toks before now fault e = head_prefix header toks before now fault (prefix_all before now (head_text header.n) e)
+
+-- the head was written, and what is after it
+pub after_head : (header : HeaderShape) (told : Option (List Next)) (before now later : Option (List ℕ)) (result : Result Ended SessionFault) → now ≡ append_known before (head_text header.n) → WritesSession body_text header told now later result
+    → WritesSession session_text header told before later result
+after_head header None before now later result e w = tt
+after_head header (Some bs) before now later (Ok ended) e w = record { session = w.session; taken = append_twice before now later (head_text header.n) _ e w.taken; ends = w.ends }
+after_head header (Some bs) before now later (Err fault) e w = record { session = w.session; prefix = prefix_then before now later (head_text header.n) _ e w.prefix }
+
+-- nothing was written after the head
+pub body_none : (header : HeaderShape) (toks : Option (List Token)) (before now : Option (List ℕ)) (fault : SessionFault) → now ≡ before → WritesSession body_text header (option_map (batches (rules_of header MAX_ITEMS)) toks) before now (Err fault)
+body_none header None before now fault e = tt
+body_none header (Some ls) before now fault e =
+    let there = start_states header ls in
+    record {
+      session = is_session header ls there.0 (zero_lists header.asks) there.1 (some_replies header.n (history_of there.0) header.asks);
+      prefix = prefix_none before now _ e;
+    }
+
+-- a prefix of the lines of the batches
+some_batches : (header : HeaderShape) (ls : List Token) (before now : Option (List ℕ)) → WroteSomeBatches Lines (start header.profile header.n) (batches (rules_of header MAX_ITEMS) ls) before now
+    → WroteSomeOfSession body_text header (batches (rules_of header MAX_ITEMS) ls) before now
+some_batches header ls before now w = record {
+  session = is_session header ls w.steps (zero_lists header.asks) w.are_steps (some_replies header.n (history_of w.steps) header.asks);
+  prefix = prefix_longer before now _ _ w.prefix;
+}
+
+pub batches_prefix : (header : HeaderShape) (toks : Option (List Token)) (s t : State) (before now : Option (List ℕ)) (h i : List Entry) (fault other : SessionFault) → s ≡ start header.profile header.n
+    → RunsBatches Lines s t (option_map (batches (rules_of header MAX_ITEMS)) toks) before now h i (Err other) → WritesSession body_text header (option_map (batches (rules_of header MAX_ITEMS)) toks) before now (Err fault)
+batches_prefix header None s t before now h i fault other e w = tt
+batches_prefix header (Some ls) s t before now h i fault other e w =
+    some_batches header ls before now (subst (λ (z : State). WroteSomeBatches Lines z (batches (rules_of header MAX_ITEMS) ls) before now) e w)
+
+from_start : (header : HeaderShape) (bs : List Next) (s t : State) (before now : Option (List ℕ)) (h i : List Entry) (counts : Counts) → s ≡ start header.profile header.n → RanBatches Lines s t bs before now h i counts
+    → RanBatches Lines (start header.profile header.n) t bs before now h i counts
+from_start header bs s t before now h i counts e w = subst (λ (z : State). RanBatches Lines z t bs before now h i counts) e w
+
+-- all of them
+pub batches_written : (header : HeaderShape) (toks : Option (List Token)) (s t : State) (before now : Option (List ℕ)) (h i : List Entry) (counts : Counts) (fault : SessionFault) → s ≡ start header.profile header.n
+    → RunsBatches Lines s t (option_map (batches (rules_of header MAX_ITEMS)) toks) before now h i (Ok counts) → WritesSession body_text header (option_map (batches (rules_of header MAX_ITEMS)) toks) before now (Err fault)
+batches_written header None s t before now h i counts fault e w = tt
+batches_written header (Some ls) s t before now h i counts fault e w =
+    let v = from_start header (batches (rules_of header MAX_ITEMS) ls) s t before now h i counts e w in
+    some_batches header ls before now (record { steps = v.steps; are_steps = v.are_steps; prefix = prefix_all before now _ v.taken })
+
+-- replies that a history explains that began empty
+pub replies_of : (n : ℕ) (h i : List Entry) (steps : List Step) (asks : List Ask) (lists : List (List Reply)) → h ≡ [] → i ≡ h ++ history_of steps → AreReplies n i asks lists → AreReplies n (history_of steps) asks lists
+replies_of n h i steps asks lists none e r = subst (λ (es : List Entry). AreReplies n es asks lists) (e ∙ ap (λ (es : List Entry). es ++ history_of steps) none) r
+
+-- all lines of the batches, and a prefix of what is after them
+pub rest_prefix : (header : HeaderShape) (toks : Option (List Token)) (s t : State) (before now later : Option (List ℕ)) (h i : List Entry) (counts : Counts) (lists : List (List Reply)) (p : Profile) (fault : SessionFault) → s ≡ start header.profile header.n → h ≡ [] → p ≡ header.profile
+    → RunsBatches Lines s t (option_map (batches (rules_of header MAX_ITEMS)) toks) before now h i (Ok counts) → AreReplies header.n i header.asks lists → IsPrefix now later (rest_text p header.n lists i)
+    → WritesSession body_text header (option_map (batches (rules_of header MAX_ITEMS)) toks) before later (Err fault)
+rest_prefix header None s t before now later h i counts lists p fault e none q w r rest = tt
+rest_prefix header (Some ls) s t before now later h i counts lists p fault e none q w r rest =
+    let v = from_start header (batches (rules_of header MAX_ITEMS) ls) s t before now h i counts e w in
+    let here : i ≡ history_of v.steps = v.history ∙ ap (λ (es : List Entry). es ++ history_of v.steps) none in
+    record {
+      session = is_session header ls v.steps lists v.are_steps (replies_of header.n h i v.steps header.asks lists none v.history r);
+      prefix = prefix_then before now later _ _ v.taken (subst (λ (z : Profile × List Entry). IsPrefix now later (rest_text z.0 header.n lists z.1)) (λ k. (q k, here k)) rest);
+    }
+
+steps_long : (s : State) (bs : List Next) (ts : List Step) → AreSteps s bs ts → length ts ≡ length bs
+steps_long s [] [] a = refl
+steps_long s [] (t ∷ ts) a = absurd a
+steps_long s (b ∷ bs) [] a = absurd a
+steps_long s (b ∷ bs) (t ∷ ts) a = ap suc (steps_long t.state bs ts a.1)
+
+-- the counts of a session
+pub ended_with : (header : HeaderShape) (bs : List Next) (steps : List Step) (lists : List (List Reply)) (t : State) (counts : Counts) (levels : List ℕ) (e : Ended) → AreSteps (start header.profile header.n) bs steps → last_state (start header.profile header.n) steps ≡ t
+    → counts ≡ counts_of (start header.profile header.n) bs steps → levels ≡ t.levels → e ≡ record { batches = counts.batches; refused = counts.refused; phases = t.phases; groups = counts.groups; moves = counts.moves; edges = length t.graph.edges; replies = replies_in lists; top = greatest levels }
+    → IsEnded header bs steps lists e
+ended_with header bs steps lists t counts levels e a last c l is = record {
+  count = ap (λ (z : Ended). z.batches) is ∙ (ap (λ (z : Counts). z.batches) c ∙ steps_long (start header.profile header.n) bs steps a);
+  refused = ap (λ (z : Ended). z.refused) is ∙ ap (λ (z : Counts). z.refused) c;
+  phases = ap (λ (z : Ended). z.phases) is ∙ ap (λ (z : State). z.phases) (sym last);
+  groups = ap (λ (z : Ended). z.groups) is ∙ ap (λ (z : Counts). z.groups) c;
+  moves = ap (λ (z : Ended). z.moves) is ∙ ap (λ (z : Counts). z.moves) c;
+  edges = ap (λ (z : Ended). z.edges) is ∙ ap (λ (z : State). length z.graph.edges) (sym last);
+  replies = ap (λ (z : Ended). z.replies) is;
+  top = ap (λ (z : Ended). z.top) is ∙ (ap (λ (x : List ℕ). greatest x) l ∙ ap (λ (z : State). greatest z.levels) (sym last));
+}
+
+-- all of it
+pub rest_written : (header : HeaderShape) (toks : Option (List Token)) (s t : State) (before now later : Option (List ℕ)) (h i : List Entry) (counts : Counts) (lists : List (List Reply)) (p : Profile) (levels : List ℕ) (e : Ended) → s ≡ start header.profile header.n → h ≡ []
+    → p ≡ header.profile → RunsBatches Lines s t (option_map (batches (rules_of header MAX_ITEMS)) toks) before now h i (Ok counts) → AreReplies header.n i header.asks lists → later ≡ append_known now (rest_text p header.n lists i) → levels ≡ t.levels
+    → e ≡ record { batches = counts.batches; refused = counts.refused; phases = t.phases; groups = counts.groups; moves = counts.moves; edges = length t.graph.edges; replies = replies_in lists; top = greatest levels }
+    → WritesSession body_text header (option_map (batches (rules_of header MAX_ITEMS)) toks) before later (Ok e)
+rest_written header None s t before now later h i counts lists p levels e f none q w r rest l is = tt
+rest_written header (Some ls) s t before now later h i counts lists p levels e f none q w r rest l is =
+    let bs = batches (rules_of header MAX_ITEMS) ls in
+    let v = from_start header bs s t before now h i counts f w in
+    let here : i ≡ history_of v.steps = v.history ∙ ap (λ (es : List Entry). es ++ history_of v.steps) none in
+    record {
+      session = is_session header ls v.steps lists v.are_steps (replies_of header.n h i v.steps header.asks lists none v.history r);
+      taken = append_twice before now later _ _ v.taken (subst (λ (z : Profile × List Entry). later ≡ append_known now (rest_text z.0 header.n lists z.1)) (λ k. (q k, here k)) rest);
+      ends = ended_with header bs v.steps lists t counts levels e v.are_steps v.last v.counts_are l is;
+    }
+
+-- the replies of agents that were opened, ran and were closed
+pub session_replies : (store : StoreShape) (n : ℕ) (h i : List Entry) (asks : List Ask) (first last : List AgentShape) (lists : List (List Reply)) → store.vertices ≡ n → first ≡ agents_for store h 0 asks → HaveRun first last → AreClosed i last lists → AreReplies n i asks lists
+session_replies store n h i asks first last lists size fresh ran closed =
+    let run = subst (λ (xs : List AgentShape). HaveRun xs last) fresh ran in
+    record {
+      fit = closed_fit store h i 0 asks last lists run closed;
+      explained = subst (λ (k : ℕ). All (AreExplained k i 0) lists) size (closed_explained store h i 0 asks last lists run closed);
+    }
+
+-- there are not many
+fit_few : (n : ℕ) (asks : List Ask) (lists : List (List Reply)) → Fit asks lists → All (IsAsk n) asks → (replies_in lists ≤ length asks * 65536) × (length lists ≡ length asks)
+fit_few n [] [] f all = (omega arith, refl)
+fit_few n [] (rs ∷ more) f all = absurd f
+fit_few n (a ∷ asks) [] f all = absurd f
+fit_few n (a ∷ asks) (rs ∷ more) f all =
+    let one = replies_few a rs f.0 (All-head (IsAsk n) a asks all).few in
+    let rest = fit_few n asks more f.1 (All-tail (IsAsk n) a asks all) in
+    let sum : replies_in (rs ∷ more) ≡ length rs + replies_in more = sum_by-cons (λ (ss : List Reply). length ss) rs more in
+    let times : length (a ∷ asks) * 65536 ≡ 65536 + length asks * 65536 = omega arith in
+    (let x = rest.0 in omega (arith, one, x, sum, times), ap suc rest.1)
+
+pub few_replies : (n : ℕ) (asks : List Ask) (lists : List (List Reply)) → Fit asks lists → All (IsAsk n) asks → length asks ≤ 64 → (replies_in lists < 4294967296) × (length lists < 4294967296)
+few_replies n asks lists f all few =
+    let b = fit_few n asks lists f all in
+    let x = b.0 in
+    let y = b.1 in
+    (omega (arith, x, few), omega (arith, y, few))

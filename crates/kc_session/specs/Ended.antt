@@ -1,0 +1,29 @@
+-- The counts that a session ends with.
+use Rattle.std.specs.Prelude.{ℕ, ◌≡◌, List, length, max}
+use Rattle.std.specs.List.{sum_by, fold}
+use Rattle.kc_batch.specs.declared.batch.Next.{Next}
+use Rattle.kc_batch.specs.HeaderShape.{HeaderShape}
+use Rattle.kc_history.specs.declared.replies.Reply.{Reply}
+use Rattle.kc_session.specs.declared.ended.Ended.{Ended}
+use Rattle.kc_session.specs.Counts.{capped, refused_in, all_groups, all_moves}
+use Rattle.kc_session.specs.States.{Step, start, last_state}
+
+-- the greatest of levels
+abbrev pub greatest : List ℕ → ℕ
+greatest levels = fold max 0 levels
+
+-- how many replies there are
+abbrev pub replies_in : List (List Reply) → ℕ
+replies_in lists = sum_by (λ (rs : List Reply). length rs) lists
+
+-- the counts of a session: of its batches, which led to these steps, of the phases, groups and moves in them, of the edges at the
+-- end, and of the replies; and the greatest level at the end
+pub record IsEnded (header : HeaderShape) (batches : List Next) (steps : List Step) (lists : List (List Reply)) (e : Ended) : Type 0 where
+  pub count : e.batches ≡ length batches
+  pub refused : e.refused ≡ refused_in (start header.profile header.n) batches steps
+  pub phases : e.phases ≡ (last_state (start header.profile header.n) steps).phases
+  pub groups : e.groups ≡ capped (all_groups steps)
+  pub moves : e.moves ≡ capped (all_moves steps)
+  pub edges : e.edges ≡ length (last_state (start header.profile header.n) steps).graph.edges
+  pub replies : e.replies ≡ replies_in lists
+  pub top : e.top ≡ greatest (last_state (start header.profile header.n) steps).levels

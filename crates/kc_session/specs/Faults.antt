@@ -1,0 +1,32 @@
+-- Why a session stops before its end.
+use Rattle.std.specs.Prelude.{ℕ, ◌≡◌, Result, Ok, Err}
+use Rattle.kc_text.specs.declared.buf.SendFault.{SendFault}
+use Rattle.kc_text.specs.declared.buf.SendFault.TheVariants as send
+use Rattle.kc_text.specs.Causes.{Rose}
+use Rattle.kc_batch.specs.declared.batch.BatchFault.{BatchFault}
+use Rattle.kc_batch.specs.declared.batch.BatchFault.TheVariants as batch
+use Rattle.kc_session.specs.declared.fault.SessionFault.{SessionFault}
+use Rattle.kc_session.specs.declared.fault.SessionFault.TheVariants.{ReadFault, WriteFault, Memory}
+
+abbrev pub fault_of_batch : BatchFault → SessionFault
+fault_of_batch batch.ReadFault = ReadFault
+fault_of_batch (batch.Memory e) = Memory e
+
+abbrev pub fault_of_send : SendFault → SessionFault
+fault_of_send send.WriteFault = WriteFault
+fault_of_send (send.Memory e) = Memory e
+
+-- the counts of faults of the source, r, and of the sink, w: a fault stops a session only where the count of its object
+-- rose, and every other count is as it was
+abbrev pub FaultCause : {T : Type 0} → ℕ → ℕ → ℕ → ℕ → Result T SessionFault → Type 0
+FaultCause r0 r1 w0 w1 (Ok _) = (r1 ≡ r0) × (w1 ≡ w0)
+FaultCause r0 r1 w0 w1 (Err ReadFault) = Rose r0 r1 × (w1 ≡ w0)
+FaultCause r0 r1 w0 w1 (Err WriteFault) = (r1 ≡ r0) × Rose w0 w1
+FaultCause r0 r1 w0 w1 (Err (Memory _)) = (r1 ≡ r0) × (w1 ≡ w0)
+
+-- the same where only a write or the memory can stop it
+abbrev pub StepCause : {T : Type 0} → ℕ → ℕ → Result T SessionFault → Type 0
+StepCause w0 w1 (Ok _) = w1 ≡ w0
+StepCause w0 w1 (Err ReadFault) = ⊥
+StepCause w0 w1 (Err WriteFault) = Rose w0 w1
+StepCause w0 w1 (Err (Memory _)) = w1 ≡ w0

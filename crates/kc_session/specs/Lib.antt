@@ -1,0 +1,14 @@
+pub mod Agents
+pub mod Asking
+pub mod ReaderLines
+pub mod VertexLines
+pub mod States
+pub mod Outcomes
+pub mod Reports
+pub mod RunText
+pub mod Counts
+pub mod Faults
+pub mod Running
+pub mod Settling
+pub mod Ended
+pub mod SessionText

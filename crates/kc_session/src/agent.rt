@@ -1,0 +1,166 @@
+//! A reader that puts its questions while batches are shown.
+ghost use Rattle.std.specs.Prelude.{◌≡◌, ◌≤◌, ◌<◌, ◌++◌, ◌*◌, ◌^◌, true, false, length, take, All, IfOk, OnOk};
+ghost use mathlib.Core.List.{IsPrefix};
+ghost use Rattle.kc_history.specs.Replies.{AreExplained, vertices_of, zeros};
+ghost use Rattle.kc_store.specs.States.{with_joined};
+ghost use Rattle.kc_session.specs.Agents.{questions, repeated, agent_for, given};
+ghost use Rattle.kc_session.specs.Asking.{HasRun};
+
+use kc_batch::Ask;
+use kc_history::Reply;
+use kc_rounds::{Gate, Spot};
+use kc_store::{Pass, Store, Writer};
+use std::alloc::{AllocError, Global};
+use std::marker::Model;
+
+/// A reader of a store: it puts the questions of one ask, and keeps the replies.
+///
+/// Contracts see it as an `AgentShape`: its store, its number and its ask, what its pass has seen of the history and how long that was
+/// when the pass was made, its replies, and whether it has run. Of each agent three things are true (`IsAgent`): its replies answer
+/// the first questions of its ask, in order; once it has run they answer all of them; and what its pass has seen explains them.
+#[derive(Drop)]
+pub struct Agent {
+    pass: Pass,
+    // The number of the store's vertices. Each vertex of the ask is below it.
+    vertices: u32,
+    reader: u32,
+    ask: Ask,
+    // One for each question, in order, so that a run takes no memory. The levels are the store's once the agent has run.
+    replies: Vec<Reply>,
+    has_run: bool,
+}
+
+impl Model for Agent {
+    ghost use Rattle.kc_session.specs.Agents.{AgentShape, agent_shape, IsKept};
+
+    ghost Value = { AgentShape };
+
+    ghost view = { λ a. agent_shape a.pass a.vertices a.reader a.ask a.replies.items a.has_run };
+
+    ghost invariant = { λ a. IsKept (agent_shape a.pass a.vertices a.reader a.ask a.replies.items a.has_run) a.replies.items };
+}
+
+// Puts a reply of level 0 for each of the vertices at the end.
+fn push_zeros(replies: &mut Vec<Reply>, vertices: &[u32]) -> Result<(), AllocError>
+    ensures { OnOk result (replies.new.items ≡ replies.old.items ++ zeros vertices.now) }
+{
+    for v in vertices {
+        replies.push(Reply {
+            vertex: *v,
+            level: 0,
+        })?;
+    }
+    Ok(())
+}
+
+// A reply of level 0 for each question.
+fn zeros_for(alloc: Global, ask: &Ask) -> Result<Vec<Reply>, AllocError>
+    ensures { IfOk result (λ replies. replies.items ≡ zeros (questions ask.now)) }
+{
+    let mut replies = Vec::new(alloc);
+    for _turn in 0..ask.times {
+        push_zeros(&mut replies, ask.vertices.as_slice())?;
+    }
+    Ok(replies)
+}
+
+// The replies that are kept, or none.
+fn given(has_run: bool, kept: Vec<Reply>) -> Vec<Reply>
+    ensures { result.items ≡ given has_run kept.items }
+{
+    let mut replies = kept;
+    if !has_run {
+        replies.clear();
+    }
+    replies
+}
+
+// Asks the store for the level of each vertex in turn.
+fn ask_all<G: Gate>(gate: &G, store: &Store, pass: &mut Pass, reader: u32, replies: &mut Vec<Reply>)
+    requires table { pass.old.table ≡ store.now.table }
+    requires made { pass.old.made ≤ length pass.old.seen }
+    requires vertices { All (λ r. r.vertex < store.now.vertices) replies.old.items }
+    requires few { length replies.old.items < 2 ^ 32 }
+    ensures same { pass.new ≡ record pass.old { seen = pass.new.seen } }
+    ensures later { IsPrefix pass.old.seen pass.new.seen }
+    ensures vertices { vertices_of replies.new.items ≡ vertices_of replies.old.items }
+    ensures explained { AreExplained store.now.vertices pass.new.seen pass.old.made replies.new.items }
+{
+    for i in 0..replies.len() {
+        let ask = i as u32;
+        gate.at(Spot::Asking { reader, ask });
+        let vertex = replies[i].vertex;
+        let level = store.read(pass, vertex);
+        replies[i] = Reply { vertex, level };
+        gate.at(Spot::Replied { reader, ask });
+    }
+}
+
+impl Agent {
+    /// An agent with this number for an ask (`agent_for`), which has seen the writer's whole history and has not run.
+    ///
+    /// The vertices of the ask are below the store's number of vertices, and it has at most 65,536 questions. The writer is the
+    /// store's. Takes memory for a reply to each question, and then splits off a pass. Without memory the ask is dropped.
+    pub fn open(
+        alloc: Global,
+        reader: u32,
+        ask: Ask,
+        store: &Store,
+        writer: &mut Writer,
+    ) -> Result<Agent, AllocError>
+        requires table { writer.old.table ≡ store.now.table }
+        requires vertices { All (λ v. v < store.now.vertices) ask.vertices }
+        requires few { ask.times * length ask.vertices ≤ 65536 }
+        ensures same { writer.new ≡ writer.old }
+        ensures agent { IfOk result (λ agent. agent ≡ agent_for store.now writer.old.state.history reader ask) }
+    {
+        let replies = zeros_for(alloc, &ask)?;
+        Ok(Agent {
+            pass: writer.pass(store),
+            vertices: store.vertices(),
+            reader,
+            ask,
+            replies,
+            has_run: false,
+        })
+    }
+
+    /// Puts the questions of the ask one after another: its vertices in order, the whole list `times` times over.
+    ///
+    /// The store is the one that the agent was opened with, and the agent has not run. Tells the gate `Asking` before each question and
+    /// `Replied` after it; questions are counted from 0. Takes no memory. Costs one read of the store a question.
+    pub fn run<G: Gate + Sync>(&mut self, gate: &G, store: &Store)
+        requires store { self.old.store ≡ store.now }
+        requires first { self.old.has_run ≡ false }
+        ensures { HasRun self.old self.new }
+    {
+        let reader = self.reader;
+        ask_all(gate, store, &mut self.pass, reader, &mut self.replies);
+        self.has_run = true;
+    }
+
+    /// Takes the pass of the agent in, and gives the replies: one for each question, or none where the agent has not run. The writer's
+    /// history explains them from the point on at which the agent was opened.
+    ///
+    /// The store is the one that the agent was opened with, and the writer is the store's. Takes no memory.
+    pub fn close(self, store: &Store, writer: &mut Writer) -> Vec<Reply>
+        requires table { writer.old.table ≡ store.now.table }
+        requires store { self.store ≡ store.now }
+        ensures writer { writer.new ≡ record writer.old { state = with_joined self.seen writer.old.state } }
+        ensures replies { result.items ≡ self.replies }
+        ensures first { vertices_of result.items ≡ take (length result.items) (questions self.ask) }
+        ensures all { self.has_run ≡ true → vertices_of result.items ≡ questions self.ask }
+        ensures explained { AreExplained self.store.vertices writer.new.state.history self.made result.items }
+    {
+        let Agent {
+            pass,
+            vertices: _,
+            reader: _,
+            ask: _,
+            replies,
+            has_run,
+        } = self;
+        writer.take_in(store, pass);
+        given(has_run, replies)
+    }
+}

@@ -1,0 +1,83 @@
+//! What the batches of an input do, one after another, to the engine that takes them.
+ghost use Rattle.std.specs.Prelude.{◌≡◌, ◌≤◌, length, All, IfOk, OnOk};
+ghost use Rattle.kc_graph.specs.Cleaning.{IsInside, cleaned};
+ghost use Rattle.kc_engine.specs.Showing.{IsAbreast};
+ghost use Rattle.kc_session.specs.States.{start, IsOpen};
+ghost use Rattle.kc_session.specs.Outcomes.{Becomes};
+
+use kc_engine::{BatchPlan, Engine, EngineFault, Shape};
+use kc_graph::{Cleaned, Item, MAX_EDGES, MAX_ITEMS, MAX_VERTICES, clean};
+use kc_levels::Profile;
+use kc_rounds::Gate;
+use kc_store::{Store, Writer};
+use kc_text::Reason;
+use std::alloc::{AllocError, Global};
+use std::thread::Threads;
+
+/// What became of a batch without a fault.
+#[derive(Drop)]
+pub enum Outcome {
+    /// It was applied: what it came to, and its phases.
+    Accepted(Cleaned, BatchPlan),
+    /// It is refused for this reason, `EdgeLimit` or `PhaseLimit`, and changed nothing.
+    Refused(Reason),
+}
+
+/// The engine before the first batch of a graph of n vertices, whose phases use up to `workers` threads, 1 to 64. The error is
+/// running out of memory.
+pub fn open(alloc: Global, profile: Profile, n: u32, workers: u32) -> Result<Engine, AllocError>
+    requires some { 1 ≤ n }
+    requires small { n ≤ MAX_VERTICES }
+    requires some_workers { 1 ≤ workers }
+    requires few_workers { workers ≤ 64 }
+    ensures state { IfOk result (λ e. e.state ≡ start profile n) }
+    ensures open { IfOk result IsOpen }
+{
+    Engine::open(
+        alloc,
+        Shape {
+            profile,
+            n,
+            workers,
+            phases_before: 0,
+            edge_limit: MAX_EDGES,
+        },
+    )
+}
+
+/// Applies a batch without a fault: its items are cleaned, and then it is refused and changes nothing, or its edges leave and
+/// come in, and the writer shows its phases. Fails only if memory runs out; the engine isn't used again.
+///
+/// Costs what `clean`, `Engine::plan` and `Engine::show` cost.
+pub fn apply<R: Threads + Sync, G: Gate + Sync>(
+    rt: &R,
+    alloc: Global,
+    gate: &G,
+    store: &Store,
+    writer: &mut Writer,
+    engine: &mut Engine,
+    items: &[Item],
+) -> Result<Outcome, AllocError>
+    requires table { writer.old.table ≡ store.now.table }
+    requires abreast { IsAbreast writer.old.state engine.old.state }
+    requires open { IsOpen engine.old }
+    requires inside { All (IsInside engine.old.state.graph.vertices) items.now }
+    requires few { length items.now ≤ MAX_ITEMS }
+    ensures outcome { IfOk result (λ o. Becomes engine.old.state (cleaned engine.old.state.graph items.now) o engine.new.state writer.old.state writer.new.state) }
+    ensures table { writer.new.table ≡ writer.old.table }
+    ensures abreast { OnOk result (IsAbreast writer.new.state engine.new.state) }
+    ensures open { OnOk result (IsOpen engine.new) }
+{
+    let cleaned = clean(rt, alloc, engine.graph(), items)?;
+    match engine.plan(rt, alloc, gate, &cleaned) {
+        Ok(plan) => {
+            engine.show(rt, gate, store, writer, &plan);
+            Ok(Outcome::Accepted(cleaned, plan))
+        }
+        Err(EngineFault::EdgeLimit { .. }) => Ok(Outcome::Refused(Reason::EdgeLimit)),
+        Err(EngineFault::PhaseLimit { .. }) => Ok(Outcome::Refused(Reason::PhaseLimit)),
+        Err(EngineFault::Memory(e)) => Err(e),
+        // An earlier batch ran out of memory, and the session ended there.
+        Err(EngineFault::Halted) => Err(AllocError),
+    }
+}

@@ -1,0 +1,78 @@
+ghost use Rattle.std.specs.Prelude.{◌≡◌, ◌<◌, ◌^◌, length, max};
+ghost use Rattle.kc_session.specs.Ended.{greatest, replies_in};
+ghost use Rattle.kc_session.specs.States.{IsOpen};
+
+use crate::counts::Counts;
+use kc_engine::Engine;
+use kc_history::Replies;
+
+/// The counts that a session ends with. Groups and moves stop at 4,294,967,295.
+#[derive(Clone, Copy, Debug, PartialEq, Eq)]
+pub struct Ended {
+    /// The batches, refused ones among them.
+    pub batches: u32,
+    /// The batches that were refused.
+    pub refused: u32,
+    /// The phases of all batches.
+    pub phases: u32,
+    /// The dependency groups of all phases.
+    pub groups: u32,
+    /// The moves of all phases.
+    pub moves: u32,
+    /// The edges at the end.
+    pub edges: u32,
+    /// The replies that readers were given.
+    pub replies: u32,
+    /// The greatest level at the end.
+    pub top: u16,
+}
+
+// How many replies there are.
+fn count_replies(lists: &[Replies]) -> u32
+    requires { replies_in lists.now < 2 ^ 32 }
+    ensures { result ≡ replies_in lists.now }
+{
+    let mut count = 0;
+    for replies in lists {
+        count += replies.len() as u32;
+    }
+    count
+}
+
+// The greater of both.
+fn greater(a: u16, b: u16) -> u16
+    ensures { result ≡ max a b }
+{
+    if a < b { b } else { a }
+}
+
+// The greatest of levels.
+fn greatest(levels: &[u16]) -> u16
+    ensures { result ≡ greatest levels.now }
+{
+    let mut top = 0;
+    for level in levels {
+        top = greater(top, *level);
+    }
+    top
+}
+
+impl Ended {
+    /// What a session ends with that came to these counts, this engine, these replies and these levels.
+    pub fn with(counts: Counts, engine: &Engine, lists: &[Replies], levels: &[u16]) -> Ended
+        requires open { IsOpen engine.now }
+        requires few { replies_in lists.now < 2 ^ 32 }
+        ensures { result ≡ record { batches = counts.batches; refused = counts.refused; phases = engine.now.state.phases; groups = counts.groups; moves = counts.moves; edges = length engine.now.state.graph.edges; replies = replies_in lists.now; top = greatest levels.now } }
+    {
+        Ended {
+            batches: counts.batches,
+            refused: counts.refused,
+            phases: engine.phases(),
+            groups: counts.groups,
+            moves: counts.moves,
+            edges: engine.graph().edge_count(),
+            replies: count_replies(lists),
+            top: greatest(levels),
+        }
+    }
+}

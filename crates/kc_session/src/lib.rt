@@ -1,0 +1,36 @@
+//! Sessions: the batches of an input beside its readers.
+//!
+//! [`run_session`] opens an engine and a store, and runs two branches side by side. One reads batch after batch, applies it, shows it
+//! in the store and tells it (`batches`). In the other an [`Agent`] for each ask puts its questions to the store and keeps the replies.
+//! Afterwards the agents are closed by the writer, whose history explains their replies, and a last pass reads the levels of all
+//! vertices. `specs/SessionText` says what is written and what is true of it.
+//!
+//! [`settle`] applies the batches of an input where nobody reads meanwhile.
+#![tactic(auto)]
+
+mod agent;
+mod agents;
+mod applying;
+mod batches;
+mod counts;
+mod ended;
+mod fault;
+mod last_pass;
+mod readers;
+mod report;
+mod session;
+mod settling;
+mod vertices;
+
+pub use agent::Agent;
+pub use agents::{close_all, open_agents, run_agents};
+pub use ended::Ended;
+pub use fault::SessionFault;
+pub use last_pass::read_all;
+pub use readers::write_readers;
+pub use session::run_session;
+pub use settling::{Settled, settle};
+pub use vertices::write_tail;
+
+#[cfg(test)]
+mod tests;

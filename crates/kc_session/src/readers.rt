@@ -1,0 +1,32 @@
+//! The lines of the readers.
+ghost use Rattle.std.specs.Prelude.{◌≡◌, ◌≤◌, ◌<◌, ◌^◌, [], length};
+ghost use Rattle.kc_text.specs.Writing.{Appends, WriteCause};
+ghost use Rattle.kc_report.specs.Buffer.{IsCleared};
+ghost use Rattle.kc_session.specs.ReaderLines.{reader_lines};
+
+use kc_history::Replies;
+use kc_report::write_reader;
+use kc_text::{LineBuf, SendFault, Sink};
+use std::alloc::Global;
+
+/// Writes a line for the replies of each reader, in order; readers are numbered from 0 (`reader_lines`).
+///
+/// After `WriteFault`, which only a failed write gives, and after `Memory` the sink took a prefix of the lines. Those after one that
+/// fails aren't tried.
+pub fn write_readers<K: Sink>(
+    alloc: Global,
+    buf: &mut LineBuf,
+    sink: &mut K,
+    replies: &[Replies],
+) -> Result<(), SendFault>
+    requires empty { buf.old ≡ [] }
+    requires few { length replies.now < 2 ^ 32 }
+    ensures text { Appends (K.taken sink.old) (K.taken sink.new) (reader_lines 0 replies.now) result }
+    ensures buffer { IsCleared buf.new result }
+    ensures cause { WriteCause (K.faults sink.old) (K.faults sink.new) result }
+{
+    for i in 0..replies.len() {
+        write_reader(alloc, buf, sink, i as u32, replies[i].as_slice())?;
+    }
+    Ok(())
+}

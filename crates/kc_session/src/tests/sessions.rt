@@ -1,0 +1,217 @@
+// Sessions over sources and sinks in memory. Each text was worked out by hand from its input.
+ghost use Rattle.std.specs.Prelude.{◌≤◌, ◌+◌, ◌^◌, IfOk};
+ghost use Rattle.kc_text.specs.Reading.{budget};
+
+use crate::ended::Ended;
+use crate::fault::SessionFault;
+use crate::session::run_session;
+use crate::settling::settle;
+use kc_batch::Header;
+use kc_rounds::{Gate, OpenGate, Spot};
+use kc_text::{LineReader, MemSink, MemSource};
+use std::alloc::Global;
+use std::sync::atomic::Ordering::SeqCst;
+use std::sync::atomic::{AtomicBool, AtomicU64};
+use std::test::Fail;
+use std::thread;
+use std::thread::Threads;
+
+// A reader of the lines after the header of an input, and that header.
+fn open_input(alloc: Global, source: &mut MemSource) -> Result<(Header, LineReader), Fail>
+    ensures { IfOk result (λ r. budget r.1 ≤ 2 ^ 30 + 1) }
+{
+    let mut reader = LineReader::new(alloc, 65_536, 1_073_741_824)?;
+    let header = Header::read(alloc, &mut reader, source)?;
+    Ok((header, reader))
+}
+
+// What a session of an input ended with, and what its sink took, which fails at the calls with these numbers.
+fn run<R: Threads + Sync, G: Gate + Sync>(
+    rt: &R,
+    alloc: Global,
+    gate: &G,
+    workers: u32,
+    input: &[u8],
+    failing: &[u32],
+) -> Result<(Result<Ended, SessionFault>, Vec<u8>), Fail>
+    requires { (1 ≤ workers) × (workers ≤ 64) }
+{
+    let mut source = MemSource::new(alloc, input, 16, &[])?;
+    let mut sink = MemSink::new(alloc, 65_536, 65_536, failing)?;
+    let (header, reader) = open_input(alloc, &mut source)?;
+    let ended = run_session(
+        rt,
+        alloc,
+        gate,
+        workers,
+        header,
+        reader,
+        &mut source,
+        &mut sink,
+    );
+    Ok((ended, Vec::from_slice(alloc, sink.bytes())?))
+}
+
+const BATCHES: &[u8] =
+    b"kcore 1\nvertices 5\nask 2 4\nbatch\n0 1\nend\nbatch\n1 9\nend\nbatch\n- 0 1\n0 2\nend\n";
+
+#[test]
+fn a_session_is_written_and_counted(rt: HostRuntime) -> Result<(), Fail> {
+    let (ended, text) = run(&rt, rt.alloc(), &OpenGate::new(), 2, BATCHES, &[])?;
+    assert_eq!(rt;
+        text.as_slice(),
+        b"kcore-run 1\nvertices 5\nbatch 1 loops 0 repeats 0 idle 0 removed 0 added 1\nphase 1 insert quiet 0\ngroup 1 0 0:1 1:1\nbatch 2 refused line 8 bad-vertex\nbatch 3 loops 0 repeats 0 idle 0 removed 1 added 1\nphase 2 delete quiet 0\ngroup 2 0 0:0 1:0\nphase 3 insert quiet 0\ngroup 3 0 0:1 2:1\nreader 0 4=0 4=0\nvertex 0 level 1 est 2 low 1 high 2 up 1 down 1\nvertex 1 level 0 est 0 low 0 high 0 up 0 down 0\nvertex 2 level 1 est 2 low 1 high 2 up 1 down 1\nvertex 3 level 0 est 0 low 0 high 0 up 0 down 0\nvertex 4 level 0 est 0 low 0 high 0 up 0 down 0\nend\n".as_slice()
+    );
+    let counts = Ended {
+        batches: 3,
+        refused: 1,
+        phases: 3,
+        groups: 3,
+        moves: 6,
+        edges: 1,
+        replies: 2,
+        top: 1,
+    };
+    assert_eq!(rt; ended?, counts);
+    Ok(())
+}
+
+// What the batches after a header come to: how many were refused, and how many phases there were.
+fn totals<R: Threads + Sync>(
+    rt: &R,
+    alloc: Global,
+    header: Header,
+    reader: LineReader,
+    source: &mut MemSource,
+    sink: &mut MemSink,
+) -> Result<(u32, u32), SessionFault>
+    requires { budget reader ≤ 2 ^ 30 + 1 }
+{
+    let settled = settle(rt, alloc, &OpenGate::new(), 1, header, reader, source, sink)?;
+    Ok((settled.refused, settled.engine.phases()))
+}
+
+#[test]
+fn batches_settle_with_notes(rt: HostRuntime) -> Result<(), Fail> {
+    let alloc = rt.alloc();
+    let mut source = MemSource::new(alloc, BATCHES, 16, &[])?;
+    let mut sink = MemSink::new(alloc, 1000, 1000, &[])?;
+    let (header, reader) = open_input(alloc, &mut source)?;
+    let (refused, phases) = totals(&rt, alloc, header, reader, &mut source, &mut sink)?;
+    assert_eq!(rt;
+        sink.bytes(),
+        b"# batch 2 refused line 8 bad-vertex\n".as_slice()
+    );
+    assert_eq!(rt; refused, 1);
+    assert_eq!(rt; phases, 3);
+    Ok(())
+}
+
+const TURNS: u64 = 10_000_000;
+
+// Two groups, and a reader that asks for both vertices of the first.
+const TWO_GROUPS: &[u8] = b"kcore 1\nvertices 6\nask 1 0 1\nbatch\n+ 0 1\n+ 2 3\nend\n";
+
+// The text of that session around the line of the reader.
+const BEFORE: &[u8] =
+    b"kcore-run 1\nvertices 6\nbatch 1 loops 0 repeats 0 idle 0 removed 0 added 2\nphase 1 insert quiet 0\ngroup 1 0 0:1 1:1\ngroup 1 2 2:1 3:1\nreader 0 0=";
+
+// Holds a thread until a flag is set, for at most so many turns; then it tells that they ran out.
+fn hold(until: &AtomicBool, ran_out: &AtomicBool) {
+    for _turn in 0..TURNS {
+        if until.load(SeqCst) {
+            return;
+        }
+        thread::yield_now();
+    }
+    ran_out.store(true, SeqCst);
+}
+
+// Holds the second publication until a reply was told.
+#[derive(Drop)]
+struct HoldsPublication {
+    published: AtomicU64,
+    replied: AtomicBool,
+    ran_out: AtomicBool,
+}
+
+impl HoldsPublication {
+    fn new() -> Self {
+        HoldsPublication {
+            published: AtomicU64::new(0),
+            replied: AtomicBool::new(false),
+            ran_out: AtomicBool::new(false),
+        }
+    }
+}
+
+impl Gate for HoldsPublication {
+    fn at(&self, spot: Spot) {
+        match spot {
+            Spot::Publishing { .. } => {
+                if self.published.fetch_add(1, SeqCst) == 1 {
+                    hold(&self.replied, &self.ran_out);
+                }
+            }
+            Spot::Replied { .. } => self.replied.store(true, SeqCst),
+            Spot::Piece { .. } | Spot::Asking { .. } => {}
+        }
+    }
+}
+
+#[test]
+fn a_group_takes_effect_at_once(rt: HostRuntime) -> Result<(), Fail> {
+    let gate = HoldsPublication::new();
+    let (ended, text) = run(&rt, rt.alloc(), &gate, 1, TWO_GROUPS, &[])?;
+    let _ended = ended?;
+    assert!(rt; !gate.ran_out.load(SeqCst));
+    assert!(rt; text.as_slice().starts_with(BEFORE));
+    let told = &text.as_slice()[BEFORE.len()..];
+    assert!(rt;
+        told.starts_with(b"0 1=0\n") || told.starts_with(b"0 1=1\n") || told.starts_with(b"1 1=1\n")
+    );
+    Ok(())
+}
+
+// Holds the first question until the publication of the group with the label 2 was told.
+#[derive(Drop)]
+struct HoldsQuestion {
+    publishing: AtomicBool,
+    ran_out: AtomicBool,
+}
+
+impl Gate for HoldsQuestion {
+    fn at(&self, spot: Spot) {
+        match spot {
+            Spot::Asking { reader: 0, ask: 0 } => hold(&self.publishing, &self.ran_out),
+            Spot::Publishing { label: 2, .. } => self.publishing.store(true, SeqCst),
+            _ => {}
+        }
+    }
+}
+
+#[test]
+fn a_reader_looks_while_batches_are_shown(rt: HostRuntime) -> Result<(), Fail> {
+    let gate = HoldsQuestion {
+        publishing: AtomicBool::new(false),
+        ran_out: AtomicBool::new(false),
+    };
+    let (ended, text) = run(&rt, rt.alloc(), &gate, 1, TWO_GROUPS, &[])?;
+    let _ended = ended?;
+    assert!(rt; !gate.ran_out.load(SeqCst));
+    assert!(rt; text.as_slice().starts_with(BEFORE));
+    assert!(rt; text.as_slice()[BEFORE.len()..].starts_with(b"1 1=1\n"));
+    Ok(())
+}
+
+#[test]
+fn a_batch_is_shown_before_it_is_told(rt: HostRuntime) -> Result<(), Fail> {
+    let gate = HoldsPublication::new();
+    gate.replied.store(true, SeqCst);
+    // The head is two writes, and the third is the first line of the batch.
+    let (ended, text) = run(&rt, rt.alloc(), &gate, 1, TWO_GROUPS, &[3])?;
+    assert!(rt; matches!(ended, Err(SessionFault::WriteFault)));
+    assert_eq!(rt; text.as_slice(), b"kcore-run 1\nvertices 6\n".as_slice());
+    assert_eq!(rt; gate.published.load(SeqCst), 2);
+    Ok(())
+}
