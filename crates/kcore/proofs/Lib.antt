@@ -1,9 +1,7 @@
-pub mod Steps
-pub mod BatchSteps
-pub mod Runs
+pub mod Points
+pub mod Holding
 pub mod Texts
 pub mod Causes
-pub mod Tails
 pub mod ExactTails
 pub mod SomeCorenesses
 pub mod ExactTexts

@@ -7,7 +7,8 @@ use Rattle.kcore.specs.declared.command.Command.{Command}
 use Rattle.kcore.specs.declared.command.Command.TheVariants.{Run, Exact}
 use Rattle.kcore.specs.declared.status.Status.{Status}
 use Rattle.kcore.specs.declared.status.Status.TheVariants.{Done, Refused, Usage, ReadFault, WriteFault, Memory}
-use Rattle.kcore.specs.RunText.{input_said, IsRunText}
+use Rattle.kcore.specs.Inputs.{input_said}
+use Rattle.kcore.specs.RunText.{IsRunText}
 use Rattle.kcore.specs.ExactText.{IsExactText}
 use Rattle.kcore.specs.Texts.{WritesWhole, WritesPrefix}
 use Rattle.kcore.specs.Laws.{HoldsThroughout, FitsExactly}
@@ -52,12 +53,12 @@ Answers None left before now status = Unit {0}
 Answers (Some command) None before now status = Unit {0}
 Answers (Some command) (Some bytes) before now status = Wrote command bytes before now status
 
--- where the source tells its bytes, in each state of the command both invariants hold, and what is printed bounds the coreness;
--- on each line of a vertex that `exact` writes, it bounds the coreness that stands there
+-- where the source tells its bytes, in each state of `exact` both invariants hold, and what is printed bounds the coreness, also on
+-- each line of a vertex the coreness that stands there; what holds of a run is in its text
 abbrev pub Holds : Option Command → Option (List ℕ) → Type 0
 Holds None left = Unit {0}
 Holds (Some command) None = Unit {0}
-Holds (Some (Run workers)) (Some bytes) = HoldsThroughout (input_said bytes)
+Holds (Some (Run workers)) (Some bytes) = Unit {0}
 Holds (Some Exact) (Some bytes) = HoldsThroughout (input_said bytes) × FitsExactly (input_said bytes)
 
 -- the counts of faults of the source, r, and of the sink, w: a fault is answered only where the count of its object

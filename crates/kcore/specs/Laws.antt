@@ -1,30 +1,80 @@
 -- Laws of the texts, each the contract of a function of `laws`.
-use Rattle.std.specs.Prelude.{ℕ, ◌≡◌, ◌≤◌, ◌<◌, ◌*◌, Bool, List, All, get_or}
+use Rattle.std.specs.Prelude.{ℕ, ◌≡◌, ◌≤◌, ◌<◌, ◌*◌, Bool, List, ◌++◌, All, get_or}
 use Rattle.kc_levels.specs.declared.profile.Profile.{Profile}
 use Rattle.kc_levels.specs.declared.profile.Profile.TheVariants.{Two}
 use Rattle.kc_levels.specs.declared.thresholds.Estimate.{Estimate}
 use Rattle.kc_levels.specs.LevelList.{MeetsBoth}
+use Rattle.kc_history.specs.declared.replies.Reply.{Reply}
+use Rattle.kc_history.specs.Replies.{AreExplained}
+use Rattle.kc_bound.specs.Cores.{IsCoreness}
 use Rattle.kc_batch.specs.BatchInputs.{BatchInput, WithBatches, HeaderRefused}
 use Rattle.kc_engine.specs.States.{State}
-use Rattle.kcore.specs.States.{start, Step, AreSteps, last_state}
-use Rattle.kc_bound.specs.Cores.{IsCoreness}
-use Rattle.kcore.specs.RunText.{input_said, printed_of, IsRunText}
+use Rattle.kc_session.specs.States.{start, Step, AreSteps, last_state, history_of}
+use Rattle.kc_session.specs.Asking.{Fit}
+use Rattle.kc_session.specs.ReaderLines.{reader_lines}
+use Rattle.kcore.specs.Inputs.{input_said}
+use Rattle.kcore.specs.RunText.{IsRun, IsRunText}
 use Rattle.kcore.specs.Corenesses.{AreCorenesses}
-use Rattle.kcore.specs.ExactText.{IsExactText}
+use Rattle.kcore.specs.ExactText.{printed_of, IsExactText}
+use Rattle.kcore.specs.Points.{AreNearAtEachPoint, ArePoints}
 
--- each input has exactly one text, and it is refused or it isn't
-abbrev pub InputHasOneText : Type 0
-InputHasOneText =
-    (bytes : List ℕ) →
-    (text : List ℕ) × ((refused : Bool) × (IsRunText (input_said bytes) text refused
-    × ((a : List ℕ) (x : Bool) → IsRunText (input_said bytes) a x → (a ≡ text) × (x ≡ refused))))
+-- each input has a text of a run
+abbrev pub InputHasText : Type 0
+InputHasText = (bytes : List ℕ) → (text : List ℕ) × ((refused : Bool) × IsRunText (input_said bytes) text refused)
 
--- and exactly one exact text
+-- each list of replies that fits the asks of an input, and that the history of its batches explains, has a text
+abbrev pub TakesReplies : BatchInput → Type 0
+TakesReplies (HeaderRefused line) = Unit {0}
+TakesReplies (WithBatches header batches) =
+    (steps : List Step) (replies : List (List Reply)) → AreSteps (start header.profile header.n) batches steps
+    → Fit header.asks replies → All (AreExplained header.n (history_of steps) 0) replies
+    → (text : List ℕ) × ((refused : Bool) × IsRun header batches replies text refused)
+
+abbrev pub RepliesHaveText : Type 0
+RepliesHaveText = (bytes : List ℕ) → TakesReplies (input_said bytes)
+
+-- two texts that are the same but for the lines of the readers
+pub record AreAlike (replies others : List (List Reply)) (text other : List ℕ) : Type 0 where
+  pub first : List ℕ
+  pub last : List ℕ
+  pub one : text ≡ first ++ (reader_lines 0 replies ++ last)
+  pub two : other ≡ first ++ (reader_lines 0 others ++ last)
+
+-- two texts of runs of an input differ in the lines of the readers alone, and the same is refused in both; so with the same replies
+-- they are one text
+abbrev pub HasTextsAlike : BatchInput → Type 0
+HasTextsAlike (HeaderRefused line) = Unit {0}
+HasTextsAlike (WithBatches header batches) =
+    (replies others : List (List Reply)) (text other : List ℕ) (x y : Bool) → IsRun header batches replies text x → IsRun header batches others other y
+    → AreAlike replies others text other × (x ≡ y)
+
+abbrev pub TextsAreAlike : Type 0
+TextsAreAlike = (bytes : List ℕ) → HasTextsAlike (input_said bytes)
+
+-- each input has exactly one exact text, and it is refused or it isn't
 abbrev pub InputHasOneExactText : Type 0
 InputHasOneExactText =
     (bytes : List ℕ) →
     (text : List ℕ) × ((refused : Bool) × (IsExactText (input_said bytes) text refused
     × ((a : List ℕ) (x : Bool) → IsExactText (input_said bytes) a x → (a ≡ text) × (x ≡ refused))))
+
+-- the states of an input are points of its history
+abbrev pub HasPoints : BatchInput → Type 0
+HasPoints (HeaderRefused line) = Unit {0}
+HasPoints (WithBatches header batches) =
+    (steps : List Step) → AreSteps (start header.profile header.n) batches steps → ArePoints header.profile header.n steps
+
+abbrev pub StatesArePoints : Type 0
+StatesArePoints = (bytes : List ℕ) → HasPoints (input_said bytes)
+
+-- at each point of its history both invariants hold, and the levels are near the coreness: also between two groups of one phase
+abbrev pub IsNearThroughout : BatchInput → Type 0
+IsNearThroughout (HeaderRefused line) = Unit {0}
+IsNearThroughout (WithBatches header batches) =
+    (steps : List Step) → AreSteps (start header.profile header.n) batches steps → AreNearAtEachPoint header.profile header.n steps
+
+abbrev pub EachPointIsNear : Type 0
+EachPointIsNear = (bytes : List ℕ) → IsNearThroughout (input_said bytes)
 
 -- both invariants hold in a state with this profile, and what is printed of each vertex bounds its coreness; in the second
 -- profile the coreness is also at most twice the estimate

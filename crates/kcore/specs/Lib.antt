@@ -1,11 +1,10 @@
-pub mod States
-pub mod Outcomes
-pub mod Reports
+pub mod Inputs
+pub mod Points
 pub mod RunText
 pub mod Corenesses
 pub mod ExactText
 pub mod Texts
-pub mod Stops
+pub mod Writing
 pub mod Commands
 pub mod Laws
 pub mod Waiting

@@ -1,82 +1,41 @@
--- The text of `run`: what is written for an input.
-use Rattle.std.specs.Prelude.{ℕ, zero, suc, ◌≡◌, ◌+◌, ◌-◌, Bool, true, false, ◌||◌, List, [], ◌∷◌, ◌++◌, get_or}
-use Rattle.kc_graph.specs.declared.limits.TheConstants.{MAX_ITEMS}
-use Rattle.kc_graph.specs.Cleaning.{cleaned}
-use Rattle.kc_levels.specs.declared.profile.Profile.{Profile}
-use Rattle.kc_levels.specs.declared.thresholds.Estimate.{Estimate}
-use Rattle.kc_levels.specs.Thresholds.{est, lo, high, group_of}
-use Rattle.kc_levels.specs.LevelList.{at_least}
+-- The text of `run`: what is written for an input, and what it says of the history of the input's batches.
+use Rattle.std.specs.Prelude.{ℕ, ◌≡◌, nat_lt, Bool, true, List, ◌++◌, All}
 use Rattle.kc_batch.specs.declared.batch.Next.{Next}
-use Rattle.kc_batch.specs.declared.batch.Next.TheVariants.{Items, Refused, End}
 use Rattle.kc_batch.specs.HeaderShape.{HeaderShape}
-use Rattle.kc_batch.specs.BatchInputs.{BatchInput, WithBatches, HeaderRefused, input_of}
-use Rattle.kc_report.specs.Lines.{head_text, header_refused_line, vertex_line, end_line}
-use Rattle.kc_groups.specs.declared.plans.PhasePlan.{PhasePlan}
-use Rattle.kc_engine.specs.States.{State}
-use Rattle.kcore.specs.declared.limits.TheConstants.{LINE_LIMIT, INPUT_LIMIT}
-use Rattle.kcore.specs.declared.report.Report.{Report}
-use Rattle.kcore.specs.declared.report.Report.TheVariants.{Lines}
-use Rattle.kcore.specs.Reports.{refused_text, cleaned_text}
-use Rattle.kcore.specs.States.{Step, start, refusal_of, AreSteps, last_state, is_refused}
+use Rattle.kc_batch.specs.BatchInputs.{BatchInput, WithBatches, HeaderRefused}
+use Rattle.kc_history.specs.declared.entries.Entry.{Entry}
+use Rattle.kc_history.specs.declared.replies.Reply.{Reply}
+use Rattle.kc_history.specs.Points.{graph_at, levels_at}
+use Rattle.kc_history.specs.Replies.{AreExplained}
+use Rattle.kc_report.specs.Lines.{header_refused_line}
+use Rattle.kc_bound.specs.Nearness.{IsNear}
+use Rattle.kc_session.specs.States.{start, Step, AreSteps, history_of}
+use Rattle.kc_session.specs.Counts.{refused_in}
+use Rattle.kc_session.specs.Asking.{Fit}
+use Rattle.kc_session.specs.SessionText.{session_text}
 
--- what is written of the batch with this number in this state, where it has these phases; one that is refused after its
--- cleaning is refused at its `end`
-abbrev pub step_text : Report → ℕ → State → Next → List PhasePlan → List ℕ
-step_text report number s (Items batch) phases = let c = cleaned s.graph batch.items in cleaned_text report number batch.line c (refusal_of s c) phases
-step_text report number s (Refused line reason) phases = refused_text report number line reason
-step_text report number s End phases = []
-
--- what is written of batches, of which the first has this number, with what each of them leads to
-abbrev pub batch_lines : Report → ℕ → State → List Next → List Step → List ℕ
-batch_lines report number s [] ts = []
-batch_lines report number s (b ∷ bs) [] = []
-batch_lines report number s (b ∷ bs) (t ∷ ts) = step_text report number s b t.phases ++ batch_lines report (number + 1) t.state bs ts
-
--- whether one of the batches is refused
-abbrev pub some_refused : State → List Next → List Step → Bool
-some_refused s [] ts = false
-some_refused s (b ∷ bs) [] = false
-some_refused s (b ∷ bs) (t ∷ ts) = is_refused s b || some_refused t.state bs ts
-
--- what a level of n vertices says of the coreness
-abbrev pub estimate_of : Profile → ℕ → ℕ → Estimate
-estimate_of p n level = let j = group_of p n level in record { est = est p j; lo = lo p j; hi = high p j }
-
--- what is printed of vertex v
-abbrev pub printed_of : State → ℕ → Estimate
-printed_of s v = estimate_of s.profile s.graph.vertices (get_or s.levels v 0)
-
--- the line of vertex v: its level, the estimate and the bounds of its coreness, and how many of its neighbours stand on its
--- level or above, and on the level below or above (on level 0 all of them)
-abbrev pub vertex_text : State → ℕ → List ℕ
-vertex_text s v =
-    let level = get_or s.levels v 0 in
-    vertex_line v level (printed_of s v) (at_least s.graph s.levels v level) (at_least s.graph s.levels v (level - 1))
-
--- the lines of the vertices below k
-unfoldable pub vertex_lines : State → ℕ → List ℕ
-vertex_lines s zero = []
-vertex_lines s (suc k) = vertex_lines s k ++ vertex_text s k
-
--- what is written after all batches of n vertices
-abbrev pub tail_text : ℕ → State → List ℕ
-tail_text n s = vertex_lines s n ++ end_line
-
--- a whole text of a header with these batches, and whether some of them are refused
-pub record IsRun (header : HeaderShape) (batches : List Next) (text : List ℕ) (refused : Bool) : Type 0 where
+-- a run of a header with these batches and these replies of its readers: its text, and whether some batch is refused
+pub record IsRun (header : HeaderShape) (batches : List Next) (replies : List (List Reply)) (text : List ℕ) (refused : Bool) : Type 0 where
+  -- what each batch leads to: it is refused and changes nothing, or its edges leave and come in, and the levels are lowered and raised
   pub steps : List Step
   pub are_steps : AreSteps (start header.profile header.n) batches steps
-  pub text_is :
-      text ≡ head_text header.n ++ (batch_lines Lines 1 (start header.profile header.n) batches steps
-      ++ tail_text header.n (last_state (start header.profile header.n) steps))
-  pub refusal : some_refused (start header.profile header.n) batches steps ≡ refused
+  -- the entries of all phases in order; a group of vertices that move together is one entry, and so takes effect at once
+  pub history : List Entry
+  pub history_is : history ≡ history_of steps
+  -- at each point of the history both invariants hold, and the levels are near the coreness; a point past the end is the end
+  pub near : (point : ℕ) → IsNear header.profile (graph_at header.n history point) (levels_at header.n history point)
+  -- each reader's replies answer the questions of its ask, with levels at points of the history that never go back
+  pub fit : Fit header.asks replies
+  pub explained : All (AreExplained header.n history 0) replies
+  -- the text has each batch, these replies, and the levels at the end
+  pub text_is : text ≡ session_text header batches steps replies
+  pub refusal : nat_lt 0 (refused_in (start header.profile header.n) batches steps) ≡ refused
 
--- what bytes say to the program: lines have at most 65,536 bytes, the input at most 1,073,741,824, and a batch at most
--- 1,048,576 items
-abbrev pub input_said : List ℕ → BatchInput
-input_said bytes = input_of LINE_LIMIT INPUT_LIMIT MAX_ITEMS bytes
+-- the text is that of a run, whatever the replies
+abbrev pub IsRunOf : HeaderShape → List Next → List ℕ → Bool → Type 0
+IsRunOf header batches text refused = (replies : List (List Reply)) × IsRun header batches replies text refused
 
 -- the text of an input, and whether the input, or a part of it, is refused
 abbrev pub IsRunText : BatchInput → List ℕ → Bool → Type 0
 IsRunText (HeaderRefused line) text refused = (text ≡ header_refused_line line) × (refused ≡ true)
-IsRunText (WithBatches header batches) text refused = IsRun header batches text refused
+IsRunText (WithBatches header batches) text refused = IsRunOf header batches text refused

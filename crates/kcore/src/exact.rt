@@ -1,27 +1,26 @@
 //! The command `exact`: the coreness of each vertex after the batches of an input.
-ghost use Rattle.std.specs.Prelude.{◌≡◌, ◌≤◌, ◌<◌, ◌^◌, ◌+◌, ◌++◌, [], length, Option};
+ghost use Rattle.std.specs.Prelude.{◌≡◌, ◌≤◌, ◌<◌, ◌^◌, ◌+◌, ◌++◌, [], false, length, Option};
 ghost use Rattle.std.specs.Option.{option_map};
 ghost use Rattle.kc_text.specs.Reading.{budget};
 ghost use Rattle.kc_text.specs.Writing.{Appends, WriteCause};
-ghost use Rattle.kc_graph.specs.declared.limits.TheConstants.{MAX_ITEMS};
+ghost use Rattle.kc_graph.specs.declared.limits.TheConstants.{MAX_EDGES, MAX_ITEMS};
 ghost use Rattle.kc_batch.specs.Batches.{batches_left};
 ghost use Rattle.kc_batch.specs.BatchInputs.{rules_of};
-ghost use Rattle.kc_batch.specs.Headers.{IsHeader};
 ghost use Rattle.kc_report.specs.Buffer.{IsCleared};
 ghost use Rattle.kc_report.specs.Lines.{end_line};
-ghost use Rattle.kcore.specs.States.{IsOpen};
-ghost use Rattle.kcore.specs.RunText.{input_said};
+ghost use Rattle.kc_engine.specs.States.{IsSound};
+ghost use Rattle.kc_session.specs.Faults.{FaultCause};
+ghost use Rattle.kcore.specs.Inputs.{input_said};
 ghost use Rattle.kcore.specs.ExactText.{exact_vertex_text, exact_vertex_lines, exact_text};
-ghost use Rattle.kcore.specs.Stops.{WritesExact, WritesExactly, StopCause};
+ghost use Rattle.kcore.specs.Writing.{WritesExact, WritesExactly};
 
 use crate::limits::{INPUT_LIMIT, LINE_LIMIT};
-use crate::run::settle;
-use crate::stop::Stop;
 use kc_batch::{Header, HeaderFault};
 use kc_bound::exact_coreness;
 use kc_engine::Engine;
 use kc_report::{write_coreness, write_end, write_exact_head, write_header_refused};
 use kc_rounds::Gate;
+use kc_session::{SessionFault, settle};
 use kc_text::{LineBuf, LineReader, SendFault, Sink, Source};
 use std::alloc::Global;
 use std::thread::Threads;
@@ -36,7 +35,8 @@ fn write_one<K: Sink>(
     v: u32,
 ) -> Result<(), SendFault>
     requires empty { buf.old ≡ [] }
-    requires open { IsOpen engine.now }
+    requires running { engine.now.halted ≡ false }
+    requires sound { IsSound MAX_EDGES engine.now.state }
     requires vertex { v < engine.now.state.graph.vertices }
     requires sized { length corenesses.now ≡ engine.now.state.graph.vertices }
     ensures text { Appends (K.taken sink.old) (K.taken sink.new) (exact_vertex_text engine.now.state corenesses.now v) result }
@@ -57,7 +57,8 @@ fn write_vertices<K: Sink>(
     corenesses: &[u32],
 ) -> Result<(), SendFault>
     requires empty { buf.old ≡ [] }
-    requires open { IsOpen engine.now }
+    requires running { engine.now.halted ≡ false }
+    requires sound { IsSound MAX_EDGES engine.now.state }
     requires vertices { engine.now.state.graph.vertices ≡ n }
     requires sized { length corenesses.now ≡ n }
     ensures text { Appends (K.taken sink.old) (K.taken sink.new) (exact_vertex_lines engine.now.state corenesses.now n) result }
@@ -80,7 +81,8 @@ fn write_behind_head<K: Sink>(
     corenesses: &[u32],
 ) -> Result<(), SendFault>
     requires empty { buf.old ≡ [] }
-    requires open { IsOpen engine.now }
+    requires running { engine.now.halted ≡ false }
+    requires sound { IsSound MAX_EDGES engine.now.state }
     requires vertices { engine.now.state.graph.vertices ≡ n }
     requires sized { length corenesses.now ≡ n }
     ensures text { Appends (K.taken sink.old) (K.taken sink.new) (exact_vertex_lines engine.now.state corenesses.now n ++ end_line) result }
@@ -100,7 +102,8 @@ fn write_exact<K: Sink>(
     corenesses: &[u32],
 ) -> Result<(), SendFault>
     requires empty { buf.old ≡ [] }
-    requires open { IsOpen engine.now }
+    requires running { engine.now.halted ≡ false }
+    requires sound { IsSound MAX_EDGES engine.now.state }
     requires vertices { engine.now.state.graph.vertices ≡ n }
     requires sized { length corenesses.now ≡ n }
     ensures text { Appends (K.taken sink.old) (K.taken sink.new) (exact_text n engine.now.state corenesses.now) result }
@@ -115,28 +118,27 @@ fn exact_header<R: Threads + Sync, S: Source, K: Sink, G: Gate + Sync>(
     rt: &R,
     alloc: Global,
     gate: &G,
-    header: &Header,
-    reader: &mut LineReader,
+    header: Header,
+    reader: LineReader,
     src: &mut S,
     sink: &mut K,
-) -> Result<bool, Stop>
-    requires header { IsHeader header.now }
-    requires budget { budget reader.old ≤ 2 ^ 30 + 1 }
-    ensures text { WritesExact header.now (batches_left (rules_of header.now MAX_ITEMS) reader.old (S.left src.old)) (K.taken sink.old) (K.taken sink.new) result }
-    ensures cause { StopCause (S.faults src.old) (S.faults src.new) (K.faults sink.old) (K.faults sink.new) result }
+) -> Result<bool, SessionFault>
+    requires budget { budget reader ≤ 2 ^ 30 + 1 }
+    ensures text { WritesExact header (batches_left (rules_of header MAX_ITEMS) reader (S.left src.old)) (K.taken sink.old) (K.taken sink.new) result }
+    ensures cause { FaultCause (S.faults src.old) (S.faults src.new) (K.faults sink.old) (K.faults sink.new) result }
 {
-    let mut buf = LineBuf::new(alloc);
-    let settled = settle(rt, alloc, gate, header, &mut buf, reader, src, sink)?;
+    let n = header.n;
+    let settled = settle(rt, alloc, gate, 1, header, reader, src, sink)?;
     let corenesses = exact_coreness(alloc, settled.engine.graph())?;
     write_exact(
         alloc,
-        &mut buf,
+        &mut LineBuf::new(alloc),
         sink,
-        header.n,
+        n,
         &settled.engine,
         corenesses.as_slice(),
     )?;
-    Ok(settled.refused)
+    Ok(settled.refused > 0)
 }
 
 /// Reads a batch input, applies its batches in turn and writes the exact text after the notes of the refused ones. Says
@@ -147,18 +149,18 @@ pub fn exact_input<R: Threads + Sync, S: Source, K: Sink, G: Gate + Sync>(
     src: &mut S,
     sink: &mut K,
     gate: &G,
-) -> Result<bool, Stop>
+) -> Result<bool, SessionFault>
     ensures text { WritesExactly (option_map input_said (S.left src.old)) (K.taken sink.old) (K.taken sink.new) result }
-    ensures cause { StopCause (S.faults src.old) (S.faults src.new) (K.faults sink.old) (K.faults sink.new) result }
+    ensures cause { FaultCause (S.faults src.old) (S.faults src.new) (K.faults sink.old) (K.faults sink.new) result }
 {
     let mut reader = LineReader::new(alloc, LINE_LIMIT, INPUT_LIMIT)?;
     match Header::read(alloc, &mut reader, src) {
-        Ok(header) => exact_header(rt, alloc, gate, &header, &mut reader, src, sink),
+        Ok(header) => exact_header(rt, alloc, gate, header, reader, src, sink),
         Err(HeaderFault::Refused { line }) => {
             write_header_refused(alloc, &mut LineBuf::new(alloc), sink, line)?;
             Ok(true)
         }
-        Err(HeaderFault::ReadFault) => Err(Stop::ReadFault),
-        Err(HeaderFault::Memory(_)) => Err(Stop::Memory),
+        Err(HeaderFault::ReadFault) => Err(SessionFault::ReadFault),
+        Err(HeaderFault::Memory(e)) => Err(SessionFault::Memory(e)),
     }
 }

@@ -1,14 +1,33 @@
 //! What the definition of the text comes to. Each function does nothing; its contract is a law.
-ghost use Rattle.kcore.specs.Laws.{InputHasOneText, InputHasOneExactText, EachStateHolds};
+ghost use Rattle.kcore.specs.Laws.{InputHasText, RepliesHaveText, TextsAreAlike, InputHasOneExactText, StatesArePoints, EachPointIsNear, EachStateHolds};
 
-/// For each input there is exactly one text of a run.
-pub fn input_has_one_text()
-    ensures { InputHasOneText }
+/// Each input has a text of a run, and so have all replies that fit its asks and that the history of its batches explains.
+pub fn input_has_text()
+    ensures text { InputHasText }
+    ensures replies { RepliesHaveText }
+{}
+
+/// Two texts of runs of one input are the same but for the lines of its readers, and the same is refused in both. So everything else
+/// in them is the same for every number of workers, and however the readers ran beside the batches.
+pub fn texts_are_alike()
+    ensures { TextsAreAlike }
 {}
 
 /// For each input there is exactly one exact text.
 pub fn input_has_one_exact_text()
     ensures { InputHasOneExactText }
+{}
+
+/// The states of each input are points of its history, which is that of its phases, one after another.
+pub fn states_are_points()
+    ensures { StatesArePoints }
+{}
+
+/// At each point of the history of each input, between two groups of one phase too, both invariants hold, the coreness of each vertex
+/// lies between the bounds that its level stands for, the estimate is at most twice the coreness, and the coreness at most three
+/// times the estimate; where the header gives the second profile at most twice.
+pub fn each_point_is_near()
+    ensures { EachPointIsNear }
 {}
 
 /// In each state of each input, the first and the one after each batch, both invariants hold, and what is printed of a

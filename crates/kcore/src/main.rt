@@ -1,9 +1,8 @@
 //! The program `kcore`: an approximate k-core decomposition of a graph, from bytes to bytes.
 //!
 //! [`top::run_command`] is the program; `main` only hands it the words of the command line, the standard input and
-//! output, and ends with its exit number. `run` reads the batches of an input in turn and writes what is due of each (`report`),
-//! `applying` gives each of them to the engine, and the lines of the vertices are written in `vertices`, those of an exact text
-//! in `exact`.
+//! output, and ends with its exit number. Both commands read a header, and then `run` hands the batches and the readers over to
+//! `kc_session`, and `exact` writes the coreness of each vertex after them.
 #![tactic(auto)]
 
 ghost use Rattle.std.specs.Prelude.{◌≡◌, drop, map, string_bytes, IfOk};
@@ -11,19 +10,15 @@ ghost use Rattle.std.specs.Vec.Iter.{into_iter_items};
 ghost use Rattle.kcore.specs.declared.status.Status.{Status};
 ghost use Rattle.kcore.specs.Commands.{EndsAs, exit_number};
 
-mod applying;
 mod command;
 mod exact;
 pub mod laws;
 mod limits;
-mod report;
 mod run;
 mod status;
-mod stop;
 #[cfg(test)]
 mod tests;
 pub mod top;
-mod vertices;
 mod word;
 
 use kc_rounds::OpenGate;

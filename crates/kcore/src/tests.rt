@@ -141,10 +141,10 @@ fn runs_in_any_pieces(rt: HostRuntime) -> Result<(), Fail> {
             b"kcore-run 1\nvertices 1\nvertex 0 level 0 est 0 low 0 high 0 up 0 down 0\nend\n",
             Status::Done,
         ),
-        // An ask is read and checked.
+        // A reader puts its questions twice over, where no batch comes.
         (
-            b"kcore 1\nvertices 2\nask 2 0 1\nbatch\n1 0\nend\n",
-            b"kcore-run 1\nvertices 2\nbatch 1 loops 0 repeats 0 idle 0 removed 0 added 1\nphase 1 insert quiet 0\ngroup 1 0 0:1 1:1\nvertex 0 level 1 est 2 low 1 high 2 up 1 down 1\nvertex 1 level 1 est 2 low 1 high 2 up 1 down 1\nend\n",
+            b"kcore 1\nvertices 2\nask 2 1 0\n",
+            b"kcore-run 1\nvertices 2\nreader 0 1=0 0=0 1=0 0=0\nvertex 0 level 0 est 0 low 0 high 0 up 0 down 0\nvertex 1 level 0 est 0 low 0 high 0 up 0 down 0\nend\n",
             Status::Done,
         ),
         // An ask after a batch, and one that isn't whole.

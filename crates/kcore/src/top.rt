@@ -1,28 +1,28 @@
 //! The top call: a command line, an input and an output.
 ghost use Rattle.std.specs.Prelude.{◌≡◌, ◌↔◌, None, Option};
 ghost use Rattle.kcore.specs.Commands.{command_of, Answers, Holds, HasCause};
-ghost use Rattle.kcore.specs.Stops.{status_of};
+ghost use Rattle.kcore.specs.Writing.{status_of};
 
 use crate::command::Command;
 use crate::exact::exact_input;
 use crate::run::run_input;
 use crate::status::Status;
-use crate::stop::Stop;
 use kc_rounds::Gate;
+use kc_session::SessionFault;
 use kc_text::{Sink, Source, Words};
 use std::alloc::Global;
 use std::thread::Threads;
 
 // How a run ended.
-fn status_of(ended: Result<bool, Stop>) -> Status
+fn status_of(ended: Result<bool, SessionFault>) -> Status
     ensures { result ≡ status_of ended }
 {
     match ended {
         Ok(false) => Status::Done,
         Ok(true) => Status::Refused,
-        Err(Stop::ReadFault) => Status::ReadFault,
-        Err(Stop::WriteFault) => Status::WriteFault,
-        Err(Stop::Memory) => Status::Memory,
+        Err(SessionFault::ReadFault) => Status::ReadFault,
+        Err(SessionFault::WriteFault) => Status::WriteFault,
+        Err(SessionFault::Memory(_)) => Status::Memory,
     }
 }
 
@@ -33,13 +33,16 @@ fn status_of(ended: Result<bool, Stop>) -> Status
 ///
 /// - with `Done` and `Refused` what `output` took is the whole text of the command for these bytes, and the answer is
 ///   `Refused` exactly where the command refuses some of them;
-/// - with `ReadFault`, `WriteFault` and `Memory` it took a prefix of that text.
+/// - with `ReadFault`, `WriteFault` and `Memory` it took a prefix of such a text.
 ///
-/// No text depends on the number of workers.
+/// A text of `run` is exactly the history of the accepted batches (`IsRun`). Its levels are the extremal ones, raised after edges came
+/// in and lowered after they left, and each group takes effect at once. The replies of each reader are levels at points of this history
+/// that never go back. At each point of it both invariants hold, the coreness of each vertex lies between the bounds that its level
+/// stands for, and `est <= 2 * coreness` and `coreness <= 3 * est`; where the header gives the second profile also
+/// `coreness <= 2 * est`. All but the lines of the readers is the same for every number of workers ([`laws`](crate::laws)).
 ///
-/// In each state that the input leads to both invariants hold, and what is printed of a vertex bounds its coreness:
-/// `low <= coreness <= high`, `est <= 2 * coreness` and `coreness <= 3 * est`, and where the header gives the second profile
-/// also `coreness <= 2 * est`. So it is on each line of a vertex in an exact text, for the coreness that stands there.
+/// There is one text of `exact`. In each state that the input leads to both invariants hold, and what is printed of a vertex bounds
+/// its coreness likewise; on each line of a vertex it bounds the coreness that stands there.
 ///
 /// `ReadFault` and `WriteFault` come only where the count of faults of `input`, of `output` rose in this call, and
 /// every other count is as it was. So with words of a command, bytes told and no count risen the answer is `Done` or

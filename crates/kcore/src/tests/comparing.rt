@@ -1,16 +1,17 @@
 // The engine beside the plain body that recounts, on batches without an order.
 ghost use Rattle.std.specs.Prelude.{◌≡◌, ℕ, ◌<◌, ◌≤◌, IfOk, OnOk, length, All};
 ghost use Rattle.kc_graph.specs.Cleaning.{IsInside};
-ghost use Rattle.kcore.specs.States.{IsOpen};
 ghost use Rattle.kcore.specs.Rising.{IsPlain};
 
 use super::recounting::insert_rounds;
-use crate::applying::{apply, open};
-use kc_engine::Engine;
+use crate::limits::{INPUT_LIMIT, LINE_LIMIT};
+use kc_batch::Header;
 use kc_graph::laws::cleaned_fits_graph;
 use kc_graph::{Graph, Item, MAX_EDGES, MAX_ITEMS, clean};
 use kc_levels::{Levels, Profile, Thresholds};
 use kc_rounds::OpenGate;
+use kc_session::{SessionFault, settle};
+use kc_text::{LineBuf, LineReader, MemSink, MemSource, NullSink};
 use std::alloc::{AllocError, Global};
 use std::process::Abort;
 use std::test::Fail;
@@ -41,30 +42,66 @@ fn insertions(alloc: Global, random: &mut u32) -> Result<Vec<Item>, AllocError>
     Ok(items)
 }
 
-// One batch of insertions gives the same levels by the engine and by recounting.
-fn compare_batch<R: Threads + Sync + Abort>(
+// The levels after the batches of an input.
+fn settled_levels<R: Threads + Sync>(
+    rt: &R,
+    alloc: Global,
+    input: &[u8],
+) -> Result<Vec<u16>, Fail> {
+    let mut source = MemSource::new(alloc, input, 1000, &[])?;
+    let mut reader = LineReader::new(alloc, LINE_LIMIT, INPUT_LIMIT)?;
+    match Header::read(alloc, &mut reader, &mut source) {
+        Ok(header) => {
+            let gate = OpenGate::new();
+            let mut sink = NullSink::new();
+            let settled = settle(rt, alloc, &gate, 1, header, reader, &mut source, &mut sink)?;
+            Ok(Vec::from_slice(alloc, settled.engine.levels().as_slice())?)
+        }
+        Err(_) => Err(Fail::new("no header")),
+    }
+}
+
+// Writes a batch of insertions.
+fn write_batch(
+    alloc: Global,
+    line: &mut LineBuf,
+    sink: &mut MemSink,
+    items: &[Item],
+) -> Result<(), SessionFault> {
+    line.text(alloc, b"batch")?;
+    line.send(alloc, sink)?;
+    for item in items {
+        if let Item::Insert { u, v } = item {
+            line.number(alloc, *u)?;
+            line.text(alloc, b" ")?;
+            line.number(alloc, *v)?;
+            line.send(alloc, sink)?;
+        }
+    }
+    line.text(alloc, b"end")?;
+    line.send(alloc, sink)?;
+    Ok(())
+}
+
+// Applies a batch of insertions by recounting.
+fn recount<R: Threads + Sync + Abort>(
     rt: &R,
     alloc: Global,
     th: &Thresholds,
-    engine: &mut Engine,
     graph: &mut Graph,
     levels: &mut Levels,
     items: &[Item],
 ) -> Result<(), Fail>
-    requires open { IsOpen engine.old }
-    requires same { engine.old.state.graph.vertices ≡ VERTICES }
     requires plain { IsPlain th.now VERTICES graph.old levels.old }
     requires inside { All (IsInside VERTICES) items.now }
     requires few { length items.now ≤ MAX_ITEMS }
-    ensures open { OnOk result (IsOpen engine.new) }
-    ensures same { OnOk result (engine.new.state.graph.vertices ≡ VERTICES) }
     ensures plain { OnOk result (IsPlain th.now VERTICES graph.new levels.new) }
 {
     cleaned_fits_graph();
     let _n = graph.vertices();
-    let gate = OpenGate::new();
     let cleaned = clean(rt, alloc, graph, items)?;
     assert!(rt; graph.edge_count() as usize + cleaned.added.len() <= MAX_EDGES as usize);
+    let gate = OpenGate::new();
     insert_rounds(
         rt,
         alloc,
@@ -75,13 +112,10 @@ fn compare_batch<R: Threads + Sync + Abort>(
         levels,
         cleaned.added.as_slice(),
     )?;
-    apply(rt, alloc, &gate, engine, items)?;
-    assert_eq!(rt; engine.graph().vertices(), VERTICES);
-    assert_eq!(rt; engine.levels().as_slice(), levels.as_slice());
     Ok(())
 }
 
-// Several batches one after another.
+// Several batches one after another: after each the levels are the same.
 fn compare<R: Threads + Sync + Abort>(
     rt: &R,
     alloc: Global,
@@ -92,12 +126,18 @@ fn compare<R: Threads + Sync + Abort>(
     requires scale { th.now.vertices ≡ VERTICES }
 {
     let mut random = seed;
-    let mut engine = open(alloc, Profile::One, VERTICES, 1)?;
     let mut graph = Graph::new(alloc, VERTICES)?;
     let mut levels = Levels::zeros(alloc, VERTICES)?;
+    let mut line = LineBuf::new(alloc);
+    let mut input = MemSink::new(alloc, 65_536, 1000, &[])?;
+    line.text(alloc, b"kcore 1\nvertices 14")?;
+    line.send(alloc, &mut input)?;
     for _ in 0..4 {
         let items = insertions(alloc, &mut random)?;
-        compare_batch(rt, alloc, th, &mut engine, &mut graph, &mut levels, &items)?;
+        write_batch(alloc, &mut line, &mut input, &items)?;
+        recount(rt, alloc, th, &mut graph, &mut levels, &items)?;
+        let settled = settled_levels(rt, alloc, input.bytes())?;
+        assert_eq!(rt; settled.as_slice(), levels.as_slice());
     }
     Ok(())
 }

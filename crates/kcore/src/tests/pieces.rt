@@ -3,9 +3,9 @@ ghost use Rattle.std.specs.Prelude.{◌+◌, ◌≤◌};
 
 use super::answer;
 use crate::status::Status;
-use crate::stop::Stop;
 use crate::top::run_command;
 use kc_rounds::{Gate, Spot};
+use kc_session::SessionFault;
 use kc_text::{LineBuf, MemSink, MemSource, Words};
 use std::alloc::Global;
 use std::sync::atomic::Ordering::SeqCst;
@@ -70,7 +70,7 @@ fn write_pairs(
     sink: &mut MemSink,
     count: u32,
     further: u32,
-) -> Result<(), Stop>
+) -> Result<(), SessionFault>
     requires { count + further ≤ 20_000 }
 {
     for v in 0..count {
@@ -84,7 +84,7 @@ fn write_pairs(
 
 // In the first batch 6,144 vertices begin to rise at once, in the second 12,288 that have a neighbour above them: lists that
 // go to threads.
-fn write_long_rounds(alloc: Global, sink: &mut MemSink) -> Result<(), Stop> {
+fn write_long_rounds(alloc: Global, sink: &mut MemSink) -> Result<(), SessionFault> {
     let mut line = LineBuf::new(alloc);
     line.text(alloc, b"kcore 1\nvertices 18432\nbatch")?;
     line.send(alloc, sink)?;

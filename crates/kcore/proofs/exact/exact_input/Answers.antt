@@ -5,7 +5,7 @@ use Rattle.kc_batch.specs.Kept.{kept_left}
 use Rattle.kc_batch.proofs.InputLemmas.{told_input, told_accepted, told_refused}
 use Rattle.kcore.specs.declared.limits.TheConstants.{LINE_LIMIT, INPUT_LIMIT}
 use Rattle.kcore.proofs.ExactTexts.{exact_of_header, exact_header_refused, exact_header_refused_prefix, exact_writes_nothing}
-use Rattle.kcore.specs.declared.stop.Stop.TheVariants.{ReadFault, Memory}
+use Rattle.kc_session.specs.declared.fault.SessionFault.TheVariants.{ReadFault, Memory}
 use Rattle.kcore.proofs.exact.exact_input.Goals as goal
 
 pub returns-in_err-reader-clause-text : goal.returns-in_err-reader-clause-text
@@ -36,7 +36,7 @@ pub returns-in-Err-ReadFault-clause-text : goal.returns-in-Err-ReadFault-clause-
 returns-in-Err-ReadFault-clause-text g c = exact_writes_nothing LINE_LIMIT INPUT_LIMIT _ _ _ ReadFault refl
 
 pub returns-clause-text : goal.returns-clause-text
-returns-clause-text g c = exact_writes_nothing LINE_LIMIT INPUT_LIMIT _ _ _ Memory refl
+returns-clause-text g c = exact_writes_nothing LINE_LIMIT INPUT_LIMIT _ _ _ _ refl
 
 pub returns-in-Ok-clause-text : goal.returns-in-Ok-clause-text
 returns-in-Ok-clause-text g c =

@@ -1,4 +1,4 @@
-use Rattle.kcore.proofs.Texts as law
+use Rattle.kcore.proofs.Holding as law
 use Rattle.kcore.proofs.laws.each_state_holds.Goals as goal
 
 pub returns : goal.returns

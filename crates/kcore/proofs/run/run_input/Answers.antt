@@ -5,7 +5,7 @@ use Rattle.kc_batch.specs.Kept.{kept_left}
 use Rattle.kc_batch.proofs.InputLemmas.{told_input, told_accepted, told_refused}
 use Rattle.kcore.specs.declared.limits.TheConstants.{LINE_LIMIT, INPUT_LIMIT}
 use Rattle.kcore.proofs.Texts.{run_of_header, header_refused, header_refused_prefix, writes_nothing}
-use Rattle.kcore.specs.declared.stop.Stop.TheVariants.{ReadFault, Memory}
+use Rattle.kc_session.specs.declared.fault.SessionFault.TheVariants.{ReadFault}
 use Rattle.kcore.proofs.run.run_input.Goals as goal
 
 pub returns-in_err-reader-clause-text : goal.returns-in_err-reader-clause-text
@@ -36,7 +36,7 @@ pub returns-in-Err-ReadFault-clause-text : goal.returns-in-Err-ReadFault-clause-
 returns-in-Err-ReadFault-clause-text g c = writes_nothing LINE_LIMIT INPUT_LIMIT _ _ _ ReadFault refl
 
 pub returns-clause-text : goal.returns-clause-text
-returns-clause-text g c = writes_nothing LINE_LIMIT INPUT_LIMIT _ _ _ Memory refl
+returns-clause-text g c = writes_nothing LINE_LIMIT INPUT_LIMIT _ _ _ _ refl
 
 pub returns-in-Ok-clause-text : goal.returns-in-Ok-clause-text
 returns-in-Ok-clause-text g c =

@@ -1,5 +1,0 @@
-use Rattle.kcore.proofs.Texts as law
-use Rattle.kcore.proofs.laws.input_has_one_text.Goals as goal
-
-pub returns : goal.returns
-returns c = law.input_has_one_text
