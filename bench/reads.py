@@ -1,0 +1,79 @@
+#!/usr/bin/env python3
+"""Times of reads of a store beside plain loads from memory, of a writer's moves, and of opening a store.
+
+    bench/reads.py [--program PATH] [--runs N]
+
+It runs `store_bench`, whose root file says what it measures, N times (5), takes the best run of each measurement, and prints for
+each number of vertices:
+
+- the nanoseconds of a plain load, of a read of one load (nothing is marked) and of three (all is marked, nothing is
+  published), and of one beside a writer that shows plans all the time, each with one reader
+- the ratios of these to a plain load
+- how many times one reader's rate eight readers have together
+- the nanoseconds of a mark, a publication and a clearing of one move
+
+and for the largest store how long it takes to open, beside zeroing as much memory. It judges nothing: times on a shared
+machine are ratios at best. Readers and writer take turns where there are fewer processors, and where a writer had ended before
+the readers beside it, which is told, their rate is partly that of a store at rest.
+"""
+import argparse
+import os
+import subprocess
+
+PROGRAM = os.path.join(os.path.dirname(__file__), "..", "crates", "store_bench", "out", "store_bench")
+READS = (("one load", "rest"), ("three loads", "marked"), ("beside a writer", "beside"))
+
+
+def measurements(program):
+    """(what, how many at once, vertices) to (count, nanoseconds), of one run."""
+    out = subprocess.run([program, "timed"], check=True, capture_output=True, text=True).stdout
+    found = {}
+    for line in out.splitlines():
+        what, together, vertices, count, time = line.split()
+        found[what, int(together), int(vertices)] = int(count), int(time)
+    return found
+
+
+def best_of(program, runs):
+    best = {}
+    for _ in range(runs):
+        for key, (count, time) in measurements(program).items():
+            if key not in best or time < best[key][1]:
+                best[key] = count, time
+    return best
+
+
+def print_reads(best, n):
+    def each(what, together=1):
+        count, time = best[what, together, n]
+        return time / count
+
+    plain = each("plain")
+    print(f"{n} vertices")
+    print(f"  {'plain load':16} {plain:8.2f} ns")
+    for name, what in READS:
+        one, eight = each(what), each(what, 8)
+        print(f"  {name:16} {one:8.2f} ns   {one / plain:6.2f} plain loads   eight readers together {one / eight:5.2f} times one")
+    for together in 1, 8:
+        reading, writing = best["beside", together, n][1], best["writer", together, n][1]
+        if writing < reading:
+            print(f"  the writer had ended before its {together} readers: {writing / reading:.2f} of their time")
+    print(f"  {'move':16} {each('moves'):8.2f} ns")
+
+
+def main():
+    parser = argparse.ArgumentParser(description="Times of reads of a store.")
+    parser.add_argument("--program", default=PROGRAM)
+    parser.add_argument("--runs", type=int, default=5)
+    words = parser.parse_args()
+    best = best_of(words.program, words.runs)
+    for n in sorted({n for what, _, n in best if what == "plain"}):
+        print_reads(best, n)
+    for n in sorted({n for what, _, n in best if what == "opened"}):
+        opened, zeroed = best["opened", 1, n][1], best["zeroed", 1, n][1]
+        print(f"{n} vertices")
+        print(f"  open {opened / 1e6:.1f} ms, zeroing its memory {zeroed / 1e6:.1f} ms: {opened / zeroed:.2f} times")
+
+
+if __name__ == "__main__":
+    main()
