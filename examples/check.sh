@@ -1,7 +1,7 @@
 #!/usr/bin/env bash
-# Runs the program on each example: it has to write the text beside it, and to exit with 1 where it refuses something. Tries each
-# exit number. Then tries `snap_to_kcore.py`, where there is a python3, and `draw.py`, where there is matplotlib too. Silent
-# where all is well.
+# Runs the program on each example, and on each small input in `cases`: it has to write the text beside it, and to exit with 1 where it
+# refuses something. Tries each exit number. Then tries `snap_to_kcore.py`, where there is a python3, and `draw.py`, where there is
+# matplotlib too. Silent where all is well.
 #     examples/check.sh PROGRAM
 set -u
 program=$(realpath "$1") || exit 1
@@ -11,23 +11,36 @@ trap 'rm -f "$out" "$out.svg" "$err"' EXIT
 failed=0
 wrong() { echo "examples/$1"; failed=1; }
 
-for input in *.kc; do
-  text=${input%.kc}.txt
-  "$program" run 1 <"$input" >"$out"
+# writes INPUT TEXT WORDS..: the program writes this text of this input.
+writes() {
+  "$program" "${@:3}" <"$1" >"$out"
   exited=$?
-  cmp -s "$out" "$text" || wrong "$input: another text than in $text"
-  if grep -q refused "$text"; then wanted=1; else wanted=0; fi
-  [ $exited = $wanted ] || wrong "$input: exit number $exited"
+  cmp -s "$out" "$2" || wrong "$1: another text by ${*:3} than in $2"
+  if grep -q refused "$2"; then wanted=1; else wanted=0; fi
+  [ $exited = $wanted ] || wrong "$1: exit number $exited of ${*:3}"
+}
+
+for input in *.kc cases/*.kc; do
+  [ "$input" = readers.kc ] || writes "$input" "${input%.kc}.txt" run 1
 done
 
-for text in *_exact.txt; do
-  input=${text%_exact.txt}.kc
-  "$program" exact <"$input" >"$out"
-  [ $? = 0 ] && cmp -s "$out" "$text" || wrong "$input: another exact text than in $text"
+# Any number of workers writes the same.
+for input in karate_batches.kc cases/*.kc; do
+  for workers in 3 064; do
+    writes "$input" "${input%.kc}.txt" run $workers
+  done
 done
+
+for text in *_exact.txt cases/*_exact.txt; do
+  writes "${text%_exact.txt}.kc" "$text" exact
+done
+
+# A line of 65,537 bytes fits nowhere.
+{ printf 'kcore 1\nvertices 2\nbatch\n0 1\n' && head -c 65537 /dev/zero | tr '\0' 1; } | "$program" run 1 >"$out"
+[ $? = 1 ] && grep -qx 'batch 1 refused line 5 line-long' "$out" || wrong "a line of 65537 bytes isn't refused"
 
 # Words that name no command: nothing is written.
-for words in "" run "run 0" "run 65" "run x" "run 1 1" "exact 1" final --help --version; do
+for words in "" run "run 0" "run 65" "run +1" "run 00000000001" "run x" "run 1 1" "exact 1" final --help --version; do
   "$program" $words <path.kc >"$out" 2>"$err"
   exited=$?
   [ $exited = 2 ] && [ ! -s "$out" ] && [ ! -s "$err" ] || wrong "path.kc: '$words': exit number $exited"
@@ -54,9 +67,6 @@ else
   echo "a full device isn't tried: there is no /dev/full" >&2
 fi
 
-# Any number of workers writes the same.
-"$program" run 3 <karate_batches.kc | cmp -s - karate_batches.txt || wrong "karate_batches.kc: another text with 3 workers"
-
 if ! command -v python3 >/dev/null; then
   echo "examples/snap_to_kcore.py isn't tried: there is no python3" >&2
   exit $failed
@@ -72,6 +82,14 @@ refuses() {
   printf -- "$3" | python3 snap_to_kcore.py "${@:4}" >"$out" 2>"$err"
   [ $? = "$1" ] && [ ! -s "$out" ] && grep -q -e "$2" "$err" || wrong "snap_to_kcore.py: '$3' ${*:4}"
 }
+
+# What readers are told depends on how the threads run, and all else is in readers.txt. The history explains each reply.
+for workers in 1 2 4 4 4; do
+  "$program" run $workers <readers.kc >"$out"
+  [ $? = 0 ] && sed -E '/^reader/s/=[01]/=L/g' "$out" | cmp -s - readers.txt || wrong "readers.kc: another text than in readers.txt"
+  python3 explained.py <"$out" 2>"$err" || wrong "readers.kc: $(cat "$err")"
+  sed '/^reader 0/s/0=. 4=.$/0=0 4=2/' "$out" | python3 explained.py 2>"$err" && wrong "explained.py: a level that 4 never has"
+done
 
 python3 snap_to_kcore.py --batch 20 <karate.snap | cmp -s - karate_batches.kc || wrong "karate_batches.kc: another text"
 converts '# x\n7\t0\r\n\n %% y\n0 7\n3 3' 'kcore 1\nvertices 8\nbatch\n7 0\n0 7\nend\nbatch\n3 3\nend\n' --batch 2
