@@ -39,6 +39,10 @@ done
 { printf 'kcore 1\nvertices 2\nbatch\n0 1\n' && head -c 65537 /dev/zero | tr '\0' 1; } | "$program" run 1 >"$out"
 [ $? = 1 ] && grep -qx 'batch 1 refused line 5 line-long' "$out" || wrong "a line of 65537 bytes isn't refused"
 
+# The most questions that a reader may have.
+printf 'kcore 1\nvertices 1\nask 65536 0\n' | "$program" run 1 >"$out"
+[ $? = 0 ] && [ "$(grep '^reader 0 ' "$out" | wc -w)" = 65538 ] || wrong "a reader with 65536 questions: another text"
+
 # Words that name no command: nothing is written.
 for words in "" run "run 0" "run 65" "run +1" "run 00000000001" "run x" "run 1 1" "exact 1" final --help --version; do
   "$program" $words <path.kc >"$out" 2>"$err"

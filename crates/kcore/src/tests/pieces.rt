@@ -63,6 +63,46 @@ fn a_first_round_has_two_pieces_at_once(rt: HostRuntime) -> Result<(), Fail> {
     Ok(())
 }
 
+// Keeps the greatest index of the pieces that it is told.
+#[derive(Drop)]
+struct Greatest {
+    index: AtomicU64,
+}
+
+impl Gate for Greatest {
+    fn at(&self, spot: Spot) {
+        if let Spot::Piece { index } = spot {
+            self.index.fetch_max(u64::from(index), SeqCst);
+        }
+    }
+}
+
+// The first round has 128 candidates, so each worker gets a piece.
+#[test]
+fn a_first_round_has_a_piece_for_each_worker(rt: HostRuntime) -> Result<(), Fail> {
+    let mut input = MemSink::new(rt.alloc(), 16_777_216, 1000, &[])?;
+    let mut line = LineBuf::new(rt.alloc());
+    line.text(rt.alloc(), b"kcore 1\nvertices 128\nbatch")?;
+    assert!(rt; line.send(rt.alloc(), &mut input).is_ok());
+    assert!(rt; write_pairs(rt.alloc(), &mut line, &mut input, 64, 64).is_ok());
+    line.text(rt.alloc(), b"end")?;
+    assert!(rt; line.send(rt.alloc(), &mut input).is_ok());
+    for (workers, greatest) in [("1", 0), ("2", 1), ("3", 2), ("5", 4), ("64", 63)] {
+        let gate = Greatest {
+            index: AtomicU64::new(0),
+        };
+        let mut words = Words::new(rt.alloc());
+        words.push(rt.alloc(), b"run")?;
+        words.push(rt.alloc(), workers.as_bytes())?;
+        let mut source = MemSource::new(rt.alloc(), input.bytes(), 1000, &[])?;
+        let mut sink = MemSink::new(rt.alloc(), 16_777_216, 1000, &[])?;
+        let status = run_command(&rt, rt.alloc(), &words, &mut source, &mut sink, &gate);
+        assert_eq!(rt; status, Status::Done);
+        assert_eq!(rt; gate.index.load(SeqCst), greatest);
+    }
+    Ok(())
+}
+
 // Writes a line for each of the first `count` vertices, that joins it to the vertex so many further.
 fn write_pairs(
     alloc: Global,
