@@ -1,8 +1,11 @@
 pub mod Points
 pub mod Holding
+pub mod Openings
+pub mod InputTexts
 pub mod Texts
+pub mod DocumentTexts
 pub mod Causes
-pub mod ExactTails
+pub mod VertexLines
 pub mod SomeCorenesses
 pub mod ExactTexts
 pub mod WordLists

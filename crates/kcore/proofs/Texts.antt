@@ -1,12 +1,9 @@
 -- The text of a run: one for all replies that fit, and the same but for the lines of the readers.
-use Rattle.std.proofs.Common.{ℕ, ◌≡◌, Bool, true, List, [], ◌∷◌, ◌++◌, length, nat_lt, refl, sym, ap, ◌∙◌, subst, append_assoc}
-use Rattle.std.specs.Prelude.{Option, Some, None, Result, Ok, Err, All}
+use Rattle.std.proofs.Common.{ℕ, ◌≡◌, Bool, List, [], ◌∷◌, ◌++◌, length, nat_lt, refl, sym, ap, ◌∙◌, subst, append_assoc}
+use Rattle.std.specs.Prelude.{Option, Some, None, Ok, Err, All}
 use Rattle.std.specs.Option.{option_map}
-use Rattle.std.specs.Io.KnownBytes.{append_known}
 use Rattle.std.proofs.lemmas.List.Elements.{All-nil, All-cons}
 use Rattle.kc_text.specs.Lines.{lines}
-use Rattle.kc_text.specs.Writing.{IsPrefix}
-use Rattle.kc_text.proofs.Known.{prefix_none}
 use Rattle.kc_graph.specs.declared.limits.TheConstants.{MAX_ITEMS}
 use Rattle.kc_history.specs.declared.entries.Entry.{Entry}
 use Rattle.kc_history.specs.declared.replies.Reply.{Reply}
@@ -21,9 +18,9 @@ use Rattle.kc_batch.specs.Headers.{HeaderText, Accepted, Refused, header_of}
 use Rattle.kc_batch.specs.Kept.{kept}
 use Rattle.kc_batch.specs.Tokens.{tokens}
 use Rattle.kc_batch.specs.Batches.{batches}
-use Rattle.kc_batch.specs.BatchInputs.{rules_of, BatchInput, WithBatches, HeaderRefused, behind_header, input_of}
+use Rattle.kc_batch.specs.BatchInputs.{rules_of, behind_header}
 use Rattle.kc_batch.proofs.BatchRanges.{batches_keep_ranges}
-use Rattle.kc_report.specs.Lines.{head_text, header_refused_line}
+use Rattle.kc_report.specs.Lines.{head_text}
 use Rattle.kc_session.specs.declared.fault.SessionFault.{SessionFault}
 use Rattle.kc_session.specs.declared.report.Report.TheVariants.{Lines}
 use Rattle.kc_session.specs.States.{Step, start, AreSteps, history_of}
@@ -38,10 +35,12 @@ use Rattle.kc_session.proofs.Steps.{sound_start}
 use Rattle.kc_session.proofs.Runs.{one_run}
 use Rattle.kc_session.proofs.Settles.{start_states}
 use Rattle.kcore.specs.declared.limits.TheConstants.{LINE_LIMIT, INPUT_LIMIT}
-use Rattle.kcore.specs.RunText.{IsRun, IsRunText}
-use Rattle.kcore.specs.Writing.{WritesRun, Writes}
+use Rattle.kcore.specs.RunText.{IsRun, IsRunOf}
+use Rattle.kcore.specs.InputTexts.{HasTexts}
+use Rattle.kcore.specs.Writing.{WritesAfter}
 use Rattle.kcore.specs.Laws.{InputHasText, TakesReplies, RepliesHaveText, AreAlike, HasTextsAlike, TextsAreAlike}
 use Rattle.kcore.proofs.Points.{are_near}
+use Rattle.kcore.proofs.InputTexts.{some_text}
 
 -- the batches that these lines say after a header
 abbrev pub said_batches : HeaderShape → List Token → List Next
@@ -69,7 +68,7 @@ run_of header ls s = is_run header ls s.steps s.replies s.are_steps s.fit (subst
 
 -- a session was written
 pub run_written : (header : HeaderShape) (toks : Option (List Token)) (before now : Option (List ℕ)) (ended : Ended) (refused : Bool) → refused ≡ nat_lt 0 ended.refused
-    → WritesSession session_text header (option_map (batches (rules_of header MAX_ITEMS)) toks) before now (Ok ended) → WritesRun header (option_map (batches (rules_of header MAX_ITEMS)) toks) before now (Ok refused)
+    → WritesSession session_text header (option_map (batches (rules_of header MAX_ITEMS)) toks) before now (Ok ended) → WritesAfter (IsRunOf header) (option_map (batches (rules_of header MAX_ITEMS)) toks) before now (Ok refused)
 run_written header None before now ended refused e w = tt
 run_written header (Some ls) before now ended refused e w =
     let s = w.session in
@@ -83,7 +82,7 @@ run_written header (Some ls) before now ended refused e w =
 
 -- a prefix of one was
 pub run_stopped : (header : HeaderShape) (toks : Option (List Token)) (before now : Option (List ℕ)) (fault other : SessionFault)
-    → WritesSession session_text header (option_map (batches (rules_of header MAX_ITEMS)) toks) before now (Err other) → WritesRun header (option_map (batches (rules_of header MAX_ITEMS)) toks) before now (Err fault)
+    → WritesSession session_text header (option_map (batches (rules_of header MAX_ITEMS)) toks) before now (Err other) → WritesAfter (IsRunOf header) (option_map (batches (rules_of header MAX_ITEMS)) toks) before now (Err fault)
 run_stopped header None before now fault other w = tt
 run_stopped header (Some ls) before now fault other w =
     let s = w.session in
@@ -107,42 +106,15 @@ all_explained : (n : ℕ) (history : List Entry) (asks : List Ask) → All (AreE
 all_explained n history [] = All-nil (AreExplained n history 0)
 all_explained n history (ask ∷ asks) = All-cons (AreExplained n history 0) (zeros (questions ask)) (zero_lists asks) (start_explains_zeros.explained n history (questions ask)) (all_explained n history asks)
 
--- each input has a text
-some_text : (text : HeaderText) → (said : List ℕ) × ((refused : Bool) × IsRunText (behind_header MAX_ITEMS text) said refused)
-some_text (Accepted header rest) =
-    let ls = tokens rest in
+-- the batches after each header have a text
+pub has_texts : HasTexts IsRunOf
+has_texts header ls =
     let there = start_states header ls in
     let replies = zero_lists header.asks in
     (session_text header (said_batches header ls) there.0 replies, (nat_lt 0 (refused_in (start header.profile header.n) (said_batches header ls) there.0), (replies, is_run header ls there.0 replies there.1 (zeros_fit header.asks) (all_explained header.n (history_of there.0) header.asks))))
-some_text (Refused line) = (header_refused_line line, (true, (refl, refl)))
 
 pub input_has_text : InputHasText
-input_has_text bytes = some_text (header_of (kept (lines LINE_LIMIT INPUT_LIMIT bytes)))
-
--- nothing was written
-pub writes_nothing : (line_limit input_limit : ℕ) (left before now : Option (List ℕ)) (fault : SessionFault) → now ≡ before → Writes (option_map (input_of line_limit input_limit MAX_ITEMS) left) before now (Err fault)
-writes_nothing line_limit input_limit None before now fault e = tt
-writes_nothing line_limit input_limit (Some bytes) before now fault e =
-    let there = some_text (header_of (kept (lines line_limit input_limit bytes))) in
-    record { text = there.0; refused = there.1.0; is_text = there.1.1; prefix = prefix_none before now there.0 e }
-
--- an input with a header
-pub run_of_header : (header : HeaderShape) (input : Option BatchInput) (told : Option (List Next)) (before now : Option (List ℕ)) (result : Result Bool SessionFault) → input ≡ option_map (WithBatches header) told
-    → WritesRun header told before now result → Writes input before now result
-run_of_header header input None before now result e w = rw e tt
-run_of_header header input (Some bs) before now (Ok refused) e w = rw e w
-run_of_header header input (Some bs) before now (Err fault) e w = rw e w
-
--- an input whose header is refused
-pub header_refused : {X : Type 0} → (line : ℕ) (input : Option BatchInput) (there : Option X) (before now : Option (List ℕ)) → input ≡ option_map (λ _. HeaderRefused line) there
-    → now ≡ append_known before (header_refused_line line) → Writes input before now (Ok true)
-header_refused line input None before now e f = rw e tt
-header_refused line input (Some x) before now e f = rw e (record { text = header_refused_line line; is_text = (refl, refl); taken = f })
-
-pub header_refused_prefix : {X : Type 0} → (line : ℕ) (input : Option BatchInput) (there : Option X) (before now : Option (List ℕ)) (fault : SessionFault) → input ≡ option_map (λ _. HeaderRefused line) there
-    → IsPrefix before now (header_refused_line line) → Writes input before now (Err fault)
-header_refused_prefix line input None before now fault e p = rw e tt
-header_refused_prefix line input (Some x) before now fault e p = rw e (record { text = header_refused_line line; refused = true; is_text = (refl, refl); prefix = p })
+input_has_text bytes = some_text IsRunOf has_texts (header_of (kept (lines LINE_LIMIT INPUT_LIMIT bytes)))
 
 -- replies that fit have a text
 takes : (text : HeaderText) → TakesReplies (behind_header MAX_ITEMS text)

@@ -51,12 +51,12 @@ HasTextsAlike (WithBatches header batches) =
 abbrev pub TextsAreAlike : Type 0
 TextsAreAlike = (bytes : List ℕ) → HasTextsAlike (input_said bytes)
 
--- each input has exactly one exact text, and it is refused or it isn't
-abbrev pub InputHasOneExactText : Type 0
-InputHasOneExactText =
+-- each input has exactly one text, and it is refused or it isn't
+abbrev pub HasOneText : (BatchInput → List ℕ → Bool → Type 0) → Type 0
+HasOneText IsText =
     (bytes : List ℕ) →
-    (text : List ℕ) × ((refused : Bool) × (IsExactText (input_said bytes) text refused
-    × ((a : List ℕ) (x : Bool) → IsExactText (input_said bytes) a x → (a ≡ text) × (x ≡ refused))))
+    (text : List ℕ) × ((refused : Bool) × (IsText (input_said bytes) text refused
+    × ((a : List ℕ) (x : Bool) → IsText (input_said bytes) a x → (a ≡ text) × (x ≡ refused))))
 
 -- the states of an input are points of its history
 abbrev pub HasPoints : BatchInput → Type 0

@@ -1,9 +1,13 @@
 pub mod Inputs
 pub mod Points
+pub mod InputTexts
 pub mod RunText
 pub mod Corenesses
+pub mod VertexLines
+pub mod Documents
 pub mod ExactText
 pub mod Texts
+pub mod Opening
 pub mod Writing
 pub mod Commands
 pub mod Laws

@@ -1,18 +1,18 @@
 -- The text of `run`: what is written for an input, and what it says of the history of the input's batches.
-use Rattle.std.specs.Prelude.{ℕ, ◌≡◌, nat_lt, Bool, true, List, ◌++◌, All}
+use Rattle.std.specs.Prelude.{ℕ, ◌≡◌, nat_lt, Bool, List, ◌++◌, All}
 use Rattle.kc_batch.specs.declared.batch.Next.{Next}
 use Rattle.kc_batch.specs.HeaderShape.{HeaderShape}
-use Rattle.kc_batch.specs.BatchInputs.{BatchInput, WithBatches, HeaderRefused}
+use Rattle.kc_batch.specs.BatchInputs.{BatchInput}
 use Rattle.kc_history.specs.declared.entries.Entry.{Entry}
 use Rattle.kc_history.specs.declared.replies.Reply.{Reply}
 use Rattle.kc_history.specs.Points.{graph_at, levels_at}
 use Rattle.kc_history.specs.Replies.{AreExplained}
-use Rattle.kc_report.specs.Lines.{header_refused_line}
 use Rattle.kc_bound.specs.Nearness.{IsNear}
 use Rattle.kc_session.specs.States.{start, Step, AreSteps, history_of}
 use Rattle.kc_session.specs.Counts.{refused_in}
 use Rattle.kc_session.specs.Asking.{Fit}
 use Rattle.kc_session.specs.SessionText.{session_text}
+use Rattle.kcore.specs.InputTexts.{IsTextOf}
 
 -- a run of a header with these batches and these replies of its readers: its text, and whether some batch is refused
 pub record IsRun (header : HeaderShape) (batches : List Next) (replies : List (List Reply)) (text : List ℕ) (refused : Bool) : Type 0 where
@@ -37,5 +37,4 @@ IsRunOf header batches text refused = (replies : List (List Reply)) × IsRun hea
 
 -- the text of an input, and whether the input, or a part of it, is refused
 abbrev pub IsRunText : BatchInput → List ℕ → Bool → Type 0
-IsRunText (HeaderRefused line) text refused = (text ≡ header_refused_line line) × (refused ≡ true)
-IsRunText (WithBatches header batches) text refused = IsRunOf header batches text refused
+IsRunText = IsTextOf IsRunOf

@@ -1,40 +1,27 @@
 -- What a sink has taken of the text of an input, and how that ends.
 use Rattle.std.specs.Prelude.{ℕ, Bool, true, false, List, Option, Some, None, Result, Ok, Err}
 use Rattle.kc_batch.specs.declared.batch.Next.{Next}
-use Rattle.kc_batch.specs.HeaderShape.{HeaderShape}
 use Rattle.kc_batch.specs.BatchInputs.{BatchInput}
 use Rattle.kc_session.specs.declared.fault.SessionFault.{SessionFault}
 use Rattle.kc_session.specs.declared.fault.SessionFault.TheVariants.{ReadFault, WriteFault, Memory}
 use Rattle.kcore.specs.declared.status.Status.{Status}
 use Rattle.kcore.specs.declared.status.Status.TheVariants as status
 use Rattle.kcore.specs.Texts.{WritesWhole, WritesPrefix}
-use Rattle.kcore.specs.RunText.{IsRunOf, IsRunText}
-use Rattle.kcore.specs.ExactText.{IsExact, IsExactText}
 
 -- with Ok a whole text was written, and the answer says whether something is refused; else a prefix of a text
 abbrev pub WritesText : (List ℕ → Bool → Type 0) → Option (List ℕ) → Option (List ℕ) → Result Bool SessionFault → Type 0
 WritesText IsText before now (Ok refused) = WritesWhole IsText before now refused
 WritesText IsText before now (Err _) = WritesPrefix IsText before now
 
--- a run for an input, where that is told
-abbrev pub Writes : Option BatchInput → Option (List ℕ) → Option (List ℕ) → Result Bool SessionFault → Type 0
-Writes None before now result = Unit {0}
-Writes (Some input) before now result = WritesText (IsRunText input) before now result
+-- the text of an input, where that is told
+abbrev pub Writes : (BatchInput → List ℕ → Bool → Type 0) → Option BatchInput → Option (List ℕ) → Option (List ℕ) → Result Bool SessionFault → Type 0
+Writes IsText None before now result = Unit {0}
+Writes IsText (Some input) before now result = WritesText (IsText input) before now result
 
--- a run after a header, for its batches
-abbrev pub WritesRun : HeaderShape → Option (List Next) → Option (List ℕ) → Option (List ℕ) → Result Bool SessionFault → Type 0
-WritesRun header None before now result = Unit {0}
-WritesRun header (Some batches) before now result = WritesText (IsRunOf header batches) before now result
-
--- an exact text for an input, where that is told
-abbrev pub WritesExactly : Option BatchInput → Option (List ℕ) → Option (List ℕ) → Result Bool SessionFault → Type 0
-WritesExactly None before now result = Unit {0}
-WritesExactly (Some input) before now result = WritesText (IsExactText input) before now result
-
--- the same after a header, for its batches
-abbrev pub WritesExact : HeaderShape → Option (List Next) → Option (List ℕ) → Option (List ℕ) → Result Bool SessionFault → Type 0
-WritesExact header None before now result = Unit {0}
-WritesExact header (Some batches) before now result = WritesText (IsExact header batches) before now result
+-- the text of the batches after a header, where these are told
+abbrev pub WritesAfter : (List Next → List ℕ → Bool → Type 0) → Option (List Next) → Option (List ℕ) → Option (List ℕ) → Result Bool SessionFault → Type 0
+WritesAfter IsText None before now result = Unit {0}
+WritesAfter IsText (Some batches) before now result = WritesText (IsText batches) before now result
 
 -- the status of a command that ended so
 abbrev pub status_of : Result Bool SessionFault → Status

@@ -1,5 +1,6 @@
 //! What the definition of the text comes to. Each function does nothing; its contract is a law.
-ghost use Rattle.kcore.specs.Laws.{InputHasText, RepliesHaveText, TextsAreAlike, InputHasOneExactText, StatesArePoints, EachPointIsNear, EachStateHolds};
+ghost use Rattle.kcore.specs.Laws.{InputHasText, RepliesHaveText, TextsAreAlike, HasOneText, StatesArePoints, EachPointIsNear, EachStateHolds};
+ghost use Rattle.kcore.specs.ExactText.{IsExactText};
 
 /// Each input has a text of a run, and so have all replies that fit its asks and that the history of its batches explains.
 pub fn input_has_text()
@@ -15,7 +16,7 @@ pub fn texts_are_alike()
 
 /// For each input there is exactly one exact text.
 pub fn input_has_one_exact_text()
-    ensures { InputHasOneExactText }
+    ensures { HasOneText IsExactText }
 {}
 
 /// The states of each input are points of its history, which is that of its phases, one after another.

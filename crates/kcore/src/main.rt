@@ -1,8 +1,8 @@
 //! The program `kcore`: an approximate k-core decomposition of a graph, from bytes to bytes.
 //!
 //! [`top::run_command`] is the program; `main` only hands it the words of the command line, the standard input and
-//! output, and ends with its exit number. Both commands read a header, and then `run` hands the batches and the readers over to
-//! `kc_session`, and `exact` writes the coreness of each vertex after them.
+//! output, and ends with its exit number. Each command reads a header first ([`inputs`]). Then `run` hands the batches and the readers
+//! over to `kc_session`, and `exact` writes a document of what the batches lead to ([`documents`]).
 #![tactic(auto)]
 
 ghost use Rattle.std.specs.Prelude.{◌≡◌, drop, map, string_bytes, IfOk};
@@ -11,7 +11,9 @@ ghost use Rattle.kcore.specs.declared.status.Status.{Status};
 ghost use Rattle.kcore.specs.Commands.{EndsAs, exit_number};
 
 mod command;
+mod documents;
 mod exact;
+mod inputs;
 pub mod laws;
 mod limits;
 mod run;

@@ -4,7 +4,8 @@ ghost use Rattle.kcore.specs.Commands.{command_of, Answers, Holds, HasCause};
 ghost use Rattle.kcore.specs.Writing.{status_of};
 
 use crate::command::Command;
-use crate::exact::exact_input;
+use crate::documents::settle_input;
+use crate::exact::Exact;
 use crate::run::run_input;
 use crate::status::Status;
 use kc_rounds::Gate;
@@ -63,9 +64,11 @@ pub fn run_command<R: Threads + Sync, S: Source + Send, K: Sink + Send, G: Gate 
 {
     match Command::from_words(words) {
         Some(Command::Run { workers }) => {
-            status_of(run_input(rt, alloc, workers, input, output, gate))
+            status_of(run_input(rt, alloc, gate, workers, input, output))
         }
-        Some(Command::Exact) => status_of(exact_input(rt, alloc, input, output, gate)),
+        Some(Command::Exact) => status_of(settle_input::<Exact, R, S, K, G>(
+            rt, alloc, gate, 1, input, output,
+        )),
         None => Status::Usage,
     }
 }

@@ -1,45 +1,23 @@
-use Rattle.std.proofs.Common.{◌∙◌, sym, refl, arith}
+use Rattle.std.proofs.Common.{refl, sym}
 use Rattle.std.proofs.lemmas.Result.{err_from_is_err_and}
-use Rattle.kc_graph.specs.declared.limits.TheConstants.{MAX_ITEMS}
-use Rattle.kc_batch.specs.Kept.{kept_left}
-use Rattle.kc_batch.proofs.InputLemmas.{told_input, told_accepted, told_refused}
-use Rattle.kcore.specs.declared.limits.TheConstants.{LINE_LIMIT, INPUT_LIMIT}
-use Rattle.kcore.proofs.Texts.{run_of_header, header_refused, header_refused_prefix, writes_nothing}
-use Rattle.kc_session.specs.declared.fault.SessionFault.TheVariants.{ReadFault}
+use Rattle.kc_batch.specs.Tokens.{tokens_left}
+use Rattle.kcore.specs.RunText.{IsRunOf}
+use Rattle.kcore.proofs.InputTexts.{after_header, header_refused, not_opened}
+use Rattle.kcore.proofs.Texts.{has_texts, run_written, run_stopped}
 use Rattle.kcore.proofs.run.run_input.Goals as goal
 
-pub returns-in_err-reader-clause-text : goal.returns-in_err-reader-clause-text
-returns-in_err-reader-clause-text g c =
+pub returns-in_err-header-clause-text : goal.returns-in_err-header-clause-text
+returns-in_err-header-clause-text g c =
     let p = err_from_is_err_and c.from_residual.result c.from_residual.ensures.1 in
-    rw p.1 (writes_nothing LINE_LIMIT INPUT_LIMIT _ _ _ p.0 refl)
+    rw p.1 (not_opened IsRunOf has_texts (g.S.Source.left c.args.src.now) _ _ p.0 c.in_err-header.ensures.text)
 
-pub run_header-requires-clause-budget : goal.run_header-requires-clause-budget
-run_header-requires-clause-budget g c κs within = omega (arith, c.in-Ok.ensures.budget, c.in_ok-reader.ensures.budget)
-
-pub returns-in_err-write_header_refused-in-Err-Refused-clause-text : goal.returns-in_err-write_header_refused-in-Err-Refused-clause-text
-returns-in_err-write_header_refused-in-Err-Refused-clause-text g c =
-    let left = g.S.Source.left c.args.src.now in
-    let told = told_input LINE_LIMIT INPUT_LIMIT MAX_ITEMS c.in_ok-reader.reader left (c.in_ok-reader.ensures.lines left) in
-    let p = err_from_is_err_and c.from_residual-in_err-write_header_refused-in-Err-Refused.result c.from_residual-in_err-write_header_refused-in-Err-Refused.ensures.1 in
-    rw p.1
-    (header_refused_prefix c.in-Err-Refused.line _ (kept_left c.read.new.reader (g.S.Source.left c.read.new.src)) _ _ p.0 (sym told ∙ told_refused MAX_ITEMS c.in-Err-Refused.line _ _ (rw c.in-Err-Refused.field-0-is at c.in-Err-Refused.ensures.header))
-    (rw c.in-Err-Refused.field-0-is at c.in_err-write_header_refused-in-Err-Refused.ensures.text))
-
-pub returns-in-Err-Refused-clause-text : goal.returns-in-Err-Refused-clause-text
-returns-in-Err-Refused-clause-text g c =
-    let left = g.S.Source.left c.args.src.now in
-    let told = told_input LINE_LIMIT INPUT_LIMIT MAX_ITEMS c.in_ok-reader.reader left (c.in_ok-reader.ensures.lines left) in
-    header_refused c.in-Err-Refused.line _ (kept_left c.read.new.reader (g.S.Source.left c.read.new.src)) _ _ (sym told ∙ told_refused MAX_ITEMS c.in-Err-Refused.line _ _ (rw c.in-Err-Refused.field-0-is at c.in-Err-Refused.ensures.header))
-    (rw c.in-Err-Refused.field-0-is at c.in_ok-write_header_refused-in-Err-Refused.ensures.text)
-
-pub returns-in-Err-ReadFault-clause-text : goal.returns-in-Err-ReadFault-clause-text
-returns-in-Err-ReadFault-clause-text g c = writes_nothing LINE_LIMIT INPUT_LIMIT _ _ _ ReadFault refl
+pub returns-in_err-ended-clause-text : goal.returns-in_err-ended-clause-text
+returns-in_err-ended-clause-text g c =
+    let o = rw c.in-Some.is at c.in_ok-header.ensures.text in
+    let p = err_from_is_err_and c.from_residual-in_err-ended.result c.from_residual-in_err-ended.ensures.1 in
+    rw p.1 (after_header IsRunOf c.in-Some.header _ _ _ _ _ _ o.0 o.1 (run_stopped c.in-Some.header (tokens_left c.in-Some.reader (g.S.Source.left c.open_input.new.src)) _ _ p.0 _ c.in_err-ended.ensures.text))
 
 pub returns-clause-text : goal.returns-clause-text
-returns-clause-text g c = writes_nothing LINE_LIMIT INPUT_LIMIT _ _ _ _ refl
-
-pub returns-in-Ok-clause-text : goal.returns-in-Ok-clause-text
-returns-in-Ok-clause-text g c =
-    let left = g.S.Source.left c.args.src.now in
-    let told = told_input LINE_LIMIT INPUT_LIMIT MAX_ITEMS c.in_ok-reader.reader left (c.in_ok-reader.ensures.lines left) in
-    run_of_header c.in-Ok.header _ _ _ _ c.run_header.result (sym told ∙ told_accepted MAX_ITEMS c.in-Ok.header _ _ c.in-Ok.ensures.header) c.run_header.ensures.text
+returns-clause-text g c =
+    let o = rw c.in-Some.is at c.in_ok-header.ensures.text in
+    after_header IsRunOf c.in-Some.header _ _ _ _ _ _ o.0 o.1 (run_written c.in-Some.header (tokens_left c.in-Some.reader (g.S.Source.left c.open_input.new.src)) _ _ c.in_ok-ended.ended _ refl c.in_ok-ended.ensures.text)

@@ -1,0 +1,59 @@
+//! Commands that apply the batches of an input, and then write a document of the graph and the levels after them.
+ghost use Rattle.std.specs.Prelude.{◌≡◌, ◌≤◌, false, List, ℕ, Option};
+ghost use Rattle.std.specs.Option.{option_map};
+ghost use Rattle.kc_text.specs.Writing.{WriteCause};
+ghost use Rattle.kc_graph.specs.declared.limits.TheConstants.{MAX_EDGES};
+ghost use Rattle.kc_engine.specs.States.{State, IsSound};
+ghost use Rattle.kc_session.specs.Faults.{FaultCause};
+ghost use Rattle.kcore.specs.Inputs.{input_said};
+ghost use Rattle.kcore.specs.InputTexts.{IsTextOf};
+ghost use Rattle.kcore.specs.Documents.{EndsInDocument, HasDocuments, WritesDocument};
+ghost use Rattle.kcore.specs.Writing.{Writes};
+
+use crate::inputs::open_input;
+use kc_engine::Engine;
+use kc_rounds::Gate;
+use kc_session::{SessionFault, settle};
+use kc_text::{SendFault, Sink, Source};
+use std::alloc::Global;
+use std::thread::Threads;
+
+/// A document of a graph and its levels.
+pub trait Document {
+    // Which documents a state has.
+    ghost is_document: { State → List ℕ → Type 0 };
+
+    /// Writes the document of the state of an engine.
+    fn write<K: Sink>(alloc: Global, engine: &Engine, sink: &mut K) -> Result<(), SendFault>
+        requires running { engine.now.halted ≡ false }
+        requires sound { IsSound MAX_EDGES engine.now.state }
+        ensures text { WritesDocument is_document engine.now.state (K.taken sink.old) (K.taken sink.new) result }
+        ensures cause { WriteCause (K.faults sink.old) (K.faults sink.new) result };
+
+    /// A law, and nothing is done: each state has a document.
+    fn has_documents()
+        ensures { HasDocuments is_document };
+}
+
+/// Reads a batch input and applies its batches in turn, in up to `workers` threads. Asks aren't put. Writes a note of each refused batch,
+/// and then this document of what the others lead to. Says whether something was refused.
+pub fn settle_input<D: Document, R: Threads + Sync, S: Source, K: Sink, G: Gate + Sync>(
+    rt: &R,
+    alloc: Global,
+    gate: &G,
+    workers: u32,
+    src: &mut S,
+    sink: &mut K,
+) -> Result<bool, SessionFault>
+    requires few_workers { (1 ≤ workers) × (workers ≤ 64) }
+    ensures text { Writes (IsTextOf (EndsInDocument D.is_document)) (option_map input_said (S.left src.old)) (K.taken sink.old) (K.taken sink.new) result }
+    ensures cause { FaultCause (S.faults src.old) (S.faults src.new) (K.faults sink.old) (K.faults sink.new) result }
+{
+    D::has_documents();
+    let Some((header, reader)) = open_input(alloc, src, sink)? else {
+        return Ok(true);
+    };
+    let settled = settle(rt, alloc, gate, workers, header, reader, src, sink)?;
+    D::write(alloc, &settled.engine, sink)?;
+    Ok(settled.refused > 0)
+}
