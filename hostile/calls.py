@@ -1,0 +1,118 @@
+"""Calls of the system that fail, one after another: allocations, reads, writes, and the starts of threads."""
+import errno
+import os
+import resource
+
+from inputs import text_beside, without_replies
+from program import Failing, limited
+from trials import NO_MEMORY, READ_FAULT, WRITE_FAULT, Trial
+
+EVERY = 1 << 40
+
+
+def nothing_fails(kcore):
+    trial, texts = Trial("nothing fails, and calls are counted"), 0
+    for name, words, data, status, whole in kcore.cases():
+        ended = kcore.program.run(words, data, Failing())
+        trial.ended(name, ended, {status: "whole"}, whole)
+        for kind in "allocations", "reads", "writes":
+            trial.holds(ended.calls[kind] > 0 or (kind, data) == ("reads", b""), f"{name}: no {kind} were counted")
+        beside = text_beside(name.split(", ")[1], words)
+        trial.holds(beside is None or without_replies(whole) == without_replies(beside), f"{name}: another text than beside it")
+        texts += beside is not None
+    trial.notes.append(f"{texts} are the texts beside the examples")
+    yield trial
+
+
+def in_turn(kcore, words, data, kind, error, pieces=(0, 0), on=False):
+    """Runs the command where call 1 of a kind fails, then where call 2 does, and so on, until no call fails; with `on` all the calls after
+    it fail too. Gives the number of the call and how the run ended."""
+    number, failed = 0, True
+    while failed:
+        number += 1
+        ended = kcore.program.run(words, data, Failing(kind, number, EVERY if on else number, error, pieces))
+        failed = ended.calls["failed"] > 0
+        yield number, ended
+
+
+def refused_memory(kcore):
+    for name, words, data, status, whole in kcore.cases():
+        threads = kcore.program.run(words, data, Failing()).calls["threads"]
+        for on in False, True:
+            trial = Trial(f"{name}, {'no memory from an allocation on' if on else 'one allocation refused'}")
+            for number, ended in in_turn(kcore, words, data, "allocation", errno.ENOMEM, on=on):
+                wanted = {NO_MEMORY: "prefix"} if ended.calls["failed"] else {status: "whole"}
+                if ended.calls["threads"] < threads:
+                    # It was the memory of a thread, whose part is done without it.
+                    wanted[status] = "whole"
+                trial.ended(f"allocation {number}", ended, wanted, whole)
+            yield trial
+
+
+def failing_reads(kcore):
+    for name, words, data, status, whole in kcore.cases():
+        trial = Trial(f"{name}, one read of 7 bytes fails")
+        for error in errno.EIO, errno.EAGAIN, errno.EBADF:
+            for number, ended in in_turn(kcore, words, data, "read", error, (7, 0)):
+                wanted = {READ_FAULT: "prefix"} if ended.calls["failed"] else {status: "whole"}
+                trial.ended(f"read {number}, error {error}", ended, wanted, whole)
+        yield trial
+
+
+def failing_writes(kcore):
+    for name, words, data, status, whole in kcore.cases():
+        trial = Trial(f"{name}, one write of 5 bytes fails")
+        for error in errno.EIO, errno.ENOSPC, errno.EPIPE:
+            for number, ended in in_turn(kcore, words, data, "write", error, (0, 5)):
+                wanted = {WRITE_FAULT: "prefix"} if ended.calls["failed"] else {status: "whole"}
+                trial.ended(f"write {number}, error {error}", ended, wanted, whole)
+        yield trial
+
+
+def interrupted_calls(kcore):
+    trial = Trial("a signal interrupts one read or write, which may be a fault")
+    for name, words, data, status, whole in kcore.cases():
+        for kind, fault in ("read", READ_FAULT), ("write", WRITE_FAULT):
+            for number, ended in in_turn(kcore, words, data, kind, errno.EINTR, (7, 5)):
+                wanted = {fault: "prefix", status: "whole"} if ended.calls["failed"] else {status: "whole"}
+                trial.ended(f"{name}, {kind} {number}", ended, wanted, whole)
+    yield trial
+
+
+def small_pieces(kcore):
+    trial = Trial("each read and write moves 1 to 20 bytes")
+    for name, words, data, status, whole in kcore.cases():
+        for piece in range(1, 21):
+            ended = kcore.program.run(words, data, Failing(pieces=(piece, 21 - piece)))
+            trial.ended(f"{name}, reads of {piece} bytes", ended, {status: "whole"}, whole)
+    yield trial
+
+
+def threads_not_started(kcore):
+    trial, wished = Trial("a thread can't be started, or none from one on"), 0
+    for name, words, data, status, whole in kcore.cases():
+        for on in False, True:
+            for number, ended in in_turn(kcore, words, data, "thread", errno.EAGAIN, on=on):
+                trial.ended(f"{name}, thread {number}", ended, {status: "whole"}, whole)
+                wished += ended.calls["failed"]
+    trial.holds(wished, "no run wanted a thread")
+    yield trial
+    trial, wished = Trial("the system starts no thread: no process more is allowed, or there is no room for a stack"), 0
+    for name, words, data, status, whole in kcore.cases():
+        for about, limit in ("no process more", without_processes), ("6 MiB of addresses", limited(resource.RLIMIT_AS, 6 << 20)):
+            ended = kcore.program.run(words, data, Failing(), preexec_fn=limit)
+            trial.ended(f"{name}, {about}", ended, {status: "whole"}, whole)
+            trial.holds(ended.calls["threads"] == 0, f"{name}, {about}: a thread was started")
+            wished += ended.calls["starts"]
+    trial.holds(wished, "no run wanted a thread")
+    yield trial
+
+
+def without_processes():
+    """No process or thread more. The limit doesn't bind root."""
+    if os.geteuid() == 0:
+        os.setgroups([]), os.setgid(65534), os.setuid(65534)
+    resource.setrlimit(resource.RLIMIT_NPROC, (0, 0))
+
+
+TRIALS = [nothing_fails, refused_memory, failing_reads, failing_writes, interrupted_calls, small_pieces, threads_not_started]

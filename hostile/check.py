@@ -1,0 +1,55 @@
+#!/usr/bin/env python3
+"""Runs kcore where memory, threads, devices and inputs fail, and checks how each run ends.
+
+    hostile/check.py [--program PATH] [--only WORD] [--short]
+
+Each run has to end by itself, with the exit number that is due: 0 or 1 with the whole text; 2 with nothing read or written; 3 after a
+read that failed, 4 after a write that failed, 5 without memory, each with a prefix of the text. Nothing is ever written to the
+standard error. Prints a line for each thing that was tried, with how its runs ended, and below it what was wrong; the last line
+counts. The exit number is 1 where something was wrong.
+
+--only WORD tries the things with this word in their name, as `memory`; --short leaves out inputs of a gibibyte. Wants Linux and a C
+compiler, for failing_calls.c, which stands in front of the C library. Which allocation is which depends on the machine, so this isn't
+part of the gate. A new command is a line of COMMANDS.
+"""
+import argparse
+import os
+import sys
+
+import broken
+import calls
+import devices
+from program import Program
+from trials import BATCHES, Command, Kcore
+
+COMMANDS = [
+    Command("run 2", BATCHES, is_noted=False),
+    Command("exact", BATCHES, is_noted=True),
+]
+
+
+def main():
+    here = os.path.dirname(os.path.abspath(__file__))
+    parser = argparse.ArgumentParser(description=__doc__, formatter_class=argparse.RawDescriptionHelpFormatter)
+    parser.add_argument("--program", default=os.path.join(here, "..", "crates", "kcore", "out", "kcore"))
+    parser.add_argument("--only", default="")
+    parser.add_argument("--short", action="store_true")
+    options = parser.parse_args()
+    chosen = [one for one in calls.TRIALS + devices.TRIALS + broken.TRIALS if options.only in one.__name__]
+    if options.short:
+        chosen.remove(broken.great_inputs)
+    program, runs, wrong = Program(options.program), 0, 0
+    try:
+        kcore = Kcore(program, COMMANDS)
+        for one in chosen:
+            for trial in one(kcore):
+                trial.tell()
+                runs, wrong = runs + sum(trial.ends.values()), wrong + len(trial.wrong)
+    finally:
+        program.close()
+    print(f"{runs} runs, {wrong} wrong")
+    sys.exit(1 if wrong else 0)
+
+
+if __name__ == "__main__":
+    main()
