@@ -6,6 +6,7 @@ pub mod Known
 pub mod Numbering
 pub mod Passing
 pub mod Pieces
+pub mod PrintedText
 pub mod Ranges
 pub mod Runs
 pub mod Wording

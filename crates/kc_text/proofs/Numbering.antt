@@ -9,7 +9,7 @@ use Rattle.kc_text.specs.Numbers.{is_digit, value_from, number_of, DigitsAt, Num
 use Rattle.kc_text.specs.Words.{words, words_from, is_blank, closed}
 use Rattle.kc_text.proofs.Wording.{range_more, word_goes_on, word_stop, word_end, closed_some}
 
-value_last : (v : ℕ) (bs : List ℕ) (d : ℕ) → value_from v (bs ++ d ∷ []) ≡ 10 * value_from v bs + (d - 48)
+pub value_last : (v : ℕ) (bs : List ℕ) (d : ℕ) → value_from v (bs ++ d ∷ []) ≡ 10 * value_from v bs + (d - 48)
 unfolding value_from
 value_last v [] d = refl
 value_last v (b ∷ bs) d = value_last (10 * v + (b - 48)) bs d
@@ -42,7 +42,7 @@ more_digits line start value at more d l e m = record {
   words_are = d.words_are ∙ word_goes_on line start at d.after l (digit_no_blank (get_or line at 0) e);
 }
 
-number_is : (bs : List ℕ) (value : ℕ) → 0 < length bs → length bs ≤ 10 → list_all is_digit bs ≡ true → value_from 0 bs ≡ value → value < 2 ^ 32 → number_of bs ≡ Some value
+pub number_is : (bs : List ℕ) (value : ℕ) → 0 < length bs → length bs ≤ 10 → list_all is_digit bs ≡ true → value_from 0 bs ≡ value → value < 2 ^ 32 → number_of bs ≡ Some value
 number_is bs value a b d e s =
     let x : nat_lt 0 (length bs) ≡ true = grind (arith, nat_tests) in
     let y : nat_le (length bs) 10 ≡ true = grind (arith, nat_tests) in

@@ -4,6 +4,8 @@ pub mod Laws
 pub mod Lines
 pub mod Mem
 pub mod Numbers
+pub mod Printing
+pub mod ReadBack
 pub mod Reading
 pub mod Reasons
 pub mod ScannerState

@@ -1,4 +1,6 @@
 // What the definitions in `specs/` come to. Each function does nothing; its contract is a law.
+pub mod read_back;
+
 ghost use Rattle.kc_text.specs.Laws.{CutsAtEnds, StopsAtLimit, AreLongestRuns, CutsSevenBytes, CutsWithinThirdLine, MeasuresLines, PartsWords, ReadsNumbers};
 
 /// Lines are the pieces between line feeds.
