@@ -1,0 +1,73 @@
+-- The edges of a graph, row by row.
+use Rattle.std.proofs.Common.{ℕ, suc, ◌+◌, ◌≤◌, ◌<◌, ◌≡◌, ◌==◌, inl, inr, true, false, cond, List, [], ◌∷◌, ◌++◌, map, refl, sym, ap, ◌∙◌, arith}
+use Rattle.std.specs.Prelude.{filter, nat_lt, nat_le}
+use Rattle.std.proofs.lemmas.Bool.{cases_lt, cases_eq}
+use Rattle.std.proofs.lemmas.Bool.Decides.{nat_tests}
+use Rattle.kc_graph.specs.Shape.{Pair, EdgesFrom, with_other, neighbours_of}
+use Rattle.kc_text.specs.Printing.{printed}
+use Rattle.kc_cert.specs.Texts.{edge_line, row_lines}
+use Rattle.kc_cert.proofs.LineTexts.{printed_append, printed_none}
+
+-- the edges whose lesser vertex is v or greater
+abbrev pub edges_from : ℕ → List Pair → List Pair
+edges_from v es = filter (λ e. nat_le v e.0) es
+
+pub all_edges : (es : List Pair) → edges_from 0 es ≡ es
+all_edges [] = refl
+all_edges (e ∷ es) = let h : nat_le 0 e.0 ≡ true = grind (arith, nat_tests) in rw h (ap (λ (fs : List Pair). e ∷ fs) (all_edges es))
+
+-- beyond the last vertex there are none
+no_edges : (n c d v : ℕ) (es : List Pair) → n ≤ v → EdgesFrom n c d es → edges_from v es ≡ []
+no_edges n c d v [] le up = refl
+no_edges n c d v (e ∷ es) le up = let h : nat_le v e.0 ≡ false = grind (arith, nat_tests, le, up.1, up.2) in rw h (no_edges n e.0 (suc e.1) v es le up.3)
+
+-- a vertex before all edges
+none_here : (n c d v : ℕ) (es : List Pair) → EdgesFrom n c d es → v < c → row_lines v (neighbours_of v es) ≡ []
+none_here n c d v [] up lt = refl
+none_here n c d v (e ∷ es) up lt =
+    let from : c ≤ e.0 = grind (arith, up.0) in
+    let first : (e.0 == v) ≡ false = grind (arith, nat_tests, from, lt) in
+    let second : (e.1 == v) ≡ false = grind (arith, nat_tests, from, lt, up.1) in
+    rw (first, second) (none_here n e.0 (suc e.1) v es up.3 (omega (arith, from, lt)))
+
+-- the edges of v to greater vertices, and then those of the vertices after it
+pub edges_at : (n c d v : ℕ) (es : List Pair) → EdgesFrom n c d es → map edge_line (edges_from v es) ≡ row_lines v (neighbours_of v es) ++ map edge_line (edges_from (v + 1) es)
+edges_at n c d v [] up = refl
+edges_at n c d v (e ∷ es) up = elim (cases_eq e.0 v) [
+  | inl is ↦
+      let here : nat_le v e.0 ≡ true = grind (arith, nat_tests, is) in
+      let later : nat_le (v + 1) e.0 ≡ false = grind (arith, nat_tests, is) in
+      let first : (e.0 == v) ≡ true = grind (arith, nat_tests, is) in
+      let greater : nat_lt v e.1 ≡ true = grind (arith, nat_tests, is, up.1) in
+      let line : edge_line e ≡ edge_line (v, e.1) = ap (λ (a : ℕ). edge_line (a, e.1)) is in
+      rw (here, later, first, greater, line) (ap (λ (ls : List (List (List ℕ))). edge_line (v, e.1) ∷ ls) (edges_at n e.0 (suc e.1) v es up.3))
+  | inr ne ↦ elim (cases_lt e.0 v) [
+    | inl lt ↦
+        let here : nat_le v e.0 ≡ false = grind (arith, nat_tests, lt) in
+        let later : nat_le (v + 1) e.0 ≡ false = grind (arith, nat_tests, lt) in
+        rw (here, later) (ap (λ (ls : List (List (List ℕ))). ls) (edges_at n e.0 (suc e.1) v es up.3) ∙ ap (λ (ls : List (List (List ℕ))). ls ++ map edge_line (edges_from (v + 1) es)) (lesser v e (neighbours_of v es) lt))
+    | inr ge ↦
+        let lt : v < e.0 = grind (arith, ne, ge) in
+        let here : nat_le v e.0 ≡ true = grind (arith, nat_tests, lt) in
+        let later : nat_le (v + 1) e.0 ≡ true = grind (arith, nat_tests, lt) in
+        let first : (e.0 == v) ≡ false = grind (arith, nat_tests, lt) in
+        let second : (e.1 == v) ≡ false = grind (arith, nat_tests, lt, up.1) in
+        let none = none_here n e.0 (suc e.1) v es up.3 lt in
+        rw (here, later, first, second, none) (ap (λ (ls : List (List (List ℕ))). edge_line e ∷ ls) (rw none at (edges_at n e.0 (suc e.1) v es up.3)))
+  ]
+]
+  where
+    -- an edge of v to a lesser vertex gives no line
+    lesser : (u : ℕ) (f : Pair) (rest : List ℕ) → f.0 < u → row_lines u rest ≡ row_lines u (with_other u f rest)
+    lesser u f rest lt =
+        let first : (f.0 == u) ≡ false = grind (arith, nat_tests, lt) in
+        let no : nat_lt u f.0 ≡ false = grind (arith, nat_tests, lt) in
+        rw first (elim (f.1 == u) as (λ b. row_lines u rest ≡ row_lines u (cond b (f.0 ∷ rest) rest)) [ true ↦ rw no refl | false ↦ refl ])
+
+pub last_printed : (n v : ℕ) (es : List Pair) → n ≤ v → EdgesFrom n 0 0 es → printed (map edge_line (edges_from v es)) ≡ []
+last_printed n v es le up = rw (no_edges n 0 0 v es le up) printed_none
+
+pub row_printed : (n v : ℕ) (es : List Pair) (row : List ℕ) → EdgesFrom n 0 0 es → row ≡ neighbours_of v es → printed (map edge_line (edges_from v es)) ≡ printed (row_lines v row) ++ printed (map edge_line (edges_from (v + 1) es))
+row_printed n v es row up e =
+    ap printed (edges_at n 0 0 v es up) ∙ printed_append (row_lines v (neighbours_of v es)) (map edge_line (edges_from (v + 1) es))
+    ∙ ap (λ (ws : List ℕ). printed (row_lines v ws) ++ printed (map edge_line (edges_from (v + 1) es))) (sym e)

@@ -1,0 +1,110 @@
+-- Edges that are read one after another.
+use Rattle.std.proofs.Common.{ℕ, suc, ◌+◌, ◌-◌, ◌<◌, ◌≡◌, Bool, true, false, List, [], ◌∷◌, ◌++◌, refl, ap, sym, ◌∙◌, arith}
+use Rattle.std.specs.Prelude.{Result, Ok, Err, nat_lt, ◌&&◌, if◌then◌else◌}
+use Rattle.std.proofs.lemmas.Bool.Decides.{nat_tests}
+use Rattle.kc_graph.specs.Shape.{GraphShape, Pair, IsNotBefore, EdgesFrom, has_edge, insert_edge, with_edge}
+use Rattle.kc_graph.proofs.EdgeLemmas.{edges_from_at, insert_edge_last}
+use Rattle.kc_text.specs.declared.reason.Reason.{Reason}
+use Rattle.kc_text.specs.declared.reason.Reason.TheVariants.{BadLine, BadVertex}
+use Rattle.kc_cert.specs.declared.token.Kind.{Kind}
+use Rattle.kc_cert.specs.declared.token.Kind.TheVariants as kind
+use Rattle.kc_levels.specs.declared.profile.Profile.{Profile}
+use Rattle.kc_cert.specs.Documents.{Stage, AtBody, edge_of, is_next_edge, onward, stage_after}
+
+-- the edge is in its place
+pub record Fits (n a b : ℕ) (e : Pair) : Type 0 where
+  pub place : IsNotBefore a b e
+  pub order : e.0 < e.1
+  pub below : e.1 < n
+
+chosen : (inside next : Bool) (p e : Pair) → (if inside then (if next then Ok p else Err BadLine) else Err BadVertex) ≡ Ok e → (inside ≡ true) × (next ≡ true) × (p ≡ e)
+chosen false next p e h = cc
+chosen true false p e h = cc
+chosen true true p e h = (refl, refl, cc)
+
+fits_pair : (n a b x y : ℕ) → (nat_lt x n && nat_lt y n) ≡ true → is_next_edge a b x y ≡ true → Fits n a b (x, y)
+fits_pair n a b x y h k = record {
+  place = grind (arith, nat_tests, k);
+  order = grind (arith, nat_tests, k);
+  below = grind (arith, nat_tests, h);
+}
+
+pub edge_fits : (n a b : ℕ) (k : Kind) (e : Pair) → edge_of n a b k ≡ Ok e → Fits n a b e
+edge_fits n a b (kind.Edge x y) e h =
+    let c = chosen (nat_lt x n && nat_lt y n) (is_next_edge a b x y) (x, y) e h in
+    rw (sym c.2) (fits_pair n a b x y c.0 c.1)
+edge_fits n a b kind.Magic e h = absurd cc
+edge_fits n a b (kind.Profile p) e h = absurd cc
+edge_fits n a b (kind.Vertices m) e h = absurd cc
+edge_fits n a b (kind.EdgeCount m) e h = absurd cc
+edge_fits n a b (kind.Level v l) e h = absurd cc
+edge_fits n a b kind.Close e h = absurd cc
+edge_fits n a b kind.Other e h = absurd cc
+edge_fits n a b kind.TooLong e h = absurd cc
+edge_fits n a b kind.Limit e h = absurd cc
+edge_fits n a b kind.InputEnd e h = absurd cc
+
+-- the edges ascend, and so they do with each next one that is not before (a, b)
+pub record MayFollow (n a b : ℕ) (es : List Pair) : Type 0 where
+  pub ascending : EdgesFrom n 0 0 es
+  pub more : (e : Pair) → Fits n a b e → EdgesFrom n 0 0 (es ++ e ∷ [])
+
+not_before_start : (e : Pair) → IsNotBefore 0 0 e
+not_before_start e = grind arith
+
+pub follow_none : (n : ℕ) → MayFollow n 0 0 []
+follow_none n = record { ascending = tt; more = λ e f. (f.place, f.order, f.below, tt) }
+
+two_more : (n c d : ℕ) (es : List Pair) (e f : Pair) → EdgesFrom n c d (es ++ e ∷ []) → Fits n e.0 (suc e.1) f → EdgesFrom n c d ((es ++ e ∷ []) ++ f ∷ [])
+two_more n c d [] e f up h = (up.0, up.1, up.2, (h.place, h.order, h.below, tt))
+two_more n c d (g ∷ gs) e f up h = (up.0, up.1, up.2, two_more n g.0 (suc g.1) gs e f up.3 h)
+
+pub follow_more : (n a b : ℕ) (es : List Pair) (e : Pair) → MayFollow n a b es → Fits n a b e → MayFollow n e.0 (suc e.1) (es ++ e ∷ [])
+follow_more n a b es e m h = record { ascending = m.more e h; more = λ f k. two_more n 0 0 es e f (m.more e h) k }
+
+-- an edge after all others isn't among them
+absent_last : (n c d : ℕ) (es : List Pair) (e : Pair) → EdgesFrom n c d (es ++ e ∷ []) → has_edge e es ≡ false
+absent_last n c d [] e up = refl
+absent_last n c d (f ∷ fs) e up =
+    let after : IsNotBefore f.0 (suc f.1) e = edges_from_at n f.0 (suc f.1) fs e [] up.3 in
+    let later : has_edge e fs ≡ false = absent_last n f.0 (suc f.1) fs e up.3 in
+    grind (arith, nat_tests)
+
+pub absent : (n a b : ℕ) (es : List Pair) (e : Pair) → MayFollow n a b es → Fits n a b e → has_edge e es ≡ false
+absent n a b es e m h = absent_last n 0 0 es e (m.more e h)
+
+pub inserted : (n a b : ℕ) (es : List Pair) (e : Pair) → MayFollow n a b es → Fits n a b e → insert_edge e es ≡ es ++ e ∷ []
+inserted n a b es e m h = insert_edge_last n 0 0 es e [] (m.more e h)
+
+-- the stage where edge i of `count` is due
+abbrev pub edges_due : Profile → GraphShape → ℕ → ℕ → ℕ → ℕ → ℕ → Stage
+edges_due p g n count i a b = AtBody (record { profile = p; graph = g; levels = [] }) (count - i) a b n
+
+-- the stage after this edge
+abbrev pub after_edge : Profile → GraphShape → ℕ → ℕ → ℕ → Pair → Stage
+after_edge p g n count i e = AtBody (record { profile = p; graph = record { vertices = g.vertices; edges = g.edges ++ e ∷ [] }; levels = [] }) (count - (i + 1)) e.0 (suc e.1) n
+
+pub edge_step : (p : Profile) (g : GraphShape) (n count i a b : ℕ) (k : Kind) (x : Result Pair Reason) → g.vertices ≡ n → i < count → x ≡ edge_of n a b k
+    → stage_after (edges_due p g n count i a b) k ≡ onward (after_edge p g n count i) x
+edge_step p g n count i a b k x size lt x_is =
+    let due : count - i ≡ suc (count - (i + 1)) = omega arith in
+    let here : edge_of g.vertices a b k ≡ x = rw size (sym x_is) in
+    rw due (ap (onward (after_edge p g n count i)) here)
+
+-- the graph with an edge that follows all others
+pub after_insert : (p : Profile) (g h : GraphShape) (n count i a b x y : ℕ) (e : Pair) → MayFollow n a b g.edges → Fits n a b e → h ≡ with_edge g e → e ≡ (x, y) → edges_due p h n count (i + 1) x (y + 1) ≡ after_edge p g n count i e
+after_insert p g h n count i a b x y e m f h_is e_is =
+    let one : y + 1 ≡ suc y = omega arith in
+    let last = inserted n a b g.edges e m f in
+    let here : h ≡ record { vertices = g.vertices; edges = g.edges ++ e ∷ [] } = h_is ∙ ap (λ (es : List Pair). record { vertices = g.vertices; edges = es }) last in
+    let first : e.0 ≡ x = ap (λ (q : Pair). q.0) e_is in
+    let second : e.1 ≡ y = ap (λ (q : Pair). q.1) e_is in
+    rw (here, one, ← first, ← second) refl
+
+pub follow_insert : (n a b x y : ℕ) (g h : GraphShape) (e : Pair) → MayFollow n a b g.edges → Fits n a b e → h ≡ with_edge g e → e ≡ (x, y) → MayFollow n x (y + 1) h.edges
+follow_insert n a b x y g h e m f h_is e_is =
+    let one : y + 1 ≡ suc y = omega arith in
+    let last = inserted n a b g.edges e m f in
+    let first : e.0 ≡ x = ap (λ (q : Pair). q.0) e_is in
+    let second : e.1 ≡ y = ap (λ (q : Pair). q.1) e_is in
+    rw (h_is, last, one, ← first, ← second) (follow_more n a b g.edges e m f)

@@ -1,0 +1,9 @@
+pub mod Breaches
+pub mod EdgeRows
+pub mod EdgeSteps
+pub mod LevelSteps
+pub mod LineTexts
+pub mod NumberWords
+pub mod Saying
+pub mod Stepping
+pub mod Written

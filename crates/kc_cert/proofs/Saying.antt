@@ -1,0 +1,97 @@
+-- What lines say, where the lines are told or not.
+use Rattle.std.proofs.Common.{ℕ, ◌≡◌, Bool, true, false, List, [], ◌∷◌, refl, sym, ap, subst}
+use Rattle.std.specs.Prelude.{Option, Some, None, ◌&&◌, if◌then◌else◌, codes}
+use Rattle.std.specs.Str.{bytes_eq}
+use Rattle.std.specs.Option.{option_map}
+use Rattle.std.proofs.lemmas.Option.{same_Some}
+use Rattle.kc_levels.specs.declared.profile.Profile.{Profile}
+use Rattle.kc_text.specs.declared.line.Line.{Line}
+use Rattle.kc_text.specs.declared.line.Body.{Body}
+use Rattle.kc_text.specs.declared.line.Body.TheVariants as body
+use Rattle.kc_text.specs.Reading.{onto, behind}
+use Rattle.kc_text.specs.Words.{words, is_skip}
+use Rattle.kc_cert.specs.declared.token.Token.{Token}
+use Rattle.kc_cert.specs.declared.token.Kind.{Kind}
+use Rattle.kc_cert.specs.declared.token.Kind.TheVariants.{Magic, Close, Other}
+use Rattle.kc_cert.specs.Tokens.{one_number, two_numbers, profile_in, is_version, is_nothing, edge_kind, level_kind, vertices_kind, count_kind, profile_kind, kind_of_words, kind_of_text, kind_of, tokens, behind_kind, onto_token}
+
+-- lines may follow one of this kind
+abbrev pub GoesOn : Kind → Type 0
+GoesOn k = (rest : List Token) → behind_kind k rest ≡ rest
+
+if_goes_on : (b : Bool) (j k : Kind) → GoesOn j → GoesOn k → GoesOn (if b then j else k)
+if_goes_on true j k p q = p
+if_goes_on false j k p q = q
+
+edge_goes_on : (p : Option (ℕ × ℕ)) → GoesOn (edge_kind p)
+edge_goes_on None rest = refl
+edge_goes_on (Some p) rest = refl
+
+level_goes_on : (p : Option (ℕ × ℕ)) → GoesOn (level_kind p)
+level_goes_on None rest = refl
+level_goes_on (Some p) rest = refl
+
+vertices_goes_on : (n : Option ℕ) → GoesOn (vertices_kind n)
+vertices_goes_on None rest = refl
+vertices_goes_on (Some n) rest = refl
+
+count_goes_on : (n : Option ℕ) → GoesOn (count_kind n)
+count_goes_on None rest = refl
+count_goes_on (Some n) rest = refl
+
+profile_goes_on : (p : Option Profile) → GoesOn (profile_kind p)
+profile_goes_on None rest = refl
+profile_goes_on (Some p) rest = refl
+
+words_go_on : (ws : List (List ℕ)) → GoesOn (kind_of_words ws)
+unfolding kind_of_words
+words_go_on [] = λ rest. refl
+words_go_on (name ∷ ws) =
+    if_goes_on (bytes_eq name (codes "edge")) (edge_kind (two_numbers ws)) _ (edge_goes_on (two_numbers ws))
+    (if_goes_on (bytes_eq name (codes "level")) (level_kind (two_numbers ws)) _ (level_goes_on (two_numbers ws))
+    (if_goes_on (bytes_eq name (codes "vertices")) (vertices_kind (one_number ws)) _ (vertices_goes_on (one_number ws))
+    (if_goes_on (bytes_eq name (codes "edges")) (count_kind (one_number ws)) _ (count_goes_on (one_number ws))
+    (if_goes_on (bytes_eq name (codes "profile")) (profile_kind (profile_in ws)) _ (profile_goes_on (profile_in ws))
+    (if_goes_on (bytes_eq name (codes "kcore-cert") && is_version ws) Magic _ (λ rest. refl)
+    (if_goes_on (bytes_eq name (codes "end") && is_nothing ws) Close Other (λ rest. refl) (λ rest. refl)))))))
+
+chosen : (skips : Bool) (j k : Kind) → (if skips then None else Some j) ≡ Some k → j ≡ k
+chosen true j k e = absurd cc
+chosen false j k e = same_Some _ _ e
+
+text_goes_on : (text : List ℕ) (k : Kind) → kind_of_text text ≡ Some k → GoesOn k
+unfolding kind_of_text
+text_goes_on text k e = subst GoesOn (chosen (is_skip (words text)) (kind_of_words (words text)) k e) (words_go_on (words text))
+
+-- what follows a line that says something
+tokens_behind : (b : Body) (k : Kind) (rest : List Line) → kind_of b ≡ Some k → tokens (behind b rest) ≡ behind_kind k (tokens rest)
+unfolding tokens
+tokens_behind (body.Text text) k rest e = sym (text_goes_on text k e (tokens rest))
+tokens_behind body.TooLong k rest e = rw (sym (same_Some _ _ e)) refl
+tokens_behind body.Limit k rest e = rw (sym (same_Some _ _ e)) refl
+tokens_behind body.End k rest e = rw (sym (same_Some _ _ e)) refl
+
+says : (line : Line) (k : Kind) (rest : List Line) → kind_of line.body ≡ Some k → tokens (onto line rest) ≡ onto_token (record { number = line.number; kind = k }) (tokens rest)
+unfolding tokens
+says line k rest e = rw (e, tokens_behind line.body k rest e) refl
+
+silent_behind : (b : Body) (rest : List Line) → kind_of b ≡ None → behind b rest ≡ rest
+silent_behind (body.Text text) rest e = refl
+silent_behind body.TooLong rest e = absurd cc
+silent_behind body.Limit rest e = absurd cc
+silent_behind body.End rest e = absurd cc
+
+says_nothing : (line : Line) (rest : List Line) → kind_of line.body ≡ None → tokens (onto line rest) ≡ tokens rest
+unfolding tokens
+says_nothing line rest e = rw (e, silent_behind line.body rest e) refl
+
+-- a line that says something is the next token
+pub told_token : (line : Line) (k : Kind) (old new : Option (List Line)) → kind_of line.body ≡ Some k → old ≡ option_map (onto line) new
+    → option_map tokens old ≡ option_map (onto_token (record { number = line.number; kind = k })) (option_map tokens new)
+told_token line k old None e h = rw h refl
+told_token line k old (Some rest) e h = rw h (ap Some (says line k rest e))
+
+-- a line that is skipped is no token
+pub told_no_token : (line : Line) (old new : Option (List Line)) → kind_of line.body ≡ None → old ≡ option_map (onto line) new → option_map tokens old ≡ option_map tokens new
+told_no_token line old None e h = rw h refl
+told_no_token line old (Some rest) e h = rw h (ap Some (says_nothing line rest e))

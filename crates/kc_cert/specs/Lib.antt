@@ -1,0 +1,5 @@
+pub mod Documents
+pub mod Reads
+pub mod Texts
+pub mod Tokens
+pub mod Verdicts

@@ -1,0 +1,123 @@
+-- What the lines of a certificate say that aren't skipped, each by itself.
+use Rattle.std.specs.Prelude.{ℕ, Bool, true, false, ◌&&◌, List, [], ◌∷◌, Option, Some, None, if◌then◌else◌, codes}
+use Rattle.std.specs.Str.{bytes_eq}
+use Rattle.std.specs.Option.{option_map}
+use Rattle.kc_levels.specs.declared.profile.Profile.{Profile}
+use Rattle.kc_levels.specs.declared.profile.Profile.TheVariants.{One, Two}
+use Rattle.kc_text.specs.declared.line.Line.{Line}
+use Rattle.kc_text.specs.declared.line.Body.{Body}
+use Rattle.kc_text.specs.declared.line.Body.TheVariants as body
+use Rattle.kc_text.specs.Reading.{Reading, lines_left}
+use Rattle.kc_text.specs.Words.{words, is_skip}
+use Rattle.kc_text.specs.Numbers.{number_of}
+use Rattle.kc_cert.specs.declared.token.Token.{Token}
+use Rattle.kc_cert.specs.declared.token.Kind.{Kind}
+use Rattle.kc_cert.specs.declared.token.Kind.TheVariants as kind
+
+-- the number that one word says
+unfoldable pub one_number : List (List ℕ) → Option ℕ
+one_number [] = None
+one_number (w ∷ []) = number_of w
+one_number (v ∷ w ∷ ws) = None
+
+abbrev pub both_numbers : Option ℕ → Option ℕ → Option (ℕ × ℕ)
+both_numbers (Some a) (Some b) = Some (a, b)
+both_numbers (Some a) None = None
+both_numbers None b = None
+
+-- the two numbers that two words say
+unfoldable pub two_numbers : List (List ℕ) → Option (ℕ × ℕ)
+two_numbers [] = None
+two_numbers (w ∷ ws) = both_numbers (number_of w) (one_number ws)
+
+-- the profile that a word names: it is the word `1` or the word `2`
+abbrev pub profile_named : List ℕ → Option Profile
+profile_named name =
+    if bytes_eq name (codes "1") then Some One
+    else if bytes_eq name (codes "2") then Some Two
+    else None
+
+-- the profile that one word names
+unfoldable pub profile_in : List (List ℕ) → Option Profile
+profile_in [] = None
+profile_in (w ∷ []) = profile_named w
+profile_in (v ∷ w ∷ ws) = None
+
+-- the one word `1`
+unfoldable pub is_version : List (List ℕ) → Bool
+is_version [] = false
+is_version (w ∷ []) = bytes_eq w (codes "1")
+is_version (v ∷ w ∷ ws) = false
+
+-- no word
+abbrev pub is_nothing : List (List ℕ) → Bool
+is_nothing [] = true
+is_nothing (w ∷ ws) = false
+
+abbrev pub edge_kind : Option (ℕ × ℕ) → Kind
+edge_kind (Some p) = kind.Edge p.0 p.1
+edge_kind None = kind.Other
+
+abbrev pub level_kind : Option (ℕ × ℕ) → Kind
+level_kind (Some p) = kind.Level p.0 p.1
+level_kind None = kind.Other
+
+abbrev pub vertices_kind : Option ℕ → Kind
+vertices_kind (Some n) = kind.Vertices n
+vertices_kind None = kind.Other
+
+abbrev pub count_kind : Option ℕ → Kind
+count_kind (Some m) = kind.EdgeCount m
+count_kind None = kind.Other
+
+abbrev pub profile_kind : Option Profile → Kind
+profile_kind (Some p) = kind.Profile p
+profile_kind None = kind.Other
+
+-- what a line of these words says
+unfoldable pub kind_of_words : List (List ℕ) → Kind
+kind_of_words [] = kind.Other
+kind_of_words (name ∷ ws) =
+    if bytes_eq name (codes "edge") then edge_kind (two_numbers ws)
+    else if bytes_eq name (codes "level") then level_kind (two_numbers ws)
+    else if bytes_eq name (codes "vertices") then vertices_kind (one_number ws)
+    else if bytes_eq name (codes "edges") then count_kind (one_number ws)
+    else if bytes_eq name (codes "profile") then profile_kind (profile_in ws)
+    else if bytes_eq name (codes "kcore-cert") && is_version ws then kind.Magic
+    else if bytes_eq name (codes "end") && is_nothing ws then kind.Close
+    else kind.Other
+
+-- what a text says, unless it is skipped
+unfoldable pub kind_of_text : List ℕ → Option Kind
+kind_of_text text = if is_skip (words text) then None else Some (kind_of_words (words text))
+
+-- what a line says, unless it is skipped
+abbrev pub kind_of : Body → Option Kind
+kind_of (body.Text text) = kind_of_text text
+kind_of body.TooLong = Some kind.TooLong
+kind_of body.Limit = Some kind.Limit
+kind_of body.End = Some kind.InputEnd
+
+-- a line in front of others, unless it is skipped
+abbrev pub token_before : ℕ → Option Kind → List Token → List Token
+token_before number None rest = rest
+token_before number (Some k) rest = record { number = number; kind = k } ∷ rest
+
+-- what each of the lines says that isn't skipped
+unfoldable pub tokens : List Line → List Token
+tokens [] = []
+tokens (line ∷ rest) = token_before line.number (kind_of line.body) (tokens rest)
+
+-- the same of the lines that a reader has still to give, where its source tells what it has left
+abbrev pub tokens_left : Reading → Option (List ℕ) → Option (List Token)
+tokens_left r left = option_map tokens (lines_left r left)
+
+-- what follows a line of this kind: nothing after the end of the input or its limit
+abbrev pub behind_kind : Kind → List Token → List Token
+behind_kind kind.Limit rest = []
+behind_kind kind.InputEnd rest = []
+behind_kind _ rest = rest
+
+-- a line and what follows it
+abbrev pub onto_token : Token → List Token → List Token
+onto_token t rest = t ∷ behind_kind t.kind rest

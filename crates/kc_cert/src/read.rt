@@ -1,0 +1,266 @@
+//! Reading a certificate.
+ghost use Rattle.std.specs.Prelude.{◌≡◌, ℕ, ◌≤◌, [], length, IfOk, IfSome};
+ghost use Rattle.kc_cert.specs.Tokens.{tokens_left};
+ghost use Rattle.kc_cert.specs.Documents.{AtProfile, AtVertices, AtEdgeCount, AtBody, AtInputEnd, empty_certificate, document_of};
+ghost use Rattle.kc_cert.specs.Reads.{Answers, IsAnswer, CertCause};
+ghost use Rattle.kc_cert.specs.Texts.{IsCertificate};
+
+use crate::Certificate;
+use crate::token::next_token;
+use crate::turn::{
+    close_of, edge_count_of, edge_of, input_end_of, level_of, magic_of, profile_of, vertices_of,
+};
+use kc_graph::{Graph, MAX_EDGES, MAX_VERTICES};
+use kc_levels::{Levels, Profile, Thresholds};
+use kc_text::{LineFault, LineReader, Reason, Source};
+use std::alloc::{AllocError, Global};
+use thiserror::Error;
+
+/// Why there is no certificate.
+#[derive(Drop, Debug, Error)]
+pub enum CertFault {
+    /// A read of the source failed.
+    #[error("a read of the source failed")]
+    ReadFault,
+    /// The first line that doesn't fit, and why: `LineLong`, `BadLine`, `BadVertex`, `Truncated` or `InputLimit`.
+    #[error("the certificate is refused at line {line}")]
+    Refused { line: u32, reason: Reason },
+    /// There was no memory for a line, the graph or the levels.
+    #[error(transparent)]
+    Memory(AllocError),
+}
+
+impl From<LineFault> for CertFault {
+    ghost use Rattle.kc_cert.specs.Reads.{fault_of};
+
+    ghost from_gives = { λ f s. s ≡ fault_of f };
+
+    fn from(fault: LineFault) -> CertFault {
+        match fault {
+            LineFault::ReadFault => CertFault::ReadFault,
+            LineFault::Memory(e) => CertFault::Memory(e),
+        }
+    }
+}
+
+impl From<AllocError> for CertFault {
+    ghost use Rattle.kc_cert.specs.declared.read.CertFault.TheVariants.{Memory};
+
+    ghost from_gives = { λ e s. s ≡ Memory e };
+
+    fn from(fault: AllocError) -> CertFault {
+        CertFault::Memory(fault)
+    }
+}
+
+// Reads the end of the input.
+fn read_input_end<S: Source>(
+    alloc: Global,
+    reader: &mut LineReader,
+    src: &mut S,
+    cert: Certificate,
+) -> Result<Certificate, CertFault>
+    requires { IsCertificate cert }
+    ensures document { Answers (AtInputEnd cert) (tokens_left reader.old (S.left src.old)) result }
+    ensures sound { IfOk result IsCertificate }
+    ensures cause { CertCause (S.faults src.old) (S.faults src.new) result }
+{
+    let token = next_token(alloc, reader, src)?;
+    match input_end_of(token.kind) {
+        Ok(()) => Ok(cert),
+        Err(reason) => {
+            let line = token.number;
+            Err(CertFault::Refused { line, reason })
+        }
+    }
+}
+
+// Reads `end` and what follows it.
+fn read_end<S: Source>(
+    alloc: Global,
+    reader: &mut LineReader,
+    src: &mut S,
+    cert: Certificate,
+) -> Result<Certificate, CertFault>
+    requires { IsCertificate cert }
+    ensures document { (a b : ℕ) → Answers (AtBody cert 0 a b 0) (tokens_left reader.old (S.left src.old)) result }
+    ensures sound { IfOk result IsCertificate }
+    ensures cause { CertCause (S.faults src.old) (S.faults src.new) result }
+{
+    let token = next_token(alloc, reader, src)?;
+    match close_of(token.kind) {
+        Ok(()) => read_input_end(alloc, reader, src, cert),
+        Err(reason) => {
+            let line = token.number;
+            Err(CertFault::Refused { line, reason })
+        }
+    }
+}
+
+// Reads the levels and what follows them.
+fn read_levels<S: Source>(
+    alloc: Global,
+    reader: &mut LineReader,
+    src: &mut S,
+    profile: Profile,
+    graph: Graph,
+) -> Result<Certificate, CertFault>
+    requires { length graph.edges ≤ MAX_EDGES }
+    ensures document { (a b : ℕ) → Answers (AtBody (record { profile = profile; graph = graph; levels = [] }) 0 a b graph.vertices) (tokens_left reader.old (S.left src.old)) result }
+    ensures sound { IfOk result IsCertificate }
+    ensures cause { CertCause (S.faults src.old) (S.faults src.new) result }
+{
+    let n = graph.vertices();
+    let top = Thresholds::new(alloc, profile, n)?.top();
+    let mut levels = Levels::zeros(alloc, n)?;
+    for v in 0..n {
+        let token = next_token(alloc, reader, src)?;
+        match level_of(n, top, v, token.kind) {
+            Ok(level) => levels.set(v, level),
+            Err(reason) => {
+                let line = token.number;
+                return Err(CertFault::Refused { line, reason });
+            }
+        }
+    }
+    let cert = Certificate {
+        profile,
+        graph,
+        levels,
+    };
+    read_end(alloc, reader, src, cert)
+}
+
+// Reads the edges and what follows them.
+fn read_edges<S: Source>(
+    alloc: Global,
+    reader: &mut LineReader,
+    src: &mut S,
+    profile: Profile,
+    n: u32,
+    count: u32,
+) -> Result<Certificate, CertFault>
+    requires some { 1 ≤ n }
+    requires small { n ≤ MAX_VERTICES }
+    requires few { count ≤ MAX_EDGES }
+    ensures document { Answers (AtBody (empty_certificate profile n) count 0 0 n) (tokens_left reader.old (S.left src.old)) result }
+    ensures sound { IfOk result IsCertificate }
+    ensures cause { CertCause (S.faults src.old) (S.faults src.new) result }
+{
+    let mut graph = Graph::new(alloc, n)?;
+    let mut a = 0;
+    let mut b = 0;
+    for i in 0..count {
+        let token = next_token(alloc, reader, src)?;
+        match edge_of(n, a, b, token.kind) {
+            Ok(edge) => {
+                graph.insert(alloc, edge)?;
+                a = edge.a;
+                b = edge.b + 1;
+            }
+            Err(reason) => {
+                let line = token.number;
+                return Err(CertFault::Refused { line, reason });
+            }
+        }
+    }
+    read_levels(alloc, reader, src, profile, graph)
+}
+
+// Reads the number of edges and what follows it.
+fn read_edge_count<S: Source>(
+    alloc: Global,
+    reader: &mut LineReader,
+    src: &mut S,
+    profile: Profile,
+    n: u32,
+) -> Result<Certificate, CertFault>
+    requires some { 1 ≤ n }
+    requires small { n ≤ MAX_VERTICES }
+    ensures document { Answers (AtEdgeCount profile n) (tokens_left reader.old (S.left src.old)) result }
+    ensures sound { IfOk result IsCertificate }
+    ensures cause { CertCause (S.faults src.old) (S.faults src.new) result }
+{
+    let token = next_token(alloc, reader, src)?;
+    match edge_count_of(token.kind) {
+        Ok(count) => read_edges(alloc, reader, src, profile, n, count),
+        Err(reason) => {
+            let line = token.number;
+            Err(CertFault::Refused { line, reason })
+        }
+    }
+}
+
+// Reads the number of vertices and what follows it.
+fn read_vertices<S: Source>(
+    alloc: Global,
+    reader: &mut LineReader,
+    src: &mut S,
+    profile: Profile,
+) -> Result<Certificate, CertFault>
+    ensures document { Answers (AtVertices profile) (tokens_left reader.old (S.left src.old)) result }
+    ensures sound { IfOk result IsCertificate }
+    ensures cause { CertCause (S.faults src.old) (S.faults src.new) result }
+{
+    let token = next_token(alloc, reader, src)?;
+    match vertices_of(token.kind) {
+        Ok(n) => read_edge_count(alloc, reader, src, profile, n),
+        Err(reason) => {
+            let line = token.number;
+            Err(CertFault::Refused { line, reason })
+        }
+    }
+}
+
+// Reads the profile and what follows it.
+fn read_profile<S: Source>(
+    alloc: Global,
+    reader: &mut LineReader,
+    src: &mut S,
+) -> Result<Certificate, CertFault>
+    ensures document { Answers AtProfile (tokens_left reader.old (S.left src.old)) result }
+    ensures sound { IfOk result IsCertificate }
+    ensures cause { CertCause (S.faults src.old) (S.faults src.new) result }
+{
+    let token = next_token(alloc, reader, src)?;
+    match profile_of(token.kind) {
+        Ok(profile) => read_vertices(alloc, reader, src, profile),
+        Err(reason) => {
+            let line = token.number;
+            Err(CertFault::Refused { line, reason })
+        }
+    }
+}
+
+/// Reads a certificate up to the end of the input, as `document_of` of `specs/Documents` says: `kcore-cert 1`, the
+/// profile, the numbers of vertices and of edges, the edges in ascending order, a level for each vertex in order, and `end`.
+/// Empty lines and comments are skipped anywhere.
+///
+/// The certificate keeps its limits, whatever the source tells (`IsCertificate` of `specs/Texts`): 1 to `MAX_VERTICES`
+/// vertices, at most `MAX_EDGES` edges, one level for each vertex, none above the top of the profile, so `verify` may be asked.
+///
+/// `Refused` tells the first line that doesn't fit and why. `BadVertex` is for an `edge` or `level` line in its place, with
+/// two numbers, that names a vertex of n or more; an `edge` line where a level is due is `BadLine`. `ReadFault` comes only
+/// where the source's count of faults rose, and `Memory` where there was none for a line, the graph or the levels. After
+/// each of the three the reader isn't used again, since lines of the certificate are gone.
+///
+/// Cost: one pass over the lines, and for each edge the work of `Graph::insert` for ascending edges. Beside the graph and
+/// the levels, whose memory is taken once their number of vertices was read, there is the memory of one line.
+pub fn read_certificate<S: Source>(
+    alloc: Global,
+    reader: &mut LineReader,
+    src: &mut S,
+) -> Result<Certificate, CertFault>
+    ensures document { IfSome (tokens_left reader.old (S.left src.old)) (λ ts. IsAnswer result (document_of ts)) }
+    ensures sound { IfOk result IsCertificate }
+    ensures cause { CertCause (S.faults src.old) (S.faults src.new) result }
+{
+    let token = next_token(alloc, reader, src)?;
+    match magic_of(token.kind) {
+        Ok(()) => read_profile(alloc, reader, src),
+        Err(reason) => {
+            let line = token.number;
+            Err(CertFault::Refused { line, reason })
+        }
+    }
+}

@@ -1,0 +1,198 @@
+//! What the lines of a certificate say.
+ghost use Rattle.std.specs.Prelude.{◌≡◌, ℕ, ◌≤◌, ◌∷◌, List, Option, length, drop, IfOk};
+ghost use Rattle.std.specs.Option.{option_map};
+ghost use Rattle.std.specs.Str.{bytes_eq};
+ghost use Rattle.kc_text.specs.Causes.{ReadCause};
+ghost use Rattle.kc_text.specs.Words.{words};
+ghost use Rattle.kc_cert.specs.Tokens.{one_number, two_numbers, profile_named, profile_in, is_version, kind_of_words, kind_of_text, tokens_left, onto_token};
+
+use kc_levels::Profile;
+use kc_text::{Body, LineFault, LineReader, Source, next_number, next_word};
+use std::alloc::Global;
+
+/// What a line says by itself, wherever it stands.
+#[derive(Clone, Copy, Debug, PartialEq, Eq)]
+pub enum Kind {
+    /// `kcore-cert 1`
+    Magic,
+    /// `profile 1` or `profile 2`
+    Profile(Profile),
+    /// `vertices N`, with any number.
+    Vertices(u32),
+    /// `edges M`, with any number.
+    EdgeCount(u32),
+    /// `edge A B`, with any numbers.
+    Edge(u32, u32),
+    /// `level V L`, with any numbers.
+    Level(u32, u32),
+    /// `end`
+    Close,
+    /// A line of another form.
+    Other,
+    /// A line that is too long.
+    TooLong,
+    /// The input goes on past its limit.
+    Limit,
+    /// The input has ended.
+    InputEnd,
+}
+
+/// A line that isn't skipped: its number, counted from 1 over all lines, and what it says.
+#[derive(Clone, Copy, Debug, PartialEq, Eq)]
+pub struct Token {
+    pub number: u32,
+    pub kind: Kind,
+}
+
+fn is(word: &[u8], name: &[u8]) -> bool
+    ensures { result ≡ bytes_eq word.now name.now }
+{
+    word == name
+}
+
+// The number that the one word at or after `from` says.
+#[tactic(auto, using(crate::proofs::NumberWords::number_steps))]
+fn one_number(text: &[u8], from: usize) -> Option<u32>
+    requires { from ≤ length text.now }
+    ensures { result ≡ one_number (words (drop from text.now)) }
+{
+    let (number, end) = next_number(text, from)?;
+    if next_word(text, end).is_some() {
+        return None;
+    }
+    Some(number)
+}
+
+// The two numbers that the two words at or after `from` say.
+#[tactic(auto, using(crate::proofs::NumberWords::number_steps))]
+fn two_numbers(text: &[u8], from: usize) -> Option<(u32, u32)>
+    requires { from ≤ length text.now }
+    ensures { result ≡ two_numbers (words (drop from text.now)) }
+{
+    let (first, end) = next_number(text, from)?;
+    let second = one_number(text, end)?;
+    Some((first, second))
+}
+
+fn profile_named(name: &[u8]) -> Option<Profile>
+    ensures { result ≡ profile_named name.now }
+{
+    if is(name, b"1") {
+        Some(Profile::One)
+    } else if is(name, b"2") {
+        Some(Profile::Two)
+    } else {
+        None
+    }
+}
+
+// The profile that the one word at or after `from` names.
+#[tactic(auto, unfolding(crate::specs::Tokens::profile_in))]
+fn profile_in(text: &[u8], from: usize) -> Option<Profile>
+    requires { from ≤ length text.now }
+    ensures { result ≡ profile_in (words (drop from text.now)) }
+{
+    let (start, end) = next_word(text, from)?;
+    let name = &text[start..end];
+    if next_word(text, end).is_some() {
+        return None;
+    }
+    profile_named(name)
+}
+
+// Whether the one word at or after `from` is `1`.
+#[tactic(auto, unfolding(crate::specs::Tokens::is_version))]
+fn is_version(text: &[u8], from: usize) -> bool
+    requires { from ≤ length text.now }
+    ensures { result ≡ is_version (words (drop from text.now)) }
+{
+    match next_word(text, from) {
+        Some((start, end)) => {
+            let name = &text[start..end];
+            next_word(text, end).is_none() && is(name, b"1")
+        }
+        None => false,
+    }
+}
+
+// What a line says that begins with this word, which ends there.
+#[tactic(auto, unfolding(crate::specs::Tokens::kind_of_words))]
+fn kind_of_line(name: &[u8], text: &[u8], end: usize) -> Kind
+    requires { end ≤ length text.now }
+    ensures { result ≡ kind_of_words (name.now ∷ words (drop end text.now)) }
+{
+    if is(name, b"edge") {
+        match two_numbers(text, end) {
+            Some((a, b)) => Kind::Edge(a, b),
+            None => Kind::Other,
+        }
+    } else if is(name, b"level") {
+        match two_numbers(text, end) {
+            Some((v, level)) => Kind::Level(v, level),
+            None => Kind::Other,
+        }
+    } else if is(name, b"vertices") {
+        match one_number(text, end) {
+            Some(n) => Kind::Vertices(n),
+            None => Kind::Other,
+        }
+    } else if is(name, b"edges") {
+        match one_number(text, end) {
+            Some(count) => Kind::EdgeCount(count),
+            None => Kind::Other,
+        }
+    } else if is(name, b"profile") {
+        match profile_in(text, end) {
+            Some(profile) => Kind::Profile(profile),
+            None => Kind::Other,
+        }
+    } else if is(name, b"kcore-cert") && is_version(text, end) {
+        Kind::Magic
+    } else if is(name, b"end") && next_word(text, end).is_none() {
+        Kind::Close
+    } else {
+        Kind::Other
+    }
+}
+
+// What a line says, unless it is skipped.
+#[tactic(auto, unfolding(crate::specs::Tokens::kind_of_text))]
+fn classify(text: &[u8]) -> Option<Kind>
+    ensures { result ≡ kind_of_text text.now }
+{
+    let (start, end) = next_word(text, 0)?;
+    if text[start] == b'#' {
+        return None;
+    }
+    Some(kind_of_line(&text[start..end], text, end))
+}
+
+/// The next line that isn't skipped. After a fault skipped lines may be gone.
+#[inline(always)]
+pub fn next_token<S: Source>(
+    alloc: Global,
+    reader: &mut LineReader,
+    src: &mut S,
+) -> Result<Token, LineFault>
+    ensures token { IfOk result (λ t. tokens_left reader.old (S.left src.old) ≡ option_map (onto_token t) (tokens_left reader.new (S.left src.new))) }
+    ensures cause { ReadCause (S.faults src.old) (S.faults src.new) result }
+{
+    loop {
+        let line = reader.next_line(alloc, src)?;
+        let number = line.number;
+        let kind = match line.body {
+            Body::Text(text) => {
+                let said = classify(text.as_slice());
+                reader.reuse(text);
+                match said {
+                    Some(kind) => kind,
+                    None => continue,
+                }
+            }
+            Body::TooLong => Kind::TooLong,
+            Body::Limit => Kind::Limit,
+            Body::End => Kind::InputEnd,
+        };
+        return Ok(Token { number, kind });
+    }
+}

@@ -1,0 +1,202 @@
+//! Writing a certificate.
+ghost use Rattle.std.specs.Prelude.{◌≡◌, ◌++◌, ◌∷◌, [], length, map, codes, OnOk, decimal};
+ghost use Rattle.kc_text.specs.Printing.{printed};
+ghost use Rattle.kc_text.specs.Writing.{Appends, WriteCause};
+ghost use Rattle.kc_cert.specs.Texts.{profile_word, head_lines, edge_line, row_lines, level_lines, certificate_text};
+
+use kc_graph::Graph;
+use kc_levels::{Levels, Profile};
+use kc_text::{LineBuf, SendFault, Sink};
+use std::alloc::{AllocError, Global};
+
+// Writes a line of one text.
+fn write_text<K: Sink>(
+    alloc: Global,
+    buf: &mut LineBuf,
+    sink: &mut K,
+    text: &[u8],
+) -> Result<(), SendFault>
+    requires { buf.old ≡ [] }
+    ensures text { Appends (K.taken sink.old) (K.taken sink.new) (text.now ++ 10 ∷ []) result }
+    ensures buffer { OnOk result (buf.new ≡ []) }
+    ensures cause { WriteCause (K.faults sink.old) (K.faults sink.new) result }
+{
+    match buf.text(alloc, text) {
+        Ok(()) => buf.send(alloc, sink),
+        Err(fault) => Err(SendFault::Memory(fault)),
+    }
+}
+
+// Appends a name, with its blanks, and a number.
+fn fill_named(alloc: Global, buf: &mut LineBuf, name: &[u8], value: u32) -> Result<(), AllocError>
+    ensures { OnOk result (buf.new ≡ (buf.old ++ name.now) ++ decimal value) }
+{
+    buf.text(alloc, name)?;
+    buf.number(alloc, value)
+}
+
+// Writes a line of a name, with its blank, and a number.
+fn write_named<K: Sink>(
+    alloc: Global,
+    buf: &mut LineBuf,
+    sink: &mut K,
+    name: &[u8],
+    value: u32,
+) -> Result<(), SendFault>
+    requires { buf.old ≡ [] }
+    ensures text { Appends (K.taken sink.old) (K.taken sink.new) ((name.now ++ decimal value) ++ 10 ∷ []) result }
+    ensures buffer { OnOk result (buf.new ≡ []) }
+    ensures cause { WriteCause (K.faults sink.old) (K.faults sink.new) result }
+{
+    match fill_named(alloc, buf, name, value) {
+        Ok(()) => buf.send(alloc, sink),
+        Err(fault) => Err(SendFault::Memory(fault)),
+    }
+}
+
+// Appends a name, with its blank, and two numbers.
+fn fill_pair(
+    alloc: Global,
+    buf: &mut LineBuf,
+    name: &[u8],
+    first: u32,
+    second: u32,
+) -> Result<(), AllocError>
+    ensures { OnOk result (buf.new ≡ (((buf.old ++ name.now) ++ decimal first) ++ codes " ") ++ decimal second) }
+{
+    fill_named(alloc, buf, name, first)?;
+    fill_named(alloc, buf, b" ", second)
+}
+
+// Writes a line of a name, with its blank, and two numbers.
+fn write_pair<K: Sink>(
+    alloc: Global,
+    buf: &mut LineBuf,
+    sink: &mut K,
+    name: &[u8],
+    first: u32,
+    second: u32,
+) -> Result<(), SendFault>
+    requires { buf.old ≡ [] }
+    ensures text { Appends (K.taken sink.old) (K.taken sink.new) ((((name.now ++ decimal first) ++ codes " ") ++ decimal second) ++ 10 ∷ []) result }
+    ensures buffer { OnOk result (buf.new ≡ []) }
+    ensures cause { WriteCause (K.faults sink.old) (K.faults sink.new) result }
+{
+    match fill_pair(alloc, buf, name, first, second) {
+        Ok(()) => buf.send(alloc, sink),
+        Err(fault) => Err(SendFault::Memory(fault)),
+    }
+}
+
+fn profile_text(profile: Profile) -> &'static [u8]
+    ensures { result.now ≡ codes "profile " ++ profile_word profile }
+{
+    match profile {
+        Profile::One => b"profile 1",
+        Profile::Two => b"profile 2",
+    }
+}
+
+// Writes the four lines ahead of the edges.
+fn write_head<K: Sink>(
+    alloc: Global,
+    buf: &mut LineBuf,
+    sink: &mut K,
+    profile: Profile,
+    graph: &Graph,
+) -> Result<(), SendFault>
+    requires { buf.old ≡ [] }
+    ensures text { Appends (K.taken sink.old) (K.taken sink.new) (printed (head_lines profile graph.now)) result }
+    ensures buffer { OnOk result (buf.new ≡ []) }
+    ensures cause { WriteCause (K.faults sink.old) (K.faults sink.new) result }
+{
+    write_text(alloc, buf, sink, b"kcore-cert 1")?;
+    write_text(alloc, buf, sink, profile_text(profile))?;
+    write_named(alloc, buf, sink, b"vertices ", graph.vertices())?;
+    write_named(alloc, buf, sink, b"edges ", graph.edge_count())
+}
+
+// Writes the edges of v and those of its neighbours that are greater.
+fn write_row<K: Sink>(
+    alloc: Global,
+    buf: &mut LineBuf,
+    sink: &mut K,
+    v: u32,
+    neighbours: &[u32],
+) -> Result<(), SendFault>
+    requires { buf.old ≡ [] }
+    ensures text { Appends (K.taken sink.old) (K.taken sink.new) (printed (row_lines v neighbours.now)) result }
+    ensures buffer { OnOk result (buf.new ≡ []) }
+    ensures cause { WriteCause (K.faults sink.old) (K.faults sink.new) result }
+{
+    for w in neighbours {
+        if *w <= v {
+            continue;
+        }
+        write_pair(alloc, buf, sink, b"edge ", v, *w)?;
+    }
+    Ok(())
+}
+
+// Writes the edges in their order.
+fn write_edges<K: Sink>(
+    alloc: Global,
+    buf: &mut LineBuf,
+    sink: &mut K,
+    graph: &Graph,
+) -> Result<(), SendFault>
+    requires { buf.old ≡ [] }
+    ensures text { Appends (K.taken sink.old) (K.taken sink.new) (printed (map edge_line graph.now.edges)) result }
+    ensures buffer { OnOk result (buf.new ≡ []) }
+    ensures cause { WriteCause (K.faults sink.old) (K.faults sink.new) result }
+{
+    for v in 0..graph.vertices() {
+        write_row(alloc, buf, sink, v, graph.neighbours(v))?;
+    }
+    Ok(())
+}
+
+// Writes the level of each of n vertices.
+fn write_levels<K: Sink>(
+    alloc: Global,
+    buf: &mut LineBuf,
+    sink: &mut K,
+    n: u32,
+    levels: &Levels,
+) -> Result<(), SendFault>
+    requires buffer { buf.old ≡ [] }
+    requires sized { length levels.now ≡ n }
+    ensures text { Appends (K.taken sink.old) (K.taken sink.new) (printed (level_lines 0 levels.now)) result }
+    ensures buffer { OnOk result (buf.new ≡ []) }
+    ensures cause { WriteCause (K.faults sink.old) (K.faults sink.new) result }
+{
+    for v in 0..n {
+        write_pair(alloc, buf, sink, b"level ", v, u32::from(levels.get(v)))?;
+    }
+    Ok(())
+}
+
+/// Writes the certificate of a graph and its levels (`certificate_text` of `specs/Texts`), line after line: `kcore-cert 1`,
+/// the profile, the numbers of vertices and of edges, the edges in ascending order, the level of each vertex, and `end`.
+///
+/// There is one level for each vertex; any levels are written. Each line is one `put_all`. After `WriteFault`, which only a
+/// failed write gives, and after `Memory`, which says that there was none for a line, the sink took a prefix of the text.
+///
+/// Cost: one pass over the neighbours of each vertex. Takes the memory of one line, of at most 31 bytes.
+pub fn write_certificate<K: Sink>(
+    alloc: Global,
+    sink: &mut K,
+    profile: Profile,
+    graph: &Graph,
+    levels: &Levels,
+) -> Result<(), SendFault>
+    requires { length levels.now ≡ graph.now.vertices }
+    ensures text { Appends (K.taken sink.old) (K.taken sink.new) (certificate_text (record { profile = profile; graph = graph.now; levels = levels.now })) result }
+    ensures cause { WriteCause (K.faults sink.old) (K.faults sink.new) result }
+{
+    let mut buf = LineBuf::new(alloc);
+    write_head(alloc, &mut buf, sink, profile, graph)?;
+    write_edges(alloc, &mut buf, sink, graph)?;
+    write_levels(alloc, &mut buf, sink, graph.vertices(), levels)?;
+    write_text(alloc, &mut buf, sink, b"end")
+}
