@@ -1,0 +1,9 @@
+pub mod Upward
+pub mod Arcs
+pub mod Pigeons
+pub mod Colourings
+pub mod Filling
+pub mod Marking
+pub mod Descents
+pub mod Coloured
+pub mod Kept

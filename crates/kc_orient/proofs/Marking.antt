@@ -1,0 +1,77 @@
+-- Marking the colours of a list of vertices, and the least colour that is not marked.
+use Rattle.std.proofs.Common.{ℕ, suc, zero, ◌+◌, ◌≤◌, ◌<◌, ◌≡◌, ◌≢◌, ◌⊎◌, inl, inr, Bool, true, false, List, [], ◌∷◌, ◌++◌, length, get_or, take, set, refl, ap, sym, ◌∙◌, arith, add-one}
+use Rattle.std.proofs.lemmas.Bool.{cases_eq, true≢false}
+use Rattle.std.proofs.lemmas.Bool.Decides.{nat_tests}
+use Rattle.std.proofs.lemmas.List.{get_or-set_same, get_or-set_other, take_more, take_all}
+use Rattle.std.proofs.Math.ListN.{length-set}
+use Rattle.kc_graph.specs.Numbers.{has_number}
+use Rattle.kc_graph.proofs.NumberLemmas.{has_number-push, has_number_at}
+use Rattle.kc_orient.specs.Colouring.{IsLeastFree}
+use Rattle.kc_orient.specs.Marks.{IsMarked}
+use Rattle.kc_orient.proofs.Pigeons.{pigeons}
+
+-- the colours of the first i vertices are marked by the stamp, and the others as before
+pub record IsMarking (vertices colours : List ℕ) (stamp i : ℕ) (old new : List ℕ) : Type 0 where
+  pub marked : IsMarked stamp old new
+  pub all : (w : ℕ) → has_number w (take i vertices) ≡ true → get_or new (get_or colours w 0) 0 ≡ stamp
+  pub only : (k : ℕ) → k < length old → get_or new k 0 ≡ stamp → (w : ℕ) × (has_number w vertices ≡ true) × (get_or colours w 0 ≡ k)
+
+pub marking_first : (vertices colours : List ℕ) (stamp : ℕ) (old : List ℕ) → ((k : ℕ) → k < length old → get_or old k 0 ≢ stamp) → IsMarking vertices colours stamp 0 old old
+marking_first vertices colours stamp old fresh = record {
+  marked = record { sized = refl; each = λ k. inl refl };
+  all = λ w at. absurd (true≢false (sym at));
+  only = λ k h e. absurd (fresh k h e);
+}
+
+pub marking_more : (vertices colours : List ℕ) (stamp i w k : ℕ) (old new : List ℕ) → IsMarking vertices colours stamp i old new → i < length vertices → w ≡ get_or vertices i 0 → k ≡ get_or colours w 0 → k < length new → IsMarking vertices colours stamp (suc i) old (set new k stamp)
+marking_more vertices colours stamp i w k old new is h w_is k_is room = record {
+  marked = record {
+    sized = length-set new k stamp ∙ is.marked.sized;
+    each = λ j. elim (cases_eq j k) [
+      | inl same ↦ inr (rw same now)
+      | inr ne ↦ elim (is.marked.each j) [ inl kept ↦ inl (get_or-set_other new k j stamp 0 ne ∙ kept) | inr stamped ↦ inr (get_or-set_other new k j stamp 0 ne ∙ stamped) ]
+    ];
+  };
+  all = λ u at. elim (cases_eq (get_or colours u 0) k) [
+    | inl same ↦ rw same now
+    | inr ne ↦ get_or-set_other new k (get_or colours u 0) stamp 0 ne ∙ is.all u (before u (λ e. ne (ap (λ (t : ℕ). get_or colours t 0) (sym e) ∙ sym k_is)) at)
+  ];
+  only = λ j below e. elim (cases_eq j k) [
+    | inl same ↦ (w, has_number_at w vertices i h (sym w_is), sym k_is ∙ sym same)
+    | inr ne ↦ is.only j below (sym (get_or-set_other new k j stamp 0 ne) ∙ e)
+  ];
+}
+  where
+    now : get_or (set new k stamp) k 0 ≡ stamp
+    now = get_or-set_same new k stamp 0 room
+
+    before : (u : ℕ) → w ≢ u → has_number u (take (suc i) vertices) ≡ true → has_number u (take i vertices) ≡ true
+    before u ne at =
+        let step : take (suc i) vertices ≡ take i vertices ++ w ∷ [] = rw (← add-one, w_is) (take_more vertices i 0 h) in
+        let split = has_number-push u w (take i vertices) in
+        let here = ap (has_number u) (sym step) ∙ at in
+        grind (arith, nat_tests, split, here, ne)
+
+pub record IsMarkedAll (vertices colours marks : List ℕ) (stamp : ℕ) : Type 0 where
+  pub all : (w : ℕ) → has_number w vertices ≡ true → get_or marks (get_or colours w 0) 0 ≡ stamp
+  pub only : (k : ℕ) → k < length marks → get_or marks k 0 ≡ stamp → (w : ℕ) × (has_number w vertices ≡ true) × (get_or colours w 0 ≡ k)
+
+pub marking_all : (vertices colours : List ℕ) (stamp i : ℕ) (old new : List ℕ) → IsMarking vertices colours stamp i old new → length vertices ≤ i → IsMarkedAll vertices colours new stamp
+marking_all vertices colours stamp i old new is le = record {
+  all = λ w at. is.all w (rw (take_all i vertices le) at);
+  only = λ k h. is.only k (rw (← is.marked.sized) h);
+}
+
+-- if the first k + 1 marks are the stamp, there are at least k + 1 vertices
+pub marks_few : (vertices colours marks : List ℕ) (stamp k : ℕ) → IsMarkedAll vertices colours marks stamp → k ≤ length vertices → length vertices < length marks → ((j : ℕ) → j < k → get_or marks j 0 ≡ stamp) → get_or marks k 0 ≡ stamp → suc k ≤ length vertices
+marks_few vertices colours marks stamp k is le room below here = pigeons (λ w. get_or colours w 0) (suc k) vertices (λ j lt. is.only j (omega arith) (each j lt))
+  where
+    each : (j : ℕ) → j < suc k → get_or marks j 0 ≡ stamp
+    each j lt = elim (cases_eq j k) [ inl same ↦ rw same here | inr ne ↦ below j (omega (arith, ne)) ]
+
+-- the first mark that is not the stamp
+pub least_unmarked : (vertices colours marks : List ℕ) (stamp k : ℕ) → IsMarkedAll vertices colours marks stamp → k ≤ length marks → ((j : ℕ) → j < k → get_or marks j 0 ≡ stamp) → get_or marks k 0 ≢ stamp → IsLeastFree vertices colours k
+least_unmarked vertices colours marks stamp k is le below here = record {
+  free = λ w at e. here (ap (λ (j : ℕ). get_or marks j 0) (sym e) ∙ is.all w at);
+  taken = λ j lt. is.only j (omega arith) (below j lt);
+}

@@ -1,0 +1,6 @@
+pub mod Shape
+pub mod Colouring
+pub mod Laws
+pub mod Layout
+pub mod Descent
+pub mod Marks
