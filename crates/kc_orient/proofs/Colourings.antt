@@ -7,7 +7,7 @@ use Rattle.kc_graph.specs.Shape.{GraphShape, IsGraph, joined}
 use Rattle.kc_graph.proofs.EdgeLemmas.{joined_comm, joined_inside}
 use Rattle.kc_orient.specs.Shape.{above, out_neighbours, orientation}
 use Rattle.kc_orient.specs.Colouring.{IsLeastFree, IsColouring}
-use Rattle.kc_orient.specs.Laws.{ColouringIsOne, ColouringIsProper, ColoursAreFew}
+use Rattle.kc_orient.specs.Laws.{ColouringIsProper, ColoursAreFew}
 use Rattle.kc_orient.proofs.Upward.{above_is, above_one_way, apart, has_number-out, outs_at, outs_sized, LeadUpward, leads_upward}
 use Rattle.kc_orient.proofs.Pigeons.{pigeons}
 
@@ -55,8 +55,8 @@ pub bounded : (x : List ℕ) → (m : ℕ) × ((v : ℕ) → get_or x v 0 ≤ m)
 bounded [] = (0, λ v. omega arith)
 bounded (a ∷ xs) = let rest = bounded xs in (a + rest.0, within_both a rest.0 xs rest.1)
 
-pub colouring_is_one : ColouringIsOne
-colouring_is_one g x c d graph p q =
+pub colourings_are_one : (g : GraphShape) (x c d : List ℕ) → IsGraph g → IsColouring (orientation g x).outs c → IsColouring (orientation g x).outs d → c ≡ d
+colourings_are_one g x c d graph p q =
     let outs = (orientation g x).outs in
     same_number_lists c d (p.sized ∙ sym q.sized) (λ v h. same_at x outs c d (bounded x).0 (bounded x).1 (leads_upward g x graph) p q (bounded x).0 (length outs) v (omega (arith, h, p.sized)) (omega arith) (omega arith))
 

@@ -7,3 +7,4 @@ pub mod Marking
 pub mod Descents
 pub mod Coloured
 pub mod Kept
+pub mod Existence

@@ -43,11 +43,11 @@ pub record OutNeighboursAreFew : Type 0 where
   pub nearer : (g : GraphShape) (x : List ℕ) (v : ℕ) → MeetsUpper Two g x v →
       length (out_neighbours g x v) ≤ 4 * lo Two (group_of Two g.vertices (get_or x v 0))
 
--- an orientation has at most one colouring
-abbrev pub ColouringIsOne : Type 0
-ColouringIsOne =
-    (g : GraphShape) (x c d : List ℕ) → IsGraph g →
-    IsColouring (orientation g x).outs c → IsColouring (orientation g x).outs d → c ≡ d
+-- an orientation has exactly one colouring
+pub record ColouringIsOne : Type 0 where
+  pub some : (g : GraphShape) (x : List ℕ) → IsGraph g → (c : List ℕ) × IsColouring (orientation g x).outs c
+  pub one : (g : GraphShape) (x c d : List ℕ) → IsGraph g →
+      IsColouring (orientation g x).outs c → IsColouring (orientation g x).outs d → c ≡ d
 
 -- the ends of an edge have different colours
 abbrev pub ColouringIsProper : Type 0

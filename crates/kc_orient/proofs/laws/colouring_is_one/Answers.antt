@@ -1,4 +1,5 @@
-use Rattle.kc_orient.proofs.Colourings.{colouring_is_one, colouring_is_proper, colours_are_few}
+use Rattle.kc_orient.proofs.Colourings.{colouring_is_proper, colours_are_few}
+use Rattle.kc_orient.proofs.Existence.{colouring_is_one}
 use Rattle.kc_orient.proofs.laws.colouring_is_one.Goals as goal
 
 pub returns-clause-one : goal.returns-clause-one
