@@ -1,0 +1,5 @@
+pub mod Sets
+pub mod Dense
+pub mod Laws
+pub mod Tournaments
+pub mod Remaining

@@ -1,0 +1,37 @@
+ghost use Rattle.std.specs.Prelude.{◌≡◌, IfOk};
+ghost use Rattle.kc_dense.specs.Sets.{members_of, edges_within};
+ghost use Rattle.kc_dense.specs.Dense.{IsDensePart, IsHalfAsDenseAsAny};
+
+use crate::peeling::peel;
+use kc_graph::Graph;
+use std::alloc::{AllocError, Global};
+
+/// A dense part of a graph.
+#[derive(Drop)]
+pub struct Dense {
+    /// Its vertices, ascending, at least one.
+    pub members: Vec<u32>,
+    /// How many edges have both ends among them.
+    pub edges: u32,
+}
+
+/// The dense part of a graph (`IsDensePart`): the vertices of the densest suffix of its peeling list, of several the longest. No
+/// vertices of the graph have more than twice as many edges between them for each of them.
+///
+/// Costs time O((n + m) log n) for n vertices and m edges, and memory for at most eight numbers a vertex, one of which it hands out.
+/// Fails only if memory runs out.
+pub fn densest(alloc: Global, graph: &Graph) -> Result<Dense, AllocError>
+    ensures members { IfOk result (λ d. IsDensePart graph.now d.members.items) }
+    ensures edges { IfOk result (λ d. d.edges ≡ edges_within graph.now (members_of d.members.items)) }
+    ensures factor { IfOk result (λ d. IsHalfAsDenseAsAny graph.now d.members.items) }
+{
+    // Its contract says that the edges of the graph ascend.
+    let _ = graph.vertices();
+    let peeled = peel(alloc, graph)?;
+    let mut members = Vec::from_slice(alloc, &peeled.order[peeled.densest.first as usize..])?;
+    members.sort_unstable();
+    Ok(Dense {
+        members,
+        edges: peeled.densest.edges,
+    })
+}

@@ -1,0 +1,57 @@
+ghost use Rattle.std.specs.Prelude.{◌≡◌, ◌-◌, ◌*◌, ◌<◌, ℕ, cond, nat_lt, drop, IfOk};
+ghost use Rattle.kc_graph.specs.declared.limits.TheConstants.{MAX_VERTICES};
+ghost use Rattle.kc_dense.specs.Sets.{members_of, edges_within};
+ghost use Rattle.kc_dense.specs.Dense.{IsPeelingList, IsDensestSuffix};
+
+use crate::remaining::{all_remaining, take_next};
+use kc_graph::Graph;
+use std::alloc::{AllocError, Global};
+
+/// The vertices from one place of a peeling list on.
+#[derive(Clone, Copy)]
+pub struct Suffix {
+    /// The place where they begin.
+    pub first: u32,
+    /// How many edges have both ends among them.
+    pub edges: u32,
+}
+
+impl Suffix {
+    // Of two suffixes of a list of n vertices the denser one, and the first of the two where they are equally dense.
+    fn denser(n: u32, one: Suffix, other: Suffix) -> Suffix
+        requires one { one.first < n }
+        requires other { other.first < n }
+        ensures { result ≡ cond (nat_lt (one.edges * (n - other.first)) (other.edges * (n - one.first))) other one }
+    {
+        let one_over = u64::from(one.edges) * u64::from(n - other.first);
+        let other_over = u64::from(other.edges) * u64::from(n - one.first);
+        if one_over < other_over { other } else { one }
+    }
+}
+
+/// The peeling list of a graph, with its densest suffix.
+#[derive(Drop)]
+pub struct Peeled {
+    pub order: Vec<u32>,
+    pub densest: Suffix,
+}
+
+/// Peels a graph (`IsPeelingList`), and finds the densest suffix, of several the longest (`IsDensestSuffix`), on the way.
+pub fn peel(alloc: Global, graph: &Graph) -> Result<Peeled, AllocError>
+    ensures peeled { IfOk result (λ p. IsPeelingList graph.now p.order.items) }
+    ensures densest { IfOk result (λ p. IsDensestSuffix graph.now (drop p.densest.first p.order.items) p.order.items) }
+    ensures edges { IfOk result (λ p. p.densest.edges ≡ edges_within graph.now (members_of (drop p.densest.first p.order.items))) }
+{
+    let n = graph.vertices();
+    let mut degrees = all_remaining(alloc, graph)?;
+    let mut order = Vec::with_capacity(alloc, n as usize)?;
+    let mut edges = graph.edge_count();
+    let mut densest = Suffix { first: 0, edges };
+    for first in 0..n {
+        densest = Suffix::denser(n, densest, Suffix { first, edges });
+        let taken = take_next(&mut degrees, graph);
+        edges -= taken.degree;
+        order.push(taken.vertex)?;
+    }
+    Ok(Peeled { order, densest })
+}

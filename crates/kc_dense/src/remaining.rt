@@ -1,0 +1,78 @@
+ghost use Rattle.std.specs.Prelude.{◌≡◌, ◌≢◌, ◌≤◌, ◌<◌, ℕ, true, length, nat_lt, set, slice_index, IfOk};
+ghost use Rattle.kc_graph.specs.Shape.{IsGraph, neighbours_of};
+ghost use Rattle.kc_graph.specs.declared.limits.TheConstants.{MAX_VERTICES};
+ghost use Rattle.kc_dense.specs.Sets.{degree_within};
+ghost use Rattle.kc_dense.specs.Dense.{IsNext};
+ghost use Rattle.kc_dense.specs.Remaining.{is_left, all_but, AreRemaining, lowered};
+
+use crate::tournament::Tournament;
+use kc_graph::Graph;
+use std::alloc::{AllocError, Global};
+
+/// Stands in place of the degree of a vertex that was taken.
+const TAKEN: u32 = u32::MAX;
+
+/// A vertex that was taken, with the degree that it had among those that were left.
+#[derive(Clone, Copy)]
+pub struct Taken {
+    pub vertex: u32,
+    pub degree: u32,
+}
+
+// How many neighbours each vertex has.
+fn degrees(alloc: Global, graph: &Graph) -> Result<Vec<u32>, AllocError>
+    ensures sized { IfOk result (λ r. length r.items ≡ graph.now.vertices) }
+    ensures values { IfOk result (λ r. (u : ℕ) → u < graph.now.vertices → slice_index r.items u ≡ length (neighbours_of u graph.now.edges)) }
+    ensures small { IfOk result (λ r. (u : ℕ) → u < graph.now.vertices → slice_index r.items u < graph.now.vertices) }
+    ensures fits { graph.now.vertices ≤ MAX_VERTICES }
+{
+    let n = graph.vertices();
+    let mut degrees = Vec::with_capacity(alloc, n as usize)?;
+    for v in 0..n {
+        degrees.push(graph.neighbours(v).len() as u32)?;
+    }
+    Ok(degrees)
+}
+
+/// The degrees while all vertices are left. Takes memory for at most four numbers a vertex. Fails only if memory runs out.
+pub fn all_remaining(alloc: Global, graph: &Graph) -> Result<Tournament, AllocError>
+    ensures remaining { IfOk result (AreRemaining graph.now) }
+    ensures all { IfOk result (λ degrees. (u : ℕ) → is_left degrees u ≡ nat_lt u graph.now.vertices) }
+{
+    // Its contract says that the edges of the graph ascend.
+    let _ = graph.vertices();
+    Tournament::new(alloc, &degrees(alloc, graph)?)
+}
+
+// Takes one from the degree of a vertex, if it is left.
+fn lower(degrees: &mut Tournament, u: u32)
+    requires below { u < length degrees.old }
+    requires some { slice_index degrees.old u ≢ 0 }
+    ensures { degrees.new ≡ set degrees.old u (lowered (slice_index degrees.old u)) }
+{
+    let degree = degrees.get(u as usize);
+    if degree != TAKEN {
+        degrees.set(u as usize, degree - 1);
+    }
+}
+
+/// Takes the vertex with the least degree among those that are left, and of several the least vertex (`IsNext`).
+///
+/// Costs a step for each doubling of the number of vertices at most, for the vertex and for each neighbour that is left.
+pub fn take_next(degrees: &mut Tournament, graph: &Graph) -> Taken
+    requires graph { IsGraph graph.now }
+    requires remaining { AreRemaining graph.now degrees.old }
+    requires some { (u : ℕ) × (is_left degrees.old u ≡ true) }
+    ensures next { IsNext graph.now (is_left degrees.old) result.vertex }
+    ensures degree { result.degree ≡ degree_within graph.now (is_left degrees.old) result.vertex }
+    ensures others { (u : ℕ) → is_left degrees.new u ≡ all_but result.vertex (is_left degrees.old) u }
+    ensures remaining { AreRemaining graph.now degrees.new }
+{
+    let vertex = degrees.first_least() as u32;
+    let degree = degrees.get(vertex as usize);
+    degrees.set(vertex as usize, TAKEN);
+    for u in graph.neighbours(vertex) {
+        lower(degrees, *u);
+    }
+    Taken { vertex, degree }
+}
