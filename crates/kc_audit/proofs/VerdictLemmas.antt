@@ -1,0 +1,54 @@
+-- Verdicts that exclude each other.
+use Rattle.std.proofs.Common.{ℕ, zero, suc, ◌-◌, ◌≤◌, ◌<◌, ◌≡◌, List, [], ◌∷◌, take, refl, ap, sym, ◌∙◌, subst, arith, inl, inr}
+use Rattle.std.proofs.lemmas.Bool.{cases_lt}
+use Rattle.kc_history.specs.declared.entries.Entry.{Entry}
+use Rattle.kc_history.specs.declared.replies.Reply.{Reply}
+use Rattle.kc_history.specs.Replies.{AreExplained}
+use Rattle.kc_audit.specs.declared.run_text.RunText.{RunText}
+use Rattle.kc_audit.specs.declared.verdict.AuditVerdict.TheVariants.{Explained, Unexplained}
+use Rattle.kc_audit.specs.Verdicts.{replies_of, IsExplained, IsFirstUnexplained, IsUnexplained}
+use Rattle.kc_audit.specs.Laws.{ExplainedPasses, IsOneVerdict}
+
+-- what begins explained replies is explained
+fewer : (n : ℕ) (history : List Entry) (from k : ℕ) (rs : List Reply) → AreExplained n history from rs → AreExplained n history from (take k rs)
+fewer n history from zero rs e = tt
+fewer n history from (suc k) [] e = tt
+fewer n history from (suc k) (r ∷ rs) e = (e.0, (e.1.0, (e.1.1.0, fewer n history e.0 k rs e.1.1.1)))
+
+take_fewer : (j k : ℕ) (rs : List Reply) → j ≤ k → take j (take k rs) ≡ take j rs
+take_fewer zero k rs h = refl
+take_fewer (suc j) zero rs h = absurd (omega (arith, h))
+take_fewer (suc j) (suc k) [] h = refl
+take_fewer (suc j) (suc k) (r ∷ rs) h = ap (λ (xs : List Reply). r ∷ xs) (take_fewer j k rs (omega (arith, h)))
+
+shorter : (run : RunText) (j k : ℕ) (rs : List Reply) → j ≤ k → IsExplained run (take k rs) → IsExplained run (take j rs)
+shorter run j k rs h e = rw (take_fewer j k rs h) at (fewer run.vertices _ 0 j (take k rs) e)
+
+explained_here : (run : RunText) (rs : List Reply) (ask : ℕ) → IsExplained run rs → IsFirstUnexplained run rs ask → ⊥
+explained_here run rs ask e f = f.unfit (fewer run.vertices _ 0 ask rs e)
+
+pub explained_passes : ExplainedPasses
+explained_passes run Explained all v = refl
+explained_passes run (Unexplained reader ask) all v = absurd (explained_here run (replies_of run reader) ask (all reader v.within) v.here)
+
+no_less : (run : RunText) (r a s b : ℕ) → IsUnexplained run r a → IsUnexplained run s b → r < s → ⊥
+no_less run r a s b u w h = explained_here run (replies_of run r) a (w.before r h) u.here
+
+no_less_ask : (run : RunText) (r a b : ℕ) → IsUnexplained run r a → IsUnexplained run r b → a < b → ⊥
+no_less_ask run r a b u w h = u.here.unfit (shorter run a (b - 1) (replies_of run r) (omega (arith, h)) w.here.before)
+
+same_number : (a b : ℕ) → (a < b → ⊥) → (b < a → ⊥) → a ≡ b
+same_number a b p q = elim (cases_lt a b) [
+  | inl lt ↦ absurd (p lt)
+  | inr ge ↦ elim (cases_lt b a) [ inl lt ↦ absurd (q lt) | inr le ↦ omega (arith, ge, le) ]
+]
+
+pub one_verdict : IsOneVerdict
+one_verdict run Explained Explained v w = refl
+one_verdict run Explained (Unexplained s b) v w = absurd (explained_here run (replies_of run s) b (v s w.within) w.here)
+one_verdict run (Unexplained r a) Explained v w = absurd (explained_here run (replies_of run r) a (w r v.within) v.here)
+one_verdict run (Unexplained r a) (Unexplained s b) v w =
+    let reader : r ≡ s = same_number r s (no_less run r a s b v w) (no_less run s b r a w v) in
+    let moved : IsUnexplained run r b = subst (λ (t : ℕ). IsUnexplained run t b) (sym reader) w in
+    let ask : a ≡ b = same_number a b (no_less_ask run r a b v moved) (no_less_ask run r b a moved v) in
+    ap (λ (t : ℕ). Unexplained t a) reader ∙ ap (λ (t : ℕ). Unexplained s t) ask

@@ -1,0 +1,90 @@
+-- All readers of a run at one point of its history.
+use Rattle.std.proofs.Common.{ℕ, ◌+◌, ◌-◌, ◌≤◌, ◌<◌, ◌≡◌, ◌≢◌, Bool, true, false, List, [], length, replicate, get_or, ap, sym, ◌∙◌, subst, arith}
+use Rattle.std.specs.Prelude.{All}
+use Rattle.std.proofs.lemmas.List.{get_or-replicate}
+use Rattle.std.proofs.lemmas.List.Elements.{All-weaker}
+use Rattle.kc_history.specs.declared.entries.Entry.{Entry}
+use Rattle.kc_history.specs.declared.replies.Reply.{Reply}
+use Rattle.kc_history.specs.Points.{levels_at}
+use Rattle.kc_audit.specs.declared.groups.GroupLine.{GroupLine}
+use Rattle.kc_audit.specs.declared.run_text.RunText.{RunText}
+use Rattle.kc_audit.specs.declared.verdict.AuditVerdict.{AuditVerdict}
+use Rattle.kc_audit.specs.declared.verdict.AuditVerdict.TheVariants.{Explained, Unexplained}
+use Rattle.kc_audit.specs.Runs.{history_of}
+use Rattle.kc_audit.specs.Walks.{GoesOn, EachGoesOn, AreWithin, IsAwaited, Tells, reply_at}
+use Rattle.kc_audit.specs.Verdicts.{IsVerdict}
+use Rattle.kc_audit.proofs.MoveLemmas.{moves_other, levels_next, length-history}
+use Rattle.kc_audit.proofs.Reaching.{IsAt, IsStuck, at_start, goes_on, passes, explained_so_far, explained_all, unexplained_next}
+
+-- each reader has told so many of its replies, and is at the point p
+pub AreAt : ℕ → List Entry → List (List Reply) → List ℕ → ℕ → Type 0
+AreAt n history readers told p = (r : ℕ) → r < length readers → IsAt n history (get_or readers r []) (get_or told r 0) p
+
+-- and can tell no more there
+pub AreStuck : ℕ → List Entry → List (List Reply) → List ℕ → ℕ → Type 0
+AreStuck n history readers told p = (r : ℕ) → r < length readers → IsStuck n history (get_or readers r []) (get_or told r 0) p
+
+pub none_told : (readers : List (List Reply)) → AreWithin readers (replicate (length readers) 0)
+none_told readers = record {
+  sized = Rattle.std.proofs.lemmas.List.length-replicate {A = ℕ} (length readers) 0;
+  each = λ r h. rw (get_or-replicate {A = ℕ} (length readers) r 0 0 h) (omega arith);
+}
+
+pub all_at_start : (n : ℕ) (history : List Entry) (readers : List (List Reply)) → AreAt n history readers (replicate (length readers) 0) 0
+unfolding AreAt
+all_at_start n history readers r h = rw (get_or-replicate {A = ℕ} (length readers) r 0 0 h) (at_start n history (get_or readers r []))
+
+pub all_go_on : (n : ℕ) (history : List Entry) (readers : List (List Reply)) (levels before now : List ℕ) (p : ℕ) → AreAt n history readers before p → p ≤ length history
+    → levels ≡ levels_at n history p → EachGoesOn levels readers before now → AreStuck n history readers now p
+unfolding AreAt AreStuck
+all_go_on n history readers levels before now p at inside e on r h =
+    goes_on n history (get_or readers r []) (get_or before r 0) (get_or now r 0) p (at r h) inside (subst (λ (x : List ℕ). GoesOn x (get_or readers r []) (get_or before r 0) (get_or now r 0)) e (on r h))
+
+pub all_within : (readers : List (List Reply)) (levels before now : List ℕ) → length now ≡ length readers → EachGoesOn levels readers before now → AreWithin readers now
+all_within readers levels before now sized on = record { sized = sized; each = λ r h. (on r h).within }
+
+pub all_pass : (n : ℕ) (history : List Entry) (readers : List (List Reply)) (told : List ℕ) (p : ℕ) → AreStuck n history readers told p → AreAt n history readers told (p + 1)
+unfolding AreAt AreStuck
+all_pass n history readers told p h r lt = passes n history (get_or readers r []) (get_or told r 0) p (h r lt)
+
+other_vertex : (awaited : List Bool) (v : ℕ) (m : Reply) → get_or awaited v false ≡ true → get_or awaited m.vertex false ≡ false → m.vertex ≢ v
+other_vertex awaited v m is not e = let here = rw e at not in absurd cc
+
+-- where no reader waits for a vertex that moves, all stay where they are
+pub all_stay : (n : ℕ) (groups : List GroupLine) (readers : List (List Reply)) (told : List ℕ) (awaited : List Bool) (g : GroupLine) (p : ℕ) → AreStuck n (history_of groups) readers told p
+    → IsAwaited awaited readers told → p < length groups → All (λ m. get_or awaited m.vertex false ≡ false) (get_or groups p g).members → AreStuck n (history_of groups) readers told (p + 1)
+unfolding AreStuck
+all_stay n groups readers told awaited g p h waits lt unmet r inside =
+    let rs = get_or readers r [] in
+    let k = get_or told r 0 in
+    let here = h r inside in
+    record {
+      at = passes n (history_of groups) rs k p here;
+      unfit = λ left at.
+          let v = (reply_at rs k).vertex in
+          let others = All-weaker (λ (m : Reply). get_or awaited m.vertex false ≡ false) (λ (m : Reply). m.vertex ≢ v) (λ m no. other_vertex awaited v m (waits r inside left) no) (get_or groups p g).members unmet in
+          let same : get_or (levels_at n (history_of groups) (p + 1)) v 0 ≡ get_or (levels_at n (history_of groups) p) v 0 =
+          ap (λ (x : List ℕ). get_or x v 0) (levels_next n groups p g lt) ∙ moves_other (levels_at n (history_of groups) p) (get_or groups p g).members v others in
+          here.unfit left (record { inside = omega (arith, lt, length-history groups); level = sym same ∙ at.level });
+    }
+
+-- where no reader waits, or the history has ended, the verdict on what the readers have told is the verdict on the run
+pub told_verdict : (run : RunText) (told : List ℕ) (p : ℕ) (verdict : AuditVerdict) → AreStuck run.vertices (history_of run.groups) run.readers told p
+    → ((r : ℕ) → r < length run.readers → get_or told r 0 < length (get_or run.readers r []) → length run.groups ≤ p) → Tells run.readers told verdict → IsVerdict run verdict
+unfolding AreStuck
+told_verdict run told p Explained h last t = λ r lt. explained_all run.vertices (history_of run.groups) (get_or run.readers r []) (get_or told r 0) p (h r lt).at (t r lt)
+told_verdict run told p (Unexplained reader ask) h last t =
+    let rs = get_or run.readers reader [] in
+    let k = get_or told reader 0 in
+    let same : k + 1 - 1 ≡ k = omega arith in
+    record {
+      within = t.within;
+      before = λ r lt. let inside : r < length run.readers = omega (arith, lt, t.within) in
+          explained_all run.vertices (history_of run.groups) (get_or run.readers r []) (get_or told r 0) p (h r inside).at (t.before r lt);
+      here = rw t.ask_is (record {
+        counted = omega arith;
+        within = omega (arith, t.here);
+        before = rw same (explained_so_far run.vertices (history_of run.groups) rs k p (h reader t.within).at);
+        unfit = unexplained_next run.vertices (history_of run.groups) rs k p (h reader t.within) t.here (omega (arith, last reader t.within t.here, length-history run.groups));
+      });
+    }

@@ -1,0 +1,5 @@
+pub mod Flat
+pub mod Laws
+pub mod Runs
+pub mod Verdicts
+pub mod Walks

@@ -1,0 +1,36 @@
+-- A recorded run: its group lines as a history, and what can be audited.
+use Rattle.std.specs.Prelude.{ℕ, ◌<◌, ◌≤◌, true, List, [], length, map, All, Some}
+use Rattle.kc_levels.specs.declared.moves.Move.{Move}
+use Rattle.kc_history.specs.declared.entries.Entry.{Entry}
+use Rattle.kc_history.specs.declared.replies.Reply.{Reply}
+use Rattle.kc_audit.specs.declared.groups.GroupLine.{GroupLine}
+use Rattle.kc_audit.specs.declared.run_text.RunText.{RunText}
+
+-- a member goes to the level that is told of it; on which level it was before isn't told, and no point of a history depends on it
+abbrev pub move_of : Reply → Move
+move_of r = record { vertex = r.vertex; old = 0; new = r.level }
+
+abbrev pub moves_of : List Reply → List Move
+moves_of members = map move_of members
+
+-- the entry of a group line; of the edges, which aren't told, no level depends
+abbrev pub entry_of : GroupLine → Entry
+entry_of line = record { phase = line.phase; label = Some line.label; add = true; moves = moves_of line.members; edges = [] }
+
+-- the group lines as a history
+abbrev pub history_of : List GroupLine → List Entry
+history_of lines = map entry_of lines
+
+abbrev pub IsBelow : ℕ → Reply → Type 0
+IsBelow n r = r.vertex < n
+
+-- the vertices of these are below n
+abbrev pub AreBelow : ℕ → List Reply → Type 0
+AreBelow n rs = All (IsBelow n) rs
+
+-- what an audit asks of a run: each vertex is one of the run, and readers and replies can be numbered
+pub record IsAuditable (run : RunText) : Type 0 where
+  pub members : All (λ line. AreBelow run.vertices line.members) run.groups
+  pub replies : All (AreBelow run.vertices) run.readers
+  pub readers : length run.readers ≤ 4294967294
+  pub asks : All (λ rs. length rs ≤ 4294967294) run.readers

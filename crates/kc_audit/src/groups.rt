@@ -1,0 +1,137 @@
+//! The group lines of a run.
+ghost use Rattle.std.specs.Prelude.{◌≡◌, ◌↔◌, ◌<◌, ◌≤◌, [], ◌∷◌, ◌++◌, length, slice_get, IfSome, IsTrue, OnOk, OnErr};
+ghost use Rattle.std.specs.List.{slice_range};
+ghost use Rattle.kc_audit.specs.Flat.{start_of};
+
+use crate::flat::Head;
+use kc_history::{Replies, Reply};
+use std::alloc::{AllocError, Global};
+use std::marker::Model;
+
+/// A group as it was printed: its phase, its label, and its members, each with its new level.
+#[derive(Drop)]
+pub struct GroupLine {
+    /// The number of the group's phase.
+    pub phase: u32,
+    /// The least of its members.
+    pub label: u32,
+    /// The members, in the order in which they were printed; each reply tells the level after the phase.
+    pub members: Replies,
+}
+
+/// Group lines one after another. Contracts see them as a list of group lines. The members of all of them stand in one
+/// `Vec`, so that a line of few members takes little more than these: 16 bytes, and 8 for each member.
+#[derive(Drop)]
+pub struct GroupLines {
+    heads: Vec<Head>,
+    // the members of all lines, one line after another; the last one ends with them
+    members: Vec<Reply>,
+}
+
+impl Model for GroupLines {
+    ghost use Rattle.std.specs.Prelude.{List, length};
+    ghost use Rattle.kc_audit.specs.declared.groups.GroupLine.{GroupLine};
+
+    ghost Value = { List GroupLine };
+
+    ghost use Rattle.kc_audit.specs.Flat.{lines_from, EndFrom};
+
+    ghost view = { λ g. lines_from 0 g.heads.items g.members.items };
+
+    ghost invariant = { λ g. EndFrom 0 g.heads.items (length g.members.items) };
+}
+
+// Where the members of line i begin: where those of the line before it end.
+fn start_of(heads: &[Head], i: usize) -> usize
+    requires { i < length heads.now }
+    ensures { result ≡ start_of 0 heads.now i }
+{
+    if i == 0 { 0 } else { heads[i - 1].end }
+}
+
+ghost use Rattle.kc_audit.specs.Flat.{start_of};
+
+// The members of one line among those of all.
+fn part_of(members: &[Reply], start: usize, end: usize) -> &[Reply]
+    requires rising { start ≤ end }
+    requires within { end ≤ length members.now }
+    ensures { result.now ≡ slice_range members.now start end }
+{
+    &members[start..end]
+}
+
+impl GroupLines {
+    /// No group lines. Takes no memory.
+    pub fn new(alloc: Global) -> Self
+        ensures { result ≡ [] }
+    {
+        GroupLines {
+            heads: Vec::new(alloc),
+            members: Vec::new(alloc),
+        }
+    }
+
+    /// How many lines there are.
+    pub fn len(&self) -> usize
+        ensures { result ≡ length self.now }
+    {
+        self.heads.len()
+    }
+
+    /// Whether there is no line.
+    pub fn is_empty(&self) -> bool
+        ensures { IsTrue result ↔ (self.now ≡ []) }
+    {
+        self.heads.is_empty()
+    }
+
+    /// The phase of line i, counted from 0.
+    pub fn phase(&self, i: usize) -> u32
+        requires { i < length self.now }
+        ensures { IfSome (slice_get self.now i) (λ line. result ≡ line.phase) }
+    {
+        self.heads[i].phase
+    }
+
+    /// The label of line i, counted from 0.
+    pub fn label(&self, i: usize) -> u32
+        requires { i < length self.now }
+        ensures { IfSome (slice_get self.now i) (λ line. result ≡ line.label) }
+    {
+        self.heads[i].label
+    }
+
+    /// The members of line i, counted from 0.
+    pub fn members(&self, i: usize) -> &[Reply]
+        requires { i < length self.now }
+        ensures { IfSome (slice_get self.now i) (λ line. result.now ≡ line.members) }
+    {
+        let start = start_of(&self.heads, i);
+        part_of(&self.members, start, self.heads[i].end)
+    }
+
+    /// Puts a line at the end. After a refusal the lines are unchanged. Cost: a copy of its members.
+    pub fn push(&mut self, line: &GroupLine) -> Result<(), AllocError>
+        ensures ok { OnOk result (self.new ≡ self.old ++ line.now ∷ []) }
+        ensures err { OnErr result (self.new ≡ self.old) }
+    {
+        self.push_members(line.phase, line.label, line.members.as_slice())
+    }
+
+    // Puts a line of this phase, this label and these members at the end.
+    pub(crate) fn push_members(
+        &mut self,
+        phase: u32,
+        label: u32,
+        members: &[Reply],
+    ) -> Result<(), AllocError>
+        ensures ok { OnOk result (self.new ≡ self.old ++ record { phase = phase; label = label; members = members.now } ∷ []) }
+        ensures err { OnErr result (self.new ≡ self.old) }
+    {
+        let end = self.members.len() + members.len();
+        self.heads.reserve(1)?;
+        self.members.extend_from_slice(members)?;
+        self.heads.push(Head { phase, label, end })?;
+        Ok(())
+    }
+}

@@ -1,0 +1,62 @@
+//! The replies of the readers of a run.
+ghost use Rattle.std.specs.Prelude.{◌≡◌, ◌↔◌, [], ◌∷◌, ◌++◌, length, IsTrue, OnOk, OnErr};
+
+use kc_history::Replies;
+use std::alloc::{AllocError, Global};
+use std::marker::Model;
+
+/// The replies of reader 0, of reader 1 and so on. Contracts see them as a list of lists of replies.
+#[derive(Drop)]
+pub struct Readers {
+    lists: Vec<Replies>,
+}
+
+impl Model for Readers {
+    ghost use Rattle.std.specs.Prelude.{List};
+    ghost use Rattle.kc_history.specs.declared.replies.Reply.{Reply};
+
+    ghost Value = { List (List Reply) };
+
+    ghost view = { λ r. r.lists.items };
+}
+
+impl Readers {
+    /// No readers. Takes no memory.
+    pub fn new(alloc: Global) -> Self
+        ensures { result ≡ [] }
+    {
+        Readers {
+            lists: Vec::new(alloc),
+        }
+    }
+
+    /// The replies of each reader, as a slice.
+    pub fn as_slice(&self) -> &[Replies]
+        ensures { result.now ≡ self.now }
+    {
+        self.lists.as_slice()
+    }
+
+    /// How many readers there are.
+    pub fn len(&self) -> usize
+        ensures { result ≡ length self.now }
+    {
+        self.lists.len()
+    }
+
+    /// Whether there is no reader.
+    pub fn is_empty(&self) -> bool
+        ensures { IsTrue result ↔ (self.now ≡ []) }
+    {
+        self.lists.is_empty()
+    }
+
+    /// Puts the replies of a further reader at the end. After a refusal the list is unchanged.
+    pub fn push(&mut self, replies: Replies) -> Result<(), AllocError>
+        ensures ok { OnOk result (self.new ≡ self.old ++ replies ∷ []) }
+        ensures err { OnErr result (self.new ≡ self.old) }
+    {
+        self.lists.push(replies)?;
+        Ok(())
+    }
+}

@@ -1,0 +1,72 @@
+//! A run as it was recorded.
+ghost use Rattle.std.specs.Prelude.{◌↔◌, ◌≡◌, ◌<◌, ◌≤◌, length, All, IsTrue};
+ghost use Rattle.kc_audit.specs.Runs.{AreBelow, IsAuditable};
+
+use crate::{GroupLines, Readers};
+use kc_history::{Replies, Reply};
+
+/// A run as it was recorded.
+#[derive(Drop)]
+pub struct RunText {
+    /// The number of vertices.
+    pub vertices: u32,
+    /// The group lines of all phases in order. They are the history that the replies are held against.
+    pub groups: GroupLines,
+    /// The replies of each reader.
+    pub readers: Readers,
+}
+
+// The greatest number of readers, and of the replies of each, so that each has a number.
+const MAX_ITEMS: usize = 4_294_967_294;
+
+fn are_below(n: u32, replies: &[Reply]) -> bool
+    ensures { IsTrue result ↔ AreBelow n replies.now }
+{
+    replies.iter().all(|reply| reply.vertex < n)
+}
+
+fn have_members_below(n: u32, groups: &GroupLines) -> bool
+    ensures { IsTrue result ↔ All (λ line. AreBelow n line.members) groups.now }
+{
+    for i in 0..groups.len() {
+        if !are_below(n, groups.members(i)) {
+            return false;
+        }
+    }
+    true
+}
+
+fn have_replies_below(n: u32, readers: &[Replies]) -> bool
+    ensures { IsTrue result ↔ All (AreBelow n) readers.now }
+{
+    for replies in readers {
+        if !are_below(n, replies.as_slice()) {
+            return false;
+        }
+    }
+    true
+}
+
+fn have_few_replies(readers: &[Replies]) -> bool
+    ensures { IsTrue result ↔ All (λ rs. length rs ≤ 4294967294) readers.now }
+{
+    for replies in readers {
+        if replies.len() > MAX_ITEMS {
+            return false;
+        }
+    }
+    true
+}
+
+impl RunText {
+    /// Whether the run can be audited: each vertex of a member or a reply is below `vertices`, and there are at most 4,294,967,294
+    /// readers with as many replies each. So it is of each run text that was read. Cost: one pass over members and replies.
+    pub fn is_auditable(&self) -> bool
+        ensures { IsTrue result ↔ IsAuditable self.now }
+    {
+        have_members_below(self.vertices, &self.groups)
+            && have_replies_below(self.vertices, self.readers.as_slice())
+            && self.readers.len() <= MAX_ITEMS
+            && have_few_replies(self.readers.as_slice())
+    }
+}

@@ -1,0 +1,148 @@
+//! The walk through the history of a run, with all its readers side by side.
+//!
+//! At each point a reader goes on as long as its next reply tells the level that its vertex has there. So each reply gets the
+//! earliest point that it may have, and a reply that gets none has none. A reader whose next reply doesn't fit waits for its
+//! vertex to move: `awaited` is true for each vertex that one waits for, so that a group without such a member costs no
+//! look at the readers.
+ghost use Rattle.std.specs.Prelude.{◌≡◌, ◌≤◌, length, replicate, All, get_or, false, IfOk};
+ghost use Rattle.kc_history.specs.Points.{with_moves};
+ghost use Rattle.kc_audit.specs.Runs.{AreBelow, moves_of, IsAuditable};
+ghost use Rattle.kc_audit.specs.Walks.{GoesOn, EachGoesOn, AreWithin, HaveTold, IsAwaited, Tells};
+ghost use Rattle.kc_audit.specs.Verdicts.{IsVerdict};
+
+use crate::{AuditVerdict, RunText};
+use kc_history::{Replies, Reply};
+use std::alloc::{AllocError, Global};
+
+// The first reply at or after `from` that doesn't tell the level that its vertex has now; the number of replies where each does.
+fn next_unfit(levels: &[u16], replies: &[Reply], from: usize) -> usize
+    requires within { from ≤ length replies.now }
+    requires below { AreBelow (length levels.now) replies.now }
+    ensures { GoesOn levels.now replies.now from result }
+{
+    for at in from..replies.len() {
+        let reply = replies[at];
+        if levels[reply.vertex as usize] != reply.level {
+            return at;
+        }
+    }
+    replies.len()
+}
+
+// Each reader goes on over the replies that tell the levels of now. One that does waits no longer for its vertex.
+fn go_on(levels: &[u16], awaited: &mut [bool], readers: &[Replies], told: &mut [usize])
+    requires below { All (AreBelow (length levels.now)) readers.now }
+    requires sized { length awaited.old ≡ length levels.now }
+    requires within { AreWithin readers.now told.old }
+    ensures { EachGoesOn levels.now readers.now told.old told.new }
+{
+    for reader in 0..readers.len() {
+        let replies = readers[reader].as_slice();
+        let from = told[reader];
+        let at = next_unfit(levels, replies, from);
+        if from < at {
+            awaited[replies[from].vertex as usize] = false;
+        }
+        told[reader] = at;
+    }
+}
+
+// Each reader with a reply left waits for its vertex. Whether there is such a reader.
+fn wait(awaited: &mut [bool], readers: &[Replies], told: &[usize]) -> bool
+    requires below { All (AreBelow (length awaited.old)) readers.now }
+    requires within { AreWithin readers.now told.now }
+    ensures awaited { IsAwaited awaited.new readers.now told.now }
+    ensures none { result ≡ false → HaveTold readers.now told.now }
+{
+    let mut waits = false;
+    for reader in 0..readers.len() {
+        let replies = readers[reader].as_slice();
+        let next = told[reader];
+        if next < replies.len() {
+            awaited[replies[next].vertex as usize] = true;
+            waits = true;
+        }
+    }
+    waits
+}
+
+// Puts each member on its level. Whether a reader waits for one of them.
+fn show(levels: &mut [u16], awaited: &[bool], members: &[Reply]) -> bool
+    requires below { AreBelow (length levels.old) members.now }
+    requires sized { length awaited.now ≡ length levels.old }
+    ensures levels { levels.new ≡ with_moves levels.old (moves_of members.now) }
+    ensures unmet { result ≡ false → All (λ m. get_or awaited.now m.vertex false ≡ false) members.now }
+{
+    let mut met = false;
+    for member in members {
+        let vertex = member.vertex as usize;
+        levels[vertex] = member.level;
+        met |= awaited[vertex];
+    }
+    met
+}
+
+// The verdict where each reader has told so many of its replies, and can tell no more.
+fn verdict_of(readers: &[Replies], told: &[usize]) -> AuditVerdict
+    requires within { AreWithin readers.now told.now }
+    requires few { length readers.now ≤ 4294967294 }
+    requires asks { All (λ rs. length rs ≤ 4294967294) readers.now }
+    ensures { Tells readers.now told.now result }
+{
+    for reader in 0..readers.len() {
+        if told[reader] < readers[reader].len() {
+            return AuditVerdict::Unexplained {
+                reader: reader as u32,
+                ask: told[reader] as u32 + 1,
+            };
+        }
+    }
+    AuditVerdict::Explained
+}
+
+// Each reader tells what it can at the levels of now, and then waits for the vertex of its next reply. Whether one waits.
+fn tell(levels: &[u16], awaited: &mut [bool], readers: &[Replies], told: &mut [usize]) -> bool
+    requires below { All (AreBelow (length levels.now)) readers.now }
+    requires sized { length awaited.old ≡ length levels.now }
+    requires within { AreWithin readers.now told.old }
+    ensures told { EachGoesOn levels.now readers.now told.old told.new }
+    ensures awaited { IsAwaited awaited.new readers.now told.new }
+    ensures none { result ≡ false → HaveTold readers.now told.new }
+{
+    go_on(levels, awaited, readers, told);
+    wait(awaited, readers, told)
+}
+
+// The walk, from levels that are 0 and readers that have told nothing.
+fn walk(run: &RunText, levels: &mut [u16], awaited: &mut [bool], told: &mut [usize]) -> AuditVerdict
+    requires run { IsAuditable run.now }
+    requires levels { levels.old ≡ replicate run.now.vertices 0 }
+    requires awaited { length awaited.old ≡ run.now.vertices }
+    requires told { told.old ≡ replicate (length run.now.readers) 0 }
+    ensures { IsVerdict run.now result }
+{
+    let readers = run.readers.as_slice();
+    let mut waits = tell(levels, awaited, readers, told);
+    let mut point = 0;
+    while waits && point < run.groups.len() {
+        if show(levels, awaited, run.groups.members(point)) {
+            waits = tell(levels, awaited, readers, told);
+        }
+        point += 1;
+    }
+    verdict_of(readers, told)
+}
+
+/// Whether the group lines of a run explain the replies of each of its readers, as `IsVerdict` of `specs/Verdicts` says.
+///
+/// `AllocError` comes where there was no memory for 3 bytes a vertex and 8 a reader. Cost: one pass over the group lines and one
+/// over the replies, and a look at each reader for each group that moves a vertex for which one waits.
+pub fn audit(alloc: Global, run: &RunText) -> Result<AuditVerdict, AllocError>
+    requires { IsAuditable run.now }
+    ensures { IfOk result (IsVerdict run.now) }
+{
+    let mut levels = vec![in alloc; 0u16; run.vertices as usize]?;
+    let mut awaited = vec![in alloc; false; run.vertices as usize]?;
+    let mut told = vec![in alloc; 0usize; run.readers.len()]?;
+    Ok(walk(run, &mut levels, &mut awaited, &mut told))
+}
