@@ -3,9 +3,9 @@ import errno
 import os
 import resource
 
-from inputs import text_beside, without_replies
-from program import Failing, limited
-from trials import NO_MEMORY, READ_FAULT, WRITE_FAULT, Trial
+from inputs import long_input, text_beside, without_replies
+from program import Failing, Program, limited
+from trials import DONE, NO_MEMORY, READ_FAULT, WRITE_FAULT, Trial
 
 EVERY = 1 << 40
 
@@ -49,6 +49,35 @@ def refused_memory(kcore):
             yield trial
 
 
+def halted_engine(kcore):
+    """A test of the engine, which passes where a plan that finds no memory leaves an engine whose next plan answers `Halted`."""
+    trial = Trial("a plan of an engine, one allocation refused")
+    if not os.path.exists(kcore.engine_tests):
+        trial.notes.append(f"not tried, since there is no {kcore.engine_tests}: `rt test` in crates/kc_engine makes it")
+        yield trial
+        return
+    tests = Program(kcore.engine_tests)
+    words, number, failed = ["tests::halting::an_engine_without_memory_has_halted"], 0, True
+    while failed:
+        number += 1
+        ended = tests.run(words, failing=Failing("allocation", number, error=errno.ENOMEM))
+        failed = ended.calls["failed"] > 0
+        trial.ended(f"allocation {number}", ended, {DONE: "whole"}, b"\ntest result: ok\n")
+    tests.close()
+    yield trial
+
+
+def little_memory(kcore):
+    trial = Trial("a graph of 100,000 vertices, with room for 4 to 40 MiB of addresses")
+    data = b"kcore 1\nvertices 100000\nbatch\n0 1\nend\n"
+    for command in kcore.batch_commands():
+        status, whole = kcore.whole(command, data)
+        for room in range(4, 41):
+            ended = kcore.program.run(command.words.split(), data, preexec_fn=limited(resource.RLIMIT_AS, room << 20))
+            trial.ended(f"{command.words}, {room} MiB", ended, {NO_MEMORY: "prefix", status: "whole"}, whole)
+    yield trial
+
+
 def failing_reads(kcore):
     for name, words, data, status, whole in kcore.cases():
         trial = Trial(f"{name}, one read of 7 bytes fails")
@@ -66,6 +95,30 @@ def failing_writes(kcore):
             for number, ended in in_turn(kcore, words, data, "write", error, (0, 5)):
                 wanted = {WRITE_FAULT: "prefix"} if ended.calls["failed"] else {status: "whole"}
                 trial.ended(f"write {number}, error {error}", ended, wanted, whole)
+        yield trial
+
+
+def long_texts(kcore):
+    """The program keeps 65,536 bytes of its text back; here it writes while it still reads. Some hundred of the allocations are refused."""
+    data, pieces = long_input(), (7919, 7919)
+    for command in kcore.batch_commands():
+        words = command.words.split()
+        status, whole = kcore.whole(command, data)
+        for kind, error, fault in ("read", errno.EIO, READ_FAULT), ("write", errno.ENOSPC, WRITE_FAULT):
+            trial = Trial(f"{command.words}, a text of {len(whole)} bytes, one {kind} of 7919 bytes fails")
+            for number, ended in in_turn(kcore, words, data, kind, error, pieces):
+                wanted = {fault: "prefix"} if ended.calls["failed"] else {status: "whole"}
+                trial.ended(f"{kind} {number}", ended, wanted, whole)
+            yield trial
+        trial = Trial(f"{command.words}, a text of {len(whole)} bytes, one allocation refused")
+        calls = kcore.program.run(words, data, Failing()).calls
+        for number in range(1, calls["allocations"], calls["allocations"] // 200 + 1):
+            ended = kcore.program.run(words, data, Failing("allocation", number, error=errno.ENOMEM))
+            wanted = {NO_MEMORY: "prefix"}
+            if not ended.calls["failed"] or ended.calls["threads"] < calls["threads"]:
+                wanted[status] = "whole"
+            trial.ended(f"allocation {number}", ended, wanted, whole)
+        trial.notes.append(f"of {calls['allocations']}")
         yield trial
 
 
@@ -115,4 +168,4 @@ def without_processes():
     resource.setrlimit(resource.RLIMIT_NPROC, (0, 0))
 
 
-TRIALS = [nothing_fails, refused_memory, failing_reads, failing_writes, interrupted_calls, small_pieces, threads_not_started]
+TRIALS = [nothing_fails, refused_memory, halted_engine, little_memory, failing_reads, failing_writes, long_texts, interrupted_calls, small_pieces, threads_not_started]

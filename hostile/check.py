@@ -1,7 +1,7 @@
 #!/usr/bin/env python3
 """Runs kcore where memory, threads, devices and inputs fail, and checks how each run ends.
 
-    hostile/check.py [--program PATH] [--only WORD] [--short]
+    hostile/check.py [--program PATH] [--engine-tests PATH] [--only WORD] [--short]
 
 Each run has to end by itself, with the exit number that is due: 0 or 1 with the whole text; 2 with nothing read or written; 3 after a
 read that failed, 4 after a write that failed, 5 without memory, each with a prefix of the text. Nothing is ever written to the
@@ -32,6 +32,7 @@ def main():
     here = os.path.dirname(os.path.abspath(__file__))
     parser = argparse.ArgumentParser(description=__doc__, formatter_class=argparse.RawDescriptionHelpFormatter)
     parser.add_argument("--program", default=os.path.join(here, "..", "crates", "kcore", "out", "kcore"))
+    parser.add_argument("--engine-tests", default=os.path.join(here, "..", "crates", "kc_engine", "out", "kc_engine_tests"))
     parser.add_argument("--only", default="")
     parser.add_argument("--short", action="store_true")
     options = parser.parse_args()
@@ -40,7 +41,7 @@ def main():
         chosen.remove(broken.great_inputs)
     program, runs, wrong = Program(options.program), 0, 0
     try:
-        kcore = Kcore(program, COMMANDS)
+        kcore = Kcore(program, COMMANDS, os.path.normpath(options.engine_tests))
         for one in chosen:
             for trial in one(kcore):
                 trial.tell()

@@ -1,5 +1,6 @@
 """Inputs, and what the definition gives for an input that is cut off."""
 import os
+import random
 import re
 
 EXAMPLES = os.path.join(os.path.dirname(os.path.abspath(__file__)), "..", "examples")
@@ -8,6 +9,18 @@ EXAMPLES = os.path.join(os.path.dirname(os.path.abspath(__file__)), "..", "examp
 def example(name):
     with open(os.path.join(EXAMPLES, name), "rb") as file:
         return file.read()
+
+
+def long_input():
+    """Batches whose run text is longer than what the program keeps back, with some that are refused, and readers."""
+    chance, vertices = random.Random(7), 60
+    lines = ["kcore 1", f"vertices {vertices}", "ask 50 0 1 2", "ask 1000 59"]
+    for batch in range(1500):
+        lines.append("batch")
+        for _ in range(6):
+            lines.append(f"{chance.choice('++-')} {chance.randrange(vertices)} {chance.randrange(vertices + (batch % 50 == 7))}")
+        lines.append("end")
+    return "\n".join(lines).encode() + b"\n"
 
 
 def text_beside(name, words):

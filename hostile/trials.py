@@ -37,7 +37,7 @@ class Trial:
 
     def tell(self):
         ends = ", ".join(f"{number} times {end_name(status)}" for status, number in sorted(self.ends.items(), key=str))
-        print("; ".join([f"{self.name}: {ends}", *self.notes]))
+        print(f"{self.name}: " + "; ".join([*[ends] * bool(ends), *self.notes]))
         for what in self.wrong[:5]:
             print(f"    WRONG: {what}")
         if len(self.wrong) > 5:
@@ -52,10 +52,10 @@ def end_name(status):
 
 
 class Kcore:
-    """The program, its commands, and what it writes where nothing fails."""
+    """The program, its commands, what it writes where nothing fails, and where the tests of the engine are."""
 
-    def __init__(self, program, commands):
-        self.program, self.commands, self.whole_texts = program, commands, {}
+    def __init__(self, program, commands, engine_tests):
+        self.program, self.commands, self.engine_tests, self.whole_texts = program, commands, engine_tests, {}
 
     def whole(self, command, data):
         """The exit number and text of an undisturbed run."""
