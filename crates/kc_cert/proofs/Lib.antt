@@ -4,6 +4,8 @@ pub mod EdgeSteps
 pub mod LevelSteps
 pub mod LineTexts
 pub mod NumberWords
+pub mod ReadBack
 pub mod Saying
+pub mod SaidLines
 pub mod Stepping
 pub mod Written

@@ -1,4 +1,5 @@
 pub mod Documents
+pub mod Laws
 pub mod Reads
 pub mod Texts
 pub mod Tokens

@@ -1,1 +1,12 @@
 //! What the definitions of `specs/` come to. Each function does nothing; its contract is a law.
+ghost use Rattle.kc_cert.specs.Laws.{CertificateIsReadBack, ReadsCertificates};
+
+/// A certificate within the limits is read back from its text as itself, whatever lines that are skipped stand ahead of it.
+pub fn certificate_is_read_back()
+    ensures { CertificateIsReadBack }
+{}
+
+/// A certificate, and each reason for which one is refused.
+pub fn certificates_read()
+    ensures { ReadsCertificates }
+{}

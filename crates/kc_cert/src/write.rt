@@ -182,7 +182,7 @@ fn write_levels<K: Sink>(
 /// There is one level for each vertex; any levels are written. Each line is one `put_all`. After `WriteFault`, which only a
 /// failed write gives, and after `Memory`, which says that there was none for a line, the sink took a prefix of the text.
 ///
-/// Cost: one pass over the neighbours of each vertex. Takes the memory of one line, of at most 31 bytes.
+/// Cost: one pass over the neighbours of each vertex. Takes the memory of one line, of at most 23 bytes.
 pub fn write_certificate<K: Sink>(
     alloc: Global,
     sink: &mut K,
