@@ -160,10 +160,13 @@ in_range g x v P none some = elim (cases_lt v g.vertices) [
   | inr past ↦ subst P (sym (get_or_past (orientation g x).outs v [] (omega (arith, outs_sized g x, past)))) none
 ]
 
+pub outs_above : (g : GraphShape) (x : List ℕ) (v w : ℕ) → has_number w (get_or (orientation g x).outs v []) ≡ true → above x v w ≡ true
+outs_above g x v w at = in_range g x v (λ (ws : List ℕ). has_number w ws ≡ true → above x v w ≡ true) (λ none. absurd (true≢false (sym none))) (out_above g x v w) at
+
 pub leads_upward : (g : GraphShape) (x : List ℕ) → IsGraph g → LeadUpward x (orientation g x).outs
 leads_upward g x graph = record {
   inside = λ v w at. rw (outs_sized g x) (in_range g x v (λ (ws : List ℕ). has_number w ws ≡ true → w < g.vertices) (λ none. absurd (true≢false (sym none))) (λ near. neighbour_below g.vertices v w g.edges graph (has_number-neighbours_of v w g.edges ∙ out_joined g x v w near)) at);
-  upward = λ v w at. in_range g x v (λ (ws : List ℕ). has_number w ws ≡ true → above x v w ≡ true) (λ none. absurd (true≢false (sym none))) (out_above g x v w) at;
+  upward = outs_above g x;
 }
 
 below_filter : (n : ℕ) (p : ℕ → Bool) (xs : List ℕ) → AllBelow n xs → AllBelow n (filter p xs)

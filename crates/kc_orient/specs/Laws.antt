@@ -46,7 +46,7 @@ pub record OutNeighboursAreFew : Type 0 where
 -- an orientation has exactly one colouring
 pub record ColouringIsOne : Type 0 where
   pub some : (g : GraphShape) (x : List ℕ) → IsGraph g → (c : List ℕ) × IsColouring (orientation g x).outs c
-  pub one : (g : GraphShape) (x c d : List ℕ) → IsGraph g →
+  pub one : (g : GraphShape) (x c d : List ℕ) →
       IsColouring (orientation g x).outs c → IsColouring (orientation g x).outs d → c ≡ d
 
 -- the ends of an edge have different colours
