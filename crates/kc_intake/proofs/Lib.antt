@@ -1,0 +1,6 @@
+mod Lists
+mod Passes
+mod Sending
+mod Draining
+mod Joining
+mod Shapes

@@ -1,0 +1,18 @@
+use Rattle.std.proofs.Common.{◌≡◌, ◌≤◌, ◌<◌, ◌-◌, [], ◌∷◌, ◌++◌, All}
+use Rattle.std.specs.Prelude.{vec_len, vec_capacity}
+use Rattle.kc_intake.specs.Updates.{AreNumbered}
+use Rattle.kc_intake.specs.Views.{drainer_shape, IsDrainer}
+use Rattle.kc_intake.proofs.intake.Intake.drain.Given as goal
+
+abbrev pub invariant-loop-self : goal.invariant-loop-self
+invariant-loop-self g l =
+    (drainer_shape l.drainer-inside.pass l.drainer-inside.batch.items ≡ record l.fn.drainer { batch = l.drainer-inside.batch.items; taken = l.fn.drainer.taken ++ l.drainer-inside.batch.items ∷ [] })
+    × IsDrainer l.drainer-inside.pass
+    × (1 ≤ vec_len l.drainer-inside.batch)
+    × (vec_len l.drainer-inside.batch ≤ l.self.capacity)
+    × (l.self.capacity ≤ vec_capacity l.drainer-inside.batch)
+    × All (λ u. u.client < l.fn.drainer.clients) l.drainer-inside.batch.items
+    × AreNumbered (l.fn.drainer.taken ++ l.drainer-inside.batch.items ∷ [])
+
+abbrev pub decreases-loop-self : goal.decreases-loop-self
+decreases-loop-self g l = l.self.capacity - vec_len l.drainer-inside.batch

@@ -1,0 +1,21 @@
+use Rattle.std.proofs.Common.{◌≡◌, [], ◌∷◌, ◌++◌, ap, ◌∙◌, arith}
+use Rattle.std.proofs.lemmas.Grind.{common_steps}
+use Rattle.kc_intake.specs.Views.{intake_of, client_shape}
+use Rattle.kc_intake.proofs.Joining.{opens, forks_from}
+use Rattle.kc_intake.proofs.Shapes.{client_came}
+use Rattle.kc_intake.proofs.intake.Intake.open.Goals as goal
+
+pub ruled-requires-clause-rule : goal.ruled-requires-clause-rule
+ruled-requires-clause-rule c = opens
+
+pub another-requires-clause-rule : goal.another-requires-clause-rule
+another-requires-clause-rule c = forks_from _ _ c.loop-number.invariant.0.role_is
+
+pub loop-number-preserved : goal.loop-number-preserved
+loop-number-preserved c =
+    let i = c.loop-number.invariant in
+    let is_ok = c.unwrap.ensures in
+    let pushed = c.push.ensures.items in
+    let more : c.push.new.self.items ≡ c.loop-number.opened.items ++ client_shape c.another.result ∷ [] = grind (arith, common_steps, pushed, is_ok) in
+    let now = client_came c.loop-number.pass c.another.new.pass c.another.result _ _ _ _ i.0 c.another.ensures.queue.0 c.another.ensures.rule.0 i.2 c.another.ensures.rule.1 (ap intake_of c.another.ensures.queue.1.0) i.3 more in
+    (now.0, c.another.ensures.queue.0.0 ∙ i.1, now.1, now.2, grind (arith, common_steps), grind (arith, common_steps))

@@ -1,0 +1,5 @@
+pub mod Updates
+pub mod Views
+pub mod Rule
+pub mod Causes
+pub mod Steps

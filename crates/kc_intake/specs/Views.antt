@@ -1,0 +1,73 @@
+-- What contracts see of an intake, a client and a drainer, and what their passes know.
+use Rattle.std.specs.Prelude.{◌≡◌, ℕ, List, []}
+use Rattle.atomic_table.specs.Seated.{TableId}
+use Rattle.crossbeam_queue.specs.Passes.{Pass, view}
+use Rattle.kc_graph.specs.declared.items.Item.{Item}
+use Rattle.kc_intake.specs.declared.updates.Update.{Update}
+use Rattle.kc_intake.specs.declared.roles.Submitted.{Submitted}
+use Rattle.kc_intake.specs.declared.roles.Drained.{Drained}
+use Rattle.kc_intake.specs.declared.roles.Role.{Role}
+use Rattle.kc_intake.specs.declared.roles.Role.TheVariants.{Submits, Drains}
+
+-- an intake: which queue it is, and how many updates it holds at most
+pub record IntakeShape : Type 0 where
+  pub queue : TableId
+  pub capacity : ℕ
+
+-- a client: its intake, its number, and the items that it submitted
+pub record ClientShape : Type 0 where
+  pub intake : IntakeShape
+  pub number : ℕ
+  pub sent : List Item
+
+-- a drainer: its intake, the last drained batch, the number of clients, all drained batches, and what each client that was taken in
+-- had sent
+pub record DrainerShape : Type 0 where
+  pub intake : IntakeShape
+  pub batch : List Update
+  pub clients : ℕ
+  pub taken : List (List Update)
+  pub joined : List Submitted
+
+abbrev pub intake_of : TableId → IntakeShape
+intake_of queue = record { queue = queue; capacity = queue.slots }
+
+abbrev pub submitted_of : Role → Submitted
+submitted_of (Submits s) = s
+submitted_of _ = record { client = 0; items = [] }
+
+abbrev pub drained_of : Role → Drained
+drained_of (Drains d) = d
+drained_of _ = record { clients = 0; taken = []; joined = [] }
+
+abbrev pub client_shape : Pass Update Role → ClientShape
+client_shape p = record { intake = intake_of p.table_id; number = (submitted_of (view p)).client; sent = (submitted_of (view p)).items }
+
+abbrev pub drainer_shape : Pass Update Role → List Update → DrainerShape
+drainer_shape p batch = record { intake = intake_of p.table_id; batch = batch; clients = (drained_of (view p)).clients; taken = (drained_of (view p)).taken; joined = (drained_of (view p)).joined }
+
+-- a pass that submits, with no slot out
+pub record IsClient (p : Pass Update Role) : Type 0 where
+  pub role_is : view p ≡ Submits (submitted_of (view p))
+  pub free : p.me.1 ≡ []
+
+-- a pass that drains, with no slot out
+pub record IsDrainer (p : Pass Update Role) : Type 0 where
+  pub role_is : view p ≡ Drains (drained_of (view p))
+  pub free : p.me.1 ≡ []
+
+-- what a client submitted
+abbrev pub submitted : ClientShape → Submitted
+submitted c = record { client = c.number; items = c.sent }
+
+-- what the pass of a client knows
+abbrev pub client_role : ClientShape → Role
+client_role c = Submits (submitted c)
+
+-- what the pass of a drainer knows
+abbrev pub drainer_role : DrainerShape → Role
+drainer_role d = Drains (record { clients = d.clients; taken = d.taken; joined = d.joined })
+
+-- client number c of an intake, which has submitted nothing
+abbrev pub new_client : IntakeShape → ℕ → ClientShape
+new_client intake c = record { intake = intake; number = c; sent = [] }

@@ -1,0 +1,140 @@
+ghost use Rattle.std.specs.Prelude.{◌≡◌, ◌≤◌, ◌<◌, [], ◌∷◌, ◌++◌, length, map, All, IfOk, OnOk, OnErr};
+ghost use Rattle.std.specs.List.{range_with_len};
+ghost use mathlib.Core.List.{IsPrefix};
+ghost use Rattle.kc_intake.specs.Causes.{HeldAtStep};
+ghost use Rattle.kc_intake.specs.Updates.{updates_of, updates_in, drained, AreNumbered};
+ghost use Rattle.kc_intake.specs.Views.{client_role, drainer_role, new_client, submitted};
+
+use crate::client::Client;
+use crate::drainer::Drainer;
+use crate::limits::{MAX_CAPACITY, MAX_CLIENTS, MAX_SENT};
+use crate::rule::{Adds, Begins, Compares, NewClient, Queue, Sends, TakesIn};
+use crate::updates::{Empty, Full, Update};
+use kc_graph::Item;
+use std::alloc::{AllocError, Global};
+use std::marker::Model;
+use std::sync::Wait;
+use std::thread::Threads;
+
+/// The queue between clients and their server. Contracts see which queue it is, and its capacity.
+#[derive(Drop)]
+pub struct Intake {
+    queue: Queue,
+}
+
+impl Model for Intake {
+    ghost use Rattle.std.specs.Prelude.{◌≡◌, ◌≤◌, ◌<◌};
+    ghost use Rattle.kc_intake.specs.Views.{IntakeShape, intake_of};
+    ghost use Rattle.kc_intake.specs.declared.limits.TheConstants.{MAX_CAPACITY};
+
+    ghost Value = { IntakeShape };
+
+    ghost view = { λ i. intake_of i.queue.table.shared.table_id };
+
+    ghost invariant = { λ i. (i.queue.table.shared.table_id.slots ≡ i.queue.cap) × (1 ≤ i.queue.cap) × (i.queue.cap ≤ MAX_CAPACITY) };
+}
+
+impl Intake {
+    /// An intake that holds up to `capacity` updates, its drainer, and its clients, numbered from 0. The capacity is 1 to
+    /// `MAX_CAPACITY`, and there are 1 to `MAX_CLIENTS` clients.
+    ///
+    /// This takes all memory that the intake, its drainer and its clients ever need.
+    pub fn open(
+        alloc: Global,
+        capacity: u32,
+        clients: u32,
+    ) -> Result<(Intake, Drainer, Vec<Client>), AllocError>
+        requires capacity { (1 ≤ capacity) × (capacity ≤ MAX_CAPACITY) }
+        requires clients { (1 ≤ clients) × (clients ≤ MAX_CLIENTS) }
+        ensures capacity { IfOk result (λ r. r.0.capacity ≡ capacity) }
+        ensures drainer { IfOk result (λ r. r.1 ≡ record { intake = r.0; batch = []; clients = clients; taken = []; joined = [] }) }
+        ensures clients { IfOk result (λ r. r.2.items ≡ map (new_client r.0) (range_with_len 0 clients)) }
+    {
+        let batch = Vec::with_capacity(alloc, capacity as usize)?;
+        let mut opened = Vec::with_capacity(alloc, clients as usize)?;
+        let (queue, mut pass) = Queue::ruled(alloc, capacity as usize)?;
+        for number in 0..clients {
+            let client = Client {
+                pass: queue.another::<NewClient>(&mut pass),
+                number,
+                serial: 0,
+            };
+            opened.push(client).unwrap();
+        }
+        Ok((Intake { queue }, Drainer { pass, batch }, opened))
+    }
+
+    /// Submits an item: it is queued as an update with the client's number, and with the number of items that the client sent before as
+    /// its serial. The client is of this intake, and has sent fewer than `MAX_SENT` items.
+    ///
+    /// `Full` comes only where the queue held its capacity at a step of this call; then nothing was queued. It takes no memory, and may
+    /// wait for a thread that is at the same place of the queue.
+    pub fn submit<R: Threads + Wait + Sync>(
+        &self,
+        rt: &R,
+        client: &mut Client,
+        item: Item,
+    ) -> Result<(), Full>
+        requires intake { client.old.intake ≡ self.now }
+        requires few { length client.old.sent < MAX_SENT }
+        ensures ok { OnOk result (client.new ≡ record client.old { sent = client.old.sent ++ item ∷ [] }) }
+        ensures full { OnErr result ((client.new ≡ client.old) × HeldAtStep self.now.capacity (client_role client.old)) }
+    {
+        let update = Update {
+            client: client.number,
+            serial: client.serial,
+            item,
+        };
+        match self.queue.push_as::<Sends, R>(rt, &mut client.pass, update) {
+            Ok(()) => {
+                client.serial += 1;
+                Ok(())
+            }
+            Err(_update) => Err(Full),
+        }
+    }
+
+    /// Drains a batch of 1 to `capacity` updates, which the drainer then has as its `batch`. The drainer is of this intake.
+    ///
+    /// It is fewer than `capacity` only where the queue was empty at a step of this call. `Empty` comes only where the queue was empty at
+    /// a step of this call; then the batch is empty, and of each client that was taken in all that it sent is drained. It takes no
+    /// memory, and may wait for a thread that is at the same place of the queue.
+    pub fn drain<R: Threads + Wait + Sync>(
+        &self,
+        rt: &R,
+        drainer: &mut Drainer,
+    ) -> Result<(), Empty>
+        requires intake { drainer.old.intake ≡ self.now }
+        ensures ok { OnOk result (drainer.new ≡ record drainer.old { batch = drainer.new.batch; taken = drainer.old.taken ++ drainer.new.batch ∷ [] }) }
+        ensures size { OnOk result ((1 ≤ length drainer.new.batch) × (length drainer.new.batch ≤ self.now.capacity)) }
+        ensures clients { OnOk result (All (λ u. u.client < drainer.new.clients) drainer.new.batch) }
+        ensures serials { OnOk result (AreNumbered drainer.new.taken) }
+        ensures short { OnOk result (length drainer.new.batch < self.now.capacity → HeldAtStep 0 (drainer_role drainer.new)) }
+        ensures empty { OnErr result ((drainer.new ≡ record drainer.old { batch = [] }) × HeldAtStep 0 (drainer_role drainer.old)) }
+        ensures whole { OnErr result (All (λ s. updates_of s.client (drained drainer.new.taken) ≡ updates_in s) drainer.new.joined) }
+    {
+        drainer.batch.clear();
+        let Some(first) = self.queue.pop_as::<Begins, R>(rt, &mut drainer.pass) else {
+            return Err(Empty);
+        };
+        drainer.batch.push(first).unwrap();
+        while drainer.batch.len() < self.queue.capacity() {
+            let Some(next) = self.queue.pop_as::<Adds, R>(rt, &mut drainer.pass) else {
+                break;
+            };
+            drainer.batch.push(next).unwrap();
+        }
+        Ok(())
+    }
+
+    /// Takes in a client that has ended: of what it sent, the updates that were drained are the first ones, in its order, each once.
+    /// Where a later drain finds the intake empty, they are all. Drainer and client are of this intake. It takes no memory.
+    pub fn take_in<R: Threads + Wait + Sync>(&self, _rt: &R, drainer: &mut Drainer, client: Client)
+        requires intake { (drainer.old.intake ≡ self.now) × (client.intake ≡ self.now) }
+        ensures same { drainer.new ≡ record drainer.old { joined = drainer.old.joined ++ submitted client ∷ [] } }
+        ensures prefix { IsPrefix (updates_of client.number (drained drainer.new.taken)) (updates_in (submitted client)) }
+    {
+        self.queue.absorb::<TakesIn>(&mut drainer.pass, client.pass);
+        self.queue.learn_as::<Compares>(&mut drainer.pass);
+    }
+}

@@ -1,0 +1,23 @@
+use kc_graph::Item;
+use thiserror::Error;
+
+/// An item that a client submitted.
+#[derive(Clone, Copy, Debug, PartialEq, Eq)]
+pub struct Update {
+    /// The client's number, from 0.
+    pub client: u32,
+    /// How many items the client had sent before.
+    pub serial: u32,
+    /// The item.
+    pub item: Item,
+}
+
+/// The intake was full.
+#[derive(Clone, Copy, Debug, PartialEq, Eq, Error)]
+#[error("the intake is full")]
+pub struct Full;
+
+/// The intake was empty.
+#[derive(Clone, Copy, Debug, PartialEq, Eq, Error)]
+#[error("the intake is empty")]
+pub struct Empty;
