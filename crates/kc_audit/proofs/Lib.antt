@@ -1,6 +1,9 @@
 pub mod FlatLemmas
+pub mod KeptLemmas
 pub mod LineLemmas
 pub mod MoveLemmas
 pub mod Reaching
+pub mod Stepping
 pub mod VerdictLemmas
 pub mod Walking
+pub mod WordLemmas

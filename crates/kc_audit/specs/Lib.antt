@@ -1,5 +1,10 @@
+pub mod Documents
 pub mod Flat
+pub mod Kept
+pub mod Kinds
 pub mod Laws
+pub mod Reads
 pub mod Runs
 pub mod Verdicts
 pub mod Walks
+pub mod Words

@@ -1,5 +1,6 @@
 -- A recorded run: its group lines as a history, and what can be audited.
-use Rattle.std.specs.Prelude.{ℕ, ◌<◌, ◌≤◌, true, List, [], length, map, All, Some}
+use Rattle.std.specs.Prelude.{ℕ, ◌<◌, ◌≤◌, nat_lt, Bool, true, List, [], length, map, All, Some}
+use Rattle.std.specs.List.{list_all}
 use Rattle.kc_levels.specs.declared.moves.Move.{Move}
 use Rattle.kc_history.specs.declared.entries.Entry.{Entry}
 use Rattle.kc_history.specs.declared.replies.Reply.{Reply}
@@ -24,7 +25,10 @@ history_of lines = map entry_of lines
 abbrev pub IsBelow : ℕ → Reply → Type 0
 IsBelow n r = r.vertex < n
 
--- the vertices of these are below n
+-- whether the vertices of these are below n, as a test and as a fact
+abbrev pub are_below : ℕ → List Reply → Bool
+are_below n rs = list_all (λ r. nat_lt r.vertex n) rs
+
 abbrev pub AreBelow : ℕ → List Reply → Type 0
 AreBelow n rs = All (IsBelow n) rs
 

@@ -6,14 +6,20 @@
 #![tactic(auto)]
 
 mod flat;
+mod form;
 mod groups;
+mod kept;
 pub mod laws;
+mod read;
 mod readers;
 mod run_text;
+mod stage;
 mod verdict;
 mod walk;
+mod words;
 
 pub use groups::{GroupLine, GroupLines};
+pub use read::{AuditFault, read_run};
 pub use readers::Readers;
 pub use run_text::RunText;
 pub use verdict::AuditVerdict;

@@ -1,6 +1,6 @@
 //! A run as it was recorded.
 ghost use Rattle.std.specs.Prelude.{◌↔◌, ◌≡◌, ◌<◌, ◌≤◌, length, All, IsTrue};
-ghost use Rattle.kc_audit.specs.Runs.{AreBelow, IsAuditable};
+ghost use Rattle.kc_audit.specs.Runs.{are_below, AreBelow, IsAuditable};
 
 use crate::{GroupLines, Readers};
 use kc_history::{Replies, Reply};
@@ -19,8 +19,10 @@ pub struct RunText {
 // The greatest number of readers, and of the replies of each, so that each has a number.
 const MAX_ITEMS: usize = 4_294_967_294;
 
-fn are_below(n: u32, replies: &[Reply]) -> bool
-    ensures { IsTrue result ↔ AreBelow n replies.now }
+// Whether the vertices of all of these are below n.
+pub(crate) fn are_below(n: u32, replies: &[Reply]) -> bool
+    ensures test { result ≡ are_below n replies.now }
+    ensures fact { IsTrue result ↔ AreBelow n replies.now }
 {
     replies.iter().all(|reply| reply.vertex < n)
 }

@@ -1,0 +1,123 @@
+-- Words, and what is said by those after them.
+use Rattle.std.proofs.Common.{ℕ, ◌≡◌, ◌<◌, ◌≤◌, ◌+◌, ◌-◌, Bool, true, false, ◌&&◌, cond, arith, length, take, List, [], ◌∷◌, ◌++◌, drop, refl, ap, sym, append_assoc}
+use Rattle.std.specs.Prelude.{Option, Some, None, nat_lt, ◌==◌}
+use Rattle.std.specs.List.{position, position_or_len, before_first, after_first}
+use Rattle.std.proofs.lemmas.List.{append-nil, drop_all, take_all, length-drop}
+use Rattle.std.proofs.lemmas.Bool.Decides.{nat_tests}
+use Rattle.std.specs.Str.{bytes_eq}
+use Rattle.std.proofs.lemmas.Option.{same_Some}
+use Rattle.kc_text.specs.Words.{words}
+use Rattle.kc_text.specs.Numbers.{number_of, NumberAt, IsNoNumber}
+use Rattle.kc_history.specs.declared.replies.Reply.{Reply}
+use Rattle.kc_audit.specs.Words.{is_nothing, before_words, first_number, has_fields, level_in, reply_with, pair_of, pair_before, pairs_of}
+
+pub number_there : (text : List ℕ) (from value end : ℕ) → NumberAt text from value end → first_number (words (drop from text)) ≡ Some (value, words (drop end text))
+unfolding first_number
+number_there text from value end n = rw (n.words_are, n.number) refl
+
+pub number_missing : (ws : List (List ℕ)) → IsNoNumber ws → first_number ws ≡ None
+unfolding first_number
+number_missing [] h = refl
+number_missing (w ∷ ws) h = rw h refl
+
+pub ruleset number_steps = (number_there, number_missing)
+
+-- pairs in front of others
+abbrev pub pairs_behind : List Reply → Option (List Reply) → Option (List Reply)
+pairs_behind front (Some rs) = Some (front ++ rs)
+pairs_behind front None = None
+
+pub pair_next : (front : List Reply) (r : Reply) (rest : Option (List Reply)) → pairs_behind front (pair_before (Some r) rest) ≡ pairs_behind (front ++ r ∷ []) rest
+pair_next front r (Some rs) = ap Some (sym (append_assoc front (r ∷ []) rs))
+pair_next front r None = refl
+
+pub field_missing : (names : List (List ℕ)) (name : List ℕ) (rest ws : List (List ℕ)) → names ≡ name ∷ rest → ws ≡ [] → has_fields names ws ≡ false
+unfolding has_fields
+field_missing names name rest ws e f = rw (e, f) refl
+
+pub field_other : (names : List (List ℕ)) (name : List ℕ) (rest ws : List (List ℕ)) (w : List ℕ) (more : List (List ℕ)) → names ≡ name ∷ rest → ws ≡ w ∷ more → bytes_eq w name ≡ false → has_fields names ws ≡ false
+unfolding has_fields
+field_other names name rest ws w [] e f h = rw (e, f) refl
+field_other names name rest ws w (number ∷ more) e f h = rw (e, f, h) refl
+
+no_fields : (b : Bool) (names ws : List (List ℕ)) → (b && (false && has_fields names ws)) ≡ false
+no_fields true names ws = refl
+no_fields false names ws = refl
+
+-- a word that says no number, before others
+no_number : (o : Option ℕ) (ws : List (List ℕ)) → before_words o ws ≡ None → o ≡ None
+no_number None ws e = refl
+no_number (Some n) ws e = absurd cc
+
+pub field_no_number : (names : List (List ℕ)) (name : List ℕ) (rest ws : List (List ℕ)) (w : List ℕ) (more : List (List ℕ)) → names ≡ name ∷ rest → ws ≡ w ∷ more → first_number more ≡ None → has_fields names ws ≡ false
+unfolding has_fields first_number
+field_no_number names name rest ws w [] e f h = rw (e, f) refl
+field_no_number names name rest ws w (number ∷ more) e f h = rw (e, f, no_number (number_of number) more h) (no_fields (bytes_eq w name) rest more)
+
+found_number : (o : Option ℕ) (ws : List (List ℕ)) (n : ℕ) (after : List (List ℕ)) → before_words o ws ≡ Some (n, after) → (o ≡ Some n) × (ws ≡ after)
+found_number None ws n after e = absurd cc
+found_number (Some m) ws n after e = let same : (m, ws) ≡ (n, after) = same_Some _ _ e in (ap (λ (p : ℕ × List (List ℕ)). Some p.0) same, ap (λ (p : ℕ × List (List ℕ)). p.1) same)
+
+pub field_there : (names : List (List ℕ)) (name : List ℕ) (rest ws : List (List ℕ)) (w : List ℕ) (more : List (List ℕ)) (n : ℕ) (after : List (List ℕ)) → names ≡ name ∷ rest → ws ≡ w ∷ more
+    → bytes_eq w name ≡ true → first_number more ≡ Some (n, after) → has_fields names ws ≡ has_fields rest after
+unfolding has_fields first_number
+field_there names name rest ws w [] n after e f h g = absurd cc
+field_there names name rest ws w (number ∷ more) n after e f h g =
+    let found = found_number (number_of number) more n after g in
+    rw (e, f, h, found.0, found.1) refl
+
+pub fields_end : (names ws : List (List ℕ)) → names ≡ [] → has_fields names ws ≡ is_nothing ws
+unfolding has_fields
+fields_end names ws e = rw e refl
+
+-- the first place that passes
+pub record IsPlace (p : ℕ → Bool) (xs : List ℕ) (i : ℕ) : Type 0 where
+  pub place : position_or_len p xs ≡ i
+  pub within : i < length xs
+
+chosen : (b : Bool) (i j : ℕ) → cond b (Some i) None ≡ Some j → (b ≡ true) × (i ≡ j)
+chosen true i j e = (refl, same_Some _ _ e)
+chosen false i j e = absurd cc
+
+pub place_found : (p : ℕ → Bool) (xs : List ℕ) (i : ℕ) → Some i ≡ position p xs → IsPlace p xs i
+place_found p xs i e =
+    let c = chosen (nat_lt (position_or_len p xs) (length xs)) (position_or_len p xs) i (sym e) in
+    let inside : position_or_len p xs < length xs = grind (arith, nat_tests, c.0) in
+    record { place = c.1; within = rw c.1 at inside }
+
+not_chosen : (b : Bool) (i : ℕ) → cond b (Some i) None ≡ None → b ≡ false
+not_chosen true i e = absurd cc
+not_chosen false i e = refl
+
+no_level : (o : Option ℕ) → reply_with o None ≡ None
+no_level None = refl
+no_level (Some v) = refl
+
+-- a word without the mark says no pair
+pub pair_missing : (mark : ℕ) (w : List ℕ) → None ≡ position (λ b. b == mark) w → pair_of mark w ≡ None
+pair_missing mark w e =
+    let n = not_chosen (nat_lt (position_or_len (λ b. b == mark) w) (length w)) (position_or_len (λ b. b == mark) w) (sym e) in
+    let past : length w ≤ position_or_len (λ b. b == mark) w + 1 = grind (arith, nat_tests, n) in
+    let none : after_first (λ b. b == mark) w ≡ [] = drop_all (position_or_len (λ b. b == mark) w + 1) w past in
+    rw none (no_level (number_of (before_first (λ b. b == mark) w)))
+
+pub pair_there : (mark : ℕ) (w : List ℕ) (at : ℕ) → IsPlace (λ b. b == mark) w at → pair_of mark w ≡ reply_with (number_of (take at w)) (level_in (number_of (drop (at + 1) w)))
+pair_there mark w at h = rw h.place refl
+
+-- the pairs that words say
+pub pairs_end : (mark : ℕ) (front : List Reply) (ws : List (List ℕ)) → ws ≡ [] → pairs_behind front (pairs_of mark ws) ≡ Some front
+unfolding pairs_of
+pairs_end mark front ws e = rw (e, append-nil front) refl
+
+pub pairs_stop : (mark : ℕ) (front : List Reply) (w : List ℕ) (more ws : List (List ℕ)) → ws ≡ w ∷ more → None ≡ pair_of mark w → pairs_behind front (pairs_of mark ws) ≡ None
+unfolding pairs_of
+pairs_stop mark front w more ws e f = rw (e, sym f) refl
+
+pub pairs_next : (mark : ℕ) (front : List Reply) (w : List ℕ) (r : Reply) (more ws : List (List ℕ)) → ws ≡ w ∷ more → Some r ≡ pair_of mark w
+    → pairs_behind front (pairs_of mark ws) ≡ pairs_behind (front ++ r ∷ []) (pairs_of mark more)
+unfolding pairs_of
+pairs_next mark front w r more ws e f = rw (e, sym f) (pair_next front r (pairs_of mark more))
+
+-- what stands from a place on
+pub to_the_end : (xs : List ℕ) (i : ℕ) → take (length xs - i) (drop i xs) ≡ drop i xs
+to_the_end xs i = take_all (length xs - i) (drop i xs) (omega (arith, length-drop i xs))

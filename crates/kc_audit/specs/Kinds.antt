@@ -1,0 +1,160 @@
+-- What the lines of a run text say that aren't skipped, each by itself.
+use Rattle.std.specs.Prelude.{ℕ, Bool, true, false, ◌&&◌, ◌||◌, List, [], ◌∷◌, length, ◌≤◌, Option, Some, None, is_some, if◌then◌else◌, codes, drop}
+use Rattle.std.specs.Str.{bytes_eq}
+use Rattle.kc_text.specs.declared.line.Body.{Body}
+use Rattle.kc_text.specs.declared.line.Body.TheVariants as body
+use Rattle.kc_text.specs.declared.reason.Reason.TheVariants.{LineLong, BadLine, BadVertex, TooMany, Truncated, InputLimit, EdgeLimit, PhaseLimit}
+use Rattle.kc_text.specs.Reasons.{reason_word}
+use Rattle.kc_text.specs.Words.{words}
+use Rattle.kc_text.specs.Numbers.{number_of}
+use Rattle.kc_audit.specs.Words.{is_nothing, first_number, has_fields}
+use Rattle.kc_audit.specs.declared.form.Form.{Form}
+use Rattle.kc_audit.specs.declared.form.Form.TheVariants as form
+
+-- what a line says; of a group or a reader line the words after its numbers
+pub data Kind : Type 0 where
+  -- `kcore-run 1`
+  Head : Kind
+  -- `vertices N`
+  Vertices : (n : ℕ) → Kind
+  -- the line of an accepted batch, by its number
+  Accepted : (batch : ℕ) → Kind
+  -- the line of a refused batch, by its number
+  Refused : (batch : ℕ) → Kind
+  -- a phase, by its number and whether it inserts
+  Phase : (phase : ℕ) (add : Bool) → Kind
+  Group : (phase label : ℕ) (members : List (List ℕ)) → Kind
+  Reader : (reader : ℕ) (replies : List (List ℕ)) → Kind
+  Vertex : (v : ℕ) → Kind
+  -- `end`
+  Close : Kind
+  -- a line of another form
+  Other : Kind
+  TooLong : Kind
+  -- the input goes on past its limit
+  Limit : Kind
+  -- the input has ended
+  InputEnd : Kind
+
+-- the one word `1`
+unfoldable pub is_version : List (List ℕ) → Bool
+is_version [] = false
+is_version (w ∷ []) = bytes_eq w (codes "1")
+is_version (v ∷ w ∷ ws) = false
+
+-- a word that tells why a batch was refused
+abbrev pub names_reason : List ℕ → Bool
+names_reason w =
+    bytes_eq w (reason_word LineLong) || (bytes_eq w (reason_word BadLine) || (bytes_eq w (reason_word BadVertex) || (bytes_eq w (reason_word TooMany)
+    || (bytes_eq w (reason_word Truncated) || (bytes_eq w (reason_word InputLimit) || (bytes_eq w (reason_word EdgeLimit) || bytes_eq w (reason_word PhaseLimit)))))))
+
+-- `refused line N REASON`
+unfoldable pub is_refusal : List (List ℕ) → Bool
+is_refusal [] = false
+is_refusal (r ∷ []) = false
+is_refusal (r ∷ l ∷ []) = false
+is_refusal (r ∷ l ∷ n ∷ []) = false
+is_refusal (r ∷ l ∷ n ∷ reason ∷ []) = bytes_eq r (codes "refused") && (bytes_eq l (codes "line") && (is_some (number_of n) && names_reason reason))
+is_refusal (r ∷ l ∷ n ∷ reason ∷ w ∷ ws) = false
+
+-- after `vertices`
+abbrev pub vertices_kind : Option (ℕ × List (List ℕ)) → Kind
+vertices_kind (Some p) = if is_nothing p.1 then Vertices p.0 else Other
+vertices_kind None = Other
+
+-- after `batch`
+abbrev pub batch_kind : Option (ℕ × List (List ℕ)) → Kind
+batch_kind (Some p) =
+    if has_fields (words (codes "loops repeats idle removed added")) p.1 then Accepted p.0
+    else if is_refusal p.1 then Refused p.0
+    else Other
+batch_kind None = Other
+
+-- whether a phase inserts, by its word
+abbrev pub direction_of : List ℕ → Option Bool
+direction_of w =
+    if bytes_eq w (codes "insert") then Some true
+    else if bytes_eq w (codes "delete") then Some false
+    else None
+
+abbrev pub phase_with : ℕ → Option Bool → Bool → Kind
+phase_with p (Some add) true = Phase p add
+phase_with p (Some add) false = Other
+phase_with p None fits = Other
+
+-- after `phase P`
+unfoldable pub direction_kind : ℕ → List (List ℕ) → Kind
+direction_kind p [] = Other
+direction_kind p (w ∷ ws) = phase_with p (direction_of w) (has_fields (words (codes "quiet")) ws)
+
+-- after `phase`
+abbrev pub phase_kind : Option (ℕ × List (List ℕ)) → Kind
+phase_kind (Some p) = direction_kind p.0 p.1
+phase_kind None = Other
+
+-- after `group P`
+abbrev pub label_kind : ℕ → Option (ℕ × List (List ℕ)) → Kind
+label_kind p (Some l) = Group p l.0 l.1
+label_kind p None = Other
+
+-- after `group`
+abbrev pub group_kind : Option (ℕ × List (List ℕ)) → Kind
+group_kind (Some p) = label_kind p.0 (first_number p.1)
+group_kind None = Other
+
+-- after `reader`
+abbrev pub reader_kind : Option (ℕ × List (List ℕ)) → Kind
+reader_kind (Some r) = Reader r.0 r.1
+reader_kind None = Other
+
+-- after `vertex`
+abbrev pub vertex_kind : Option (ℕ × List (List ℕ)) → Kind
+vertex_kind (Some v) = if has_fields (words (codes "level est low high up down")) v.1 then Vertex v.0 else Other
+vertex_kind None = Other
+
+-- what a line says that begins with this word, and then has these
+abbrev pub named_kind : List ℕ → List (List ℕ) → Kind
+named_kind name ws =
+    if bytes_eq name (codes "group") then group_kind (first_number ws)
+    else if bytes_eq name (codes "reader") then reader_kind (first_number ws)
+    else if bytes_eq name (codes "vertex") then vertex_kind (first_number ws)
+    else if bytes_eq name (codes "phase") then phase_kind (first_number ws)
+    else if bytes_eq name (codes "batch") then batch_kind (first_number ws)
+    else if bytes_eq name (codes "vertices") then vertices_kind (first_number ws)
+    else if bytes_eq name (codes "kcore-run") then (if is_version ws then Head else Other)
+    else if bytes_eq name (codes "end") then (if is_nothing ws then Close else Other)
+    else Other
+
+-- what a line of these words says
+unfoldable pub kind_of_words : List (List ℕ) → Kind
+kind_of_words [] = Other
+kind_of_words (name ∷ ws) = named_kind name ws
+
+-- what a line says
+abbrev pub kind_of : Body → Kind
+kind_of (body.Text text) = kind_of_words (words text)
+kind_of body.TooLong = TooLong
+kind_of body.Limit = Limit
+kind_of body.End = InputEnd
+
+-- what the form of a text tells, where the words of a group or a reader begin at a place of it
+abbrev pub kind_told : List ℕ → Form → Kind
+kind_told text form.Head = Head
+kind_told text (form.Vertices n) = Vertices n
+kind_told text (form.Accepted t) = Accepted t
+kind_told text (form.Refused t) = Refused t
+kind_told text (form.Phase p add) = Phase p add
+kind_told text (form.Group p l from) = Group p l (words (drop from text))
+kind_told text (form.Reader r from) = Reader r (words (drop from text))
+kind_told text (form.Vertex v) = Vertex v
+kind_told text form.Close = Close
+kind_told text form.Other = Other
+kind_told text form.TooLong = TooLong
+kind_told text form.Limit = Limit
+kind_told text form.InputEnd = InputEnd
+
+-- the place lies in the text
+abbrev pub IsWithin : List ℕ → Form → Type 0
+IsWithin text (form.Group p l from) = from ≤ length text
+IsWithin text (form.Reader r from) = from ≤ length text
+IsWithin text _ = Unit {0}

@@ -1,0 +1,256 @@
+//! What the lines of a run text say, each by itself.
+ghost use Rattle.std.specs.Prelude.{◌≡◌, ◌≤◌, length, drop};
+ghost use Rattle.kc_text.specs.Words.{words};
+ghost use Rattle.kc_audit.specs.Kept.{text_of};
+ghost use Rattle.kc_audit.specs.Words.{first_number};
+ghost use Rattle.kc_audit.specs.Kinds.{is_version, names_reason, is_refusal, vertices_kind, batch_kind, direction_of, direction_kind, phase_kind, group_kind, reader_kind, vertex_kind, named_kind, kind_of_words, kind_of, kind_told, IsWithin};
+
+use crate::words::{has_fields, is, is_at_end, number_at};
+use kc_text::{Body, Line, Reason, next_word, read_number};
+
+/// What a line says by itself, wherever it stands. The numbers are any numbers; those that no rule names are left out.
+#[derive(Clone, Copy, Debug, PartialEq, Eq)]
+pub enum Form {
+    /// `kcore-run 1`
+    Head,
+    /// `vertices N`
+    Vertices(u32),
+    /// `batch T loops A repeats B idle C removed D added I`
+    Accepted(u32),
+    /// `batch T refused line N REASON`
+    Refused(u32),
+    /// `phase P insert quiet E`, or `delete` where `add` is false.
+    Phase { phase: u32, add: bool },
+    /// `group P LABEL`, and the words for its members at or after `from`.
+    Group { phase: u32, label: u32, from: usize },
+    /// `reader R`, and the words for its replies at or after `from`.
+    Reader { reader: u32, from: usize },
+    /// `vertex V level L est E low LO high HI up U down D`
+    Vertex(u32),
+    /// `end`
+    Close,
+    /// A line of another form.
+    Other,
+    /// A line that is too long.
+    TooLong,
+    /// The input goes on past its limit.
+    Limit,
+    /// The input has ended.
+    InputEnd,
+}
+
+// Whether the one word at or after `from` is `1`.
+#[tactic(auto, unfolding(crate::specs::Kinds::is_version))]
+fn is_version(text: &[u8], from: usize) -> bool
+    requires { from ≤ length text.now }
+    ensures { result ≡ is_version (words (drop from text.now)) }
+{
+    match next_word(text, from) {
+        Some((start, end)) => {
+            let version = &text[start..end];
+            next_word(text, end).is_none() && is(version, b"1")
+        }
+        None => false,
+    }
+}
+
+fn names_reason(word: &[u8]) -> bool
+    ensures { result ≡ names_reason word.now }
+{
+    is(word, Reason::LineLong.word())
+        || is(word, Reason::BadLine.word())
+        || is(word, Reason::BadVertex.word())
+        || is(word, Reason::TooMany.word())
+        || is(word, Reason::Truncated.word())
+        || is(word, Reason::InputLimit.word())
+        || is(word, Reason::EdgeLimit.word())
+        || is(word, Reason::PhaseLimit.word())
+}
+
+// Whether the words at or after `from` are `refused line N REASON`.
+#[tactic(auto, unfolding(crate::specs::Kinds::is_refusal))]
+fn is_refusal(text: &[u8], from: usize) -> bool
+    requires { from ≤ length text.now }
+    ensures { result ≡ is_refusal (words (drop from text.now)) }
+{
+    let Some((start, end)) = next_word(text, from) else {
+        return false;
+    };
+    let refused = &text[start..end];
+    let Some((start, end)) = next_word(text, end) else {
+        return false;
+    };
+    let line = &text[start..end];
+    let Some((start, end)) = next_word(text, end) else {
+        return false;
+    };
+    let number = &text[start..end];
+    let Some((start, end)) = next_word(text, end) else {
+        return false;
+    };
+    let reason = &text[start..end];
+    next_word(text, end).is_none()
+        && (is(refused, b"refused")
+            && (is(line, b"line") && (read_number(number).is_some() && names_reason(reason))))
+}
+
+fn vertices_form(text: &[u8], from: usize) -> Form
+    requires { from ≤ length text.now }
+    ensures kind { kind_told text.now result ≡ vertices_kind (first_number (words (drop from text.now))) }
+    ensures within { IsWithin text.now result }
+{
+    match number_at(text, from) {
+        Some((n, end)) if is_at_end(text, end) => Form::Vertices(n),
+        _ => Form::Other,
+    }
+}
+
+fn batch_form(text: &[u8], from: usize) -> Form
+    requires { from ≤ length text.now }
+    ensures kind { kind_told text.now result ≡ batch_kind (first_number (words (drop from text.now))) }
+    ensures within { IsWithin text.now result }
+{
+    let Some((batch, end)) = number_at(text, from) else {
+        return Form::Other;
+    };
+    if has_fields(text, end, b"loops repeats idle removed added") {
+        Form::Accepted(batch)
+    } else if is_refusal(text, end) {
+        Form::Refused(batch)
+    } else {
+        Form::Other
+    }
+}
+
+fn direction_of(word: &[u8]) -> Option<bool>
+    ensures { result ≡ direction_of word.now }
+{
+    if is(word, b"insert") {
+        Some(true)
+    } else if is(word, b"delete") {
+        Some(false)
+    } else {
+        None
+    }
+}
+
+#[tactic(auto, unfolding(crate::specs::Kinds::direction_kind))]
+fn direction_form(text: &[u8], from: usize, phase: u32) -> Form
+    requires { from ≤ length text.now }
+    ensures kind { kind_told text.now result ≡ direction_kind phase (words (drop from text.now)) }
+    ensures within { IsWithin text.now result }
+{
+    let Some((start, end)) = next_word(text, from) else {
+        return Form::Other;
+    };
+    match direction_of(&text[start..end]) {
+        Some(add) if has_fields(text, end, b"quiet") => Form::Phase { phase, add },
+        _ => Form::Other,
+    }
+}
+
+fn phase_form(text: &[u8], from: usize) -> Form
+    requires { from ≤ length text.now }
+    ensures kind { kind_told text.now result ≡ phase_kind (first_number (words (drop from text.now))) }
+    ensures within { IsWithin text.now result }
+{
+    match number_at(text, from) {
+        Some((phase, end)) => direction_form(text, end, phase),
+        None => Form::Other,
+    }
+}
+
+fn group_form(text: &[u8], from: usize) -> Form
+    requires { from ≤ length text.now }
+    ensures kind { kind_told text.now result ≡ group_kind (first_number (words (drop from text.now))) }
+    ensures within { IsWithin text.now result }
+{
+    let Some((phase, end)) = number_at(text, from) else {
+        return Form::Other;
+    };
+    match number_at(text, end) {
+        Some((label, from)) => Form::Group { phase, label, from },
+        None => Form::Other,
+    }
+}
+
+fn reader_form(text: &[u8], from: usize) -> Form
+    requires { from ≤ length text.now }
+    ensures kind { kind_told text.now result ≡ reader_kind (first_number (words (drop from text.now))) }
+    ensures within { IsWithin text.now result }
+{
+    match number_at(text, from) {
+        Some((reader, from)) => Form::Reader { reader, from },
+        None => Form::Other,
+    }
+}
+
+fn vertex_form(text: &[u8], from: usize) -> Form
+    requires { from ≤ length text.now }
+    ensures kind { kind_told text.now result ≡ vertex_kind (first_number (words (drop from text.now))) }
+    ensures within { IsWithin text.now result }
+{
+    match number_at(text, from) {
+        Some((v, end)) if has_fields(text, end, b"level est low high up down") => Form::Vertex(v),
+        _ => Form::Other,
+    }
+}
+
+// What a line says that begins with this word and goes on at `from`. Group lines come first, since most lines are these.
+fn named_form(name: &[u8], text: &[u8], from: usize) -> Form
+    requires { from ≤ length text.now }
+    ensures kind { kind_told text.now result ≡ named_kind name.now (words (drop from text.now)) }
+    ensures within { IsWithin text.now result }
+{
+    if is(name, b"group") {
+        group_form(text, from)
+    } else if is(name, b"reader") {
+        reader_form(text, from)
+    } else if is(name, b"vertex") {
+        vertex_form(text, from)
+    } else if is(name, b"phase") {
+        phase_form(text, from)
+    } else if is(name, b"batch") {
+        batch_form(text, from)
+    } else if is(name, b"vertices") {
+        vertices_form(text, from)
+    } else if is(name, b"kcore-run") {
+        if is_version(text, from) {
+            Form::Head
+        } else {
+            Form::Other
+        }
+    } else if is(name, b"end") {
+        if is_at_end(text, from) {
+            Form::Close
+        } else {
+            Form::Other
+        }
+    } else {
+        Form::Other
+    }
+}
+
+#[tactic(auto, unfolding(crate::specs::Kinds::kind_of_words))]
+fn form_of_text(text: &[u8]) -> Form
+    ensures kind { kind_told text.now result ≡ kind_of_words (words text.now) }
+    ensures within { IsWithin text.now result }
+{
+    match next_word(text, 0) {
+        Some((start, end)) => named_form(&text[start..end], text, end),
+        None => Form::Other,
+    }
+}
+
+/// What a line says.
+pub fn form_of(line: &Line) -> Form
+    ensures kind { kind_told (text_of line.now.body) result ≡ kind_of line.now.body }
+    ensures within { IsWithin (text_of line.now.body) result }
+{
+    match &line.body {
+        Body::Text(text) => form_of_text(text.as_slice()),
+        Body::TooLong => Form::TooLong,
+        Body::Limit => Form::Limit,
+        Body::End => Form::InputEnd,
+    }
+}

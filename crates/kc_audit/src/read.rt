@@ -1,0 +1,144 @@
+//! Reading a run text.
+ghost use Rattle.std.specs.Prelude.{◌≡◌, IfOk};
+ghost use Rattle.kc_audit.specs.Kept.{kept_left};
+ghost use Rattle.kc_audit.specs.Runs.{IsAuditable};
+ghost use Rattle.kc_audit.specs.Documents.{empty_run, first_place, read_from, after_head, document_of};
+ghost use Rattle.kc_audit.specs.Reads.{Answers, AuditCause};
+ghost use Rattle.kc_audit.specs.declared.stage.Stage.TheVariants.{Batches};
+
+use crate::form::form_of;
+use crate::kept::{give_back, next_kept, text_of};
+use crate::stage::{PhasesLeft, Place, Stage, Turn, head_of, turn_at, vertices_of};
+use crate::{GroupLines, Readers, RunText};
+use kc_text::{LineFault, LineReader, Reason, Source};
+use std::alloc::{AllocError, Global};
+use thiserror::Error;
+
+/// Why there is no run text.
+#[derive(Drop, Debug, Error)]
+pub enum AuditFault {
+    /// A read of the source failed.
+    #[error("a read of the source failed")]
+    ReadFault,
+    /// The first line that doesn't fit, and why: `LineLong`, `BadLine`, `BadVertex`, `Truncated` or `InputLimit`.
+    #[error("the run text is refused at line {line}")]
+    Refused { line: u32, reason: Reason },
+    /// There was no memory for a line, a group or the replies of a reader.
+    #[error(transparent)]
+    Memory(AllocError),
+}
+
+impl From<LineFault> for AuditFault {
+    ghost use Rattle.kc_audit.specs.Reads.{fault_of};
+
+    ghost from_gives = { λ f s. s ≡ fault_of f };
+
+    fn from(fault: LineFault) -> AuditFault {
+        match fault {
+            LineFault::ReadFault => AuditFault::ReadFault,
+            LineFault::Memory(e) => AuditFault::Memory(e),
+        }
+    }
+}
+
+impl From<AllocError> for AuditFault {
+    ghost use Rattle.kc_audit.specs.declared.read.AuditFault.TheVariants.{Memory};
+
+    ghost from_gives = { λ e s. s ≡ Memory e };
+
+    fn from(fault: AllocError) -> AuditFault {
+        AuditFault::Memory(fault)
+    }
+}
+
+// Reads the lines after `vertices N`.
+fn read_lines<S: Source>(
+    alloc: Global,
+    reader: &mut LineReader,
+    src: &mut S,
+    n: u32,
+) -> Result<RunText, AuditFault>
+    ensures document { Answers (read_from (empty_run n) (Batches first_place)) (kept_left reader.old (S.left src.old)) result }
+    ensures sound { IfOk result IsAuditable }
+    ensures cause { AuditCause (S.faults src.old) (S.faults src.new) result }
+{
+    let mut run = RunText {
+        vertices: n,
+        groups: GroupLines::new(alloc),
+        readers: Readers::new(alloc),
+    };
+    let mut stage = Stage::Batches(Place {
+        batch: 0,
+        phase: 0,
+        left: PhasesLeft::NoPhase,
+    });
+    let mut members = Vec::new(alloc);
+    loop {
+        let line = next_kept(alloc, reader, src)?;
+        let number = line.number;
+        let form = form_of(&line);
+        match turn_at(alloc, &mut run, stage, form, text_of(&line), &mut members)? {
+            Turn::Go(next) => stage = next,
+            Turn::End => return Ok(run),
+            Turn::Stop(reason) => {
+                return Err(AuditFault::Refused {
+                    line: number,
+                    reason,
+                });
+            }
+        }
+        give_back(reader, line);
+    }
+}
+
+// Reads the line `vertices N` and those after it.
+fn read_vertices<S: Source>(
+    alloc: Global,
+    reader: &mut LineReader,
+    src: &mut S,
+) -> Result<RunText, AuditFault>
+    ensures document { Answers after_head (kept_left reader.old (S.left src.old)) result }
+    ensures sound { IfOk result IsAuditable }
+    ensures cause { AuditCause (S.faults src.old) (S.faults src.new) result }
+{
+    let line = next_kept(alloc, reader, src)?;
+    match vertices_of(form_of(&line)) {
+        Ok(n) => read_lines(alloc, reader, src, n),
+        Err(reason) => Err(AuditFault::Refused {
+            line: line.number,
+            reason,
+        }),
+    }
+}
+
+/// Reads a run text up to the end of the input, as `document_of` of `specs/Documents` says: `kcore-run 1`, `vertices N`, the
+/// lines of the batches with their phases and groups, a line for each reader, one for each vertex, and `end`. Empty lines and
+/// comments are skipped anywhere.
+///
+/// The run has the group lines and the replies; of the other numbers only those are looked at by which batches, phases,
+/// readers and vertices are counted. Whatever the source tells, it can be audited (`IsAuditable` of `specs/Runs`).
+///
+/// `Refused` tells the first line that doesn't fit and why. `BadVertex` is for a group or a reader line that would fit if it
+/// didn't name a vertex of N or more. `ReadFault` comes only where the source's count of faults rose, and `Memory` where there was
+/// none for a line, a group or the replies of a reader. After each of the three the reader isn't used again, since lines of the text are gone.
+///
+/// Cost: one pass over the bytes, and memory for the longest line, which is used again, beside 16 bytes for a group and 8 for
+/// each member and each reply.
+pub fn read_run<S: Source>(
+    alloc: Global,
+    reader: &mut LineReader,
+    src: &mut S,
+) -> Result<RunText, AuditFault>
+    ensures document { Answers document_of (kept_left reader.old (S.left src.old)) result }
+    ensures sound { IfOk result IsAuditable }
+    ensures cause { AuditCause (S.faults src.old) (S.faults src.new) result }
+{
+    let line = next_kept(alloc, reader, src)?;
+    match head_of(form_of(&line)) {
+        Ok(()) => read_vertices(alloc, reader, src),
+        Err(reason) => Err(AuditFault::Refused {
+            line: line.number,
+            reason,
+        }),
+    }
+}

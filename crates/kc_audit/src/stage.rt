@@ -1,0 +1,362 @@
+//! What a line does at its place in a run text.
+ghost use Rattle.std.specs.Prelude.{◌≡◌, ℕ, ◌<◌, ◌≤◌, List, length, drop, IfOk, OnOk};
+ghost use Rattle.kc_text.specs.Words.{words};
+ghost use Rattle.kc_audit.specs.Runs.{IsAuditable};
+ghost use Rattle.kc_audit.specs.Words.{pairs_of};
+ghost use Rattle.kc_audit.specs.Kinds.{kind_told, IsWithin};
+ghost use Rattle.kc_audit.specs.Documents.{misfit, head_of, vertices_of, is_next, left_after, batch_step, phase_step, rises_from, is_group, members_step, replies_step, reader_step, vertex_step, readers_step, batches_step, groups_step, vertices_step, closed_step, step_of, step_told};
+ghost use Rattle.kc_audit.specs.declared.run_text.RunText.{RunText};
+
+use crate::RunText;
+use crate::form::Form;
+use crate::run_text::are_below;
+use crate::words::read_pairs;
+use kc_history::{MAX_VERTICES, Replies, Reply};
+use kc_text::Reason;
+use std::alloc::{AllocError, Global};
+
+// The greatest number of readers.
+const MAX_READERS: u32 = 64;
+
+// The greatest number of replies of a reader, so that each has a number. No line is long enough for as many.
+const MAX_REPLIES: usize = 4_294_967_294;
+
+/// Which phase lines may still come in a batch.
+#[derive(Clone, Copy, Debug, PartialEq, Eq)]
+pub enum PhasesLeft {
+    NoPhase,
+    /// One that inserts.
+    Insertion,
+    /// One of either kind, or one that deletes and then one that inserts.
+    AnyPhase,
+}
+
+/// A place among the batches of a run.
+#[derive(Clone, Copy, Debug, PartialEq, Eq)]
+pub struct Place {
+    /// The number of the last batch, or 0.
+    pub batch: u32,
+    /// The number of the last phase, or 0.
+    pub phase: u32,
+    /// The phases that may follow in the last batch.
+    pub left: PhasesLeft,
+}
+
+/// Which lines may come.
+#[derive(Clone, Copy, Debug, PartialEq, Eq)]
+pub enum Stage {
+    /// After a batch line, or before the first.
+    Batches(Place),
+    /// After a phase line or one of its group lines; the next label is at least `low`.
+    Groups { place: Place, low: u32 },
+    /// After a reader line.
+    Readers,
+    /// After a vertex line; the next one is of vertex `next`.
+    VertexLines { next: u32 },
+    /// After `end`.
+    Closed,
+}
+
+/// What a line does.
+#[derive(Clone, Copy, Debug, PartialEq, Eq)]
+pub enum Turn {
+    /// It fits, and this may follow.
+    Go(Stage),
+    /// It ends the document.
+    End,
+    /// It doesn't fit.
+    Stop(Reason),
+}
+
+/// Why a line doesn't fit where one of another kind is due.
+pub fn misfit(form: Form) -> Reason
+    ensures { (text : List ℕ) → result ≡ misfit (kind_told text form) }
+{
+    match form {
+        Form::TooLong => Reason::LineLong,
+        Form::Limit => Reason::InputLimit,
+        Form::InputEnd => Reason::Truncated,
+        _ => Reason::BadLine,
+    }
+}
+
+/// Whether this is the line `kcore-run 1`, and why not.
+pub fn head_of(form: Form) -> Result<(), Reason>
+    ensures { (text : List ℕ) → result ≡ head_of (kind_told text form) }
+{
+    match form {
+        Form::Head => Ok(()),
+        _ => Err(misfit(form)),
+    }
+}
+
+/// The number of vertices, where this is the line `vertices N`, and why it isn't.
+pub fn vertices_of(form: Form) -> Result<u32, Reason>
+    ensures { (text : List ℕ) → result ≡ vertices_of (kind_told text form) }
+{
+    match form {
+        Form::Vertices(n) if 1 <= n && n <= MAX_VERTICES => Ok(n),
+        _ => Err(misfit(form)),
+    }
+}
+
+// Whether the number is the one after the last.
+fn is_next(last: u32, number: u32) -> bool
+    ensures { result ≡ is_next last number }
+{
+    u64::from(number) == u64::from(last) + 1
+}
+
+fn batch_turn(place: Place, batch: u32, left: PhasesLeft) -> Turn
+    ensures { (run : RunText) → batch_step run place batch left ≡ step_told run result }
+{
+    if is_next(place.batch, batch) {
+        Turn::Go(Stage::Batches(Place {
+            batch,
+            phase: place.phase,
+            left,
+        }))
+    } else {
+        Turn::Stop(Reason::BadLine)
+    }
+}
+
+fn left_after(left: PhasesLeft, add: bool) -> Option<PhasesLeft>
+    ensures { result ≡ left_after left add }
+{
+    match (left, add) {
+        (PhasesLeft::AnyPhase, false) => Some(PhasesLeft::Insertion),
+        (PhasesLeft::AnyPhase, true) => Some(PhasesLeft::NoPhase),
+        (PhasesLeft::Insertion, true) => Some(PhasesLeft::NoPhase),
+        (PhasesLeft::Insertion, false) => None,
+        (PhasesLeft::NoPhase, _) => None,
+    }
+}
+
+fn phase_turn(place: Place, phase: u32, add: bool) -> Turn
+    ensures { (run : RunText) → phase_step run place phase add ≡ step_told run result }
+{
+    if !is_next(place.phase, phase) {
+        return Turn::Stop(Reason::BadLine);
+    }
+    match left_after(place.left, add) {
+        Some(left) => Turn::Go(Stage::Groups {
+            place: Place {
+                batch: place.batch,
+                phase,
+                left,
+            },
+            low: 0,
+        }),
+        None => Turn::Stop(Reason::BadLine),
+    }
+}
+
+// Whether the vertices ascend strictly, from `low` on.
+fn rises_from(low: u32, members: &[Reply]) -> bool
+    ensures { result ≡ rises_from low members.now }
+{
+    let mut least = u64::from(low);
+    for member in members {
+        if u64::from(member.vertex) < least {
+            return false;
+        }
+        least = u64::from(member.vertex) + 1;
+    }
+    true
+}
+
+// Whether these may be the members of a group with this label.
+fn is_group(label: u32, members: &[Reply]) -> bool
+    ensures { result ≡ is_group label members.now }
+{
+    match members.first() {
+        Some(first) => first.vertex == label && rises_from(label, members),
+        None => false,
+    }
+}
+
+// Takes the members of a group line of the open phase. `members` is used for them.
+fn members_turn(
+    run: &mut RunText,
+    place: Place,
+    label: u32,
+    text: &[u8],
+    from: usize,
+    members: &mut Vec<Reply>,
+) -> Result<Turn, AllocError>
+    requires { from ≤ length text.now }
+    ensures step { IfOk result (λ turn. members_step run.old place label (pairs_of 58 (words (drop from text.now))) ≡ step_told run.new turn) }
+    ensures sound { IsAuditable run.old → OnOk result (IsAuditable run.new) }
+{
+    if !read_pairs(text, from, b':', members)? {
+        return Ok(Turn::Stop(Reason::BadLine));
+    }
+    if !is_group(label, members) {
+        return Ok(Turn::Stop(Reason::BadLine));
+    }
+    if !are_below(run.vertices, members) {
+        return Ok(Turn::Stop(Reason::BadVertex));
+    }
+    run.groups.push_members(place.phase, label, members)?;
+    Ok(Turn::Go(Stage::Groups {
+        place,
+        low: label + 1,
+    }))
+}
+
+// Takes the replies of a reader line.
+fn replies_turn(
+    alloc: Global,
+    run: &mut RunText,
+    text: &[u8],
+    from: usize,
+) -> Result<Turn, AllocError>
+    requires within { from ≤ length text.now }
+    requires few { length run.old.readers < 64 }
+    ensures step { IfOk result (λ turn. replies_step run.old (pairs_of 61 (words (drop from text.now))) ≡ step_told run.new turn) }
+    ensures sound { IsAuditable run.old → OnOk result (IsAuditable run.new) }
+{
+    let mut replies = Vec::new(alloc);
+    if !read_pairs(text, from, b'=', &mut replies)? || replies.is_empty() {
+        return Ok(Turn::Stop(Reason::BadLine));
+    }
+    if !are_below(run.vertices, &replies) {
+        return Ok(Turn::Stop(Reason::BadVertex));
+    }
+    if replies.len() > MAX_REPLIES {
+        return Err(AllocError);
+    }
+    run.readers.push(Replies::from_vec(replies))?;
+    Ok(Turn::Go(Stage::Readers))
+}
+
+fn reader_turn(
+    alloc: Global,
+    run: &mut RunText,
+    reader: u32,
+    text: &[u8],
+    from: usize,
+) -> Result<Turn, AllocError>
+    requires { from ≤ length text.now }
+    ensures step { IfOk result (λ turn. reader_step run.old reader (words (drop from text.now)) ≡ step_told run.new turn) }
+    ensures sound { IsAuditable run.old → OnOk result (IsAuditable run.new) }
+{
+    if reader as usize != run.readers.len() || reader >= MAX_READERS {
+        return Ok(Turn::Stop(Reason::BadLine));
+    }
+    replies_turn(alloc, run, text, from)
+}
+
+fn vertex_turn(run: &RunText, next: u32, v: u32) -> Turn
+    ensures { vertex_step run.now next v ≡ step_told run.now result }
+{
+    if v == next && v < run.vertices {
+        Turn::Go(Stage::VertexLines { next: v + 1 })
+    } else {
+        Turn::Stop(Reason::BadLine)
+    }
+}
+
+fn readers_turn(
+    alloc: Global,
+    run: &mut RunText,
+    form: Form,
+    text: &[u8],
+) -> Result<Turn, AllocError>
+    requires { IsWithin text.now form }
+    ensures step { IfOk result (λ turn. readers_step run.old (kind_told text.now form) ≡ step_told run.new turn) }
+    ensures sound { IsAuditable run.old → OnOk result (IsAuditable run.new) }
+{
+    match form {
+        Form::Reader { reader, from } => reader_turn(alloc, run, reader, text, from),
+        Form::Vertex(v) => Ok(vertex_turn(run, 0, v)),
+        _ => Ok(Turn::Stop(misfit(form))),
+    }
+}
+
+fn batches_turn(
+    alloc: Global,
+    run: &mut RunText,
+    place: Place,
+    form: Form,
+    text: &[u8],
+) -> Result<Turn, AllocError>
+    requires { IsWithin text.now form }
+    ensures step { IfOk result (λ turn. batches_step run.old place (kind_told text.now form) ≡ step_told run.new turn) }
+    ensures sound { IsAuditable run.old → OnOk result (IsAuditable run.new) }
+{
+    match form {
+        Form::Accepted(batch) => Ok(batch_turn(place, batch, PhasesLeft::AnyPhase)),
+        Form::Refused(batch) => Ok(batch_turn(place, batch, PhasesLeft::NoPhase)),
+        Form::Phase { phase, add } => Ok(phase_turn(place, phase, add)),
+        _ => readers_turn(alloc, run, form, text),
+    }
+}
+
+fn groups_turn(
+    alloc: Global,
+    run: &mut RunText,
+    place: Place,
+    low: u32,
+    form: Form,
+    text: &[u8],
+    members: &mut Vec<Reply>,
+) -> Result<Turn, AllocError>
+    requires { IsWithin text.now form }
+    ensures step { IfOk result (λ turn. groups_step run.old place low (kind_told text.now form) ≡ step_told run.new turn) }
+    ensures sound { IsAuditable run.old → OnOk result (IsAuditable run.new) }
+{
+    match form {
+        Form::Group { phase, label, from } => {
+            if phase == place.phase && low <= label {
+                members_turn(run, place, label, text, from, members)
+            } else {
+                Ok(Turn::Stop(Reason::BadLine))
+            }
+        }
+        _ => batches_turn(alloc, run, place, form, text),
+    }
+}
+
+fn vertices_turn(run: &RunText, next: u32, form: Form) -> Turn
+    ensures { (text : List ℕ) → vertices_step run.now next (kind_told text form) ≡ step_told run.now result }
+{
+    match form {
+        Form::Vertex(v) => vertex_turn(run, next, v),
+        Form::Close if next == run.vertices => Turn::Go(Stage::Closed),
+        _ => Turn::Stop(misfit(form)),
+    }
+}
+
+fn closed_turn(run: &RunText, form: Form) -> Turn
+    ensures { (text : List ℕ) → closed_step run.now (kind_told text form) ≡ step_told run.now result }
+{
+    match form {
+        Form::InputEnd => Turn::End,
+        _ => Turn::Stop(misfit(form)),
+    }
+}
+
+/// Takes a line of this form, whose bytes are `text`: it may add a group or a reader to the run. `members` is used for the
+/// members of a group line. After a refusal the run isn't used again.
+pub fn turn_at(
+    alloc: Global,
+    run: &mut RunText,
+    stage: Stage,
+    form: Form,
+    text: &[u8],
+    members: &mut Vec<Reply>,
+) -> Result<Turn, AllocError>
+    requires { IsWithin text.now form }
+    ensures step { IfOk result (λ turn. step_of run.old stage (kind_told text.now form) ≡ step_told run.new turn) }
+    ensures sound { IsAuditable run.old → OnOk result (IsAuditable run.new) }
+{
+    match stage {
+        Stage::Batches(place) => batches_turn(alloc, run, place, form, text),
+        Stage::Groups { place, low } => groups_turn(alloc, run, place, low, form, text, members),
+        Stage::Readers => readers_turn(alloc, run, form, text),
+        Stage::VertexLines { next } => Ok(vertices_turn(run, next, form)),
+        Stage::Closed => Ok(closed_turn(run, form)),
+    }
+}
