@@ -26,4 +26,6 @@ pub use verdict::AuditVerdict;
 pub use walk::audit;
 
 #[cfg(test)]
-mod tests;
+mod audit_tests;
+#[cfg(test)]
+mod read_tests;

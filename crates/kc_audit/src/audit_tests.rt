@@ -1,47 +1,37 @@
 //! Runs whose verdicts were worked out by hand, and small runs against a plain search over all points.
 ghost use Rattle.std.specs.Prelude.{◌<◌};
 
+use crate::words::read_pairs;
 use crate::{AuditVerdict, GroupLine, GroupLines, Readers, RunText, audit};
 use kc_history::{Replies, Reply};
 use std::alloc::{AllocError, Global};
 use std::test::Fail;
 
-// Pairs of a vertex and a level.
-type Pairs = &'static [(u32, u16)];
-
-fn replies_of(alloc: Global, pairs: Pairs) -> Result<Replies, AllocError> {
+// The pairs of words as `4:1`.
+fn replies_of(alloc: Global, words: &[u8]) -> Result<Replies, AllocError> {
     let mut replies = Vec::new(alloc);
-    for (vertex, level) in pairs {
-        replies.push(Reply {
-            vertex: *vertex,
-            level: *level,
-        })?;
-    }
+    read_pairs(words, 0, b':', &mut replies)?;
     Ok(Replies::from_vec(replies))
 }
 
-// A run of six vertices with these groups, in phases of their own, and these readers.
-fn run_of(alloc: Global, groups: &[Pairs], readers: &[Pairs]) -> Result<RunText, AllocError> {
+// A run of ten vertices with these groups, one in a phase, and these readers. A `/` stands between two of them.
+fn run_of(alloc: Global, groups: &[u8], readers: &[u8]) -> Result<RunText, AllocError> {
     let mut run = RunText {
-        vertices: 6,
+        vertices: 10,
         groups: GroupLines::new(alloc),
         readers: Readers::new(alloc),
     };
     let mut phase = 0u32;
-    for pairs in groups {
+    for words in groups.split(|b| *b == b'/') {
         phase = phase.saturating_add(1);
-        let label = match pairs.first() {
-            Some((vertex, _)) => *vertex,
-            None => 0,
-        };
         run.groups.push(&GroupLine {
             phase,
-            label,
-            members: replies_of(alloc, pairs)?,
+            label: 5,
+            members: replies_of(alloc, words)?,
         })?;
     }
-    for pairs in readers {
-        run.readers.push(replies_of(alloc, pairs)?)?;
+    for words in readers.split(|b| *b == b'/') {
+        run.readers.push(replies_of(alloc, words)?)?;
     }
     Ok(run)
 }
@@ -53,65 +43,34 @@ const fn unexplained(reader: u32, ask: u32) -> AuditVerdict {
 }
 
 // Two groups, and four that move vertex 0 up and down.
-const TWO: &'static [Pairs] = &[&[(0, 1), (1, 1)], &[(2, 1), (3, 1)]];
+const TWO: &'static [u8] = b"0:1 1:1/2:1 3:1";
 
-const BACK: &'static [Pairs] = &[&[(0, 1), (1, 1)], &[(0, 2)], &[(0, 1), (3, 1)], &[(0, 0)]];
+const BACK: &'static [u8] = b"0:1 1:1/0:2/0:1 3:1/0:0";
 
 // Groups, readers, and the verdict.
-type Row = (&'static [Pairs], &'static [Pairs], AuditVerdict);
+type Row = (&'static [u8], &'static [u8], AuditVerdict);
 
 #[test]
 fn verdicts(rt: HostRuntime) -> Result<(), Fail> {
-    let rows: [Row; 16] = [
-        (&[], &[], EXPLAINED),
-        (&[], &[&[]], EXPLAINED),
-        (&[], &[&[(5, 0)], &[(5, 1)]], unexplained(1, 1)),
-        (TWO, &[&[(0, 1), (1, 0)]], unexplained(0, 2)),
-        (TWO, &[&[(0, 0), (3, 0), (1, 1), (3, 1)]], EXPLAINED),
-        (TWO, &[&[(0, 0), (1, 1)]], EXPLAINED),
-        (
-            TWO,
-            &[&[(0, 0), (0, 0), (1, 1), (2, 0), (2, 1), (0, 1)]],
-            EXPLAINED,
-        ),
-        (TWO, &[&[(2, 1), (0, 0)]], unexplained(0, 2)),
-        (TWO, &[&[(4, 0), (5, 0), (4, 1)]], unexplained(0, 3)),
-        (TWO, &[&[(0, 2)]], unexplained(0, 1)),
-        (
-            TWO,
-            &[&[(1, 1), (1, 1)], &[(3, 1)], &[(3, 1), (1, 0)], &[(9, 9)]],
-            unexplained(2, 2),
-        ),
-        (
-            BACK,
-            &[&[(0, 0), (0, 1), (0, 2), (0, 1), (0, 0)]],
-            EXPLAINED,
-        ),
-        (
-            BACK,
-            &[&[(0, 0), (0, 2), (3, 0), (0, 0), (0, 1)]],
-            unexplained(0, 5),
-        ),
-        (BACK, &[&[(3, 1), (0, 2)]], unexplained(0, 2)),
-        (
-            BACK,
-            &[
-                &[(0, 2)],
-                &[(0, 2), (3, 0)],
-                &[(3, 1)],
-                &[(0, 2), (0, 2), (0, 1), (3, 0)],
-            ],
-            unexplained(3, 4),
-        ),
-        (
-            &[&[(0, 1), (0, 2)]],
-            &[&[(0, 2)], &[(0, 1)]],
-            unexplained(1, 1),
-        ),
+    let rows: [Row; 15] = [
+        (b"", b"", EXPLAINED),
+        (b"", b"5:0/5:1", unexplained(1, 1)),
+        (TWO, b"0:1 1:0", unexplained(0, 2)),
+        (TWO, b"0:0 3:0 1:1 3:1", EXPLAINED),
+        (TWO, b"0:0 1:1", EXPLAINED),
+        (TWO, b"0:0 0:0 1:1 2:0 2:1 0:1", EXPLAINED),
+        (TWO, b"2:1 0:0", unexplained(0, 2)),
+        (TWO, b"4:0 5:0 4:1", unexplained(0, 3)),
+        (TWO, b"0:2", unexplained(0, 1)),
+        (TWO, b"1:1 1:1//3:1 1:0/9:9", unexplained(2, 2)),
+        (BACK, b"0:0 0:1 0:2 0:1 0:0", EXPLAINED),
+        (BACK, b"0:0 0:2 3:0 0:0 0:1", unexplained(0, 5)),
+        (BACK, b"3:1 0:2", unexplained(0, 2)),
+        (BACK, b"0:2/0:2 3:0/3:1/0:2 0:2 0:1 3:0", unexplained(3, 4)),
+        (b"0:1 0:2", b"0:2/0:1", unexplained(1, 1)),
     ];
     for (groups, readers, want) in rows {
-        let mut run = run_of(rt.alloc(), groups, readers)?;
-        run.vertices = 10;
+        let run = run_of(rt.alloc(), groups, readers)?;
         assert!(rt; run.is_auditable());
         assert_eq!(rt; audit(rt.alloc(), &run)?, want, "at {readers:?}");
     }
@@ -120,31 +79,22 @@ fn verdicts(rt: HostRuntime) -> Result<(), Fail> {
 
 #[test]
 fn group_lines(rt: HostRuntime) -> Result<(), Fail> {
-    let mut run = run_of(
-        rt.alloc(),
-        &[&[(0, 1), (1, 1)], &[], &[(3, 2)]],
-        &[&[(0, 1)]],
-    )?;
+    let mut run = run_of(rt.alloc(), b"0:1 1:1//3:2", b"0:1")?;
     assert!(rt; !run.groups.is_empty() && !run.readers.is_empty());
     assert!(rt; run.groups.len() == 3 && run.readers.len() == 1);
     assert_eq!(rt; run.groups.phase(2), 3);
-    assert_eq!(rt; run.groups.label(2), 3);
-    assert_eq!(rt;
-        run.groups.members(0),
-        replies_of(rt.alloc(), &[(0, 1), (1, 1)])?.as_slice()
-    );
-    assert_eq!(rt; run.groups.members(1), [].as_slice());
-    assert_eq!(rt;
-        run.groups.members(2),
-        replies_of(rt.alloc(), &[(3, 2)])?.as_slice()
-    );
+    assert_eq!(rt; run.groups.label(2), 5);
+    for (i, words) in [(0, b"0:1 1:1".as_slice()), (1, b""), (2, b"3:2")] {
+        assert!(rt; i < run.groups.len());
+        let members = replies_of(rt.alloc(), words)?;
+        assert_eq!(rt; run.groups.members(i), members.as_slice());
+    }
     for (vertices, want) in [(6, true), (4, true), (3, false), (1, false)] {
         run.vertices = vertices;
         assert_eq!(rt; run.is_auditable(), want);
     }
     run.groups = GroupLines::new(rt.alloc());
-    run.readers
-        .push(replies_of(rt.alloc(), &[(0, 0), (1, 0)])?)?;
+    run.readers.push(replies_of(rt.alloc(), b"0:0 1:0")?)?;
     assert!(rt; run.groups.is_empty() && !run.is_auditable());
     run.readers = Readers::new(rt.alloc());
     assert!(rt; run.readers.is_empty() && run.is_auditable());
