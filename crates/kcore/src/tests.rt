@@ -2,6 +2,7 @@
 ghost use Rattle.std.specs.Prelude.{◌<◌};
 
 mod comparing;
+mod hostile;
 mod pieces;
 mod recounting;
 
