@@ -1,3 +1,4 @@
 pub mod Counted
 pub mod Moving
 pub mod Linking
+pub mod Marks

@@ -1,3 +1,4 @@
 pub mod LeveledGraph
 pub mod Moving
 pub mod Linking
+pub mod LevelLists

@@ -1,4 +1,4 @@
-ghost use Rattle.std.specs.Prelude.{◌≡◌, ◌<◌, ◌≤◌, ◌↔◌, IsTrue, length, slice_index};
+ghost use Rattle.std.specs.Prelude.{◌≡◌, ◌<◌, ◌≤◌, ◌↔◌, ℕ, IsTrue, length, slice_index};
 ghost use Rattle.kc_levels.specs.Thresholds.{top_level};
 ghost use Rattle.kc_levels.specs.LevelList.{IsHeld, IsDesired};
 
@@ -17,21 +17,56 @@ fn is_held(graph: &Graph, levels: &Levels, th: &Thresholds, v: u32, level: u16) 
     th.low(th.group(level - 1)) <= at_least(graph, levels, v, level - 1)
 }
 
-/// The greatest level up to its own on which v is held: one pass over its neighbours for each halving of the levels.
-pub fn desired(graph: &Graph, levels: &Levels, th: &Thresholds, v: u32) -> u16
+/// A level above which v isn't held, up to its own: `guess`, or `most` where that is less or v is held above the guess. It isn't
+/// held above `most`.
+///
+/// One pass over the neighbours of v.
+pub fn bound_near(
+    graph: &Graph,
+    levels: &Levels,
+    th: &Thresholds,
+    v: u32,
+    most: u16,
+    guess: u16,
+) -> u16
     requires vertex { v < graph.now.vertices }
     requires sized { length levels.now ≡ graph.now.vertices }
     requires scale { th.now.vertices ≡ graph.now.vertices }
     requires capped { slice_index levels.now v ≤ top_level th.now.profile th.now.vertices }
+    requires under { most ≤ slice_index levels.now v }
+    requires above { (k : ℕ) → most < k → k ≤ slice_index levels.now v → ¬ (IsHeld th.now.profile graph.now levels.now v k) }
+    ensures under { result ≤ slice_index levels.now v }
+    ensures above { (k : ℕ) → result < k → k ≤ slice_index levels.now v → ¬ (IsHeld th.now.profile graph.now levels.now v k) }
+{
+    if guess < most && !is_held(graph, levels, th, v, guess + 1) {
+        guess
+    } else {
+        most
+    }
+}
+
+/// The greatest level up to its own on which v is held; it isn't held above `most`.
+///
+/// It is looked for from `most` down, in steps twice as long each time, and then between the last two: one pass over the neighbours
+/// of v where it is `most`, and else about two for each doubling of the distance.
+pub fn desired_below(graph: &Graph, levels: &Levels, th: &Thresholds, v: u32, most: u16) -> u16
+    requires vertex { v < graph.now.vertices }
+    requires sized { length levels.now ≡ graph.now.vertices }
+    requires scale { th.now.vertices ≡ graph.now.vertices }
+    requires capped { slice_index levels.now v ≤ top_level th.now.profile th.now.vertices }
+    requires under { most ≤ slice_index levels.now v }
+    requires above { (k : ℕ) → most < k → k ≤ slice_index levels.now v → ¬ (IsHeld th.now.profile graph.now levels.now v k) }
     ensures { IsDesired th.now.profile graph.now levels.now v result }
 {
     let mut least = 0;
-    let mut most = levels.get(v);
+    let mut most = most;
+    let mut step = 0;
     while least < most {
-        let middle = most - (most - least) / 2;
+        let middle = most - step.min((most - least) / 2);
         if is_held(graph, levels, th, v, middle) {
             least = middle;
         } else {
+            step = 2 * (most - middle) + 1;
             most = middle - 1;
         }
     }

@@ -128,8 +128,8 @@ impl LevelAdj {
     ///
     /// The thresholds are for this number of vertices, and the level of `v` is at most their top. Takes no memory.
     ///
-    /// Costs O(1) where `v` can stay on its level. Else one pass over its neighbours for each halving of the levels up to
-    /// its own, so at most 12.
+    /// Costs O(1) where `v` can stay on its level. Else one pass over its neighbours where it can stand on the next level below, and
+    /// about two more for each doubling of the number of levels that it would fall, at most 24.
     pub fn desired(&self, th: &Thresholds, v: u32) -> u16
         requires vertex { v < self.now.graph.vertices }
         requires scale { th.now.vertices ≡ self.now.graph.vertices }
@@ -139,7 +139,26 @@ impl LevelAdj {
         if self.meets_lower(th, v) {
             return self.level(v);
         }
-        desired::desired(&self.graph, &self.levels, th, v)
+        let most = self.level(v) - 1;
+        desired::desired_below(&self.graph, &self.levels, th, v, most)
+    }
+
+    /// What `desired` gives, for who has a guess at it: any guess will do. Takes no memory.
+    ///
+    /// Costs O(1) where `v` can stay on its level. Else two passes over its neighbours where the guess is right, and about two more
+    /// for each doubling of the number of levels by which it is too high.
+    pub fn desired_near(&self, th: &Thresholds, v: u32, guess: u16) -> u16
+        requires vertex { v < self.now.graph.vertices }
+        requires scale { th.now.vertices ≡ self.now.graph.vertices }
+        requires capped { slice_index self.now.levels v ≤ top_level th.now.profile th.now.vertices }
+        ensures { IsDesired th.now.profile self.now.graph self.now.levels v result }
+    {
+        if self.meets_lower(th, v) {
+            return self.level(v);
+        }
+        let most = self.level(v) - 1;
+        let near = desired::bound_near(&self.graph, &self.levels, th, v, most, guess);
+        desired::desired_below(&self.graph, &self.levels, th, v, near)
     }
 
     /// Puts in an edge that is not there (`with_edge`); fewer than `MAX_EDGES` edges may be there. Levels stay.

@@ -2,17 +2,19 @@
 //! level or above, and how many on the level below or above. So nothing is counted anew when levels change.
 //!
 //! [`LevelAdj`] is the graph with its levels. Its changing calls count their steps in a [`Steps`], which costs nothing when
-//! the program runs. `specs/` has the definitions: read `LeveledGraph` first.
+//! the program runs. [`LevelLists`] has a list of items for each level, for sweeps from level to level. `specs/` has the definitions: read `LeveledGraph` first.
 #![tactic(auto)]
 
 mod counts;
 mod desired;
 mod level_adj;
+mod level_lists;
 mod links;
 mod moves;
 mod steps;
 
 pub use level_adj::LevelAdj;
+pub use level_lists::LevelLists;
 pub use steps::Steps;
 
 #[cfg(test)]

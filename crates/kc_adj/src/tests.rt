@@ -1,6 +1,6 @@
 ghost use Rattle.std.specs.Prelude.{◌≡◌, ◌<◌, true};
 
-use crate::{LevelAdj, Steps};
+use crate::{LevelAdj, LevelLists, Steps};
 use kc_graph::{Edge, MAX_EDGES};
 use kc_levels::{Profile, Thresholds, at_least};
 use std::alloc::Global;
@@ -189,6 +189,13 @@ fn check_vertex(
     assert_eq!(rt; adj.at_least_below(v), below, "below {v}");
     assert!(rt; th.top() == 6 && level <= 6);
     assert_eq!(rt; adj.desired(th, v), desired, "desired of {v}");
+    for guess in [0, desired, 6, 65535] {
+        assert_eq!(rt;
+            adj.desired_near(th, v, guess),
+            desired,
+            "desired of {v} near {guess}"
+        );
+    }
 }
 
 fn check<L: Ledger>(rt: &impl Abort, alloc: Global, case: &Case, blank: Blank) -> Result<(), Fail>
@@ -241,6 +248,34 @@ fn check_link<L: Ledger>(rt: &impl Abort, alloc: Global, blank: Blank) -> Result
 #[test]
 fn an_edge_comes_in_whole_or_not_at_all(rt: HostRuntime) -> Result<(), Fail> {
     check_link::<Brand>(&rt, rt.alloc(), Blank::new(1))
+}
+
+// Lists are made up to a level, and levels without items are passed over, also past the levels that share a mark.
+#[test]
+fn items_by_level(rt: HostRuntime) -> Result<(), Fail> {
+    let mut lists = LevelLists::new(rt.alloc(), 1)?;
+    lists.reach(rt.alloc(), 200)?;
+    assert!(&rt; lists.count() == 201);
+    assert_eq!(&rt; lists.next(0), 201);
+    for level in [70, 3, 200, 70] {
+        assert!(&rt; level < lists.count());
+        lists.file(level, level as u32 + 1)?;
+    }
+    lists.reach(rt.alloc(), 130)?;
+    assert!(&rt; lists.count() == 201);
+    for (from, next) in [(0, 3), (3, 3), (4, 70), (70, 70), (71, 200), (201, 201)] {
+        assert_eq!(&rt; lists.next(from), next);
+    }
+    assert_eq!(&rt; lists.on(70), [71u32, 71].as_slice());
+    assert_eq!(&rt;
+        lists.take_all(rt.alloc(), 70).as_slice(),
+        [71u32, 71].as_slice()
+    );
+    assert_eq!(&rt; lists.next(4), 200);
+    lists.clear(rt.alloc());
+    assert!(&rt; lists.count() == 201);
+    assert_eq!(&rt; lists.next(0), 201);
+    Ok(())
 }
 
 // A thread may be given it, and several threads may read it at once.

@@ -1,14 +1,15 @@
 -- Vertices that wait, filed by level.
-use Rattle.std.proofs.Common.{Option, Some, None, is_some, IfNone, ℕ, suc, zero, ◌+◌, ◌-◌, ◌≤◌, ◌<◌, ◌≡◌, ◌≢◌, inl, inr, Bool, true, false, not, eqb, ltb, ◌||◌, ◌&&◌, filter, List, [], ◌∷◌, ◌++◌, length, get_or, set, take, refl, ap, sym, ◌∙◌, arith, subst}
-use Rattle.std.proofs.lemmas.Bool.{cases_eq, cases_Bool, true≢false}
+use Rattle.std.proofs.Common.{Option, Some, None, is_some, IfNone, ℕ, suc, zero, ◌+◌, ◌-◌, ◌≤◌, ◌<◌, ◌≡◌, ◌≢◌, inl, inr, Bool, true, false, not, eqb, ltb, ◌||◌, ◌&&◌, filter, List, [], ◌∷◌, ◌++◌, length, get_or, set, take, replicate, refl, ap, sym, ◌∙◌, arith, subst}
+use Rattle.std.proofs.lemmas.Bool.{cases_eq, cases_lt, cases_Bool, true≢false}
 use Rattle.std.proofs.lemmas.Bool.Decides.{nat_tests}
-use Rattle.std.proofs.lemmas.List.{length-set, get_or-set_same, get_or-set_other, take_more}
+use Rattle.std.proofs.lemmas.List.{length-replicate, length-set, get_or-set_same, get_or-set_other, take_more}
 use Rattle.kc_graph.specs.Numbers.{has_number}
 use Rattle.kc_graph.specs.Shape.{GraphShape}
 use Rattle.kc_graph.proofs.NumberLemmas.{has_number-push, has_number_at}
 use Rattle.kc_levels.specs.declared.profile.Profile.{Profile}
 use Rattle.kc_levels.specs.Thresholds.{low, group_of}
 use Rattle.kc_levels.specs.LevelList.{at_least, IsHeld, MeetsLower}
+use Rattle.kc_adj.proofs.Marks.{empty_list}
 use Rattle.kc_delete.specs.Waiting.{AreFiled, IsSifted}
 use Rattle.kc_delete.specs.Settling.{is_short}
 
@@ -19,16 +20,10 @@ has_number-filter u p (x ∷ xs) = elim (cases_eq x u) [
   | inr ne ↦ grind (arith, nat_tests, has_number-filter u p xs, ne)
 ]
 
--- one more empty bucket
-pub get_or-push_empty : (bs : List (List ℕ)) (k : ℕ) → get_or (bs ++ [] ∷ []) k [] ≡ get_or bs k []
-get_or-push_empty [] zero = refl
-get_or-push_empty [] (suc k) = refl
-get_or-push_empty (b ∷ bs) zero = refl
-get_or-push_empty (b ∷ bs) (suc k) = get_or-push_empty bs k
-
 -- more buckets with the same vertices
 pub filed_reached : (first : ℕ) (bs cs : List (List ℕ)) (round : List ℕ) (waits : List Bool) → AreFiled first bs round waits → length bs ≤ length cs → ((k : ℕ) → get_or cs k [] ≡ get_or bs k []) → AreFiled first cs round waits
 filed_reached first bs cs round waits f longer same = record {
+  start = omega (arith, f.start, longer);
   below = λ k v there. f.below k v (sym (ap (has_number v) (same k)) ∙ there);
   inside = f.inside;
   filed = λ v marked. elim (f.filed v marked) [
@@ -40,6 +35,7 @@ filed_reached first bs cs round waits f longer same = record {
 -- v waits, in the bucket of the level l
 pub filed_more : (first m l v : ℕ) (bs : List (List ℕ)) (round : List ℕ) (waits : List Bool) → AreFiled first bs round waits → m ≤ first → m ≤ l → l < length bs → v < length waits → AreFiled m (set bs l (get_or bs l [] ++ v ∷ [])) round (set waits v true)
 filed_more first m l v bs round waits f under_first under_level inside vertex = record {
+  start = omega (arith, f.start, under_first, length-set bs l (get_or bs l [] ++ v ∷ []));
   inside = λ u there. omega (arith, length-set waits v true, f.inside u there);
   below = λ k u there. elim (cases_eq k l) [
     | inl e ↦
@@ -82,6 +78,7 @@ filed_more first m l v bs round waits f under_first under_level inside vertex = 
 -- fewer wait, and those of them who were in the round are still
 pub filed_fewer : (first : ℕ) (bs : List (List ℕ)) (round rest : List ℕ) (before after : List Bool) → AreFiled first bs round before → length after ≡ length before → ((v : ℕ) → has_number v rest ≡ true → has_number v round ≡ true) → ((v : ℕ) → get_or after v false ≡ true → (get_or before v false ≡ true) × (has_number v round ≡ true → has_number v rest ≡ true)) → AreFiled first bs rest after
 filed_fewer first bs round rest before after f same less fewer = record {
+  start = f.start;
   below = λ k v there. omega (arith, same, f.below k v there);
   inside = λ v there. omega (arith, same, f.inside v (less v there));
   filed = λ v marked. elim (f.filed v (fewer v marked).0) [
@@ -95,9 +92,25 @@ pub filed_ended : (first : ℕ) (bs : List (List ℕ)) (round rest : List ℕ) (
 filed_ended first bs round rest before after f same none still = filed_fewer first bs round [] before after f (ap (λ (bs : List Bool). length bs) same) (λ v there. absurd (true≢false (sym there)))
     (λ v marked. (ap (λ (bs : List Bool). get_or bs v false) (sym same) ∙ marked, λ here. ap (has_number v) (sym none) ∙ still v marked here))
 
+-- on the levels before a further one nobody is filed
+pub filed_on : (first level : ℕ) (bs : List (List ℕ)) (round : List ℕ) (waits : List Bool) → level ≤ length bs → ((k : ℕ) → first ≤ k → k < level → get_or bs k [] ≡ []) → AreFiled first bs round waits → AreFiled level bs round waits
+filed_on first level bs round waits inside none f = record {
+  start = inside;
+  below = f.below;
+  inside = f.inside;
+  filed = λ v marked. elim (f.filed v marked) [
+    | inl here ↦ inl here
+    | inr i ↦ elim (cases_lt i.level level) [
+      | inl before ↦ absurd (true≢false (sym i.there ∙ ap (has_number v) (none i.level i.from before)))
+      | inr from ↦ inr (record { level = i.level; from = from; inside = i.inside; there = i.there })
+    ]
+  ];
+}
+
 -- the bucket of the least level becomes the round
 pub filed_round : (first : ℕ) (bs cs : List (List ℕ)) (round : List ℕ) (waits : List Bool) → first < length bs → round ≡ get_or bs first [] → cs ≡ set bs first [] → AreFiled first bs [] waits → AreFiled (first + 1) cs round waits
 filed_round first bs cs round waits inside are left f = rw left (record {
+  start = omega (arith, inside, length-set bs first []);
   below = λ k v there. elim (cases_eq k first) [
     | inl e ↦ absurd (true≢false (sym there ∙ ap (λ j. has_number v (get_or (set bs first []) j [])) e ∙ ap (has_number v) (get_or-set_same bs first [] [] inside)))
     | inr ne ↦ f.below k v (ap (has_number v) (sym (get_or-set_other bs first k [] [] ne)) ∙ there)
@@ -121,6 +134,15 @@ filed_last first bs round waits f none last v = elim (cases_Bool (get_or waits v
   ]
   | inr free ↦ free
 ]
+
+-- nobody waits
+pub filed_none : (first : ℕ) (bs : List (List ℕ)) (waits : List Bool) → first ≤ length bs → ((v : ℕ) → get_or waits v false ≡ false) → AreFiled first (replicate (length bs) []) [] waits
+filed_none first bs waits inside none = record {
+  start = omega (arith, inside, length-replicate {A = List ℕ} (length bs) []);
+  below = λ k v there. absurd (true≢false (sym there ∙ ap (has_number v) (empty_list (length bs) k)));
+  inside = λ v there. absurd (true≢false (sym there));
+  filed = λ v marked. absurd (true≢false (sym marked ∙ none v));
+}
 
 -- the vertices of a round are within the marks
 pub round_inside : (first : ℕ) (bs : List (List ℕ)) (round : List ℕ) (waits : List Bool) → AreFiled first bs round waits → (k : ℕ) → k < length round → get_or round k 0 < length waits

@@ -12,8 +12,9 @@ pub record IsFiled (first : ℕ) (buckets : List (List ℕ)) (v : ℕ) : Type 0 
   pub inside : level < length buckets
   pub there : has_number v (get_or buckets level []) ≡ true
 
--- what is filed or in the round are vertices, and each that waits is in the round or filed under a level of at least `first`
+-- there are lists below the level `first`; what is filed or in the round are vertices, and each that waits is in the round or filed under a level of at least `first`
 pub record AreFiled (first : ℕ) (buckets : List (List ℕ)) (round : List ℕ) (waits : List Bool) : Type 0 where
+  pub start : first ≤ length buckets
   pub below : (level v : ℕ) → has_number v (get_or buckets level []) ≡ true → v < length waits
   pub inside : (v : ℕ) → has_number v round ≡ true → v < length waits
   pub filed : (v : ℕ) → get_or waits v false ≡ true → (has_number v round ≡ true) ⊎ IsFiled first buckets v

@@ -7,7 +7,6 @@
 //! What the levels are afterwards is `IsLowered` of `kc_levels`.
 #![tactic(auto)]
 
-mod buckets;
 mod fallen;
 mod rounds;
 mod settling;

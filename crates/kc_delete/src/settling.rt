@@ -35,6 +35,7 @@ pub fn add_if_short(
     ensures still { OnOk result (StillWait waiting.old waiting.new) }
     ensures looked { OnOk result (WaitsOrMeets th.now.profile adj.now.graph adj.now.levels waiting.new v) }
 {
+    let _top = th.top();
     if is_short(adj, th, v) && !waiting.has(v) {
         waiting.add(v, adj.desired(th, v))?;
     }
@@ -105,7 +106,7 @@ pub fn settle<R: Threads + Sync, G: Gate + Sync, L: Ledger>(
 {
     while let Some(v) = waiting.next(rounds, first, adj, th)? {
         let from = adj.level(v);
-        let to = adj.desired(th, v);
+        let to = adj.desired_near(th, v, waiting.level());
         if to < from {
             fallen.note(v, from)?;
             adj.fall(v, to, steps);

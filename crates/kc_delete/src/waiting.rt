@@ -3,9 +3,8 @@ ghost use Rattle.kc_graph.specs.Numbers.{has_number};
 ghost use Rattle.kc_levels.specs.LevelList.{IsCapped};
 ghost use Rattle.kc_delete.specs.Waiting.{AreFiled, IsSifted, IsTaken};
 
-use crate::buckets::{Bucket, put, reach, take_all};
 use crate::short::Short;
-use kc_adj::LevelAdj;
+use kc_adj::{LevelAdj, LevelLists};
 use kc_levels::Thresholds;
 use kc_rounds::{FirstRound, Gate, Rounds};
 use std::alloc::{AllocError, Global};
@@ -14,16 +13,18 @@ use std::thread::Threads;
 
 /// Vertices that wait to be looked at, each filed under a level. Those of the least level are the next round.
 ///
-/// Contracts see it as a list of marks: for each vertex whether it waits. Buckets are made up to the greatest level that a
-/// vertex was filed under. Who lets no vertex wait that waits already has each in one bucket at most, or in the round.
+/// Contracts see it as a list of marks: for each vertex whether it waits. Lists are made up to the greatest level that a
+/// vertex was filed under. Who lets no vertex wait that waits already has each in one list at most, or in the round.
 #[derive(Drop)]
 pub struct Waiting {
     // for each level the vertices that are filed under it
-    buckets: Vec<Bucket>,
+    filed: LevelLists<u32>,
     // no vertex that waits is filed under a lower level
-    first: usize,
+    first: u16,
     // what is left of the round that is under way
     round: Vec<u32>,
+    // the level under which those of the round were filed
+    level: u16,
     // for each vertex whether it waits
     marks: Vec<bool>,
     alloc: Global,
@@ -37,7 +38,7 @@ impl Model for Waiting {
 
     ghost view = { λ w. w.marks.items };
 
-    ghost invariant = { λ w. AreFiled w.first w.buckets.items w.round.items w.marks.items };
+    ghost invariant = { λ w. AreFiled w.first w.filed w.round.items w.marks.items };
 }
 
 // Takes the last vertex of a round that waits still. Afterwards it doesn't wait.
@@ -61,19 +62,20 @@ fn take_from(round: &mut Vec<u32>, marks: &mut Vec<bool>) -> Option<u32>
 }
 
 // Takes the vertices of the least level that has some, from `first` on, or none where no level has any.
-fn take_least(alloc: Global, buckets: &mut Vec<Bucket>, first: &mut usize) -> Vec<u32>
-    ensures filed { (waits : List Bool) → AreFiled first.old buckets.old.items [] waits → AreFiled first.new buckets.new.items result.items waits }
-    ensures none { result.items ≡ [] → length buckets.new.items ≤ first.new }
-    ensures some { (result.items ≡ []) ⊎ (length buckets.new.items - first.new < length buckets.old.items - first.old) }
+fn take_least(alloc: Global, filed: &mut LevelLists<u32>, first: &mut u16) -> Vec<u32>
+    requires inside { first.old ≤ length filed.old }
+    ensures filed { (waits : List Bool) → AreFiled first.old filed.old [] waits → AreFiled first.new filed.new result.items waits }
+    ensures inside { first.new ≤ length filed.new }
+    ensures none { result.items ≡ [] → length filed.new ≤ first.new }
+    ensures some { (result.items ≡ []) ⊎ (length filed.new - first.new < length filed.old - first.old) }
 {
-    while *first < buckets.len() {
-        let bucket = take_all(alloc, buckets, *first);
-        *first += 1;
-        if !bucket.is_empty() {
-            return bucket;
-        }
+    let level = filed.next(*first);
+    if level == filed.count() {
+        *first = level;
+        return Vec::new(alloc);
     }
-    Vec::new(alloc)
+    *first = level + 1;
+    filed.take_all(alloc, level)
 }
 
 // Of the candidates only the movers wait on.
@@ -97,9 +99,10 @@ impl Waiting {
         ensures { IfOk result (λ w. w ≡ replicate n false) }
     {
         Ok(Waiting {
-            buckets: Vec::new(alloc),
+            filed: LevelLists::new(alloc, 0)?,
             first: 0,
             round: Vec::new(alloc),
+            level: 0,
             marks: vec![in alloc; false; n as usize]?,
             alloc,
         })
@@ -116,14 +119,20 @@ impl Waiting {
     /// Lets `v` wait under this level. Fails only if memory runs out, and who waits is unchanged then.
     pub fn add(&mut self, v: u32, level: u16) -> Result<(), AllocError>
         requires vertex { v < length self.old }
+        requires small { level < 65535 }
         ensures ok { OnOk result (self.new ≡ slice_set self.old v true) }
         ensures err { OnErr result (self.new ≡ self.old) }
     {
-        reach(self.alloc, &mut self.buckets, level)?;
-        put(&mut self.buckets, level, v)?;
-        self.first = self.first.min(level as usize);
+        self.filed.reach(self.alloc, level)?;
+        self.filed.file(level, v)?;
+        self.first = self.first.min(level);
         self.marks[v as usize] = true;
         Ok(())
+    }
+
+    /// The level under which the vertices of the round that is under way were filed.
+    pub fn level(&self) -> u16 {
+        self.level
     }
 
     /// The next vertex of the round that is under way, or of a new round where that one has come to its end. Afterwards it
@@ -150,8 +159,9 @@ impl Waiting {
             if taken.is_some() {
                 return Ok(taken);
             }
-            self.round = take_least(self.alloc, &mut self.buckets, &mut self.first);
+            self.round = take_least(self.alloc, &mut self.filed, &mut self.first);
             if self.round.is_empty() {
+                self.filed.clear(self.alloc);
                 return Ok(None);
             }
             let marks = &self.marks;

@@ -10,6 +10,7 @@ use Rattle.kc_graph.proofs.NumberLemmas.{has_number-append, has_number-push}
 use Rattle.kc_graph.proofs.NeighbourLemmas.{neighbours_of_insert_other}
 use Rattle.kc_levels.specs.declared.profile.Profile.{Profile}
 use Rattle.kc_levels.specs.LevelList.{at_least, MeetsUpper, IsCapped}
+use Rattle.kc_adj.proofs.Marks.{empty_list}
 use Rattle.kc_insert.specs.BucketQueue.{IsFiled, IsQueued}
 use Rattle.kc_insert.specs.Counting.{AreWaiting}
 
@@ -116,11 +117,6 @@ queued_linked p g h y z e queue low_filed both_filed linked levels s capped orde
     let second = filed_more p g y e.1 low_filed both_filed first.0 capped within (rw levels at high_) in
     rw (linked, levels) (relinked p g y e both_filed second.0 (second.2 e.0 first.1) second.1)
 
-pub empty_bucket : {A : Type 0} (k j : ℕ) → get_or (replicate {A = List A} k []) j [] ≡ []
-empty_bucket zero j = refl
-empty_bucket (suc k) zero = refl
-empty_bucket (suc k) (suc j) = empty_bucket k j
-
 -- nobody waits in empty buckets
 pub waiting_none : (n : ℕ) (x : List ℕ) (k : ℕ) → AreWaiting n x 0 (replicate k [])
 waiting_none n x k = record {
@@ -129,4 +125,4 @@ waiting_none n x k = record {
 }
   where
     none : (j u : ℕ) → has_number u (get_or (replicate k []) j []) ≡ false
-    none j u = ap (has_number u) (empty_bucket k j)
+    none j u = ap (has_number u) (empty_list k j)

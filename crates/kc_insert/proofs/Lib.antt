@@ -10,6 +10,5 @@ pub mod Arriving
 pub mod Starting
 pub mod Beginning
 pub mod Sweeps
-pub mod Marks
 pub mod Followed
 pub mod Ready

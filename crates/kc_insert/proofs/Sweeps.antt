@@ -14,7 +14,7 @@ use Rattle.kc_adj.specs.LeveledGraph.{IsCounted}
 use Rattle.kc_insert.specs.BucketQueue.{IsQueued}
 use Rattle.kc_insert.specs.Meetings.{AreApart}
 use Rattle.kc_insert.specs.Sweeping.{IsSweeping, HaveCome}
-use Rattle.kc_insert.proofs.Buckets.{empty_bucket}
+use Rattle.kc_adj.proofs.Marks.{empty_list}
 use Rattle.kc_insert.proofs.Efforts.{effort_none}
 
 pub sweeping_first : (p : Profile) (n : ℕ) (g : GraphShape) (x y counts rising risen : List ℕ) (queue : List (List ℕ)) (meetings : List (List Pair)) → n ≡ g.vertices → length x ≡ g.vertices → IsCapped p g.vertices x → IsQueued p g x queue → y ≡ x → IsCounted g x 0 counts → rising ≡ [] → risen ≡ [] → meetings ≡ replicate (top_level p n + 1) [] → IsSweeping p g x 0 y counts rising risen queue meetings
@@ -44,7 +44,7 @@ sweeping_first p n g x y counts rising risen queue meetings scale long capped q 
 })
   where
     nothing : (k : ℕ) → get_or meetings k [] ≡ []
-    nothing k = ap (λ (m : List (List Pair)). get_or m k []) empty ∙ empty_bucket (top_level p n + 1) k
+    nothing k = ap (λ (m : List (List Pair)). get_or m k []) empty ∙ empty_list (top_level p n + 1) k
 
 pub come_first : (p : Profile) (g : GraphShape) (x y rising risen : List ℕ) (s : ℕ) → length x ≡ g.vertices → IsCapped p g.vertices x → y ≡ x → rising ≡ [] → risen ≡ [] → HaveCome p g x 0 x y rising risen s s
 come_first p g x y rising risen s long capped same none none_yet = rw (same, none, none_yet) (record {

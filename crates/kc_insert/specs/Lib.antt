@@ -1,4 +1,3 @@
-pub mod LevelLists
 pub mod Effort
 pub mod BucketQueue
 pub mod Meetings

@@ -11,9 +11,8 @@ ghost use Rattle.kc_levels.specs.Following.{AreDistinct};
 ghost use Rattle.kc_insert.specs.Meetings.{AreApart, AreMeetings};
 ghost use Rattle.kc_insert.specs.Counting.{goes_on, is_next, AreSeen, sees_met, sees_listed, sees_arrived, sees_unlisted, steps_on, settled_at, degrees, stood_above, MeetOn, AreWaiting, StillWait, AreNoted, AreLess, HasBegun, HaveBegun, meetings_on};
 
-use crate::level_lists::LevelLists;
 use crate::meetings::Meeting;
-use kc_adj::{LevelAdj, Steps};
+use kc_adj::{LevelAdj, LevelLists, Steps};
 use kc_levels::Levels;
 use kc_rounds::{Gate, RoundGather, Rounds};
 use std::alloc::AllocError;

@@ -5,8 +5,7 @@ ghost use Rattle.kc_levels.specs.Thresholds.{top_level};
 ghost use Rattle.kc_levels.specs.LevelList.{MeetsUpper, IsCapped};
 ghost use Rattle.kc_insert.specs.BucketQueue.{IsQueued};
 
-use crate::level_lists::LevelLists;
-use kc_adj::{LevelAdj, Steps};
+use kc_adj::{LevelAdj, LevelLists, Steps};
 use kc_graph::{Edge, MAX_EDGES};
 use kc_levels::Thresholds;
 use std::alloc::{AllocError, Global};

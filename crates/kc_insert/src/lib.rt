@@ -13,7 +13,6 @@ mod copying;
 mod counting;
 mod filling;
 mod insertion;
-mod level_lists;
 mod meetings;
 mod sweeping;
 #[cfg(test)]

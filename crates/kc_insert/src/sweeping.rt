@@ -1,7 +1,7 @@
 // One sweep over the levels, from the lowest up: on each those rise who have more neighbours there or above than their group
 // allows, whether they came up to it or have stood on it before.
 
-ghost use Rattle.std.specs.Prelude.{◌≡◌, ◌+◌, ◌*◌, ◌^◌, ◌<◌, ◌≤◌, ℕ, true, List, [], All, IfOk, OnOk, filter, length, replicate, slice_index};
+ghost use Rattle.std.specs.Prelude.{◌≡◌, ◌+◌, ◌*◌, ◌<◌, ◌≤◌, ℕ, true, List, [], All, IfOk, OnOk, filter, length, replicate, slice_index};
 ghost use Rattle.kc_graph.specs.Numbers.{has_number};
 ghost use Rattle.kc_graph.specs.Shape.{GraphShape, IsGraph};
 ghost use Rattle.kc_levels.specs.declared.profile.Profile.{Profile};
@@ -17,9 +17,8 @@ ghost use Rattle.kc_insert.specs.Round.{is_over};
 ghost use Rattle.kc_insert.specs.Sweeping.{all_at, IsSweeping, HaveCome};
 
 use crate::counting::{begin, come_up, leave_behind, part};
-use crate::level_lists::LevelLists;
 use crate::meetings::Meeting;
-use kc_adj::{LevelAdj, Steps};
+use kc_adj::{LevelAdj, LevelLists, Steps};
 use kc_levels::{Levels, Thresholds};
 use kc_rounds::{FirstRound, Gate, RoundTest, Rounds};
 use std::alloc::{AllocError, Global};
@@ -200,8 +199,7 @@ fn lift_all<L: Ledger>(adj: &mut LevelAdj, levels: &Levels, risen: &[u32], steps
 
 // The first level from this one on where somebody may have to rise: this one where somebody came to it.
 fn next_level(sweep: &Sweep, level: u16) -> u16
-    requires small { length sweep.now.queue < 2 ^ 16 }
-    requires inside { level ≤ length sweep.now.queue }
+    requires { level ≤ length sweep.now.queue }
     ensures from { level ≤ result }
     ensures inside { result ≤ length sweep.now.queue }
     ensures sweeping { (p : Profile) (g : GraphShape) (x : List ℕ) → IsSweeping p g x level sweep.now.levels sweep.now.counts.items sweep.now.rising.items sweep.now.risen.items sweep.now.queue sweep.now.meetings → IsSweeping p g x result sweep.now.levels sweep.now.counts.items sweep.now.rising.items sweep.now.risen.items sweep.now.queue sweep.now.meetings }

@@ -1,4 +1,4 @@
-ghost use Rattle.std.specs.Prelude.{◌≡◌, ◌^◌, ◌<◌, ℕ, [], All, IfOk, OnOk, length, replicate};
+ghost use Rattle.std.specs.Prelude.{◌≡◌, ◌<◌, ℕ, [], All, IfOk, OnOk, length, replicate};
 ghost use Rattle.kc_graph.specs.Numbers.{has_number};
 ghost use Rattle.kc_graph.specs.Shape.{without_edges};
 ghost use Rattle.kc_levels.specs.declared.profile.Profile.{Profile};
@@ -8,9 +8,8 @@ ghost use Rattle.kc_levels.specs.Following.{AreDistinct};
 ghost use Rattle.kc_insert.specs.Working.{IsReady};
 
 use crate::copying::{copy_ends, copy_rows};
-use crate::level_lists::LevelLists;
 use crate::sweeping::Sweep;
-use kc_adj::LevelAdj;
+use kc_adj::{LevelAdj, LevelLists};
 use kc_graph::Edge;
 use kc_levels::{Levels, Moves, Thresholds, moves_of};
 use kc_rounds::FirstRound;
@@ -84,8 +83,6 @@ impl InsertionWork {
         requires sized { length self.old.before ≡ length self.old.levels }
         requires risen { (v : ℕ) → has_number v self.old.risen ≡ is_moved self.old.before self.old.levels v }
         requires once { AreDistinct self.old.risen }
-        requires buckets { length self.old.queue < 2 ^ 16 }
-        requires places { length self.old.meetings < 2 ^ 16 }
         ensures moves { IfOk result (λ moves. moves ≡ moves_between (length self.old.levels) self.old.before self.old.levels) }
         ensures clean { OnOk result (self.new ≡ record self.old { before = self.old.levels; rising = []; risen = []; queue = replicate (length self.old.queue) []; meetings = replicate (length self.old.meetings) [] }) }
     {

@@ -33,10 +33,10 @@ loop-w-preserved c =
     let back : get_or c.args.adj.now.levels (get_or c.args.above.now c.loop-w.w-index 0) 0 ≡ c.args.level + 1 → c.level-other.result ≡ c.args.level + 1 = λ e. rw c.level-other.ensures e in
     elim c.if-other-level.branch [
       | then-other-level+in_ok-meet w ↦
-          rw (c.in_ok-file.ensures, w.counts-is, w.queue-is, w.in_ok-meet.ensures.counts, w.in_ok-meet.ensures.queue, c.level-other.ensures)
+          rw (c.in_ok-file.ensures.ok, w.counts-is, w.queue-is, w.in_ok-meet.ensures.counts, w.in_ok-meet.ensures.queue, c.level-other.ensures)
           (beginning_next _ _ _ _ _ c.loop-w.w-index _ _ _ _ _ _ _ c.loop-w-test.true there.0 there.1 c.loop-w.invariant (on w.if-other-level.true) c.requires.room inside)
       | else-other-level w ↦
-          rw (c.in_ok-file.ensures, w.counts-is, w.queue-is, c.level-other.ensures)
+          rw (c.in_ok-file.ensures.ok, w.counts-is, w.queue-is, c.level-other.ensures)
           (beginning_over _ _ _ _ _ c.loop-w.w-index _ _ _ _ _ _ _ c.loop-w-test.true there.0 there.1 c.loop-w.invariant (λ e. w.if-other-level.false (back e)) inside)
     ]
 

@@ -34,5 +34,5 @@ loop-e-preserved g c =
     let high : c.level-in-loop-e.result ≡ get_or b.levels c.e.inside.b 0 = c.level-in-loop-e.ensures ∙ ap (λ (x : List ℕ). get_or x c.e.inside.b 0) levels in (
       record b { graph = with_edge b.graph e },
       linking_at c.args.th.now.profile c.args.th.now.vertices c.args.adj.now b c.args.added.now c.loop-e.e-index _ e c.loop-e.queue c.requires.scale c.requires.capped c.loop-e-test.true (c.e.view_is ∙ c.e-item.is) s
-          (record b { graph = with_edge b.graph e }) c.file.new.self c.file-in-loop-e.new.self c.e.invariant refl (rw low at c.in_ok-file.ensures) (rw high at c.in_ok-file-2.ensures),
+          (record b { graph = with_edge b.graph e }) c.file.new.self c.file-in-loop-e.new.self c.e.invariant refl (rw low at c.in_ok-file.ensures.ok) (rw high at c.in_ok-file-2.ensures.ok),
     )

@@ -36,12 +36,6 @@ take_moves-requires-clause-sized g c =
     let same : c.link_edges.new.adj.graph.vertices ≡ c.args.adj.now.graph.vertices = ap (λ (k : GraphShape). k.vertices) c.in_ok-link_edges.ensures.graph ∙ vertices-with_edges c.args.adj.now.graph c.args.added.now in
     ap (λ (t : List ℕ). length t) ready.before ∙ c.levels-levels.ensures.sized ∙ sym (ap (λ (t : List ℕ). length t) c.in_ok-raise_queued.ensures.levels ∙ c.in_ok-raise_queued.ensures.raised.raisable.sized ∙ same)
 
-pub take_moves-requires-clause-buckets : goal.take_moves-requires-clause-buckets
-take_moves-requires-clause-buckets g c = omega (arith, c.in_ok-raise_queued.ensures.buckets, c.top-top.ensures.value, c.top-top.ensures.small)
-
-pub take_moves-requires-clause-places : goal.take_moves-requires-clause-places
-take_moves-requires-clause-places g c = omega (arith, c.in_ok-raise_queued.ensures.places, c.top-top.ensures.value, c.top-top.ensures.small)
-
 pub returns-clause-ready : goal.returns-clause-ready
 returns-clause-ready g c =
     let same : c.link_edges.new.adj.graph.vertices ≡ c.args.adj.now.graph.vertices = ap (λ (k : GraphShape). k.vertices) c.in_ok-link_edges.ensures.graph ∙ vertices-with_edges c.args.adj.now.graph c.args.added.now in

@@ -4,11 +4,6 @@ use Rattle.kc_levels.specs.Thresholds.{top_level}
 use Rattle.kc_insert.proofs.Sweeps.{sweeping_first, come_first, come_on, sweeping_last}
 use Rattle.kc_insert.proofs.sweeping.raise_queued.Goals as goal
 
-pub next_level-level-requires-clause-small : goal.next_level-level-requires-clause-small
-next_level-level-requires-clause-small g c =
-    let top : c.top-top.result ≡ top_level c.args.th.now.profile c.args.adj.now.graph.vertices = rw c.requires.scale at c.top-top.ensures.value in
-    omega (arith, top, c.top-top.ensures.small, c.requires.queued.sized)
-
 pub loop-level-init : goal.loop-level-init
 loop-level-init g c = (
   refl,

@@ -1,6 +1,6 @@
 use Rattle.std.proofs.Common.{◌<◌, ◌≤◌, ◌-◌, ℕ, get_or}
 use Rattle.kc_levels.specs.LevelList.{IsHeld}
-use Rattle.kc_adj.proofs.desired.desired.Given as goal
+use Rattle.kc_adj.proofs.desired.desired_below.Given as goal
 
 abbrev pub invariant-loop-least : goal.invariant-loop-least
 invariant-loop-least l =

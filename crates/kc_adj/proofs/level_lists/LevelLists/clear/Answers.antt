@@ -1,6 +1,6 @@
 use Rattle.std.proofs.Common.{[], length, replicate, arith, ap, ◌∙◌}
-use Rattle.kc_insert.proofs.Marks.{all_bare}
-use Rattle.kc_insert.proofs.level_lists.LevelLists.clear.Goals as goal
+use Rattle.kc_adj.proofs.Marks.{all_bare}
+use Rattle.kc_adj.proofs.level_lists.LevelLists.clear.Goals as goal
 
 pub returns : goal.returns
 returns g c =

@@ -1,4 +1,4 @@
-ghost use Rattle.std.specs.Prelude.{◌≡◌, ◌+◌, ◌++◌, ◌∷◌, ◌^◌, ◌<◌, ◌≤◌, ℕ, [], replicate, OnOk, IfOk, slice_index_or, slice_set, length};
+ghost use Rattle.std.specs.Prelude.{◌≡◌, ◌+◌, ◌++◌, ◌∷◌, ◌<◌, ◌≤◌, ℕ, [], replicate, OnOk, OnErr, IfOk, slice_index_or, slice_set, length};
 
 use std::alloc::{AllocError, Global};
 use std::marker::Model;
@@ -21,9 +21,10 @@ impl<T> Model for LevelList<T> {
     ghost view = { λ l. l.items.items };
 }
 
-/// A list of items for each level.
+/// A list of items for each level, from level 0 up to some level.
 ///
-/// Contracts see it as the list of the lists, that of level 0 first. Levels without items cost a look for 64 of them.
+/// Contracts see it as the list of the lists, that of level 0 first; there are fewer than 65,536. Levels without items cost a look
+/// for 64 of them.
 #[derive(Drop)]
 pub struct LevelLists<T> {
     lists: Vec<LevelList<T>>,
@@ -33,7 +34,7 @@ pub struct LevelLists<T> {
 
 impl<T> Model for LevelLists<T> {
     ghost use Rattle.std.specs.Prelude.{List};
-    ghost use Rattle.kc_insert.specs.LevelLists.{AreMarked};
+    ghost use Rattle.kc_adj.specs.LevelLists.{AreMarked};
 
     ghost Value = { List (List T) };
 
@@ -57,10 +58,37 @@ impl<T: Drop> LevelLists<T> {
         Ok(LevelLists { lists, marks })
     }
 
-    /// Puts an item last on a level. Fails only if memory runs out.
+    /// The number of levels that have a list. Costs O(1).
+    pub fn count(&self) -> u16
+        ensures { result ≡ length self.now }
+    {
+        self.lists.len() as u16
+    }
+
+    /// Makes lists without items up to this level, where there are fewer. Fails only if memory runs out, and some may have been
+    /// made then.
+    pub fn reach(&mut self, alloc: Global, level: u16) -> Result<(), AllocError>
+        requires { level < 65535 }
+        ensures enough { OnOk result (level < length self.new) }
+        ensures longer { length self.old ≤ length self.new }
+        ensures same { (k : ℕ) → slice_index_or self.new k [] ≡ slice_index_or self.old k [] }
+    {
+        while self.marks.len() <= level as usize / SPAN {
+            self.marks.push(false)?;
+        }
+        while self.lists.len() <= level as usize {
+            self.lists.push(LevelList {
+                items: Vec::new(alloc),
+            })?;
+        }
+        Ok(())
+    }
+
+    /// Puts an item last on a level. Fails only if memory runs out, and nothing is changed then.
     pub fn file(&mut self, level: u16, item: T) -> Result<(), AllocError>
         requires { level < length self.old }
-        ensures { OnOk result (self.new ≡ slice_set self.old level (slice_index_or self.old level [] ++ item ∷ [])) }
+        ensures ok { OnOk result (self.new ≡ slice_set self.old level (slice_index_or self.old level [] ++ item ∷ [])) }
+        ensures err { OnErr result (self.new ≡ self.old) }
     {
         self.marks[level as usize / SPAN] = true;
         self.lists[level as usize].items.push(item)?;
@@ -86,11 +114,11 @@ impl<T: Drop> LevelLists<T> {
 
     /// The first level from this one on that has items, or the number of levels where there is none.
     pub fn next(&self, from: u16) -> u16
-        requires small { length self.now < 2 ^ 16 }
-        requires inside { from ≤ length self.now }
+        requires { from ≤ length self.now }
         ensures from { from ≤ result }
         ensures inside { result ≤ length self.now }
         ensures none { (k : ℕ) → from ≤ k → k < result → slice_index_or self.now k [] ≡ [] }
+        ensures some { slice_index_or self.now result [] ≡ [] → length self.now ≤ result }
     {
         let mut level = from as usize;
         while level < self.lists.len() {
@@ -107,7 +135,6 @@ impl<T: Drop> LevelLists<T> {
 
     /// Drops all items.
     pub fn clear(&mut self, alloc: Global)
-        requires { length self.old < 2 ^ 16 }
         ensures { self.new ≡ replicate (length self.old) [] }
     {
         let mut level = self.next(0);

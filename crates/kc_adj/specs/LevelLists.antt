@@ -1,7 +1,8 @@
 -- Lists by level, with a mark for each 64 levels.
-use Rattle.std.specs.Prelude.{ℕ, ◌*◌, ◌/◌, ◌≤◌, ◌≡◌, Bool, false, [], List, length, get_or}
+use Rattle.std.specs.Prelude.{ℕ, ◌*◌, ◌/◌, ◌<◌, ◌≤◌, ◌^◌, ◌≡◌, Bool, false, [], List, length, get_or}
 
--- each level has a mark, and where it doesn't stand the level has no items
+-- each level has a mark, and where it doesn't stand the level has no items; a level is below 2 ^ 16 - 1
 pub record AreMarked {T : Type 0} (lists : List (List T)) (marks : List Bool) : Type 0 where
+  pub small : length lists < 2 ^ 16
   pub wide : length lists ≤ 64 * length marks
   pub bare : (k : ℕ) → get_or marks (k / 64) false ≡ false → get_or lists k [] ≡ []

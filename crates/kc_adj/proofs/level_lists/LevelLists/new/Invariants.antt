@@ -1,5 +1,5 @@
 use Rattle.std.proofs.Common.{◌≡◌, replicate, []}
-use Rattle.kc_insert.proofs.level_lists.LevelLists.new.Given as goal
+use Rattle.kc_adj.proofs.level_lists.LevelLists.new.Given as goal
 
 abbrev pub invariant-loop : goal.invariant-loop
 invariant-loop g l = l.lists.items ≡ replicate l.counter []

@@ -1,14 +1,19 @@
 -- What a write changes in lists by level and their marks.
-use Rattle.std.proofs.Common.{ℕ, ◌+◌, ◌*◌, ◌/◌, ◌≤◌, ◌<◌, ◌≡◌, inl, inr, Bool, true, false, List, [], length, get_or, set, replicate, ap, sym, ◌∙◌, arith}
+use Rattle.std.proofs.Common.{ℕ, zero, suc, ◌^◌, refl, ◌++◌, ◌∷◌, ◌+◌, ◌*◌, ◌/◌, ◌≤◌, ◌<◌, ◌≡◌, inl, inr, Bool, true, false, List, [], length, get_or, set, replicate, ap, sym, ◌∙◌, length-append, arith}
 use Rattle.std.proofs.lemmas.Bool.{cases_eq, true≢false}
 use Rattle.std.proofs.lemmas.List.{length-replicate, length-set, get_or-set_same, get_or-set_other, get_or_default, same_lists}
-use Rattle.kc_insert.specs.LevelLists.{AreMarked}
-use Rattle.kc_insert.proofs.Buckets.{empty_bucket}
+use Rattle.kc_adj.specs.LevelLists.{AreMarked}
 
-pub marked_none : {T : Type 0} (count : ℕ) (marks : List Bool) → marks ≡ replicate (count / 64 + 1) false → AreMarked (replicate {A = List T} count []) marks
-marked_none {T} count marks is = record {
+pub empty_list : {A : Type 0} (k j : ℕ) → get_or (replicate {A = List A} k []) j [] ≡ []
+empty_list zero j = refl
+empty_list (suc k) zero = refl
+empty_list (suc k) (suc j) = empty_list k j
+
+pub marked_none : {T : Type 0} (count : ℕ) (marks : List Bool) → count < 2 ^ 16 → marks ≡ replicate (count / 64 + 1) false → AreMarked (replicate {A = List T} count []) marks
+marked_none {T} count marks few is = record {
+  small = omega (arith, length-replicate {A = List T} count [], few);
   wide = omega (arith, length-replicate {A = List T} count [], ap (λ (m : List Bool). length m) is, length-replicate (count / 64 + 1) false);
-  bare = λ k h. empty_bucket count k;
+  bare = λ k h. empty_list count k;
 }
 
 module _ {T : Type 0} (lists : List (List T)) (marks : List Bool) (l : ℕ) (inside : l < length lists) (s : AreMarked lists marks) where
@@ -18,6 +23,7 @@ module _ {T : Type 0} (lists : List (List T)) (marks : List Bool) (l : ℕ) (ins
   -- items come to a level whose mark is put
   pub marked_put : (items : List T) → AreMarked (set lists l items) (set marks (l / 64) true)
   marked_put items = record {
+    small = omega (arith, length-set lists l items, s.small);
     wide = omega (arith, length-set lists l items, length-set marks (l / 64) true, s.wide);
     bare = λ k none. elim (cases_eq (k / 64) (l / 64)) [
       | inl e ↦ absurd (true≢false (sym (get_or-set_same marks (l / 64) true false mark_inside) ∙ ap (λ j. get_or (set marks (l / 64) true) j false) (sym e) ∙ none))
@@ -28,6 +34,7 @@ module _ {T : Type 0} (lists : List (List T)) (marks : List Bool) (l : ℕ) (ins
   -- a mark is put
   pub marked_more : AreMarked lists (set marks (l / 64) true)
   marked_more = record {
+    small = s.small;
     wide = omega (arith, length-set marks (l / 64) true, s.wide);
     bare = λ k none. elim (cases_eq (k / 64) (l / 64)) [
       | inl e ↦ absurd (true≢false (sym (get_or-set_same marks (l / 64) true false mark_inside) ∙ ap (λ j. get_or (set marks (l / 64) true) j false) (sym e) ∙ none))
@@ -38,6 +45,7 @@ module _ {T : Type 0} (lists : List (List T)) (marks : List Bool) (l : ℕ) (ins
   -- a level loses its items
   pub marked_less : AreMarked (set lists l []) marks
   marked_less = record {
+    small = omega (arith, length-set lists l [], s.small);
     wide = omega (arith, length-set lists l [], s.wide);
     bare = λ k none. elim (cases_eq k l) [
       | inl e ↦ ap (λ j. get_or (set lists l []) j []) e ∙ get_or-set_same lists l [] [] inside
@@ -47,10 +55,10 @@ module _ {T : Type 0} (lists : List (List T)) (marks : List Bool) (l : ℕ) (ins
 
 -- lists without items need no marks
 pub marked_bare : {T : Type 0} (lists : List (List T)) (marks after : List Bool) → AreMarked lists marks → length after ≡ length marks → ((k : ℕ) → get_or lists k [] ≡ []) → AreMarked lists after
-marked_bare lists marks after s long bare = record { wide = omega (arith, s.wide, long); bare = λ k none. bare k }
+marked_bare lists marks after s long bare = record { small = s.small; wide = omega (arith, s.wide, long); bare = λ k none. bare k }
 
 pub all_bare : {T : Type 0} (lists : List (List T)) → ((k : ℕ) → k < length lists → get_or lists k [] ≡ []) → lists ≡ replicate (length lists) []
-all_bare {T} lists bare = same_lists lists (replicate (length lists) []) (sym (length-replicate {A = List T} (length lists) [])) (λ k d h. get_or_default lists k d [] h ∙ bare k h ∙ sym (empty_bucket {A = T} (length lists) k) ∙ get_or_default (replicate (length lists) []) k [] d (omega (arith, h, length-replicate {A = List T} (length lists) [])))
+all_bare {T} lists bare = same_lists lists (replicate (length lists) []) (sym (length-replicate {A = List T} (length lists) [])) (λ k d h. get_or_default lists k d [] h ∙ bare k h ∙ sym (empty_list {A = T} (length lists) k) ∙ get_or_default (replicate (length lists) []) k [] d (omega (arith, h, length-replicate {A = List T} (length lists) [])))
 
 -- on the levels of a span whose mark doesn't stand nobody has items
 pub span_bare : {T : Type 0} (lists : List (List T)) (marks : List Bool) (level k : ℕ) → AreMarked lists marks → get_or marks (level / 64) false ≡ false → level ≤ k → k < (level / 64 + 1) * 64 → get_or lists k [] ≡ []
@@ -58,3 +66,26 @@ span_bare lists marks level k s none at below = s.bare k (ap (λ j. get_or marks
   where
     same : k / 64 ≡ level / 64
     same = omega arith
+
+-- the default at the end of a list
+pub get_or-push_default : {A : Type 0} (xs : List A) (d : A) (k : ℕ) → get_or (xs ++ d ∷ []) k d ≡ get_or xs k d
+get_or-push_default [] d zero = refl
+get_or-push_default [] d (suc k) = refl
+get_or-push_default (x ∷ xs) d zero = refl
+get_or-push_default (x ∷ xs) d (suc k) = get_or-push_default xs d k
+
+-- a mark more, which doesn't stand
+pub marked_wider : {T : Type 0} (lists : List (List T)) (marks : List Bool) → AreMarked lists marks → AreMarked lists (marks ++ false ∷ [])
+marked_wider lists marks s = record {
+  small = s.small;
+  wide = omega (arith, s.wide, length-append marks (false ∷ []));
+  bare = λ k none. s.bare k (sym (get_or-push_default marks false (k / 64)) ∙ none);
+}
+
+-- a level more, without items
+pub marked_longer : {T : Type 0} (lists : List (List T)) (marks : List Bool) → AreMarked lists marks → length lists < 65535 → length lists < 64 * length marks → AreMarked (lists ++ [] ∷ []) marks
+marked_longer lists marks s few room = record {
+  small = omega (arith, few, length-append lists ([] ∷ []));
+  wide = omega (arith, room, length-append lists ([] ∷ []));
+  bare = λ k none. get_or-push_default lists [] k ∙ s.bare k none;
+}

@@ -1,5 +1,5 @@
 use Rattle.std.proofs.Common.{ℕ, ◌≡◌, ◌≤◌, ◌<◌, ◌-◌, [], length, get_or}
-use Rattle.kc_insert.proofs.level_lists.LevelLists.next.Given as goal
+use Rattle.kc_adj.proofs.level_lists.LevelLists.next.Given as goal
 
 abbrev pub invariant-loop-level : goal.invariant-loop-level
 invariant-loop-level g l = (l.from ≤ l.level) × ((k : ℕ) → l.from ≤ k → k < l.level → get_or l.self-inside.lists.items k [] ≡ [])

@@ -1,0 +1,9 @@
+use Rattle.std.proofs.Common.{◌≡◌, ◌∙◌, false, arith, rules, sym}
+use Rattle.std.proofs.lemmas.Bool.{true≢false}
+use Rattle.kc_levels.proofs.Lowering.{held_down}
+use Rattle.kc_adj.proofs.desired.bound_near.Goals as goal
+
+pub returns-then-not-is_held-clause-above : goal.returns-then-not-is_held-clause-above
+returns-then-not-is_held-clause-above c = λ k lt le held.
+    let refused : c.is_held.result ≡ false = search rules in
+    true≢false (sym (c.is_held.ensures.1 (held_down c.args.th.now.profile c.args.graph.now c.args.levels.now c.args.v _ k (omega (arith, c.requires.vertex)) (omega arith) held)) ∙ refused)

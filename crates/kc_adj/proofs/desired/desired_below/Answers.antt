@@ -1,0 +1,13 @@
+use Rattle.std.proofs.Common.{◌≤◌, ◌-◌, ◌/◌, arith, rules, sym}
+use Rattle.std.proofs.lemmas.Bool.{true≢false}
+use Rattle.kc_levels.proofs.Lowering.{held_down}
+use Rattle.kc_adj.proofs.desired.desired_below.Goals as goal
+
+pub loop-least-preserved : goal.loop-least-preserved
+loop-least-preserved c =
+    let within : c.min.result ≤ (c.loop-least.most - c.loop-least.least) / 2 = search rules in (
+      omega arith,
+      omega arith,
+      c.loop-least.invariant.2,
+      λ k lt le held. true≢false (sym (c.if-is_held.ensures.1 (held_down c.args.th.now.profile c.args.graph.now c.args.levels.now c.args.v _ k (omega (arith, c.requires.vertex)) (omega arith) held))),
+    )

@@ -1,8 +1,0 @@
-use Rattle.std.proofs.Common.{◌≡◌, arith}
-use Rattle.kc_insert.proofs.Marks.{marked_none}
-use Rattle.kc_insert.proofs.level_lists.LevelLists.new.Goals as goal
-
-pub invariant_of-result : goal.invariant_of-result
-invariant_of-result g c =
-    let end : c.loop.counter ≡ c.args.count = omega arith in
-    rw (c.loop.invariant, end) (marked_none c.args.count c.in_ok-marks.marks.items (c.in_ok-marks.ensures.items_if_clones_equal (λ y same. same)))
