@@ -12,3 +12,4 @@ pub mod Beginning
 pub mod Sweeps
 pub mod Followed
 pub mod Ready
+pub mod Together

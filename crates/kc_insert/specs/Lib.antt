@@ -5,3 +5,4 @@ pub mod Counting
 pub mod Sweeping
 pub mod Round
 pub mod Working
+pub mod Together

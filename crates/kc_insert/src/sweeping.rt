@@ -5,7 +5,8 @@ ghost use Rattle.std.specs.Prelude.{◌≡◌, ◌+◌, ◌*◌, ◌<◌, ◌≤
 ghost use Rattle.kc_graph.specs.Numbers.{has_number};
 ghost use Rattle.kc_graph.specs.Shape.{GraphShape, IsGraph};
 ghost use Rattle.kc_levels.specs.declared.profile.Profile.{Profile};
-ghost use Rattle.kc_levels.specs.Thresholds.{top_level};
+ghost use Rattle.std.specs.Bool.{OnTrue};
+ghost use Rattle.kc_levels.specs.Thresholds.{group_of, top_level};
 ghost use Rattle.kc_levels.specs.LevelList.{IsBelow, IsCapped, IsRaised};
 ghost use Rattle.kc_levels.specs.Moved.{is_moved};
 ghost use Rattle.kc_adj.specs.LeveledGraph.{IsCounted};
@@ -15,6 +16,7 @@ ghost use Rattle.kc_insert.specs.Counting.{degrees};
 ghost use Rattle.kc_insert.specs.Effort.{effort};
 ghost use Rattle.kc_insert.specs.Round.{is_over};
 ghost use Rattle.kc_insert.specs.Sweeping.{all_at, IsSweeping, HaveCome};
+ghost use Rattle.kc_insert.specs.Together.{IsFree};
 
 use crate::counting::{begin, come_up, leave_behind, part};
 use crate::meetings::Meeting;
@@ -113,6 +115,96 @@ fn lift_off(
         }
     }
     Ok(lifted)
+}
+
+// The lesser of the two.
+fn lesser(a: u16, b: u16) -> u16
+    ensures first { result ≤ a }
+    ensures second { result ≤ b }
+    ensures either { (k : ℕ) → k ≤ a → k ≤ b → k ≤ result }
+{
+    if a < b { a } else { b }
+}
+
+// The furthest level below the top up to which those who came to this one may rise together: on the levels on the way nobody
+// waits or is to be met. This one where there is none beyond it.
+fn free_level(th: &Thresholds, sweep: &Sweep, level: u16) -> u16
+    requires room { level < top_level th.now.profile th.now.vertices }
+    requires waiting { level ≤ length sweep.now.queue }
+    requires met { level ≤ length sweep.now.meetings }
+    ensures from { level ≤ result }
+    ensures inside { result < top_level th.now.profile th.now.vertices }
+    ensures free { level < result → IsFree level result sweep.now.queue sweep.now.meetings }
+{
+    let met = sweep.meetings.next(level);
+    if met == level {
+        return level;
+    }
+    lesser(lesser(sweep.queue.next(level), met - 1), th.top() - 1)
+}
+
+// The first level after this one that is of another group, or the limit where it comes first.
+fn end_of_group(th: &Thresholds, level: u16, limit: u16) -> u16
+    requires order { level < limit }
+    requires capped { limit ≤ top_level th.now.profile th.now.vertices }
+    ensures over { level < result }
+    ensures within { result ≤ limit }
+    ensures same { (k : ℕ) → level ≤ k → k < result → group_of th.now.profile th.now.vertices k ≡ group_of th.now.profile th.now.vertices level }
+{
+    let _top = th.top();
+    let group = th.group(level);
+    let mut last = level;
+    let mut most = limit - 1;
+    while last < most {
+        let middle = most - (most - last) / 2;
+        if th.group(middle) == group {
+            last = middle;
+        } else {
+            most = middle - 1;
+        }
+    }
+    last + 1
+}
+
+// Whether each of the vertices counts more than `most` neighbours.
+fn are_over(counts: &Vec<u32>, most: u32, vertices: &[u32]) -> bool
+    requires inside { (v : ℕ) → has_number v vertices.now ≡ true → v < length counts.now.items }
+    ensures { OnTrue result ((v : ℕ) → has_number v vertices.now ≡ true → most < slice_index counts.now.items v) }
+{
+    for v in vertices {
+        if counts[*v as usize] <= most {
+            return false;
+        }
+    }
+    true
+}
+
+// Puts those who came to the level on the furthest one to which all of them rise with nobody to look at on the way, and gives it;
+// this one where there is none.
+//
+// They count each other on each of the levels, and all others whom they count are above: so no count changes, and in a group each
+// of them goes on where all went on before.
+fn rise_together(th: &Thresholds, adj: &LevelAdj, sweep: &mut Sweep, level: u16) -> u16
+    requires scale { th.now.vertices ≡ adj.now.graph.vertices }
+    requires graph { IsGraph adj.now.graph }
+    requires room { level < top_level th.now.profile th.now.vertices }
+    requires sweeping { IsSweeping th.now.profile adj.now.graph adj.now.levels level sweep.old.levels sweep.old.counts.items sweep.old.rising.items sweep.old.risen.items sweep.old.queue sweep.old.meetings }
+    ensures from { level ≤ result }
+    ensures inside { result < top_level th.now.profile th.now.vertices }
+    ensures sweeping { IsSweeping th.now.profile adj.now.graph adj.now.levels result sweep.new.levels sweep.new.counts.items sweep.new.rising.items sweep.new.risen.items sweep.new.queue sweep.new.meetings }
+    ensures come { (x : _) → (s t : ℕ) → HaveCome th.now.profile adj.now.graph x level adj.now.levels sweep.old.levels sweep.old.rising.items sweep.old.risen.items s t → HaveCome th.now.profile adj.now.graph x result adj.now.levels sweep.new.levels sweep.new.rising.items sweep.new.risen.items s t }
+{
+    let limit = free_level(th, sweep, level);
+    if limit == level {
+        return level;
+    }
+    let most = th.high(th.group(level));
+    if !are_over(&sweep.counts, most, &sweep.rising) {
+        return level;
+    }
+    let to = end_of_group(th, level, limit);
+    go_up(&mut sweep.levels, to - 1, &sweep.rising);
+    to
 }
 
 // The round of a level: those of it who count more than their group allows rise to the next.
@@ -247,8 +339,9 @@ pub fn raise_queued<R: Threads + Sync, G: Gate + Sync, L: Ledger>(
     let top = th.top();
     let mut level = next_level(sweep, 0);
     while level < top {
-        raise_level(rounds, alloc, th, adj, sweep, level, steps)?;
-        level = next_level(sweep, level + 1);
+        let last = rise_together(th, adj, sweep, level);
+        raise_level(rounds, alloc, th, adj, sweep, last, steps)?;
+        level = next_level(sweep, last + 1);
     }
     lift_all(adj, &sweep.levels, &sweep.rising, steps);
     Ok(())

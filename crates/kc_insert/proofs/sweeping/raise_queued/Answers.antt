@@ -17,7 +17,7 @@ loop-level-preserved g c = (
   c.in_ok-raise_level.ensures.graph ∙ c.loop-level.invariant.0,
   c.next_level-level-in-loop-level.ensures.inside,
   c.next_level-level-in-loop-level.ensures.sweeping _ _ _ (rw c.loop-level.invariant.0 at c.in_ok-raise_level.ensures.sweeping),
-  come_on _ _ _ _ _ _ _ _ _ _ _ c.next_level-level-in-loop-level.ensures.from (rw c.loop-level.invariant.0 at (c.in_ok-raise_level.ensures.come c.args.adj.now.levels c.args.steps.now (rw c.loop-level.invariant.0 c.loop-level.invariant.3))),
+  come_on _ _ _ _ _ _ _ _ _ _ _ c.next_level-level-in-loop-level.ensures.from (rw c.loop-level.invariant.0 at (c.in_ok-raise_level.ensures.come c.args.adj.now.levels c.args.steps.now (c.rise_together-last.ensures.come c.args.adj.now.levels c.args.steps.now c.loop-level.steps (rw c.loop-level.invariant.0 c.loop-level.invariant.3)))),
 )
 
 pub returns-clause-raised : goal.returns-clause-raised

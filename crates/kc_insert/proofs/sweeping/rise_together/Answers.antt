@@ -1,0 +1,27 @@
+use Rattle.std.proofs.Common.{ℕ, true, ◌+◌, ◌-◌, ◌<◌, ◌≤◌, ◌≡◌, List, length, get_or, ap, sym, ◌∙◌, arith, rules}
+use Rattle.kc_graph.specs.Numbers.{has_number}
+use Rattle.kc_levels.specs.Thresholds.{high, group_of, top_level}
+use Rattle.kc_insert.specs.Together.{IsFree}
+use Rattle.kc_insert.proofs.Together.{free_less, sweeping_together, have_together}
+use Rattle.kc_insert.proofs.sweeping.rise_together.Goals as goal
+
+pub returns-clause-sweeping : goal.returns-clause-sweeping
+returns-clause-sweeping c =
+    let one : c.end_of_group-to.result - 1 + 1 ≡ c.end_of_group-to.result = omega (arith, c.end_of_group-to.ensures.over) in
+    let beyond : c.args.level < c.free_level-limit.result = omega (arith, c.end_of_group-to.ensures.over, c.end_of_group-to.ensures.within) in
+    let free : IsFree c.args.level c.end_of_group-to.result c.args.sweep.now.queue c.args.sweep.now.meetings = free_less _ _ _ _ _ c.end_of_group-to.ensures.within (c.free_level-limit.ensures.free beyond) in
+    let within : c.end_of_group-to.result ≤ top_level c.args.th.now.profile c.args.adj.now.graph.vertices = rw c.requires.scale at (let h : c.end_of_group-to.result ≤ top_level c.args.th.now.profile c.args.th.now.vertices = omega (arith, c.end_of_group-to.ensures.within, c.free_level-limit.ensures.inside) in h) in
+    rw (c.go_up.ensures, c.deref-2.ensures.value, one)
+    (sweeping_together _ _ _ _ _ _ _ _ _ _ c.requires.sweeping c.end_of_group-to.result (omega (arith, c.end_of_group-to.ensures.over)) free within)
+
+pub returns-clause-come : goal.returns-clause-come
+returns-clause-come c =
+    let one : c.end_of_group-to.result - 1 + 1 ≡ c.end_of_group-to.result = omega (arith, c.end_of_group-to.ensures.over) in
+    let beyond : c.args.level < c.free_level-limit.result = omega (arith, c.end_of_group-to.ensures.over, c.end_of_group-to.ensures.within) in
+    let free : IsFree c.args.level c.end_of_group-to.result c.args.sweep.now.queue c.args.sweep.now.meetings = free_less _ _ _ _ _ c.end_of_group-to.ensures.within (c.free_level-limit.ensures.free beyond) in
+    let within : c.end_of_group-to.result ≤ top_level c.args.th.now.profile c.args.adj.now.graph.vertices = rw c.requires.scale at (let h : c.end_of_group-to.result ≤ top_level c.args.th.now.profile c.args.th.now.vertices = omega (arith, c.end_of_group-to.ensures.within, c.free_level-limit.ensures.inside) in h) in
+    let same : (j : ℕ) → c.args.level ≤ j → j < c.end_of_group-to.result → group_of c.args.th.now.profile c.args.adj.now.graph.vertices j ≡ group_of c.args.th.now.profile c.args.adj.now.graph.vertices c.args.level = rw c.requires.scale at c.end_of_group-to.ensures.same in
+    let most_is : c.high-most.result ≡ high c.args.th.now.profile (group_of c.args.th.now.profile c.args.adj.now.graph.vertices c.args.level) = rw (c.group.ensures.value, c.requires.scale) at c.high-most.ensures.value in
+    let all_over : (v : ℕ) → has_number v c.args.sweep.now.rising.items ≡ true → high c.args.th.now.profile (group_of c.args.th.now.profile c.args.adj.now.graph.vertices c.args.level) < get_or c.args.sweep.now.counts.items v 0 = λ v there. rw (sym most_is) (c.if-not-are_over.ensures v (ap (has_number v) c.deref.ensures.value ∙ there)) in
+    λ x s t come. rw (c.go_up.ensures, c.deref-2.ensures.value, one)
+    (have_together _ _ _ _ _ _ _ _ _ _ c.requires.sweeping c.requires.graph all_over x c.end_of_group-to.result s t (omega (arith, c.end_of_group-to.ensures.over)) free within same come)
