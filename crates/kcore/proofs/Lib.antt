@@ -11,3 +11,5 @@ pub mod ExactTexts
 pub mod WordLists
 pub mod WaitingLemmas
 pub mod RisingLemmas
+pub mod OrientLineLemmas
+pub mod OrientTexts

@@ -13,3 +13,5 @@ pub mod Commands
 pub mod Laws
 pub mod Waiting
 pub mod Rising
+pub mod OrientLines
+pub mod OrientText

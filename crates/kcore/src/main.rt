@@ -16,6 +16,8 @@ mod exact;
 mod inputs;
 pub mod laws;
 mod limits;
+mod orient;
+mod orient_lines;
 mod run;
 mod status;
 #[cfg(test)]

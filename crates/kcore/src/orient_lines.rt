@@ -1,0 +1,116 @@
+//! The lines of the text of `orient`.
+ghost use Rattle.std.specs.Prelude.{◌≡◌, [], ◌∷◌, ◌++◌, OnOk, decimal};
+ghost use Rattle.std.specs.List.{flat_map};
+ghost use Rattle.kc_text.specs.Writing.{Appends, WriteCause};
+ghost use Rattle.kc_report.specs.Buffer.{IsCleared};
+ghost use Rattle.kc_report.specs.Lines.{vertices_line};
+ghost use Rattle.kcore.specs.OrientLines.{orient_magic_line, orient_head_text, oriented_line};
+
+use kc_text::{LineBuf, SendFault, Sink};
+use std::alloc::{AllocError, Global};
+
+// Appends a name, with its blanks, and a number.
+fn fill_named(
+    alloc: Global,
+    buf: &mut LineBuf,
+    name: &[u8],
+    value: u32,
+) -> Result<(), AllocError>
+    ensures { OnOk result (buf.new ≡ (buf.old ++ name.now) ++ decimal value) }
+{
+    buf.text(alloc, name)?;
+    buf.number(alloc, value)
+}
+
+// Writes the first line.
+fn write_magic<K: Sink>(alloc: Global, buf: &mut LineBuf, sink: &mut K) -> Result<(), SendFault>
+    requires { buf.old ≡ [] }
+    ensures text { Appends (K.taken sink.old) (K.taken sink.new) orient_magic_line result }
+    ensures buffer { IsCleared buf.new result }
+    ensures cause { WriteCause (K.faults sink.old) (K.faults sink.new) result }
+{
+    match buf.text(alloc, b"kcore-orient 1") {
+        Ok(()) => buf.send(alloc, sink),
+        Err(fault) => Err(SendFault::Memory(fault)),
+    }
+}
+
+// Writes the second line.
+fn write_vertex_count<K: Sink>(
+    alloc: Global,
+    buf: &mut LineBuf,
+    sink: &mut K,
+    n: u32,
+) -> Result<(), SendFault>
+    requires { buf.old ≡ [] }
+    ensures text { Appends (K.taken sink.old) (K.taken sink.new) (vertices_line n) result }
+    ensures buffer { IsCleared buf.new result }
+    ensures cause { WriteCause (K.faults sink.old) (K.faults sink.new) result }
+{
+    match fill_named(alloc, buf, b"vertices ", n) {
+        Ok(()) => buf.send(alloc, sink),
+        Err(fault) => Err(SendFault::Memory(fault)),
+    }
+}
+
+/// Writes the two lines ahead of the vertices, for n vertices (`orient_head_text`).
+pub fn write_orient_head<K: Sink>(
+    alloc: Global,
+    buf: &mut LineBuf,
+    sink: &mut K,
+    n: u32,
+) -> Result<(), SendFault>
+    requires { buf.old ≡ [] }
+    ensures text { Appends (K.taken sink.old) (K.taken sink.new) (orient_head_text n) result }
+    ensures buffer { IsCleared buf.new result }
+    ensures cause { WriteCause (K.faults sink.old) (K.faults sink.new) result }
+{
+    write_magic(alloc, buf, sink)?;
+    write_vertex_count(alloc, buf, sink, n)
+}
+
+// Appends a blank and each of the vertices.
+fn fill_vertices(alloc: Global, buf: &mut LineBuf, vertices: &[u32]) -> Result<(), AllocError>
+    ensures { OnOk result (buf.new ≡ buf.old ++ flat_map (λ w. 32 ∷ decimal w) vertices.now) }
+{
+    for w in vertices {
+        fill_named(alloc, buf, b" ", *w)?;
+    }
+    Ok(())
+}
+
+fn fill_oriented(
+    alloc: Global,
+    buf: &mut LineBuf,
+    v: u32,
+    colour: u32,
+    out: &[u32],
+) -> Result<(), AllocError>
+    requires { buf.old ≡ [] }
+    ensures { OnOk result (buf.new ++ 10 ∷ [] ≡ oriented_line v colour out.now) }
+{
+    fill_named(alloc, buf, b"vertex ", v)?;
+    fill_named(alloc, buf, b" colour ", colour)?;
+    buf.text(alloc, b" out")?;
+    fill_vertices(alloc, buf, out)
+}
+
+/// Writes the line of vertex v: its colour, and its out-neighbours (`oriented_line`).
+pub fn write_oriented<K: Sink>(
+    alloc: Global,
+    buf: &mut LineBuf,
+    sink: &mut K,
+    v: u32,
+    colour: u32,
+    out: &[u32],
+) -> Result<(), SendFault>
+    requires { buf.old ≡ [] }
+    ensures text { Appends (K.taken sink.old) (K.taken sink.new) (oriented_line v colour out.now) result }
+    ensures buffer { IsCleared buf.new result }
+    ensures cause { WriteCause (K.faults sink.old) (K.faults sink.new) result }
+{
+    match fill_oriented(alloc, buf, v, colour, out) {
+        Ok(()) => buf.send(alloc, sink),
+        Err(fault) => Err(SendFault::Memory(fault)),
+    }
+}
