@@ -68,14 +68,14 @@ sparse_in p s same sound =
       profile = same;
       few = λ v c k. omega (arith, out_neighbours_are_few.near s.profile s.graph s.levels v (sound.both.upper v (k.core.vertices v k.holds)), i.low v c k);
       fewer = λ two v c k.
-        let second : s.profile ≡ Two = same ∙ two in
-        let upper : MeetsUpper Two s.graph s.levels v = subst (λ (q : Profile). MeetsUpper q s.graph s.levels v) second (sound.both.upper v (k.core.vertices v k.holds)) in
-        let low = rw second at (i.low v c k) in
-        omega (arith, out_neighbours_are_few.nearer s.graph s.levels v upper, low);
+          let second : s.profile ≡ Two = same ∙ two in
+          let upper : MeetsUpper Two s.graph s.levels v = subst (λ (q : Profile). MeetsUpper q s.graph s.levels v) second (sound.both.upper v (k.core.vertices v k.holds)) in
+          let low = rw second at (i.low v c k) in
+          omega (arith, out_neighbours_are_few.nearer s.graph s.levels v upper, low);
       proper = λ cs k v w near. colouring_is_proper s.graph s.levels cs sound.graph k v w near;
       bounded = λ cs k v h.
-        subst (λ (ws : List ℕ). get_or cs v 0 ≤ length ws) (outs_at s.graph s.levels v h)
-        (colours_are_few (orientation s.graph s.levels).outs cs k v (omega (arith, h, outs_sized s.graph s.levels)));
+          subst (λ (ws : List ℕ). get_or cs v 0 ≤ length ws) (outs_at s.graph s.levels v h)
+          (colours_are_few (orientation s.graph s.levels).outs cs k v (omega (arith, h, outs_sized s.graph s.levels)));
     }
 
 sparse_after : (text : HeaderText) → OrientsSparsely (behind_header MAX_ITEMS text)

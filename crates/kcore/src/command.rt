@@ -1,6 +1,7 @@
 //! The commands of the program.
-ghost use Rattle.std.specs.Prelude.{◌≡◌, ◌∷◌, []};
-ghost use Rattle.kcore.specs.Commands.{command_of, FitsWorkers};
+ghost use Rattle.std.specs.Prelude.{◌≡◌, ◌≤◌, ◌∷◌, [], IfSome};
+ghost use Rattle.kc_text.specs.Numbers.{number_of};
+ghost use Rattle.kcore.specs.Commands.{few_workers, command_of, FitsWorkers};
 
 use crate::word::is_word;
 use kc_text::{Words, read_number};
@@ -10,8 +11,23 @@ use kc_text::{Words, read_number};
 pub enum Command {
     /// `run W`: apply the batches of an input in turn with W workers, 1 to 64, and print each batch and then each vertex.
     Run { workers: u32 },
+    /// `orient W`: apply the batches of an input in turn with W workers, 1 to 64, and print the colour and the out-neighbours of each
+    /// vertex after them.
+    Orient { workers: u32 },
     /// `exact`: apply the batches of an input in turn, and print the coreness of each vertex after them.
     Exact,
+}
+
+// The number of workers that a word says, which is 1 to 64.
+fn few_workers(word: &[u8]) -> Option<u32>
+    ensures workers { result ≡ few_workers (number_of word.now) }
+    ensures few { IfSome result (λ workers. (1 ≤ workers) × (workers ≤ 64)) }
+{
+    let workers = read_number(word)?;
+    if workers < 1 || workers > 64 {
+        return None;
+    }
+    Some(workers)
 }
 
 // The command of two words.
@@ -20,14 +36,15 @@ fn of_two(name: &[u8], workers: &[u8]) -> Option<Command>
     ensures command { result ≡ command_of (name.now ∷ workers.now ∷ []) }
     ensures few { FitsWorkers result }
 {
-    if !is_word(name, b"run") {
-        return None;
+    if is_word(name, b"run") {
+        let workers = few_workers(workers)?;
+        return Some(Command::Run { workers });
     }
-    let workers = read_number(workers)?;
-    if workers < 1 || workers > 64 {
-        return None;
+    if is_word(name, b"orient") {
+        let workers = few_workers(workers)?;
+        return Some(Command::Orient { workers });
     }
-    Some(Command::Run { workers })
+    None
 }
 
 // The command of one word.

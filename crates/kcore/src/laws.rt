@@ -1,6 +1,7 @@
 //! What the definition of the text comes to. Each function does nothing; its contract is a law.
 ghost use Rattle.kcore.specs.Laws.{InputHasText, RepliesHaveText, TextsAreAlike, HasOneText, StatesArePoints, EachPointIsNear, EachStateHolds};
 ghost use Rattle.kcore.specs.ExactText.{IsExactText};
+ghost use Rattle.kcore.specs.OrientText.{IsOrientText};
 
 /// Each input has a text of a run, and so have all replies that fit its asks and that the history of its batches explains.
 pub fn input_has_text()
@@ -17,6 +18,11 @@ pub fn texts_are_alike()
 /// For each input there is exactly one exact text.
 pub fn input_has_one_exact_text()
     ensures { HasOneText IsExactText }
+{}
+
+/// For each input there is exactly one oriented text.
+pub fn input_has_one_orient_text()
+    ensures { HasOneText IsOrientText }
 {}
 
 /// The states of each input are points of its history, which is that of its phases, one after another.

@@ -6,6 +6,7 @@ ghost use Rattle.kcore.specs.Writing.{status_of};
 use crate::command::Command;
 use crate::documents::settle_input;
 use crate::exact::Exact;
+use crate::orient::Orient;
 use crate::run::run_input;
 use crate::status::Status;
 use kc_rounds::Gate;
@@ -45,6 +46,10 @@ fn status_of(ended: Result<bool, SessionFault>) -> Status
 /// There is one text of `exact`. In each state that the input leads to both invariants hold, and what is printed of a vertex bounds
 /// its coreness likewise; on each line of a vertex it bounds the coreness that stands there.
 ///
+/// There is one text of `orient` too, whatever the number of workers. The graph after the batches is oriented by the levels after
+/// them: no vertex has more out-neighbours than six times its coreness, and where the header gives the second profile than four
+/// times. The ends of an edge have different colours, and no colour is above the number of its vertex's out-neighbours.
+///
 /// `ReadFault` and `WriteFault` come only where the count of faults of `input`, of `output` rose in this call, and
 /// every other count is as it was. So with words of a command, bytes told and no count risen the answer is `Done` or
 /// `Refused`, as the bytes decide, or `Memory`, the one answer without a cause.
@@ -66,6 +71,9 @@ pub fn run_command<R: Threads + Sync, S: Source + Send, K: Sink + Send, G: Gate 
         Some(Command::Run { workers }) => {
             status_of(run_input(rt, alloc, gate, workers, input, output))
         }
+        Some(Command::Orient { workers }) => status_of(settle_input::<Orient, R, S, K, G>(
+            rt, alloc, gate, workers, input, output,
+        )),
         Some(Command::Exact) => status_of(settle_input::<Exact, R, S, K, G>(
             rt, alloc, gate, 1, input, output,
         )),

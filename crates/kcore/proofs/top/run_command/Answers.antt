@@ -7,3 +7,6 @@ returns-in-Some-Run-clause-holds g c = holds (command_of c.args.words.now) (g.S.
 
 pub returns-in-Some-Exact-clause-holds : goal.returns-in-Some-Exact-clause-holds
 returns-in-Some-Exact-clause-holds g c = holds (command_of c.args.words.now) (g.S.Source.left c.args.input.now)
+
+pub returns-in-Some-Orient-clause-holds : goal.returns-in-Some-Orient-clause-holds
+returns-in-Some-Orient-clause-holds g c = holds (command_of c.args.words.now) (g.S.Source.left c.args.input.now)
