@@ -224,6 +224,11 @@ fn other_words_name_no_command(rt: HostRuntime) -> Result<(), Fail> {
         "run 65",
         "run 1 1",
         "exact 1",
+        "orient",
+        "orient 0",
+        "orient 65",
+        "orient x",
+        "orient 1 1",
         "gen 0 5 1 3",
         "--help",
     ] {
@@ -309,6 +314,42 @@ fn prints_exact_coreness(rt: HostRuntime) -> Result<(), Fail> {
     for (input, text, status) in rows {
         for piece in [1, 2, 7, 1_000_000] {
             let (got, written) = answer(&rt, rt.alloc(), "exact", input, piece, (&[], &[]))?;
+            assert_eq!(rt; got, status);
+            assert_eq!(rt; written.as_slice(), text);
+        }
+    }
+    Ok(())
+}
+
+#[test]
+fn prints_orientations(rt: HostRuntime) -> Result<(), Fail> {
+    let rows: [(&[u8], &[u8], Status); 4] = [
+        // The complete graph on four vertices, and a fifth vertex alone.
+        (
+            b"kcore 1\nvertices 5\nbatch\n0 1\n0 2\n0 3\n1 2\n1 3\n2 3\nend\n",
+            b"kcore-orient 1\nvertices 5\nvertex 0 colour 3 out 1 2 3\nvertex 1 colour 2 out 2 3\nvertex 2 colour 1 out 3\nvertex 3 colour 0 out\nvertex 4 colour 0 out\nend\n",
+            Status::Done,
+        ),
+        // A star, whose middle is a level above its leaves.
+        (
+            b"kcore 1\nvertices 5\nbatch\n0 1\n0 2\n0 3\n0 4\nend\n",
+            b"kcore-orient 1\nvertices 5\nvertex 0 colour 0 out\nvertex 1 colour 1 out 0\nvertex 2 colour 1 out 0\nvertex 3 colour 1 out 0\nvertex 4 colour 1 out 0\nend\n",
+            Status::Done,
+        ),
+        (
+            NOTED,
+            b"# batch 2 refused line 9 bad-vertex\nkcore-orient 1\nvertices 3\nvertex 0 colour 0 out 1\nvertex 1 colour 1 out 2\nvertex 2 colour 0 out\nend\n",
+            Status::Refused,
+        ),
+        (
+            b"kcore 1\nvertices 0",
+            b"refused line 2 header\n",
+            Status::Refused,
+        ),
+    ];
+    for (input, text, status) in rows {
+        for (line, piece) in [("orient 1", 1), ("orient 3", 7), ("orient 64", 1_000_000)] {
+            let (got, written) = answer(&rt, rt.alloc(), line, input, piece, (&[], &[]))?;
             assert_eq!(rt; got, status);
             assert_eq!(rt; written.as_slice(), text);
         }
