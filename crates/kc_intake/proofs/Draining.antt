@@ -10,9 +10,9 @@ use Rattle.kc_intake.specs.declared.roles.Submitted.{Submitted}
 use Rattle.kc_intake.specs.declared.roles.Drained.{Drained}
 use Rattle.kc_intake.specs.declared.roles.Role.{Role}
 use Rattle.kc_intake.specs.declared.roles.Role.TheVariants.{Spent, Submits, Drains}
-use Rattle.kc_intake.specs.Updates.{updates_of, numbered, drained, AreNumbered}
+use Rattle.kc_intake.specs.Updates.{updates_of, numbered, all_updates, AreNumbered}
 use Rattle.kc_intake.specs.Views.{drained_of}
-use Rattle.kc_intake.specs.Rule.{IsSo, IsKept}
+use Rattle.kc_intake.specs.Rule.{PassHolds, IsKept}
 use Rattle.kc_intake.specs.Steps.{with_begun, with_added, begins, adds, drain_learns}
 use Rattle.kc_intake.proofs.Lists.{of_append, of_own, first_numbered, drained_begun, drained_added}
 use Rattle.kc_intake.proofs.Passes.{views_set}
@@ -28,16 +28,16 @@ record Popped (j : ℕ) (d new : Drained) (u : Update) (items : List Update) (vi
   at : get_elem? views j ≡ some (Drains d)
   clients : new.clients ≡ d.clients
   joined : new.joined ≡ d.joined
-  more : drained new.taken ≡ drained d.taken ++ u ∷ []
+  more : all_updates new.taken ≡ all_updates d.taken ++ u ∷ []
 
 module _ {j : ℕ} {d new : Drained} {u : Update} {items : List Update} {views : List Role} where
   is_so : (p : Popped j d new u items views) → (j ≡ p.kept.drainer) × (d ≡ p.kept.state)
-  is_so p = p.kept.views_are j (Drains d) p.at
+  is_so p = p.kept.passes j (Drains d) p.at
 
-  whole : (p : Popped j d new u items views) (c : ℕ) → updates_of c (drained new.taken ++ items) ≡ numbered c 0 (p.kept.sent c)
-  whole p c = ap (λ us. updates_of c us) (ap (λ us. us ++ items) p.more ∙ append_assoc (drained d.taken) (u ∷ []) items ∙ ap (λ (z : Drained). drained z.taken ++ u ∷ items) (is_so p).1) ∙ p.kept.whole c
+  whole : (p : Popped j d new u items views) (c : ℕ) → updates_of c (all_updates new.taken ++ items) ≡ numbered c 0 (p.kept.sent c)
+  whole p c = ap (λ us. updates_of c us) (ap (λ us. us ++ items) p.more ∙ append_assoc (all_updates d.taken) (u ∷ []) items ∙ ap (λ (z : Drained). all_updates z.taken ++ u ∷ items) (is_so p).1) ∙ p.kept.whole c
 
-  others_stay : (p : Popped j d new u items views) (k : ℕ) (v : Role) → k ≢ j → IsSo p.kept.drainer p.kept.state p.kept.pass p.kept.sent k v → IsSo p.kept.drainer new p.kept.pass p.kept.sent k v
+  others_stay : (p : Popped j d new u items views) (k : ℕ) (v : Role) → k ≢ j → PassHolds p.kept.drainer p.kept.state p.kept.pass p.kept.sent k v → PassHolds p.kept.drainer new p.kept.pass p.kept.sent k v
   others_stay p k Spent other so = so
   others_stay p k (Submits s) other so = so
   others_stay p k (Drains e) other so = absurd (other (so.0 ∙ sym (is_so p).0))
@@ -52,19 +52,19 @@ module _ {j : ℕ} {d new : Drained} {u : Update} {items : List Update} {views :
     later = λ c le. p.kept.later c (subst (λ (n : ℕ). n ≤ c) (p.clients ∙ ap (λ (z : Drained). z.clients) (is_so p).1) le);
     joined = λ s on. let was = p.kept.joined s (subst (λ (l : List Submitted). Contains l s) (p.joined ∙ ap (λ (z : Drained). z.joined) (is_so p).1) on) in
         (subst (λ (n : ℕ). s.client < n) (sym (p.clients ∙ ap (λ (z : Drained). z.clients) (is_so p).1)) was.0, was.1, was.2);
-    views_are = views_set (IsSo p.kept.drainer p.kept.state p.kept.pass p.kept.sent) (IsSo p.kept.drainer new p.kept.pass p.kept.sent) views j (Drains new) ((is_so p).0, refl) (others_stay p) p.kept.views_are;
+    passes = views_set (PassHolds p.kept.drainer p.kept.state p.kept.pass p.kept.sent) (PassHolds p.kept.drainer new p.kept.pass p.kept.sent) views j (Drains new) ((is_so p).0, refl) (others_stay p) p.kept.passes;
   }
 
   in_range : (p : Popped j d new u items views) → u.client < d.clients
   in_range p = dite (dec_le d.clients u.client)
       (λ le.
       let none = (p.kept.later u.client (subst (λ (z : Drained). z.clients ≤ u.client) (is_so p).1 le)).1 in
-      absurd (not_empty (updates_of u.client (drained p.kept.state.taken)) (updates_of u.client items) u
-      (sym (of_append u.client (drained p.kept.state.taken) (u ∷ items) ∙ ap (λ us. updates_of u.client (drained p.kept.state.taken) ++ us) (of_own u.client u items refl)) ∙ p.kept.whole u.client ∙ ap (numbered u.client 0) none)))
+      absurd (not_empty (updates_of u.client (all_updates p.kept.state.taken)) (updates_of u.client items) u
+      (sym (of_append u.client (all_updates p.kept.state.taken) (u ∷ items) ∙ ap (λ us. updates_of u.client (all_updates p.kept.state.taken) ++ us) (of_own u.client u items refl)) ∙ p.kept.whole u.client ∙ ap (numbered u.client 0) none)))
       (λ n. omega (arith, n))
 
   numbers : Popped j d new u items views → AreNumbered new.taken
-  numbers p c = first_numbered c 0 (updates_of c (drained new.taken)) (updates_of c items) (p.kept.sent c) (sym (of_append c (drained new.taken) items) ∙ whole p c)
+  numbers p c = first_numbered c 0 (updates_of c (all_updates new.taken)) (updates_of c items) (p.kept.sent c) (sym (of_append c (all_updates new.taken) items) ∙ whole p c)
 
 begins_one : (j : ℕ) (d : Drained) → Pops IsKept j (Drains d) (begins (Drains d))
 begins_one j d u items views r at =
@@ -78,9 +78,9 @@ adds_one j d u items views r at =
 
 learns_one : (j : ℕ) (d : Drained) → Learns IsKept j (Drains d) (drain_learns (Drains d))
 learns_one j d items views r at =
-    let mine = r.views_are j (Drains d) at in (
+    let mine = r.passes j (Drains d) at in (
       told j (Drains d) items views r at,
-      λ s on. ap (λ (z : Drained). updates_of s.client (drained z.taken ++ items)) mine.1 ∙ r.whole s.client ∙ ap (numbered s.client 0) (sym (r.joined s (subst (λ (z : Drained). Contains z.joined s) mine.1 on)).2),
+      λ s on. ap (λ (z : Drained). updates_of s.client (all_updates z.taken ++ items)) mine.1 ∙ r.whole s.client ∙ ap (numbered s.client 0) (sym (r.joined s (subst (λ (z : Drained). Contains z.joined s) mine.1 on)).2),
     )
 
 pub begins_from : (j : ℕ) (v : Role) → v ≡ Drains (drained_of v) → Pops IsKept j v (begins v)

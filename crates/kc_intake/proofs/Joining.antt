@@ -12,9 +12,9 @@ use Rattle.kc_intake.specs.declared.roles.Submitted.{Submitted}
 use Rattle.kc_intake.specs.declared.roles.Drained.{Drained}
 use Rattle.kc_intake.specs.declared.roles.Role.{Role}
 use Rattle.kc_intake.specs.declared.roles.Role.TheVariants.{Spent, Submits, Drains}
-use Rattle.kc_intake.specs.Updates.{updates_of, drained}
+use Rattle.kc_intake.specs.Updates.{updates_of, all_updates}
 use Rattle.kc_intake.specs.Views.{submitted_of, drained_of}
-use Rattle.kc_intake.specs.Rule.{IsSo, IsKept}
+use Rattle.kc_intake.specs.Rule.{PassHolds, IsKept}
 use Rattle.kc_intake.specs.Steps.{first_role, with_client, client_of, took_in}
 use Rattle.kc_intake.proofs.Lists.{changed, changed_here, changed_else}
 use Rattle.kc_intake.proofs.Passes.{views_set, same_pass}
@@ -31,11 +31,11 @@ opens = record {
   whole = λ c. refl;
   later = λ c le. (refl, refl);
   joined = λ s on. absurd (none_in s on);
-  views_are = first;
+  passes = first;
 }
   where
-    first : (j : ℕ) (v : Role) → get_elem? (first_role ∷ []) j ≡ some v → IsSo 0 (record { clients = 0; taken = []; joined = [] }) (λ c. None) (λ c. []) j v
-    first Rattle.std.proofs.Common.zero v e = subst (IsSo 0 (record { clients = 0; taken = []; joined = [] }) (λ c. None) (λ c. []) 0) (some-injective first_role v e) (refl, refl)
+    first : (j : ℕ) (v : Role) → get_elem? (first_role ∷ []) j ≡ some v → PassHolds 0 (record { clients = 0; taken = []; joined = [] }) (λ c. None) (λ c. []) j v
+    first Rattle.std.proofs.Common.zero v e = subst (PassHolds 0 (record { clients = 0; taken = []; joined = [] }) (λ c. None) (λ c. []) 0) (some-injective first_role v e) (refl, refl)
     first (Rattle.std.proofs.Common.suc j) v e = absurd (some-ne-none v (sym e))
 
 at_end : (views : List Role) (w v : Role) (k : ℕ) → get_elem? (views ++ w ∷ []) k ≡ some v → (get_elem? views k ≡ some v) ⊎ ((k ≡ length views) × (w ≡ v))
@@ -45,14 +45,14 @@ at_end (x ∷ xs) w v zero e = inl e
 at_end (x ∷ xs) w v (suc k) e = ⊎_elim (λ (t : get_elem? xs k ≡ some v). inl t) (λ (t : (k ≡ length xs) × (w ≡ v)). inr (ap suc t.0, t.1)) (at_end xs w v k e)
 
 -- client c comes, with a pass of its own
-coming_stays : (drainer : ℕ) (d new : Drained) (pass : ℕ → Option ℕ) (sent : ℕ → List Item) (c j n : ℕ) → pass c ≡ None → j ≡ drainer → (k : ℕ) (v : Role) → k ≢ j → IsSo drainer d pass sent k v → IsSo drainer new (changed pass c (Some n)) sent k v
+coming_stays : (drainer : ℕ) (d new : Drained) (pass : ℕ → Option ℕ) (sent : ℕ → List Item) (c j n : ℕ) → pass c ≡ None → j ≡ drainer → (k : ℕ) (v : Role) → k ≢ j → PassHolds drainer d pass sent k v → PassHolds drainer new (changed pass c (Some n)) sent k v
 coming_stays drainer d new pass sent c j n none mine k Spent other so = so
 coming_stays drainer d new pass sent c j n none mine k (Submits s) other so = (changed_else pass c (Some n) s.client (λ e. let t : Some k ≡ None = sym so.0 ∙ ap pass e ∙ none in cc) ∙ so.0, so.1)
 coming_stays drainer d new pass sent c j n none mine k (Drains e) other so = absurd (other (so.0 ∙ sym mine))
 
 forks_one : (j : ℕ) (d : Drained) → Forks IsKept j (Drains d) (with_client (Drains d)) (client_of (Drains d))
 forks_one j d items views r at =
-    let mine = r.views_are j (Drains d) at in
+    let mine = r.passes j (Drains d) at in
     let clients : d.clients ≡ r.state.clients = ap (λ (z : Drained). z.clients) mine.1 in
     let next = r.later d.clients (subst (λ (n : ℕ). n ≤ d.clients) clients (le_refl d.clients)) in
     let new : Drained = record d { clients = d.clients + 1 } in
@@ -63,13 +63,13 @@ forks_one j d items views r at =
       state = new;
       pass = pass;
       sent = r.sent;
-      whole = λ c. ap (λ (z : Drained). updates_of c (drained z.taken ++ items)) mine.1 ∙ r.whole c;
+      whole = λ c. ap (λ (z : Drained). updates_of c (all_updates z.taken ++ items)) mine.1 ∙ r.whole c;
       later = λ c le. let was = r.later c (omega (arith, clients, le)) in (changed_else r.pass d.clients (Some (length vs)) c (λ e. omega (arith, e, le)) ∙ was.0, was.1);
       joined = λ s on. let was = r.joined s (subst (λ (z : Drained). Contains z.joined s) mine.1 on) in let lt = was.0 in
           (omega (arith, clients, lt), changed_else r.pass d.clients (Some (length vs)) s.client (λ e. omega (arith, e, clients, lt)) ∙ was.1, was.2);
-      views_are = λ k v e. ⊎_elim
-          (λ (t : get_elem? vs k ≡ some v). views_set (IsSo r.drainer r.state r.pass r.sent) (IsSo r.drainer new pass r.sent) views j (Drains new) (mine.0, refl) (coming_stays r.drainer r.state new r.pass r.sent d.clients j (length vs) next.0 mine.0) r.views_are k v t)
-          (λ (t : (k ≡ length vs) × (comes ≡ v)). subst (λ (x : ℕ × Role). IsSo r.drainer new pass r.sent x.0 x.1) (λ i. (sym t.0 i, t.1 i)) (changed_here r.pass d.clients (Some (length vs)) d.clients refl, sym next.1))
+      passes = λ k v e. ⊎_elim
+          (λ (t : get_elem? vs k ≡ some v). views_set (PassHolds r.drainer r.state r.pass r.sent) (PassHolds r.drainer new pass r.sent) views j (Drains new) (mine.0, refl) (coming_stays r.drainer r.state new r.pass r.sent d.clients j (length vs) next.0 mine.0) r.passes k v t)
+          (λ (t : (k ≡ length vs) × (comes ≡ v)). subst (λ (x : ℕ × Role). PassHolds r.drainer new pass r.sent x.0 x.1) (λ i. (sym t.0 i, t.1 i)) (changed_here r.pass d.clients (Some (length vs)) d.clients refl, sym next.1))
           (at_end vs comes v k e);
     }
 
@@ -80,34 +80,34 @@ forks_from j v is = subst (λ (z : Role). Forks IsKept j z (with_client z) (clie
 none_stays : (pass : ℕ → Option ℕ) (k c : ℕ) → pass c ≡ None → changed pass k None c ≡ None
 none_stays pass k c none = dite (ℕ_discrete c k) (λ e. changed_here pass k None c e) (λ n. changed_else pass k None c n ∙ none)
 
-leaving_stays : (drainer : ℕ) (d new : Drained) (pass : ℕ → Option ℕ) (sent : ℕ → List Item) (c j gone : ℕ) → pass c ≡ Some gone → j ≡ drainer → (k : ℕ) (v : Role) → k ≢ j → IsSo drainer d pass sent k v → k ≢ gone → IsSo drainer new (changed pass c None) sent k v
+leaving_stays : (drainer : ℕ) (d new : Drained) (pass : ℕ → Option ℕ) (sent : ℕ → List Item) (c j gone : ℕ) → pass c ≡ Some gone → j ≡ drainer → (k : ℕ) (v : Role) → k ≢ j → PassHolds drainer d pass sent k v → k ≢ gone → PassHolds drainer new (changed pass c None) sent k v
 leaving_stays drainer d new pass sent c j gone theirs mine k Spent other so apart = so
 leaving_stays drainer d new pass sent c j gone theirs mine k (Submits s) other so apart = (changed_else pass c None s.client (λ e. apart (same_pass pass s.client c k gone so.0 theirs e)) ∙ so.0, so.1)
 leaving_stays drainer d new pass sent c j gone theirs mine k (Drains e) other so apart = absurd (other (so.0 ∙ sym mine))
 
 merges_one : (j : ℕ) (d : Drained) (gone : ℕ) (s : Submitted) → Merges IsKept j (Drains d) gone (Submits s) (took_in (Drains d) (Submits s)) Spent
 merges_one j d gone s items views r at two at' =
-    let mine = r.views_are j (Drains d) at in
+    let mine = r.passes j (Drains d) at in
     let new : Drained = record d { joined = d.joined ++ s ∷ [] } in
     let was : get_elem? views gone ≡ some (Submits s) = ⊎_elim (λ x. absurd (two x.0)) (λ x. x.1) (at_set views j gone (Drains new) (Submits s) at') in
-    let theirs = r.views_are gone (Submits s) was in
+    let theirs = r.passes gone (Submits s) was in
     let vs : List Role = set views j (Drains new) in
     let clients : d.clients ≡ r.state.clients = ap (λ (z : Drained). z.clients) mine.1 in
     let pass : ℕ → Option ℕ = changed r.pass s.client None in
     let known : s.client < d.clients = dite (dec_le d.clients s.client) (λ le. let t : None ≡ Some gone = sym (r.later s.client (omega (arith, clients, le))).0 ∙ theirs.0 in absurd cc) (λ n. omega (arith, n)) in
-    let Now : ℕ → Role → Type 0 = (λ k v. k ≢ gone → IsSo r.drainer new pass r.sent k v) in record {
+    let Now : ℕ → Role → Type 0 = (λ k v. k ≢ gone → PassHolds r.drainer new pass r.sent k v) in record {
       drainer = r.drainer;
       state = new;
       pass = pass;
       sent = r.sent;
-      whole = λ c. ap (λ (z : Drained). updates_of c (drained z.taken ++ items)) mine.1 ∙ r.whole c;
+      whole = λ c. ap (λ (z : Drained). updates_of c (all_updates z.taken ++ items)) mine.1 ∙ r.whole c;
       later = λ c le. let was = r.later c (omega (arith, clients, le)) in (none_stays r.pass s.client c was.0, was.1);
       joined = λ t on. ⊎_elim
           (λ (before : Contains d.joined t). let was = r.joined t (subst (λ (z : Drained). Contains z.joined t) mine.1 before) in let lt = was.0 in (omega (arith, clients, lt), none_stays r.pass s.client t.client was.1, was.2))
           (λ (e : s ≡ t). subst (λ (z : Submitted). (z.client < d.clients) × (pass z.client ≡ None) × (z.items ≡ r.sent z.client)) e (known, changed_here r.pass s.client None s.client refl, theirs.1))
           (Contains-push_cases d.joined s t on);
-      views_are = views_set Now (IsSo r.drainer new pass r.sent) vs gone Spent tt (λ k v other now. now other)
-          (views_set (IsSo r.drainer r.state r.pass r.sent) Now views j (Drains new) (λ apart. (mine.0, refl)) (leaving_stays r.drainer r.state new r.pass r.sent s.client j gone theirs.0 mine.0) r.views_are);
+      passes = views_set Now (PassHolds r.drainer new pass r.sent) vs gone Spent tt (λ k v other now. now other)
+          (views_set (PassHolds r.drainer r.state r.pass r.sent) Now views j (Drains new) (λ apart. (mine.0, refl)) (leaving_stays r.drainer r.state new r.pass r.sent s.client j gone theirs.0 mine.0) r.passes);
     }
 
 pub merges_from : (j : ℕ) (v : Role) (gone : ℕ) (w : Role) → v ≡ Drains (drained_of v) → w ≡ Submits (submitted_of w) → Merges IsKept j v gone w (took_in v w) Spent

@@ -6,7 +6,7 @@ use Rattle.std.proofs.lemmas.List.Elements.{filter-append}
 use Rattle.std.proofs.lemmas.List.Concat.{flat_map-append}
 use Rattle.kc_graph.specs.declared.items.Item.{Item}
 use Rattle.kc_intake.specs.declared.updates.Update.{Update}
-use Rattle.kc_intake.specs.Updates.{updates_of, numbered, drained}
+use Rattle.kc_intake.specs.Updates.{updates_of, numbered, all_updates}
 use Rattle.kc_intake.specs.Steps.{with_last}
 
 -- f, but x at k
@@ -45,13 +45,13 @@ first_numbered c n (u ∷ us) vs (x ∷ xs) e =
     let more = first_numbered c (n + 1) us vs xs rest in
     λ i. same i ∷ more i
 
-pub drained_begun : (batches : List (List Update)) (u : Update) → drained (batches ++ (u ∷ []) ∷ []) ≡ drained batches ++ u ∷ []
+pub drained_begun : (batches : List (List Update)) (u : Update) → all_updates (batches ++ (u ∷ []) ∷ []) ≡ all_updates batches ++ u ∷ []
 drained_begun batches u = flat_map-append (λ batch. batch) batches ((u ∷ []) ∷ [])
 
-pub drained_added : (batches : List (List Update)) (u : Update) → drained (with_last u batches) ≡ drained batches ++ u ∷ []
+pub drained_added : (batches : List (List Update)) (u : Update) → all_updates (with_last u batches) ≡ all_updates batches ++ u ∷ []
 drained_added [] u = refl
 drained_added (batch ∷ []) u = append-nil (batch ++ u ∷ []) ∙ ap (λ us. us ++ u ∷ []) (sym (append-nil batch))
-drained_added (batch ∷ next ∷ batches) u = ap (λ us. batch ++ us) (drained_added (next ∷ batches) u) ∙ sym (append_assoc batch (drained (next ∷ batches)) (u ∷ []))
+drained_added (batch ∷ next ∷ batches) u = ap (λ us. batch ++ us) (drained_added (next ∷ batches) u) ∙ sym (append_assoc batch (all_updates (next ∷ batches)) (u ∷ []))
 
 -- the last batch with an update more
 pub last_added : (batches : List (List Update)) (batch : List Update) (u : Update) → with_last u (batches ++ batch ∷ []) ≡ batches ++ (batch ++ u ∷ []) ∷ []

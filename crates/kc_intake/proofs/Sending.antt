@@ -9,9 +9,9 @@ use Rattle.kc_intake.specs.declared.roles.Submitted.{Submitted}
 use Rattle.kc_intake.specs.declared.roles.Drained.{Drained}
 use Rattle.kc_intake.specs.declared.roles.Role.{Role}
 use Rattle.kc_intake.specs.declared.roles.Role.TheVariants.{Spent, Submits, Drains}
-use Rattle.kc_intake.specs.Updates.{updates_of, numbered, drained}
+use Rattle.kc_intake.specs.Updates.{updates_of, numbered, all_updates}
 use Rattle.kc_intake.specs.Views.{submitted_of}
-use Rattle.kc_intake.specs.Rule.{IsSo, IsKept}
+use Rattle.kc_intake.specs.Rule.{PassHolds, IsKept}
 use Rattle.kc_intake.specs.Causes.{IsTold}
 use Rattle.kc_intake.specs.Steps.{with_sent, sends}
 use Rattle.kc_intake.proofs.Lists.{changed, changed_here, changed_else, of_more, of_same}
@@ -21,14 +21,14 @@ pub told : (pass : ℕ) (v : Role) → Learns IsKept pass v (IsTold v)
 told pass v items views r at test sure = sure pass items views r at
 
 -- what another pass knows stays so
-others_stay : (drainer : ℕ) (state : Drained) (pass : ℕ → Option ℕ) (sent : ℕ → List Item) (c j : ℕ) (new : List Item) → pass c ≡ Some j → (k : ℕ) (v : Role) → k ≢ j → IsSo drainer state pass sent k v → IsSo drainer state pass (changed sent c new) k v
+others_stay : (drainer : ℕ) (state : Drained) (pass : ℕ → Option ℕ) (sent : ℕ → List Item) (c j : ℕ) (new : List Item) → pass c ≡ Some j → (k : ℕ) (v : Role) → k ≢ j → PassHolds drainer state pass sent k v → PassHolds drainer state pass (changed sent c new) k v
 others_stay drainer state pass sent c j new mine k Spent other so = so
 others_stay drainer state pass sent c j new mine k (Submits s) other so = (so.0, so.1 ∙ sym (changed_else sent c new s.client (λ e. other (same_pass pass s.client c k j so.0 mine e))))
 others_stay drainer state pass sent c j new mine k (Drains d) other so = so
 
 sends_one : (n j : ℕ) (s : Submitted) (u : Update) → u.client ≡ s.client → u.serial ≡ length s.items → Pushes IsKept n j (Submits s) u (sends (Submits s) u)
 sends_one n j s u own next items views few r at =
-    let mine = r.views_are j (Submits s) at in
+    let mine = r.passes j (Submits s) at in
     let new : List Item = s.items ++ u.item ∷ [] in
     let sent : ℕ → List Item = changed r.sent s.client new in
     let absent : (c : ℕ) → r.pass c ≡ None → c ≢ s.client = (λ c none e. let t : None ≡ Some j = sym none ∙ ap r.pass e ∙ mine.0 in cc) in (
@@ -38,14 +38,14 @@ sends_one n j s u own next items views few r at =
         state = r.state;
         pass = r.pass;
         sent = sent;
-        whole = λ c. ap (λ us. updates_of c us) (sym (append_assoc (drained r.state.taken) items (u ∷ [])))
+        whole = λ c. ap (λ us. updates_of c us) (sym (append_assoc (all_updates r.state.taken) items (u ∷ [])))
             ∙ dite (ℕ_discrete c s.client)
-            (λ e. of_more c (drained r.state.taken ++ items) u s.items (own ∙ sym e) next (r.whole c ∙ ap (numbered c 0) (ap r.sent e ∙ sym mine.1)) ∙ ap (numbered c 0) (sym (changed_here r.sent s.client new c e)))
-            (λ n. of_same c (drained r.state.taken ++ items) u (λ e. n (sym e ∙ own)) ∙ r.whole c ∙ ap (numbered c 0) (sym (changed_else r.sent s.client new c n)));
+            (λ e. of_more c (all_updates r.state.taken ++ items) u s.items (own ∙ sym e) next (r.whole c ∙ ap (numbered c 0) (ap r.sent e ∙ sym mine.1)) ∙ ap (numbered c 0) (sym (changed_here r.sent s.client new c e)))
+            (λ n. of_same c (all_updates r.state.taken ++ items) u (λ e. n (sym e ∙ own)) ∙ r.whole c ∙ ap (numbered c 0) (sym (changed_else r.sent s.client new c n)));
         later = λ c le. let was = r.later c le in (was.0, changed_else r.sent s.client new c (absent c was.0) ∙ was.1);
         joined = λ t on. let was = r.joined t on in (was.0, was.1, was.2 ∙ sym (changed_else r.sent s.client new t.client (absent t.client was.1)));
-        views_are = views_set (IsSo r.drainer r.state r.pass r.sent) (IsSo r.drainer r.state r.pass sent) views j (Submits (with_sent u s)) (mine.0, sym (changed_here r.sent s.client new s.client refl))
-            (others_stay r.drainer r.state r.pass r.sent s.client j new mine.0) r.views_are;
+        passes = views_set (PassHolds r.drainer r.state r.pass r.sent) (PassHolds r.drainer r.state r.pass sent) views j (Submits (with_sent u s)) (mine.0, sym (changed_here r.sent s.client new s.client refl))
+            (others_stay r.drainer r.state r.pass r.sent s.client j new mine.0) r.passes;
       },
       refl,
     )

@@ -14,8 +14,8 @@ use Rattle.kc_intake.specs.declared.roles.Role.{Role}
 use Rattle.kc_intake.specs.declared.roles.Role.TheVariants.{Submits, Drains}
 use Rattle.kc_intake.specs.Causes.{HeldAtStep}
 use Rattle.kc_intake.specs.Steps.{with_client, client_of, with_last, with_added, adds, at_drainer, took_in, drain_learns}
-use Rattle.kc_intake.specs.Updates.{updates_of, updates_in, drained, AreNumbered}
-use Rattle.kc_intake.specs.Views.{IntakeShape, ClientShape, DrainerShape, intake_of, submitted_of, drained_of, client_shape, drainer_shape, IsClient, IsDrainer, submitted, new_client}
+use Rattle.kc_intake.specs.Updates.{updates_of, updates_in, all_updates, AreNumbered}
+use Rattle.kc_intake.specs.Views.{IntakeShape, ClientShape, DrainerShape, intake_of, submitted_of, drained_of, client_shape, drainer_shape, IsClient, IsDrainer, AreAllDrained, submitted, new_client}
 use Rattle.kc_intake.proofs.Lists.{of_append, last_added}
 
 -- a cause that a pass was told of, in the words of what callers see
@@ -25,12 +25,12 @@ held_as n m v w e f h = subst (λ (z : ℕ × Role). HeldAtStep z.0 z.1) (λ i. 
 pub held_told : (n : ℕ) (v : Role) → Held n (drain_learns v) → HeldAtStep n v
 held_told n v h = (h.0, h.1, h.2.0)
 
-pub held_whole : (v w : Role) → w ≡ v → Held 0 (drain_learns v) → All (λ s. updates_of s.client (drained (drained_of w).taken) ≡ updates_in s) (drained_of w).joined
-held_whole v w same h = subst (λ (z : Role). All (λ s. updates_of s.client (drained (drained_of z).taken) ≡ updates_in s) (drained_of z).joined) (sym same)
+pub held_whole : (p : Pass Update Role) (batch : List Update) (v : Role) → view p ≡ v → Held 0 (drain_learns v) → AreAllDrained (drainer_shape p batch)
+held_whole p batch v same h = subst (λ (z : Role). All (λ s. updates_of s.client (all_updates (drained_of z).taken) ≡ updates_in s) (drained_of z).joined) (sym same)
     (λ k d lt.
     let s : Submitted = get_or (drained_of v).joined k d in
     let none : h.0 ≡ [] = nil_from_length h.0 h.1 in
-    ap (λ us. updates_of s.client us) (sym (append-nil (drained (drained_of v).taken)) ∙ ap (λ us. drained (drained_of v).taken ++ us) (sym none)) ∙ h.2.1 s (Contains-get_or (drained_of v).joined k d lt))
+    ap (λ us. updates_of s.client us) (sym (append-nil (all_updates (drained_of v).taken)) ∙ ap (λ us. all_updates (drained_of v).taken ++ us) (sym none)) ∙ h.2.1 s (Contains-get_or (drained_of v).joined k d lt))
 
 pub client_stays : (old new : Pass Update Role) (c : ClientShape) → client_shape old ≡ c → new.table_id ≡ old.table_id → view new ≡ view old → client_shape new ≡ c
 client_stays old new c is table same = (λ i. record { intake = intake_of (table i); number = (submitted_of (same i)).client; sent = (submitted_of (same i)).items }) ∙ is
@@ -82,10 +82,10 @@ joined_now old new client is same went = drainer_went (λ d. record d { joined =
 
 -- what was drained of the client that was taken in
 pub joined_prefix : (old now new client : Pass Update Role) (c : ClientShape) → drained_of (view now) ≡ record (drained_of (view old)) { joined = (drained_of (view old)).joined ++ submitted_of (view client) ∷ [] } → client_shape client ≡ c → view new ≡ view now → (items : List Update) → drain_learns (view now) items
-    → IsPrefix (updates_of c.number (drained (drained_of (view new)).taken)) (updates_in (submitted c))
+    → IsPrefix (updates_of c.number (all_updates (drained_of (view new)).taken)) (updates_in (submitted c))
 joined_prefix old now new client c state is same items learned =
     let s : Submitted = submitted_of (view client) in
     let on : Contains (drained_of (view now)).joined s = subst (λ (z : Drained). Contains z.joined s) (sym state) (Contains-push (drained_of (view old)).joined s) in
     let taken : List (List Update) = (drained_of (view new)).taken in
-    let whole : updates_of s.client (drained taken) ++ updates_of s.client items ≡ updates_in s = sym (of_append s.client (drained taken) items) ∙ ap (λ v. updates_of s.client (drained (drained_of v).taken ++ items)) same ∙ learned.1 s on in
-    subst (λ (z : ClientShape). IsPrefix (updates_of z.number (drained taken)) (updates_in (submitted z))) is (updates_of s.client items, whole)
+    let whole : updates_of s.client (all_updates taken) ++ updates_of s.client items ≡ updates_in s = sym (of_append s.client (all_updates taken) items) ∙ ap (λ v. updates_of s.client (all_updates (drained_of v).taken ++ items)) same ∙ learned.1 s on in
+    subst (λ (z : ClientShape). IsPrefix (updates_of z.number (all_updates taken)) (updates_in (submitted z))) is (updates_of s.client items, whole)

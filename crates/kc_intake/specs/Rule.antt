@@ -8,13 +8,13 @@ use Rattle.kc_intake.specs.declared.roles.Submitted.{Submitted}
 use Rattle.kc_intake.specs.declared.roles.Drained.{Drained}
 use Rattle.kc_intake.specs.declared.roles.Role.{Role}
 use Rattle.kc_intake.specs.declared.roles.Role.TheVariants.{Spent, Submits, Drains}
-use Rattle.kc_intake.specs.Updates.{updates_of, numbered, drained}
+use Rattle.kc_intake.specs.Updates.{updates_of, numbered, all_updates}
 
 -- what pass j knows is so, where the drainer has pass `drainer`, client c has pass `pass c`, and it has sent `sent c`
-abbrev pub IsSo : ℕ → Drained → (ℕ → Option ℕ) → (ℕ → List Item) → ℕ → Role → Type 0
-IsSo drainer state pass sent j Spent = Unit {0}
-IsSo drainer state pass sent j (Submits s) = (pass s.client ≡ Some j) × (s.items ≡ sent s.client)
-IsSo drainer state pass sent j (Drains d) = (j ≡ drainer) × (d ≡ state)
+abbrev pub PassHolds : ℕ → Drained → (ℕ → Option ℕ) → (ℕ → List Item) → ℕ → Role → Type 0
+PassHolds drainer state pass sent j Spent = Unit {0}
+PassHolds drainer state pass sent j (Submits s) = (pass s.client ≡ Some j) × (s.items ≡ sent s.client)
+PassHolds drainer state pass sent j (Drains d) = (j ≡ drainer) × (d ≡ state)
 
 -- `items` are the updates in the queue, oldest first
 pub record IsKept (items : List Update) (views : List Role) : Type 0 where
@@ -23,9 +23,9 @@ pub record IsKept (items : List Update) (views : List Role) : Type 0 where
   pub pass : ℕ → Option ℕ
   pub sent : ℕ → List Item
   -- what each client sent is what was drained of it, and then what the queue holds of it
-  pub whole : (c : ℕ) → updates_of c (drained state.taken ++ items) ≡ numbered c 0 (sent c)
+  pub whole : (c : ℕ) → updates_of c (all_updates state.taken ++ items) ≡ numbered c 0 (sent c)
   -- later clients have sent nothing
   pub later : (c : ℕ) → state.clients ≤ c → (pass c ≡ None) × (sent c ≡ [])
   -- clients that were taken in send nothing more
   pub joined : (s : Submitted) → Contains state.joined s → (s.client < state.clients) × (pass s.client ≡ None) × (s.items ≡ sent s.client)
-  pub views_are : (j : ℕ) (v : Role) → get_elem? views j ≡ some v → IsSo drainer state pass sent j v
+  pub passes : (j : ℕ) (v : Role) → get_elem? views j ≡ some v → PassHolds drainer state pass sent j v

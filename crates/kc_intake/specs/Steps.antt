@@ -5,7 +5,7 @@ use Rattle.kc_intake.specs.declared.roles.Submitted.{Submitted}
 use Rattle.kc_intake.specs.declared.roles.Drained.{Drained}
 use Rattle.kc_intake.specs.declared.roles.Role.{Role}
 use Rattle.kc_intake.specs.declared.roles.Role.TheVariants.{Submits, Drains}
-use Rattle.kc_intake.specs.Updates.{updates_of, updates_in, drained, AreNumbered}
+use Rattle.kc_intake.specs.Updates.{updates_of, updates_in, all_updates, AreNumbered}
 use Rattle.kc_intake.specs.Views.{submitted_of, drained_of}
 use Rattle.kc_intake.specs.Causes.{IsTold}
 
@@ -63,7 +63,7 @@ adds v u w = (w ≡ at_drainer (with_added u) v) × IsSound u v w
 
 -- what each client that was taken in had sent is what was drained of it, and then what the queue holds of it
 abbrev pub AreWhole : Drained → List Update → Type 0
-AreWhole d items = (s : Submitted) → Contains d.joined s → updates_of s.client (drained d.taken ++ items) ≡ updates_in s
+AreWhole d items = (s : Submitted) → Contains d.joined s → updates_of s.client (all_updates d.taken ++ items) ≡ updates_in s
 
 abbrev pub drain_learns : Role → List Update → Type 0
 drain_learns v items = IsTold v items × AreWhole (drained_of v) items

@@ -1,5 +1,5 @@
 -- What contracts see of an intake, a client and a drainer, and what their passes know.
-use Rattle.std.specs.Prelude.{◌≡◌, ℕ, List, []}
+use Rattle.std.specs.Prelude.{◌≡◌, ℕ, List, [], All}
 use Rattle.atomic_table.specs.Seated.{TableId}
 use Rattle.crossbeam_queue.specs.Passes.{Pass, view}
 use Rattle.kc_graph.specs.declared.items.Item.{Item}
@@ -8,6 +8,7 @@ use Rattle.kc_intake.specs.declared.roles.Submitted.{Submitted}
 use Rattle.kc_intake.specs.declared.roles.Drained.{Drained}
 use Rattle.kc_intake.specs.declared.roles.Role.{Role}
 use Rattle.kc_intake.specs.declared.roles.Role.TheVariants.{Submits, Drains}
+use Rattle.kc_intake.specs.Updates.{updates_of, updates_in, all_updates}
 
 -- an intake: which queue it is, and how many updates it holds at most
 pub record IntakeShape : Type 0 where
@@ -67,6 +68,10 @@ client_role c = Submits (submitted c)
 -- what the pass of a drainer knows
 abbrev pub drainer_role : DrainerShape → Role
 drainer_role d = Drains (record { clients = d.clients; taken = d.taken; joined = d.joined })
+
+-- of each client that was taken in, all that it sent is drained
+abbrev pub AreAllDrained : DrainerShape → Type 0
+AreAllDrained d = All (λ s. updates_of s.client (all_updates d.taken) ≡ updates_in s) d.joined
 
 -- client number c of an intake, which has submitted nothing
 abbrev pub new_client : IntakeShape → ℕ → ClientShape

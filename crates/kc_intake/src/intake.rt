@@ -2,8 +2,8 @@ ghost use Rattle.std.specs.Prelude.{◌≡◌, ◌≤◌, ◌<◌, [], ◌∷◌
 ghost use Rattle.std.specs.List.{range_with_len};
 ghost use mathlib.Core.List.{IsPrefix};
 ghost use Rattle.kc_intake.specs.Causes.{HeldAtStep};
-ghost use Rattle.kc_intake.specs.Updates.{updates_of, updates_in, drained, AreNumbered};
-ghost use Rattle.kc_intake.specs.Views.{client_role, drainer_role, new_client, submitted};
+ghost use Rattle.kc_intake.specs.Updates.{updates_of, updates_in, all_updates, AreNumbered};
+ghost use Rattle.kc_intake.specs.Views.{client_role, drainer_role, new_client, submitted, AreAllDrained};
 
 use crate::client::Client;
 use crate::drainer::Drainer;
@@ -35,10 +35,11 @@ impl Model for Intake {
 }
 
 impl Intake {
-    /// An intake that holds up to `capacity` updates, its drainer, and its clients, numbered from 0. The capacity is 1 to
+    /// An intake that holds up to `capacity` updates, its drainer, and its clients, numbered from 0 (`new_client`). The capacity is 1 to
     /// `MAX_CAPACITY`, and there are 1 to `MAX_CLIENTS` clients.
     ///
-    /// This takes all memory that the intake, its drainer and its clients ever need.
+    /// This takes all memory that the intake, its drainer and its clients ever need: room for `capacity` updates in the queue, and as
+    /// much in the drainer's batch. No other call takes memory.
     pub fn open(
         alloc: Global,
         capacity: u32,
@@ -67,8 +68,8 @@ impl Intake {
     /// Submits an item: it is queued as an update with the client's number, and with the number of items that the client sent before as
     /// its serial. The client is of this intake, and has sent fewer than `MAX_SENT` items.
     ///
-    /// `Full` comes only where the queue held its capacity at a step of this call; then nothing was queued. It takes no memory, and may
-    /// wait for a thread that is at the same place of the queue.
+    /// `Full` comes only where the queue held its capacity at a step of this call (`HeldAtStep`); then nothing was queued, and the client
+    /// is as it was. The call takes constant time, but that it tries again while other threads are at the same place of the queue.
     pub fn submit<R: Threads + Wait + Sync>(
         &self,
         rt: &R,
@@ -94,11 +95,13 @@ impl Intake {
         }
     }
 
-    /// Drains a batch of 1 to `capacity` updates, which the drainer then has as its `batch`. The drainer is of this intake.
+    /// Drains a batch of 1 to `capacity` updates, oldest first, which the drainer then has as its `batch`. The updates of each client
+    /// are numbered from 0 over all batches (`AreNumbered`). The drainer is of this intake.
     ///
-    /// It is fewer than `capacity` only where the queue was empty at a step of this call. `Empty` comes only where the queue was empty at
-    /// a step of this call; then the batch is empty, and of each client that was taken in all that it sent is drained. It takes no
-    /// memory, and may wait for a thread that is at the same place of the queue.
+    /// The batch is shorter than `capacity` only where the queue was empty at a step of this call (`HeldAtStep`). `Empty` comes only
+    /// where the queue was empty at a step of this call; then the batch is empty, and nothing was drained. In both cases all is drained
+    /// that the clients sent that were taken in (`AreAllDrained`). The call takes time in proportion to the batch, but that it tries
+    /// again while other threads are at the same place of the queue.
     pub fn drain<R: Threads + Wait + Sync>(
         &self,
         rt: &R,
@@ -109,9 +112,8 @@ impl Intake {
         ensures size { OnOk result ((1 ≤ length drainer.new.batch) × (length drainer.new.batch ≤ self.now.capacity)) }
         ensures clients { OnOk result (All (λ u. u.client < drainer.new.clients) drainer.new.batch) }
         ensures serials { OnOk result (AreNumbered drainer.new.taken) }
-        ensures short { OnOk result (length drainer.new.batch < self.now.capacity → HeldAtStep 0 (drainer_role drainer.new)) }
-        ensures empty { OnErr result ((drainer.new ≡ record drainer.old { batch = [] }) × HeldAtStep 0 (drainer_role drainer.old)) }
-        ensures whole { OnErr result (All (λ s. updates_of s.client (drained drainer.new.taken) ≡ updates_in s) drainer.new.joined) }
+        ensures short { OnOk result (length drainer.new.batch < self.now.capacity → HeldAtStep 0 (drainer_role drainer.new) × AreAllDrained drainer.new) }
+        ensures empty { OnErr result ((drainer.new ≡ record drainer.old { batch = [] }) × HeldAtStep 0 (drainer_role drainer.new) × AreAllDrained drainer.new) }
     {
         drainer.batch.clear();
         let Some(first) = self.queue.pop_as::<Begins, R>(rt, &mut drainer.pass) else {
@@ -127,12 +129,13 @@ impl Intake {
         Ok(())
     }
 
-    /// Takes in a client that has ended: of what it sent, the updates that were drained are the first ones, in its order, each once.
-    /// Where a later drain finds the intake empty, they are all. Drainer and client are of this intake. It takes no memory.
+    /// Takes in a client that has ended. The updates that were drained of it (`updates_of`) are the first ones of those that it sent
+    /// (`updates_in`), in its order, each once. Where a later drain finds the intake empty, they are all of them (`AreAllDrained`). The
+    /// drainer and the client are of this intake. The call takes constant time.
     pub fn take_in<R: Threads + Wait + Sync>(&self, _rt: &R, drainer: &mut Drainer, client: Client)
         requires intake { (drainer.old.intake ≡ self.now) × (client.intake ≡ self.now) }
         ensures same { drainer.new ≡ record drainer.old { joined = drainer.old.joined ++ submitted client ∷ [] } }
-        ensures prefix { IsPrefix (updates_of client.number (drained drainer.new.taken)) (updates_in (submitted client)) }
+        ensures prefix { IsPrefix (updates_of client.number (all_updates drainer.new.taken)) (updates_in (submitted client)) }
     {
         self.queue.absorb::<TakesIn>(&mut drainer.pass, client.pass);
         self.queue.learn_as::<Compares>(&mut drainer.pass);

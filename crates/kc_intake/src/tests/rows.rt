@@ -1,16 +1,14 @@
 // One client and the server on one thread.
-ghost use Rattle.std.specs.Prelude.{◌≡◌, ◌≤◌, ◌<◌, [], ◌∷◌, IfOk, length};
-ghost use Rattle.kc_intake.specs.Views.{submitted};
+ghost use Rattle.std.specs.Prelude.{◌≡◌, ◌≤◌, [], IfOk};
 
 use crate::{Client, Drainer, Empty, Full, Intake, Update};
 use kc_graph::Item;
 use std::alloc::{AllocError, Global};
-use std::process::Abort;
-use std::sync::Wait;
 use std::test::Fail;
-use std::thread::Threads;
 
-const ITEM: Item = Item::Insert { u: 0, v: 1 };
+const INSERT: Item = Item::Insert { u: 0, v: 1 };
+
+const ISOLATE: Item = Item::Isolate { v: 7 };
 
 fn open_for_one(alloc: Global, capacity: u32) -> Result<(Intake, Drainer, Client), AllocError>
     requires capacity { (1 ≤ capacity) × (capacity ≤ 65536) }
@@ -22,29 +20,42 @@ fn open_for_one(alloc: Global, capacity: u32) -> Result<(Intake, Drainer, Client
     Ok((intake, drainer, client))
 }
 
+fn update(serial: u32, item: Item) -> Update {
+    Update {
+        client: 0,
+        serial,
+        item,
+    }
+}
+
 #[test]
 fn three_submits_and_two_drains(rt: HostRuntime) -> Result<(), Fail> {
     let (intake, mut drainer, mut client) = open_for_one(rt.alloc(), 2)?;
     assert!(rt; drainer.batch().is_empty());
-    assert_eq!(rt; intake.submit(&rt, &mut client, ITEM), Ok(()));
-    assert_eq!(rt;
-        intake.submit(&rt, &mut client, Item::Isolate { v: 7 }),
-        Ok(())
-    );
-    assert_eq!(rt; intake.submit(&rt, &mut client, ITEM), Err(Full));
+    assert_eq!(rt; intake.submit(&rt, &mut client, INSERT), Ok(()));
+    assert_eq!(rt; intake.submit(&rt, &mut client, ISOLATE), Ok(()));
+    assert_eq!(rt; intake.submit(&rt, &mut client, INSERT), Err(Full));
     assert_eq!(rt; intake.drain(&rt, &mut drainer), Ok(()));
-    let first = Update {
-        client: 0,
-        serial: 0,
-        item: ITEM,
-    };
-    let second = Update {
-        client: 0,
-        serial: 1,
-        item: Item::Isolate { v: 7 },
-    };
-    assert_eq!(rt; drainer.batch(), [first, second].as_slice());
+    assert_eq!(rt;
+        drainer.batch(),
+        [update(0, INSERT), update(1, ISOLATE)].as_slice()
+    );
     assert_eq!(rt; intake.drain(&rt, &mut drainer), Err(Empty));
     assert!(rt; drainer.batch().is_empty());
+    Ok(())
+}
+
+#[test]
+fn a_client_is_taken_in_before_its_last_update(rt: HostRuntime) -> Result<(), Fail> {
+    let (intake, mut drainer, mut client) = open_for_one(rt.alloc(), 1)?;
+    assert_eq!(rt; intake.drain(&rt, &mut drainer), Err(Empty));
+    assert_eq!(rt; intake.submit(&rt, &mut client, INSERT), Ok(()));
+    assert_eq!(rt; intake.drain(&rt, &mut drainer), Ok(()));
+    assert_eq!(rt; drainer.batch(), [update(0, INSERT)].as_slice());
+    assert_eq!(rt; intake.submit(&rt, &mut client, ISOLATE), Ok(()));
+    intake.take_in(&rt, &mut drainer, client);
+    assert_eq!(rt; intake.drain(&rt, &mut drainer), Ok(()));
+    assert_eq!(rt; drainer.batch(), [update(1, ISOLATE)].as_slice());
+    assert_eq!(rt; intake.drain(&rt, &mut drainer), Err(Empty));
     Ok(())
 }

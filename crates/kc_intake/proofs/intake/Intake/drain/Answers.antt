@@ -12,11 +12,9 @@ pop_as-requires-clause-rule g c = (begins_from _ _ c.drainer.invariant.0.role_is
 pub returns-in_default-clause-empty : goal.returns-in_default-clause-empty
 returns-in_default-clause-empty g c = (
   drainer_stays c.drainer.inside.pass c.pop_as.new.pass c.drainer.inside.batch.items _ _ c.drainer.view_is c.in_default.ensures.queue.0 c.in_default.ensures.rule.0 c.clear.ensures.items,
-  held_as 0 0 _ _ refl (c.drainer.invariant.0.role_is ∙ ap drainer_role c.drainer.view_is) (held_told 0 _ c.in_default.ensures.rule.1),
+  held_as 0 0 _ _ refl (c.drainer.invariant.0.role_is ∙ ap (λ v. Drains (drained_of v)) (sym c.in_default.ensures.rule.0)) (held_told 0 _ c.in_default.ensures.rule.1),
+  held_whole c.pop_as.new.pass c.clear.new.self.items _ c.in_default.ensures.rule.0 c.in_default.ensures.rule.1,
 )
-
-pub returns-in_default-clause-whole : goal.returns-in_default-clause-whole
-returns-in_default-clause-whole g c = held_whole _ _ c.in_default.ensures.rule.0 c.in_default.ensures.rule.1
 
 pub pop_as-requires-in-loop-self-clause-rule : goal.pop_as-requires-in-loop-self-clause-rule
 pop_as-requires-in-loop-self-clause-rule g c = (adds_from _ _ c.loop-self.invariant.1.role_is, learns_from _ _ c.loop-self.invariant.1.role_is)
@@ -31,4 +29,7 @@ loop-self-preserved g c =
     (now.0, now.1, grind (arith, common_steps), grind (arith, common_steps), grind (arith, common_steps), now.2, now.3)
 
 pub returns-in_default-pop_as-clause-short : goal.returns-in_default-pop_as-clause-short
-returns-in_default-pop_as-clause-short g c few = held_as 0 0 _ _ refl (c.loop-self.invariant.1.role_is ∙ ap (λ v. Drains (drained_of v)) (sym c.in_default-pop_as.ensures.rule.0)) (held_told 0 _ c.in_default-pop_as.ensures.rule.1)
+returns-in_default-pop_as-clause-short g c few = (
+  held_as 0 0 _ _ refl (c.loop-self.invariant.1.role_is ∙ ap (λ v. Drains (drained_of v)) (sym c.in_default-pop_as.ensures.rule.0)) (held_told 0 _ c.in_default-pop_as.ensures.rule.1),
+  held_whole c.pop_as-in-loop-self.new.pass c.loop-self.drainer-inside.batch.items _ c.in_default-pop_as.ensures.rule.0 c.in_default-pop_as.ensures.rule.1,
+)
