@@ -38,7 +38,7 @@ def main():
     options = parser.parse_args()
     chosen = [one for one in calls.TRIALS + devices.TRIALS + broken.TRIALS if options.only in one.__name__]
     if options.short:
-        chosen.remove(broken.great_inputs)
+        chosen = [one for one in chosen if one is not broken.great_inputs]
     program, runs, wrong = Program(options.program), 0, 0
     try:
         kcore = Kcore(program, COMMANDS, os.path.normpath(options.engine_tests))
