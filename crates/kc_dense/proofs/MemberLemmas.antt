@@ -3,6 +3,7 @@ use Rattle.std.proofs.Common.{ℕ, suc, ◌+◌, ◌≤◌, ◌<◌, ◌≡◌, 
 use Rattle.std.specs.Prelude.{count_by}
 use Rattle.std.specs.List.Sorted.{IsPermutation, IsNonDecreasing}
 use Rattle.std.proofs.lemmas.Bool.{cases_eq, true≢false, eq-eqb, ne_eqb}
+use Rattle.std.proofs.lemmas.List.{length-append}
 use Rattle.std.proofs.lemmas.List.Sorted.{sum_by-IsPermutation}
 use Rattle.kc_graph.specs.Numbers.{has_number, RisesFrom}
 use Rattle.kc_graph.specs.Shape.{GraphShape}
@@ -10,8 +11,9 @@ use Rattle.kc_graph.proofs.CountLemmas.{count_by-cons}
 use Rattle.kc_graph.proofs.NumberLemmas.{has_number_at}
 use Rattle.kc_dense.specs.Sets.{IsOnce}
 use Rattle.kc_dense.specs.Dense.{IsPeelingList, IsDensestSuffix, IsDensePart}
-use Rattle.kc_dense.proofs.SetLemmas.{has_other, count_by-none, has_number-permutation}
+use Rattle.kc_dense.proofs.SetLemmas.{has_other, count_by-none, has_number-permutation, same_length, once_from_rising}
 use Rattle.kc_dense.proofs.FactorLemmas.{once_suffix}
+use Rattle.kc_dense.proofs.PeelingLemmas.{peeling_length}
 
 -- ascending numbers, each of which stands once, rise
 rises_from : (low : ℕ) (xs : List ℕ) → IsNonDecreasing xs → IsOnce xs → (0 < length xs → low ≤ get_or xs 0 0) → RisesFrom low xs
@@ -72,3 +74,10 @@ members_dense g order part members peeling densest moved sorted =
       ascending = rises_from 0 members sorted (once_permutation part members moved once) (λ some. omega arith);
       same = λ v. sym (has_number-permutation v part members moved);
     }
+
+-- they are no more than the vertices
+pub members_few : (g : GraphShape) (members : List ℕ) → IsDensePart g members → length members ≤ g.vertices
+members_few g members is =
+    let suffix = is.densest.suffix in
+    let once = once_suffix suffix.front is.part (subst IsOnce suffix.is is.peeling.vertices.once) in
+    omega (arith, same_length members is.part (once_from_rising 0 members is.ascending) once is.same, peeling_length g is.order is.peeling, ap length suffix.is, length-append suffix.front is.part)

@@ -1,4 +1,4 @@
-ghost use Rattle.std.specs.Prelude.{◌≡◌, IfOk};
+ghost use Rattle.std.specs.Prelude.{◌≡◌, ◌≤◌, length, IfOk};
 ghost use Rattle.kc_dense.specs.Sets.{members_of, edges_within};
 ghost use Rattle.kc_dense.specs.Dense.{IsDensePart, IsHalfAsDenseAsAny};
 
@@ -23,6 +23,7 @@ pub struct Dense {
 pub fn densest(alloc: Global, graph: &Graph) -> Result<Dense, AllocError>
     ensures members { IfOk result (λ d. IsDensePart graph.now d.members.items) }
     ensures edges { IfOk result (λ d. d.edges ≡ edges_within graph.now (members_of d.members.items)) }
+    ensures few { IfOk result (λ d. length d.members.items ≤ graph.now.vertices) }
     ensures factor { IfOk result (λ d. IsHalfAsDenseAsAny graph.now d.members.items) }
 {
     // Its contract says that the edges of the graph ascend.

@@ -5,7 +5,7 @@ use Rattle.std.proofs.lemmas.List.Sorted.{IsNonDecreasingBy-from_sort}
 use Rattle.kc_dense.specs.Dense.{IsDensePart}
 use Rattle.kc_dense.proofs.SetLemmas.{has_number-permutation}
 use Rattle.kc_dense.proofs.DegreeLemmas.{edges_agree}
-use Rattle.kc_dense.proofs.MemberLemmas.{members_dense}
+use Rattle.kc_dense.proofs.MemberLemmas.{members_dense, members_few}
 use Rattle.kc_dense.proofs.FactorLemmas.{dense_part_is_half_as_dense}
 use Rattle.kc_dense.proofs.dense_part.densest.Goals as goal
 
@@ -28,3 +28,6 @@ returns-clause-edges c =
 
 pub returns-clause-factor : goal.returns-clause-factor
 returns-clause-factor c = dense_part_is_half_as_dense c.args.graph.now _ c.vertices.ensures.graph (dense c)
+
+pub returns-clause-few : goal.returns-clause-few
+returns-clause-few c = members_few c.args.graph.now _ (dense c)
