@@ -5,7 +5,8 @@ pub mod LevelSteps
 pub mod LineTexts
 pub mod NumberWords
 pub mod ReadBack
-pub mod Saying
 pub mod SaidLines
+pub mod Saying
+pub mod SomeVerdict
 pub mod Stepping
 pub mod Written

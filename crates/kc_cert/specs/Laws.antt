@@ -2,6 +2,7 @@
 use Rattle.std.specs.Prelude.{ℕ, ◌+◌, ◌≡◌, ◌≤◌, true, List, [], ◌∷◌, ◌++◌, length, codes}
 use Rattle.std.specs.List.{list_all}
 use Rattle.kc_levels.specs.declared.profile.Profile.TheVariants.{Two}
+use Rattle.kc_levels.specs.LevelList.{MeetsBoth}
 use Rattle.kc_text.specs.declared.reason.Reason.TheVariants.{LineLong, BadLine, BadVertex, Truncated, InputLimit}
 use Rattle.kc_text.specs.Lines.{lines}
 use Rattle.kc_text.specs.Printing.{is_line, printed}
@@ -10,6 +11,9 @@ use Rattle.kc_cert.specs.declared.certificate.Certificate.{Certificate}
 use Rattle.kc_cert.specs.Documents.{Document, Accepted, Refused, document_of}
 use Rattle.kc_cert.specs.Texts.{IsCertificate, certificate_text}
 use Rattle.kc_cert.specs.Tokens.{tokens}
+use Rattle.kc_cert.specs.Verdicts.{IsVerdict}
+use Rattle.kc_cert.specs.declared.verdict.Verdict.{Verdict}
+use Rattle.kc_cert.specs.declared.verdict.Verdict.TheVariants.{Certified}
 
 -- what bytes say as a certificate: at most `limit` bytes a line, of the first `room` bytes
 abbrev pub document_in : ℕ → ℕ → List ℕ → Document
@@ -20,6 +24,14 @@ abbrev pub CertificateIsReadBack : Type 0
 CertificateIsReadBack =
     (cert : Certificate) (limit room : ℕ) (notes : List (List (List ℕ))) → IsCertificate cert → 32 ≤ limit → list_all (is_line limit) notes ≡ true → list_all is_skip notes ≡ true
     → length (printed notes) + length (certificate_text cert) ≤ room → document_in limit room (printed notes ++ certificate_text cert) ≡ Accepted cert
+
+-- each certificate has a verdict
+abbrev pub HasVerdict : Type 0
+HasVerdict = (cert : Certificate) → (verdict : Verdict) × IsVerdict cert verdict
+
+-- the verdict of a certificate in which both invariants hold is `Certified`, and no other
+abbrev pub VerdictIsCertified : Type 0
+VerdictIsCertified = (cert : Certificate) (verdict : Verdict) → MeetsBoth cert.profile cert.graph cert.levels → IsVerdict cert verdict → verdict ≡ Certified
 
 -- what a text says under the limits of the program
 abbrev pub said : List ℕ → Document

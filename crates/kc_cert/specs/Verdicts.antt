@@ -1,6 +1,6 @@
 -- What a verdict says of a certificate.
 use Rattle.std.specs.Prelude.{ℕ, ◌<◌, ◌≡◌}
-use Rattle.kc_levels.specs.LevelList.{MeetsUpper, MeetsLower, MeetsBoth}
+use Rattle.kc_levels.specs.LevelList.{MeetsUpper, MeetsLower}
 use Rattle.kc_cert.specs.declared.certificate.Certificate.{Certificate}
 use Rattle.kc_cert.specs.declared.verdict.Verdict.{Verdict}
 use Rattle.kc_cert.specs.declared.verdict.Verdict.TheVariants.{Certified, Upper, Lower}
@@ -13,6 +13,11 @@ HasUpper cert v = MeetsUpper cert.profile cert.graph cert.levels v
 abbrev pub HasLower : Certificate → ℕ → Type 0
 HasLower cert v = MeetsLower cert.profile cert.graph cert.levels v
 
+-- each vertex meets both
+pub record MeetThroughout (cert : Certificate) : Type 0 where
+  pub upper : (v : ℕ) → v < cert.graph.vertices → HasUpper cert v
+  pub lower : (v : ℕ) → v < cert.graph.vertices → HasLower cert v
+
 -- v is the least vertex that breaks an invariant, and breaks this one
 pub record IsFirstBreach (cert : Certificate) (v : ℕ) (Meets : ℕ → Type 0) : Type 0 where
   pub vertex : v < cert.graph.vertices
@@ -22,7 +27,7 @@ pub record IsFirstBreach (cert : Certificate) (v : ℕ) (Meets : ℕ → Type 0)
 
 -- what the verdict says
 abbrev pub IsVerdict : Certificate → Verdict → Type 0
-IsVerdict cert Certified = MeetsBoth cert.profile cert.graph cert.levels
+IsVerdict cert Certified = MeetThroughout cert
 IsVerdict cert (Upper v) = IsFirstBreach cert v (HasUpper cert)
 IsVerdict cert (Lower v) = IsFirstBreach cert v (HasLower cert)
 

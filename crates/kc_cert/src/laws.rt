@@ -1,5 +1,5 @@
 //! What the definitions of `specs/` come to. Each function does nothing; its contract is a law.
-ghost use Rattle.kc_cert.specs.Laws.{CertificateIsReadBack, ReadsCertificates};
+ghost use Rattle.kc_cert.specs.Laws.{CertificateIsReadBack, HasVerdict, VerdictIsCertified, ReadsCertificates};
 
 /// A certificate within the limits is read back from its text as itself, whatever lines that are skipped stand ahead of it.
 pub fn certificate_is_read_back()
@@ -9,4 +9,10 @@ pub fn certificate_is_read_back()
 /// A certificate, and each reason for which one is refused.
 pub fn certificates_read()
     ensures { ReadsCertificates }
+{}
+
+/// Each certificate has a verdict, and where both invariants hold it is `Certified`.
+pub fn certificate_has_verdict()
+    ensures some { HasVerdict }
+    ensures certified { VerdictIsCertified }
 {}

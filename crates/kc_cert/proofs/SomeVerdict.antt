@@ -1,0 +1,62 @@
+-- Each certificate has a verdict.
+use Rattle.std.proofs.Common.{ℕ, zero, suc, ◌≤◌, ◌<◌, ◌≡◌, ◌⊎◌, inl, inr, get_or, refl, arith}
+use Rattle.std.proofs.lemmas.Bool.{cases_lt}
+use Rattle.kc_levels.specs.Thresholds.{low, high, group_of}
+use Rattle.kc_levels.specs.LevelList.{at_least, IsHeld}
+use Rattle.kc_cert.specs.declared.certificate.Certificate.{Certificate}
+use Rattle.kc_cert.specs.declared.verdict.Verdict.{Verdict}
+use Rattle.kc_cert.specs.declared.verdict.Verdict.TheVariants.{Certified, Upper, Lower}
+use Rattle.kc_cert.specs.Laws.{HasVerdict, VerdictIsCertified}
+use Rattle.kc_cert.specs.Verdicts.{HasUpper, HasLower, IsVerdict}
+
+has_upper : (cert : Certificate) (v : ℕ) → HasUpper cert v ⊎ ¬ (HasUpper cert v)
+has_upper cert v = elim (cases_lt (high cert.profile (group_of cert.profile cert.graph.vertices (get_or cert.levels v 0))) (at_least cert.graph cert.levels v (get_or cert.levels v 0))) [
+  | inl more ↦ inr (λ meets. omega (arith, more, meets))
+  | inr few ↦ inl few
+]
+
+held : (cert : Certificate) (v l : ℕ) → IsHeld cert.profile cert.graph cert.levels v l ⊎ ¬ (IsHeld cert.profile cert.graph cert.levels v l)
+held cert v zero = inl tt
+held cert v (suc l) = elim (cases_lt (at_least cert.graph cert.levels v l) (low cert.profile (group_of cert.profile cert.graph.vertices l))) [
+  | inl few ↦ inr (λ meets. omega (arith, few, meets))
+  | inr enough ↦ inl enough
+]
+
+has_lower : (cert : Certificate) (v : ℕ) → HasLower cert v ⊎ ¬ (HasLower cert v)
+has_lower cert v = held cert v (get_or cert.levels v 0)
+
+-- each vertex below k meets both
+record MeetBelow (cert : Certificate) (k : ℕ) : Type 0 where
+  upper : (v : ℕ) → v < k → HasUpper cert v
+  lower : (v : ℕ) → v < k → HasLower cert v
+
+one_more : (P : ℕ → Type 0) (k : ℕ) → ((v : ℕ) → v < k → P v) → P k → (v : ℕ) → v < suc k → P v
+one_more P k h here v lt = elim (cases_lt v k) [
+  | inl under ↦ h v under
+  | inr over ↦ let e : k ≡ v = omega (arith, over, lt) in rw e at here
+]
+
+-- a breach below k, or none
+below : (cert : Certificate) (k : ℕ) → k ≤ cert.graph.vertices → MeetBelow cert k ⊎ ((verdict : Verdict) × IsVerdict cert verdict)
+below cert zero le = inl (record { upper = λ v lt. absurd (omega (arith, lt)); lower = λ v lt. absurd (omega (arith, lt)) })
+below cert (suc k) le = elim (below cert k (omega (arith, le))) [
+  | inr found ↦ inr found
+  | inl meet ↦ elim (has_upper cert k) [
+    | inr breaks ↦ inr (Upper k, record { vertex = omega (arith, le); breaks = breaks; upper_before = meet.upper; lower_before = meet.lower })
+    | inl upper ↦ elim (has_lower cert k) [
+      | inr breaks ↦ inr (Lower k, record { vertex = omega (arith, le); breaks = breaks; upper_before = meet.upper; lower_before = meet.lower })
+      | inl lower ↦ inl (record { upper = one_more (HasUpper cert) k meet.upper upper; lower = one_more (HasLower cert) k meet.lower lower })
+    ]
+  ]
+]
+
+pub has_verdict : HasVerdict
+has_verdict cert = elim (below cert cert.graph.vertices (omega arith)) [
+  | inr found ↦ found
+  | inl meet ↦ (Certified, record { upper = meet.upper; lower = meet.lower })
+]
+
+pub verdict_is_certified : VerdictIsCertified
+verdict_is_certified cert Certified both h = refl
+verdict_is_certified cert (Upper v) both h = absurd (h.breaks (both.upper v h.vertex))
+verdict_is_certified cert (Lower v) both h = absurd (h.breaks (both.lower v h.vertex))

@@ -1,0 +1,8 @@
+use Rattle.kc_cert.proofs.SomeVerdict.{has_verdict, verdict_is_certified}
+use Rattle.kc_cert.proofs.laws.certificate_has_verdict.Goals as goal
+
+pub returns-clause-some : goal.returns-clause-some
+returns-clause-some c = has_verdict
+
+pub returns-clause-certified : goal.returns-clause-certified
+returns-clause-certified c = verdict_is_certified
