@@ -2,7 +2,9 @@ pub mod FlatLemmas
 pub mod KeptLemmas
 pub mod LineLemmas
 pub mod MoveLemmas
+pub mod PairsBack
 pub mod Reaching
+pub mod RunBack
 pub mod Stepping
 pub mod VerdictLemmas
 pub mod Walking

@@ -1,6 +1,7 @@
 // Laws of the definitions. The functions do nothing: each has laws as its contract.
 
 ghost use Rattle.kc_audit.specs.Laws.{ExplainedPasses, IsOneVerdict, LinesExplain};
+ghost use Rattle.kc_audit.specs.ReadBack.{RunIsReadBack};
 
 /// A run whose readers are explained by definition gets no other verdict than `Explained`.
 pub fn explained_passes()
@@ -16,4 +17,9 @@ pub fn one_verdict()
 /// which level a vertex was before a move.
 pub fn lines_explain()
     ensures { LinesExplain }
+{}
+
+/// Lines that say what the lines of a run say are read as its group lines and its readers.
+pub fn run_is_read_back()
+    ensures { RunIsReadBack }
 {}
