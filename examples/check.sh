@@ -35,6 +35,14 @@ for text in *_exact.txt cases/*_exact.txt; do
   writes "${text%_exact.txt}.kc" "$text" exact
 done
 
+# What `final` writes is certified, with any number of workers.
+for input in karate_batches.kc path.kc isolate.kc; do
+  for workers in 1 3; do
+    "$program" final $workers <"$input" | "$program" check >"$out"
+    grep -q '^certified ' "$out" || wrong "$input: what final $workers writes isn't certified"
+  done
+done
+
 # A line of 65,537 bytes fits nowhere.
 { printf 'kcore 1\nvertices 2\nbatch\n0 1\n' && head -c 65537 /dev/zero | tr '\0' 1; } | "$program" run 1 >"$out"
 [ $? = 1 ] && grep -qx 'batch 1 refused line 5 line-long' "$out" || wrong "a line of 65537 bytes isn't refused"
@@ -44,14 +52,14 @@ printf 'kcore 1\nvertices 1\nask 65536 0\n' | "$program" run 1 >"$out"
 [ $? = 0 ] && [ "$(grep '^reader 0 ' "$out" | wc -w)" = 65538 ] || wrong "a reader with 65536 questions: another text"
 
 # Words that name no command: nothing is written.
-for words in "" run "run 0" "run 65" "run +1" "run 00000000001" "run x" "run 1 1" "exact 1" final --help --version; do
+for words in "" run "run 0" "run 65" "run +1" "run 00000000001" "run x" "run 1 1" "exact 1" final "final 0" "final 65" "check 1" --help --version; do
   "$program" $words <path.kc >"$out" 2>"$err"
   exited=$?
   [ $exited = 2 ] && [ ! -s "$out" ] && [ ! -s "$err" ] || wrong "path.kc: '$words': exit number $exited"
 done
 
 # An input that can't be read: a folder. A graph that doesn't fit into the memory that there is.
-for words in "run 1" exact; do
+for words in "run 1" "final 1" exact; do
   "$program" $words <. >"$out" 2>"$err"
   exited=$?
   [ $exited = 3 ] && [ ! -s "$out" ] && [ ! -s "$err" ] || wrong "$words of a folder: exit number $exited"
@@ -62,7 +70,7 @@ done
 
 # A text that can't be written: the device is full.
 if [ -c /dev/full ]; then
-  for words in "run 1" exact; do
+  for words in "run 1" "final 1" exact; do
     "$program" $words <path.kc >/dev/full 2>"$err"
     exited=$?
     [ $exited = 4 ] && [ ! -s "$err" ] || wrong "path.kc: $words to a full device: exit number $exited"

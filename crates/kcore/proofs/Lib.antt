@@ -13,3 +13,6 @@ pub mod WaitingLemmas
 pub mod RisingLemmas
 pub mod OrientLineLemmas
 pub mod OrientTexts
+pub mod FinalTexts
+pub mod CheckLines
+pub mod Checks

@@ -1,16 +1,17 @@
 -- The command lines, and what each command writes for the bytes that it reads.
 use Rattle.std.specs.Prelude.{ℕ, ◌≡◌, ◌≤◌, nat_le, Bool, true, false, ◌&&◌, List, [], ◌∷◌, Option, Some, None, if◌then◌else◌, codes, ◌⊎◌}
-use Rattle.std.specs.Option.{option_map}
 use Rattle.std.specs.Str.{bytes_eq}
 use Rattle.kc_text.specs.Causes.{Rose, Outlet}
 use Rattle.kc_text.specs.Numbers.{number_of}
 use Rattle.kcore.specs.declared.command.Command.{Command}
-use Rattle.kcore.specs.declared.command.Command.TheVariants.{Run, Orient, Exact}
+use Rattle.kcore.specs.declared.command.Command.TheVariants.{Run, Final, Orient, Exact, Check}
 use Rattle.kcore.specs.declared.status.Status.{Status}
 use Rattle.kcore.specs.declared.status.Status.TheVariants.{Done, Refused, Usage, ReadFault, WriteFault, Memory}
 use Rattle.kcore.specs.Inputs.{input_said}
 use Rattle.kcore.specs.RunText.{IsRunText}
+use Rattle.kcore.specs.CheckText.{IsCheckText}
 use Rattle.kcore.specs.ExactText.{IsExactText}
+use Rattle.kcore.specs.FinalText.{IsFinalText}
 use Rattle.kcore.specs.OrientText.{IsOrientText, OrientsSparsely}
 use Rattle.kcore.specs.Texts.{WritesWhole, WritesPrefix}
 use Rattle.kcore.specs.Laws.{HoldsThroughout, FitsExactly}
@@ -20,28 +21,42 @@ abbrev pub few_workers : Option ℕ → Option ℕ
 few_workers None = None
 few_workers (Some workers) = if nat_le 1 workers && nat_le workers 64 then Some workers else None
 
+-- the command of this name with so many workers
+abbrev pub with_workers : List ℕ → Option ℕ → Option Command
+with_workers name None = None
+with_workers name (Some workers) =
+    if bytes_eq name (codes "run") then Some (Run workers)
+    else if bytes_eq name (codes "final") then Some (Final workers)
+    else if bytes_eq name (codes "orient") then Some (Orient workers)
+    else None
+
 -- the command of a command line without the program's name
 unfoldable pub command_of : List (List ℕ) → Option Command
 command_of [] = None
-command_of (w ∷ []) = if bytes_eq w (codes "exact") then Some Exact else None
-command_of (w ∷ a ∷ []) =
-    if bytes_eq w (codes "run") then option_map (λ workers. Run workers) (few_workers (number_of a))
-    else (if bytes_eq w (codes "orient") then option_map (λ workers. Orient workers) (few_workers (number_of a)) else None)
+command_of (w ∷ []) =
+    if bytes_eq w (codes "exact") then Some Exact
+    else if bytes_eq w (codes "check") then Some Check
+    else None
+command_of (w ∷ a ∷ []) = with_workers w (few_workers (number_of a))
 command_of (w ∷ a ∷ b ∷ more) = None
 
 -- the workers of a command are 1 to 64
 abbrev pub FitsWorkers : Option Command → Type 0
 FitsWorkers (Some (Run workers)) = (1 ≤ workers) × (workers ≤ 64)
+FitsWorkers (Some (Final workers)) = (1 ≤ workers) × (workers ≤ 64)
 FitsWorkers (Some (Orient workers)) = (1 ≤ workers) × (workers ≤ 64)
 FitsWorkers (Some Exact) = Unit {0}
+FitsWorkers (Some Check) = Unit {0}
 FitsWorkers None = Unit {0}
 
 -- the text is the one that the command writes for these bytes, and `refused` says whether it refuses them, or a part of them;
 -- it doesn't depend on the number of workers
 abbrev pub IsText : Command → List ℕ → List ℕ → Bool → Type 0
 IsText (Run workers) bytes text refused = IsRunText (input_said bytes) text refused
+IsText (Final workers) bytes text refused = IsFinalText (input_said bytes) text refused
 IsText (Orient workers) bytes text refused = IsOrientText (input_said bytes) text refused
 IsText Exact bytes text refused = IsExactText (input_said bytes) text refused
+IsText Check bytes text refused = IsCheckText bytes text refused
 
 abbrev pub Wrote : Command → List ℕ → Option (List ℕ) → Option (List ℕ) → Status → Type 0
 Wrote command bytes before now Done = WritesWhole (IsText command bytes) before now false
@@ -59,14 +74,16 @@ Answers None left before now status = Unit {0}
 Answers (Some command) None before now status = Unit {0}
 Answers (Some command) (Some bytes) before now status = Wrote command bytes before now status
 
--- where the source tells its bytes, in each state of `exact` both invariants hold, and what is printed bounds the coreness, also on
--- each line of a vertex the coreness that stands there; so it is in each state of `orient`, and in the last one no vertex has many
--- out-neighbours for its coreness; what holds of a run is in its text
+-- where the source tells its bytes, in each state of `final`, of `orient` and of `exact` both invariants hold, and what the levels stand
+-- for bounds the coreness, in an exact text also on each line of a vertex the coreness that stands there; in the last state of `orient`
+-- no vertex has many out-neighbours for its coreness; what holds of a run is in its text
 abbrev pub Holds : Option Command → Option (List ℕ) → Type 0
 Holds None left = Unit {0}
 Holds (Some command) None = Unit {0}
 Holds (Some (Run workers)) (Some bytes) = Unit {0}
+Holds (Some (Final workers)) (Some bytes) = HoldsThroughout (input_said bytes)
 Holds (Some (Orient workers)) (Some bytes) = HoldsThroughout (input_said bytes) × OrientsSparsely (input_said bytes)
+Holds (Some Check) (Some bytes) = Unit {0}
 Holds (Some Exact) (Some bytes) = HoldsThroughout (input_said bytes) × FitsExactly (input_said bytes)
 
 -- the counts of faults of the source, r, and of the sink, w: a fault is answered only where the count of its object

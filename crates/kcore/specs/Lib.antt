@@ -6,6 +6,8 @@ pub mod Corenesses
 pub mod VertexLines
 pub mod Documents
 pub mod ExactText
+pub mod FinalText
+pub mod CheckText
 pub mod Texts
 pub mod Opening
 pub mod Writing

@@ -11,16 +11,21 @@ use kc_text::{Words, read_number};
 pub enum Command {
     /// `run W`: apply the batches of an input in turn with W workers, 1 to 64, and print each batch and then each vertex.
     Run { workers: u32 },
+    /// `final W`: apply the batches of an input in turn with W workers, 1 to 64, and print the certificate of the graph and the levels
+    /// after them.
+    Final { workers: u32 },
     /// `orient W`: apply the batches of an input in turn with W workers, 1 to 64, and print the colour and the out-neighbours of each
     /// vertex after them.
     Orient { workers: u32 },
     /// `exact`: apply the batches of an input in turn, and print the coreness of each vertex after them.
     Exact,
+    /// `check`: read a certificate, and print what its levels come to.
+    Check,
 }
 
-// The number of workers that a word says, which is 1 to 64.
+// A number of workers, 1 to 64.
 fn few_workers(word: &[u8]) -> Option<u32>
-    ensures workers { result ≡ few_workers (number_of word.now) }
+    ensures number { result ≡ few_workers (number_of word.now) }
     ensures few { IfSome result (λ workers. (1 ≤ workers) × (workers ≤ 64)) }
 {
     let workers = read_number(word)?;
@@ -36,15 +41,16 @@ fn of_two(name: &[u8], workers: &[u8]) -> Option<Command>
     ensures command { result ≡ command_of (name.now ∷ workers.now ∷ []) }
     ensures few { FitsWorkers result }
 {
+    let workers = few_workers(workers)?;
     if is_word(name, b"run") {
-        let workers = few_workers(workers)?;
-        return Some(Command::Run { workers });
+        Some(Command::Run { workers })
+    } else if is_word(name, b"final") {
+        Some(Command::Final { workers })
+    } else if is_word(name, b"orient") {
+        Some(Command::Orient { workers })
+    } else {
+        None
     }
-    if is_word(name, b"orient") {
-        let workers = few_workers(workers)?;
-        return Some(Command::Orient { workers });
-    }
-    None
 }
 
 // The command of one word.
@@ -55,6 +61,8 @@ fn of_one(name: &[u8]) -> Option<Command>
 {
     if is_word(name, b"exact") {
         Some(Command::Exact)
+    } else if is_word(name, b"check") {
+        Some(Command::Check)
     } else {
         None
     }

@@ -12,6 +12,7 @@ ghost use Rattle.kcore.specs.Writing.{Writes};
 
 use crate::inputs::open_input;
 use kc_engine::Engine;
+use kc_levels::Profile;
 use kc_rounds::Gate;
 use kc_session::{SessionFault, settle};
 use kc_text::{SendFault, Sink, Source};
@@ -23,9 +24,15 @@ pub trait Document {
     // Which documents a state has.
     ghost is_document: { State → List ℕ → Type 0 };
 
-    /// Writes the document of the state of an engine.
-    fn write<K: Sink>(alloc: Global, engine: &Engine, sink: &mut K) -> Result<(), SendFault>
+    /// Writes the document of the state of an engine, whose levels go by this profile.
+    fn write<K: Sink>(
+        alloc: Global,
+        profile: Profile,
+        engine: &Engine,
+        sink: &mut K,
+    ) -> Result<(), SendFault>
         requires running { engine.now.halted ≡ false }
+        requires profile { engine.now.state.profile ≡ profile }
         requires sound { IsSound MAX_EDGES engine.now.state }
         ensures text { WritesDocument is_document engine.now.state (K.taken sink.old) (K.taken sink.new) result }
         ensures cause { WriteCause (K.faults sink.old) (K.faults sink.new) result };
@@ -53,7 +60,8 @@ pub fn settle_input<D: Document, R: Threads + Sync, S: Source, K: Sink, G: Gate 
     let Some((header, reader)) = open_input(alloc, src, sink)? else {
         return Ok(true);
     };
+    let profile = header.profile;
     let settled = settle(rt, alloc, gate, workers, header, reader, src, sink)?;
-    D::write(alloc, &settled.engine, sink)?;
+    D::write(alloc, profile, &settled.engine, sink)?;
     Ok(settled.refused > 0)
 }

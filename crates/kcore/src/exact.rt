@@ -11,6 +11,7 @@ ghost use Rattle.kcore.specs.VertexLines.{vertex_lines};
 use crate::documents::Document;
 use kc_bound::exact_coreness;
 use kc_engine::Engine;
+use kc_levels::Profile;
 use kc_report::{write_coreness, write_end, write_exact_head};
 use kc_text::{LineBuf, SendFault, Sink};
 use std::alloc::Global;
@@ -88,7 +89,12 @@ pub struct Exact;
 impl Document for Exact {
     ghost is_document = { IsExact };
 
-    fn write<K: Sink>(alloc: Global, engine: &Engine, sink: &mut K) -> Result<(), SendFault> {
+    fn write<K: Sink>(
+        alloc: Global,
+        _profile: Profile,
+        engine: &Engine,
+        sink: &mut K,
+    ) -> Result<(), SendFault> {
         let n = engine.graph().vertices();
         let corenesses = match exact_coreness(alloc, engine.graph()) {
             Ok(corenesses) => corenesses,

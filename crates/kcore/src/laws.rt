@@ -1,6 +1,7 @@
 //! What the definition of the text comes to. Each function does nothing; its contract is a law.
 ghost use Rattle.kcore.specs.Laws.{InputHasText, RepliesHaveText, TextsAreAlike, HasOneText, StatesArePoints, EachPointIsNear, EachStateHolds};
 ghost use Rattle.kcore.specs.ExactText.{IsExactText};
+ghost use Rattle.kcore.specs.FinalText.{IsFinalText};
 ghost use Rattle.kcore.specs.OrientText.{IsOrientText};
 
 /// Each input has a text of a run, and so have all replies that fit its asks and that the history of its batches explains.
@@ -18,6 +19,11 @@ pub fn texts_are_alike()
 /// For each input there is exactly one exact text.
 pub fn input_has_one_exact_text()
     ensures { HasOneText IsExactText }
+{}
+
+/// For each input there is exactly one text of `final`, so it is the same for every number of workers.
+pub fn input_has_one_final_text()
+    ensures { HasOneText IsFinalText }
 {}
 
 /// For each input there is exactly one oriented text.

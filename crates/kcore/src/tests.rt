@@ -229,6 +229,10 @@ fn other_words_name_no_command(rt: HostRuntime) -> Result<(), Fail> {
         "orient 65",
         "orient x",
         "orient 1 1",
+        "final",
+        "final 0",
+        "final 65",
+        "check 1",
         "gen 0 5 1 3",
         "--help",
     ] {
@@ -371,5 +375,102 @@ fn faults_end_an_exact_text(rt: HostRuntime) -> Result<(), Fail> {
     let text: &[u8] =
         b"# batch 2 refused line 9 bad-vertex\nkcore-exact 1\nvertices 3\nvertex 0 coreness 1 low 1 est 2 high 2\n";
     assert_eq!(rt; written.as_slice(), text);
+    Ok(())
+}
+
+// The graph and the levels of the path, in a certificate.
+const PATH_CERTIFICATE: &[u8] = b"kcore-cert 1\nprofile 1\nvertices 5\nedges 2\nedge 0 1\nedge 1 2\nlevel 0 1\nlevel 1 1\nlevel 2 1\nlevel 3 0\nlevel 4 0\nend\n";
+
+// The same under the second profile.
+const FINE_CERTIFICATE: &[u8] = b"kcore-cert 1\nprofile 2\nvertices 5\nedges 2\nedge 0 1\nedge 1 2\nlevel 0 1\nlevel 1 2\nlevel 2 1\nlevel 3 0\nlevel 4 0\nend\n";
+
+// A note, and the certificate of the path among three vertices.
+const NOTED_CERTIFICATE: &[u8] = b"# batch 2 refused line 9 bad-vertex\nkcore-cert 1\nprofile 1\nvertices 3\nedges 2\nedge 0 1\nedge 1 2\nlevel 0 1\nlevel 1 1\nlevel 2 1\nend\n";
+
+#[test]
+fn prints_certificates(rt: HostRuntime) -> Result<(), Fail> {
+    let rows: [(&[u8], &[u8], Status); 4] = [
+        (PATH, PATH_CERTIFICATE, Status::Done),
+        (
+            b"kcore 2\nvertices 5\nbatch\n0 1\n1 2\nend\n",
+            FINE_CERTIFICATE,
+            Status::Done,
+        ),
+        (NOTED, NOTED_CERTIFICATE, Status::Refused),
+        (
+            b"kcore 1\nvertices 0",
+            b"refused line 2 header\n",
+            Status::Refused,
+        ),
+    ];
+    for (input, text, status) in rows {
+        for line in ["final 1", "final 2", "final 64"] {
+            let (got, written) = answer(&rt, rt.alloc(), line, input, 7, (&[], &[]))?;
+            assert_eq!(rt; got, status);
+            assert_eq!(rt; written.as_slice(), text);
+        }
+    }
+    Ok(())
+}
+
+#[test]
+fn checks_certificates(rt: HostRuntime) -> Result<(), Fail> {
+    let rows: [(&[u8], &[u8], Status); 8] = [
+        (
+            PATH_CERTIFICATE,
+            b"certified vertices 5 edges 2\n",
+            Status::Done,
+        ),
+        (
+            FINE_CERTIFICATE,
+            b"certified vertices 5 edges 2\n",
+            Status::Done,
+        ),
+        (
+            NOTED_CERTIFICATE,
+            b"certified vertices 3 edges 2\n",
+            Status::Done,
+        ),
+        (
+            b"kcore-cert 1\nprofile 1\nvertices 5\nedges 2\nedge 0 1\nedge 1 2\nlevel 0 1\nlevel 1 1\nlevel 2 0\nlevel 3 0\nlevel 4 0\nend\n",
+            b"upper 2\n",
+            Status::Refused,
+        ),
+        (
+            b"kcore-cert 1\nprofile 1\nvertices 5\nedges 2\nedge 0 1\nedge 1 2\nlevel 0 1\nlevel 1 1\nlevel 2 1\nlevel 3 1\nlevel 4 0\nend\n",
+            b"lower 3\n",
+            Status::Refused,
+        ),
+        (
+            b"kcore-cert 1\nprofile 1\nvertices 5\nedges 2\nedge 0 1\nedge 1 2\nlevel 0 1\nlevel 1 1\nlevel 2 1\nlevel 3 0\nlevel 4 7\nend\n",
+            b"refused line 11 bad-line\n",
+            Status::Refused,
+        ),
+        (
+            b"kcore-cert 1\nprofile 1\nvertices 5\nedges 2\nedge 0 1\nedge 1 2\nlevel 0 1\nlevel 1 1\nlevel 2 1\nlevel 3 0\nlevel 4 0\n",
+            b"refused line 12 truncated\n",
+            Status::Refused,
+        ),
+        (PATH, b"refused line 1 bad-line\n", Status::Refused),
+    ];
+    for (input, text, status) in rows {
+        for piece in [1, 7, 1_000_000] {
+            let (got, written) = answer(&rt, rt.alloc(), "check", input, piece, (&[], &[]))?;
+            assert_eq!(rt; got, status);
+            assert_eq!(rt; written.as_slice(), text);
+        }
+    }
+    Ok(())
+}
+
+// The second read fails, and nothing is written; the one write fails.
+#[test]
+fn faults_end_a_check(rt: HostRuntime) -> Result<(), Fail> {
+    let (status, written) = answer(&rt, rt.alloc(), "check", PATH_CERTIFICATE, 60, (&[2], &[]))?;
+    assert_eq!(rt; status, Status::ReadFault);
+    assert_eq!(rt; written.len(), 0);
+    let (status, written) = answer(&rt, rt.alloc(), "check", PATH_CERTIFICATE, 500, (&[], &[1]))?;
+    assert_eq!(rt; status, Status::WriteFault);
+    assert_eq!(rt; written.len(), 0);
     Ok(())
 }

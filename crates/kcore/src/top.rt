@@ -3,9 +3,11 @@ ghost use Rattle.std.specs.Prelude.{◌≡◌, ◌↔◌, None, Option};
 ghost use Rattle.kcore.specs.Commands.{command_of, Answers, Holds, HasCause};
 ghost use Rattle.kcore.specs.Writing.{status_of};
 
+use crate::check::check_input;
 use crate::command::Command;
 use crate::documents::settle_input;
 use crate::exact::Exact;
+use crate::final_text::Final;
 use crate::orient::Orient;
 use crate::run::run_input;
 use crate::status::Status;
@@ -46,6 +48,10 @@ fn status_of(ended: Result<bool, SessionFault>) -> Status
 /// There is one text of `exact`. In each state that the input leads to both invariants hold, and what is printed of a vertex bounds
 /// its coreness likewise; on each line of a vertex it bounds the coreness that stands there.
 ///
+/// There is one text of `final`: the certificate of the last state, in which both invariants hold, and which is the same for every number
+/// of workers. The text of `check` is one line: the verdict of the certificate that the bytes are (`IsVerdict` of `kc_cert`), or the first
+/// line that doesn't fit and why; it is refused where it isn't `certified`.
+///
 /// There is one text of `orient` too, whatever the number of workers. The graph after the batches is oriented by the levels after
 /// them: no vertex has more out-neighbours than six times its coreness, and where the header gives the second profile than four
 /// times. The ends of an edge have different colours, and no colour is above the number of its vertex's out-neighbours.
@@ -71,9 +77,13 @@ pub fn run_command<R: Threads + Sync, S: Source + Send, K: Sink + Send, G: Gate 
         Some(Command::Run { workers }) => {
             status_of(run_input(rt, alloc, gate, workers, input, output))
         }
+        Some(Command::Final { workers }) => status_of(settle_input::<Final, R, S, K, G>(
+            rt, alloc, gate, workers, input, output,
+        )),
         Some(Command::Orient { workers }) => status_of(settle_input::<Orient, R, S, K, G>(
             rt, alloc, gate, workers, input, output,
         )),
+        Some(Command::Check) => status_of(check_input(alloc, input, output)),
         Some(Command::Exact) => status_of(settle_input::<Exact, R, S, K, G>(
             rt, alloc, gate, 1, input, output,
         )),

@@ -10,3 +10,9 @@ returns-in-Some-Exact-clause-holds g c = holds (command_of c.args.words.now) (g.
 
 pub returns-in-Some-Orient-clause-holds : goal.returns-in-Some-Orient-clause-holds
 returns-in-Some-Orient-clause-holds g c = holds (command_of c.args.words.now) (g.S.Source.left c.args.input.now)
+
+pub returns-in-Some-Final-clause-holds : goal.returns-in-Some-Final-clause-holds
+returns-in-Some-Final-clause-holds g c = holds (command_of c.args.words.now) (g.S.Source.left c.args.input.now)
+
+pub returns-in-Some-Check-clause-holds : goal.returns-in-Some-Check-clause-holds
+returns-in-Some-Check-clause-holds g c = holds (command_of c.args.words.now) (g.S.Source.left c.args.input.now)
