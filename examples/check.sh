@@ -41,6 +41,9 @@ for input in karate_batches.kc path.kc isolate.kc; do
     "$program" final $workers <"$input" | "$program" check >"$out"
     grep -q '^certified ' "$out" || wrong "$input: what final $workers writes isn't certified"
   done
+
+for text in *_dense.txt cases/*_dense.txt; do
+  writes "${text%_dense.txt}.kc" "$text" dense
 done
 
 # A line of 65,537 bytes fits nowhere.

@@ -1,12 +1,10 @@
 -- Texts that end in a document, from their parts.
 use Rattle.std.proofs.Common.{ℕ, ◌≡◌, Bool, List, ◌++◌, nat_lt, refl, sym, ap, ◌∙◌, subst}
-use Rattle.std.specs.Prelude.{Option, Some, None, Result, Ok, Err}
+use Rattle.std.specs.Prelude.{Option, Some, None, Ok, Err}
 use Rattle.std.specs.Option.{option_map}
-use Rattle.std.specs.Io.KnownBytes.{append_known}
 use Rattle.kc_text.specs.declared.buf.SendFault.{SendFault}
 use Rattle.kc_text.specs.Lines.{lines}
-use Rattle.kc_text.specs.Writing.{IsPrefix}
-use Rattle.kc_text.proofs.Known.{append_twice, prefix_none, prefix_longer, prefix_then}
+use Rattle.kc_text.proofs.Known.{append_twice, prefix_longer, prefix_then}
 use Rattle.kc_graph.specs.declared.limits.TheConstants.{MAX_EDGES, MAX_ITEMS}
 use Rattle.kc_batch.specs.declared.token.Token.{Token}
 use Rattle.kc_batch.specs.declared.batch.Next.{Next}

@@ -17,7 +17,7 @@ use Rattle.kc_session.specs.States.{start, last_state}
 use Rattle.kc_session.proofs.Runs.{profile_last}
 use Rattle.kcore.specs.declared.limits.TheConstants.{LINE_LIMIT, INPUT_LIMIT}
 use Rattle.kcore.specs.declared.command.Command.{Command}
-use Rattle.kcore.specs.declared.command.Command.TheVariants.{Run, Final, Orient, Exact, Check}
+use Rattle.kcore.specs.declared.command.Command.TheVariants.{Run, Final, Orient, Exact, Check, Dense}
 use Rattle.kcore.specs.Corenesses.{AreCorenesses}
 use Rattle.kcore.specs.VertexLines.{vertex_lines}
 use Rattle.kcore.specs.Documents.{HasDocuments, WritesDocument}
@@ -26,6 +26,7 @@ use Rattle.kcore.specs.Commands.{Holds}
 use Rattle.kcore.specs.Laws.{HasOneText, FitsExactly}
 use Rattle.kcore.proofs.SomeCorenesses.{some_corenesses, one_corenesses}
 use Rattle.kcore.proofs.DocumentTexts.{has_one_text, sound_after}
+use Rattle.kcore.proofs.DenseTexts.{has_half_density}
 use Rattle.kcore.proofs.Holding.{holds_in, each_state_holds}
 use Rattle.kcore.proofs.OrientTexts.{orients_sparsely}
 
@@ -76,3 +77,4 @@ holds (Some (Final workers)) (Some bytes) = each_state_holds bytes
 holds (Some Check) (Some bytes) = tt
 holds (Some (Orient workers)) (Some bytes) = (each_state_holds bytes, orients_sparsely bytes)
 holds (Some Exact) (Some bytes) = (each_state_holds bytes, fits_behind (header_of (kept (lines LINE_LIMIT INPUT_LIMIT bytes))))
+holds (Some Dense) (Some bytes) = has_half_density bytes

@@ -1,5 +1,5 @@
 -- What is written of the text of an input, from the way that its reading begins and what is written after its header.
-use Rattle.std.proofs.Common.{ℕ, ◌≡◌, Bool, true, List, refl, sym, inl, inr}
+use Rattle.std.proofs.Common.{ℕ, ◌≡◌, Bool, true, List, refl, inl, inr}
 use Rattle.std.specs.Prelude.{Option, Some, None, Result, Ok, Err, ◌⊎◌}
 use Rattle.std.specs.Option.{option_map}
 use Rattle.kc_text.specs.Lines.{lines}
@@ -10,7 +10,7 @@ use Rattle.kc_batch.specs.HeaderShape.{HeaderShape}
 use Rattle.kc_batch.specs.Headers.{HeaderText, Accepted, Refused, header_of}
 use Rattle.kc_batch.specs.Kept.{kept}
 use Rattle.kc_batch.specs.Tokens.{tokens}
-use Rattle.kc_batch.specs.BatchInputs.{BatchInput, WithBatches, HeaderRefused, behind_header}
+use Rattle.kc_batch.specs.BatchInputs.{BatchInput, WithBatches, behind_header}
 use Rattle.kc_report.specs.Lines.{header_refused_line}
 use Rattle.kc_session.specs.declared.fault.SessionFault.{SessionFault}
 use Rattle.kcore.specs.declared.limits.TheConstants.{LINE_LIMIT, INPUT_LIMIT}

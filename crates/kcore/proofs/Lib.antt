@@ -8,6 +8,8 @@ pub mod Causes
 pub mod VertexLines
 pub mod SomeCorenesses
 pub mod ExactTexts
+pub mod DenseLineLemmas
+pub mod DenseTexts
 pub mod WordLists
 pub mod WaitingLemmas
 pub mod RisingLemmas

@@ -38,7 +38,7 @@ use Rattle.kcore.specs.declared.limits.TheConstants.{LINE_LIMIT, INPUT_LIMIT}
 use Rattle.kcore.specs.RunText.{IsRun, IsRunOf}
 use Rattle.kcore.specs.InputTexts.{HasTexts}
 use Rattle.kcore.specs.Writing.{WritesAfter}
-use Rattle.kcore.specs.Laws.{InputHasText, TakesReplies, RepliesHaveText, AreAlike, HasTextsAlike, TextsAreAlike}
+use Rattle.kcore.specs.Laws.{InputHasText, TakesReplies, RepliesHaveText, HasTextsAlike, TextsAreAlike}
 use Rattle.kcore.proofs.Points.{are_near}
 use Rattle.kcore.proofs.InputTexts.{some_text}
 

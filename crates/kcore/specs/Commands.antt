@@ -4,7 +4,7 @@ use Rattle.std.specs.Str.{bytes_eq}
 use Rattle.kc_text.specs.Causes.{Rose, Outlet}
 use Rattle.kc_text.specs.Numbers.{number_of}
 use Rattle.kcore.specs.declared.command.Command.{Command}
-use Rattle.kcore.specs.declared.command.Command.TheVariants.{Run, Final, Orient, Exact, Check}
+use Rattle.kcore.specs.declared.command.Command.TheVariants.{Run, Final, Orient, Exact, Check, Dense}
 use Rattle.kcore.specs.declared.status.Status.{Status}
 use Rattle.kcore.specs.declared.status.Status.TheVariants.{Done, Refused, Usage, ReadFault, WriteFault, Memory}
 use Rattle.kcore.specs.Inputs.{input_said}
@@ -13,8 +13,9 @@ use Rattle.kcore.specs.CheckText.{IsCheckText}
 use Rattle.kcore.specs.ExactText.{IsExactText}
 use Rattle.kcore.specs.FinalText.{IsFinalText}
 use Rattle.kcore.specs.OrientText.{IsOrientText, OrientsSparsely}
+use Rattle.kcore.specs.DenseText.{IsDenseText}
 use Rattle.kcore.specs.Texts.{WritesWhole, WritesPrefix}
-use Rattle.kcore.specs.Laws.{HoldsThroughout, FitsExactly}
+use Rattle.kcore.specs.Laws.{HoldsThroughout, FitsExactly, HasHalfDensity}
 
 -- a number of workers, which is 1 to 64
 abbrev pub few_workers : Option ℕ → Option ℕ
@@ -36,6 +37,7 @@ command_of [] = None
 command_of (w ∷ []) =
     if bytes_eq w (codes "exact") then Some Exact
     else if bytes_eq w (codes "check") then Some Check
+    else if bytes_eq w (codes "dense") then Some Dense
     else None
 command_of (w ∷ a ∷ []) = with_workers w (few_workers (number_of a))
 command_of (w ∷ a ∷ b ∷ more) = None
@@ -47,6 +49,7 @@ FitsWorkers (Some (Final workers)) = (1 ≤ workers) × (workers ≤ 64)
 FitsWorkers (Some (Orient workers)) = (1 ≤ workers) × (workers ≤ 64)
 FitsWorkers (Some Exact) = Unit {0}
 FitsWorkers (Some Check) = Unit {0}
+FitsWorkers (Some Dense) = Unit {0}
 FitsWorkers None = Unit {0}
 
 -- the text is the one that the command writes for these bytes, and `refused` says whether it refuses them, or a part of them;
@@ -57,6 +60,7 @@ IsText (Final workers) bytes text refused = IsFinalText (input_said bytes) text 
 IsText (Orient workers) bytes text refused = IsOrientText (input_said bytes) text refused
 IsText Exact bytes text refused = IsExactText (input_said bytes) text refused
 IsText Check bytes text refused = IsCheckText bytes text refused
+IsText Dense bytes text refused = IsDenseText (input_said bytes) text refused
 
 abbrev pub Wrote : Command → List ℕ → Option (List ℕ) → Option (List ℕ) → Status → Type 0
 Wrote command bytes before now Done = WritesWhole (IsText command bytes) before now false
@@ -76,7 +80,8 @@ Answers (Some command) (Some bytes) before now status = Wrote command bytes befo
 
 -- where the source tells its bytes, in each state of `final`, of `orient` and of `exact` both invariants hold, and what the levels stand
 -- for bounds the coreness, in an exact text also on each line of a vertex the coreness that stands there; in the last state of `orient`
--- no vertex has many out-neighbours for its coreness; what holds of a run is in its text
+-- no vertex has many out-neighbours for its coreness; the members of `dense` are at least half as dense as any vertices; what holds of a run
+-- is in its text
 abbrev pub Holds : Option Command → Option (List ℕ) → Type 0
 Holds None left = Unit {0}
 Holds (Some command) None = Unit {0}
@@ -85,6 +90,7 @@ Holds (Some (Final workers)) (Some bytes) = HoldsThroughout (input_said bytes)
 Holds (Some (Orient workers)) (Some bytes) = HoldsThroughout (input_said bytes) × OrientsSparsely (input_said bytes)
 Holds (Some Check) (Some bytes) = Unit {0}
 Holds (Some Exact) (Some bytes) = HoldsThroughout (input_said bytes) × FitsExactly (input_said bytes)
+Holds (Some Dense) (Some bytes) = HasHalfDensity (input_said bytes)
 
 -- the counts of faults of the source, r, and of the sink, w: a fault is answered only where the count of its object
 -- rose, and every other count is as it was

@@ -7,6 +7,7 @@ use Rattle.kc_levels.specs.LevelList.{MeetsBoth}
 use Rattle.kc_history.specs.declared.replies.Reply.{Reply}
 use Rattle.kc_history.specs.Replies.{AreExplained}
 use Rattle.kc_bound.specs.Cores.{IsCoreness}
+use Rattle.kc_dense.specs.Dense.{IsHalfAsDenseAsAny}
 use Rattle.kc_batch.specs.BatchInputs.{BatchInput, WithBatches, HeaderRefused}
 use Rattle.kc_engine.specs.States.{State}
 use Rattle.kc_session.specs.States.{start, Step, AreSteps, last_state, history_of}
@@ -15,7 +16,8 @@ use Rattle.kc_session.specs.ReaderLines.{reader_lines}
 use Rattle.kcore.specs.Inputs.{input_said}
 use Rattle.kcore.specs.RunText.{IsRun, IsRunText}
 use Rattle.kcore.specs.Corenesses.{AreCorenesses}
-use Rattle.kcore.specs.ExactText.{printed_of, IsExactText}
+use Rattle.kcore.specs.ExactText.{printed_of}
+use Rattle.kcore.specs.DenseText.{AreMembers}
 use Rattle.kcore.specs.Points.{AreNearAtEachPoint, ArePoints}
 
 -- each input has a text of a run
@@ -112,3 +114,11 @@ FitsExactly (WithBatches header batches) =
     (steps : List Step) → AreSteps (start header.profile header.n) batches steps
     → (corenesses : List ℕ) → AreCorenesses (last_state (start header.profile header.n) steps).graph corenesses
     → (v : ℕ) → v < header.n → FitsCoreness header.profile (printed_of (last_state (start header.profile header.n) steps) v) (get_or corenesses v 0)
+
+-- in the dense text of an input, no vertices of the graph have more than twice as many edges for each of them as the members
+abbrev pub HasHalfDensity : BatchInput → Type 0
+HasHalfDensity (HeaderRefused line) = Unit {0}
+HasHalfDensity (WithBatches header batches) =
+    (steps : List Step) → AreSteps (start header.profile header.n) batches steps
+    → (members : List ℕ) → AreMembers (last_state (start header.profile header.n) steps).graph members
+    → IsHalfAsDenseAsAny (last_state (start header.profile header.n) steps).graph members

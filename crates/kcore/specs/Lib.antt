@@ -8,6 +8,8 @@ pub mod Documents
 pub mod ExactText
 pub mod FinalText
 pub mod CheckText
+pub mod DenseLines
+pub mod DenseText
 pub mod Texts
 pub mod Opening
 pub mod Writing

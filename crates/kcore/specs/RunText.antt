@@ -1,5 +1,5 @@
 -- The text of `run`: what is written for an input, and what it says of the history of the input's batches.
-use Rattle.std.specs.Prelude.{ℕ, ◌≡◌, nat_lt, Bool, List, ◌++◌, All}
+use Rattle.std.specs.Prelude.{ℕ, ◌≡◌, nat_lt, Bool, List, All}
 use Rattle.kc_batch.specs.declared.batch.Next.{Next}
 use Rattle.kc_batch.specs.HeaderShape.{HeaderShape}
 use Rattle.kc_batch.specs.BatchInputs.{BatchInput}

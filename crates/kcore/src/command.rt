@@ -21,6 +21,8 @@ pub enum Command {
     Exact,
     /// `check`: read a certificate, and print what its levels come to.
     Check,
+    /// `dense`: apply the batches of an input in turn, and print a dense part of the graph after them.
+    Dense,
 }
 
 // A number of workers, 1 to 64.
@@ -63,6 +65,8 @@ fn of_one(name: &[u8]) -> Option<Command>
         Some(Command::Exact)
     } else if is_word(name, b"check") {
         Some(Command::Check)
+    } else if is_word(name, b"dense") {
+        Some(Command::Dense)
     } else {
         None
     }

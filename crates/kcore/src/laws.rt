@@ -3,6 +3,7 @@ ghost use Rattle.kcore.specs.Laws.{InputHasText, RepliesHaveText, TextsAreAlike,
 ghost use Rattle.kcore.specs.ExactText.{IsExactText};
 ghost use Rattle.kcore.specs.FinalText.{IsFinalText};
 ghost use Rattle.kcore.specs.OrientText.{IsOrientText};
+ghost use Rattle.kcore.specs.DenseText.{IsDenseText};
 
 /// Each input has a text of a run, and so have all replies that fit its asks and that the history of its batches explains.
 pub fn input_has_text()
@@ -29,6 +30,11 @@ pub fn input_has_one_final_text()
 /// For each input there is exactly one oriented text.
 pub fn input_has_one_orient_text()
     ensures { HasOneText IsOrientText }
+{}
+
+/// For each input there is exactly one dense text.
+pub fn input_has_one_dense_text()
+    ensures { HasOneText IsDenseText }
 {}
 
 /// The states of each input are points of its history, which is that of its phases, one after another.

@@ -2,8 +2,8 @@
 //!
 //! [`top::run_command`] is the program; `main` only hands it the words of the command line, the standard input and
 //! output, and ends with its exit number. Each command reads a header first ([`inputs`]). Then `run` hands the batches and the readers
-//! over to `kc_session`, and `final` and `exact` write a document of what the batches lead to ([`documents`]). `check` reads such a
-//! certificate instead ([`check`]).
+//! over to `kc_session`, and `final`, `orient`, `exact` and `dense` write a document of what the batches lead to ([`documents`]). `check`
+//! reads such a certificate instead ([`check`]).
 #![tactic(auto)]
 
 ghost use Rattle.std.specs.Prelude.{◌≡◌, drop, map, string_bytes, IfOk};
@@ -13,6 +13,8 @@ ghost use Rattle.kcore.specs.Commands.{EndsAs, exit_number};
 
 mod check;
 mod command;
+mod dense;
+mod dense_lines;
 mod documents;
 mod exact;
 mod final_text;

@@ -2,6 +2,7 @@
 ghost use Rattle.std.specs.Prelude.{◌<◌};
 
 mod comparing;
+mod dense;
 mod hostile;
 mod pieces;
 mod recounting;
@@ -233,6 +234,7 @@ fn other_words_name_no_command(rt: HostRuntime) -> Result<(), Fail> {
         "final 0",
         "final 65",
         "check 1",
+        "dense 1",
         "gen 0 5 1 3",
         "--help",
     ] {

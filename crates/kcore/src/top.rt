@@ -5,6 +5,7 @@ ghost use Rattle.kcore.specs.Writing.{status_of};
 
 use crate::check::check_input;
 use crate::command::Command;
+use crate::dense::Dense;
 use crate::documents::settle_input;
 use crate::exact::Exact;
 use crate::final_text::Final;
@@ -56,6 +57,9 @@ fn status_of(ended: Result<bool, SessionFault>) -> Status
 /// them: no vertex has more out-neighbours than six times its coreness, and where the header gives the second profile than four
 /// times. The ends of an edge have different colours, and no colour is above the number of its vertex's out-neighbours.
 ///
+/// There is one text of `dense`. Its members are the vertices of the densest suffix of the peeling list of the graph, of several the
+/// longest, and no vertices of the graph have more than twice as many edges between them for each of them.
+///
 /// `ReadFault` and `WriteFault` come only where the count of faults of `input`, of `output` rose in this call, and
 /// every other count is as it was. So with words of a command, bytes told and no count risen the answer is `Done` or
 /// `Refused`, as the bytes decide, or `Memory`, the one answer without a cause.
@@ -85,6 +89,9 @@ pub fn run_command<R: Threads + Sync, S: Source + Send, K: Sink + Send, G: Gate 
         )),
         Some(Command::Check) => status_of(check_input(alloc, input, output)),
         Some(Command::Exact) => status_of(settle_input::<Exact, R, S, K, G>(
+            rt, alloc, gate, 1, input, output,
+        )),
+        Some(Command::Dense) => status_of(settle_input::<Dense, R, S, K, G>(
             rt, alloc, gate, 1, input, output,
         )),
         None => Status::Usage,

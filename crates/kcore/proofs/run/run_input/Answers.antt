@@ -1,8 +1,8 @@
-use Rattle.std.proofs.Common.{refl, sym}
+use Rattle.std.proofs.Common.{refl}
 use Rattle.std.proofs.lemmas.Result.{err_from_is_err_and}
 use Rattle.kc_batch.specs.Tokens.{tokens_left}
 use Rattle.kcore.specs.RunText.{IsRunOf}
-use Rattle.kcore.proofs.InputTexts.{after_header, header_refused, not_opened}
+use Rattle.kcore.proofs.InputTexts.{after_header, not_opened}
 use Rattle.kcore.proofs.Texts.{has_texts, run_written, run_stopped}
 use Rattle.kcore.proofs.run.run_input.Goals as goal
 

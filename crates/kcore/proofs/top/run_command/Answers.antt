@@ -16,3 +16,6 @@ returns-in-Some-Final-clause-holds g c = holds (command_of c.args.words.now) (g.
 
 pub returns-in-Some-Check-clause-holds : goal.returns-in-Some-Check-clause-holds
 returns-in-Some-Check-clause-holds g c = holds (command_of c.args.words.now) (g.S.Source.left c.args.input.now)
+
+pub returns-in-Some-Dense-clause-holds : goal.returns-in-Some-Dense-clause-holds
+returns-in-Some-Dense-clause-holds g c = holds (command_of c.args.words.now) (g.S.Source.left c.args.input.now)

@@ -1,0 +1,128 @@
+//! The lines of the text of `dense`.
+ghost use Rattle.std.specs.Prelude.{◌≡◌, [], ◌∷◌, ◌++◌, OnOk, decimal};
+ghost use Rattle.std.specs.List.{flat_map};
+ghost use Rattle.kc_text.specs.Writing.{Appends, WriteCause};
+ghost use Rattle.kc_report.specs.Buffer.{IsCleared};
+ghost use Rattle.kc_report.specs.Lines.{vertices_line};
+ghost use Rattle.kcore.specs.DenseLines.{dense_magic_line, dense_head_text, size_line, member_line};
+
+use kc_text::{LineBuf, SendFault, Sink};
+use std::alloc::{AllocError, Global};
+
+// Appends a name, with its blanks, and a number.
+fn fill_named(alloc: Global, buf: &mut LineBuf, name: &[u8], value: u32) -> Result<(), AllocError>
+    ensures { OnOk result (buf.new ≡ (buf.old ++ name.now) ++ decimal value) }
+{
+    buf.text(alloc, name)?;
+    buf.number(alloc, value)
+}
+
+// Writes the first line.
+fn write_magic<K: Sink>(alloc: Global, buf: &mut LineBuf, sink: &mut K) -> Result<(), SendFault>
+    requires { buf.old ≡ [] }
+    ensures text { Appends (K.taken sink.old) (K.taken sink.new) dense_magic_line result }
+    ensures buffer { IsCleared buf.new result }
+    ensures cause { WriteCause (K.faults sink.old) (K.faults sink.new) result }
+{
+    match buf.text(alloc, b"kcore-dense 1") {
+        Ok(()) => buf.send(alloc, sink),
+        Err(fault) => Err(SendFault::Memory(fault)),
+    }
+}
+
+// Writes the second line.
+fn write_vertex_count<K: Sink>(
+    alloc: Global,
+    buf: &mut LineBuf,
+    sink: &mut K,
+    n: u32,
+) -> Result<(), SendFault>
+    requires { buf.old ≡ [] }
+    ensures text { Appends (K.taken sink.old) (K.taken sink.new) (vertices_line n) result }
+    ensures buffer { IsCleared buf.new result }
+    ensures cause { WriteCause (K.faults sink.old) (K.faults sink.new) result }
+{
+    match fill_named(alloc, buf, b"vertices ", n) {
+        Ok(()) => buf.send(alloc, sink),
+        Err(fault) => Err(SendFault::Memory(fault)),
+    }
+}
+
+/// Writes the first two lines, for n vertices (`dense_head_text`).
+pub fn write_dense_head<K: Sink>(
+    alloc: Global,
+    buf: &mut LineBuf,
+    sink: &mut K,
+    n: u32,
+) -> Result<(), SendFault>
+    requires { buf.old ≡ [] }
+    ensures text { Appends (K.taken sink.old) (K.taken sink.new) (dense_head_text n) result }
+    ensures buffer { IsCleared buf.new result }
+    ensures cause { WriteCause (K.faults sink.old) (K.faults sink.new) result }
+{
+    write_magic(alloc, buf, sink)?;
+    write_vertex_count(alloc, buf, sink, n)
+}
+
+fn fill_size(alloc: Global, buf: &mut LineBuf, size: u32, edges: u32) -> Result<(), AllocError>
+    requires { buf.old ≡ [] }
+    ensures { OnOk result (buf.new ++ 10 ∷ [] ≡ size_line size edges) }
+{
+    fill_named(alloc, buf, b"size ", size)?;
+    fill_named(alloc, buf, b" edges ", edges)
+}
+
+/// Writes the line with the number of members, and of the edges between them (`size_line`).
+pub fn write_size<K: Sink>(
+    alloc: Global,
+    buf: &mut LineBuf,
+    sink: &mut K,
+    size: u32,
+    edges: u32,
+) -> Result<(), SendFault>
+    requires { buf.old ≡ [] }
+    ensures text { Appends (K.taken sink.old) (K.taken sink.new) (size_line size edges) result }
+    ensures buffer { IsCleared buf.new result }
+    ensures cause { WriteCause (K.faults sink.old) (K.faults sink.new) result }
+{
+    match fill_size(alloc, buf, size, edges) {
+        Ok(()) => buf.send(alloc, sink),
+        Err(fault) => Err(SendFault::Memory(fault)),
+    }
+}
+
+// Writes the line of a member.
+fn write_member<K: Sink>(
+    alloc: Global,
+    buf: &mut LineBuf,
+    sink: &mut K,
+    v: u32,
+) -> Result<(), SendFault>
+    requires { buf.old ≡ [] }
+    ensures text { Appends (K.taken sink.old) (K.taken sink.new) (member_line v) result }
+    ensures buffer { IsCleared buf.new result }
+    ensures cause { WriteCause (K.faults sink.old) (K.faults sink.new) result }
+{
+    match fill_named(alloc, buf, b"member ", v) {
+        Ok(()) => buf.send(alloc, sink),
+        Err(fault) => Err(SendFault::Memory(fault)),
+    }
+}
+
+/// Writes the lines of the members (`member_line`), one after another.
+pub fn write_members<K: Sink>(
+    alloc: Global,
+    buf: &mut LineBuf,
+    sink: &mut K,
+    members: &[u32],
+) -> Result<(), SendFault>
+    requires { buf.old ≡ [] }
+    ensures text { Appends (K.taken sink.old) (K.taken sink.new) (flat_map member_line members.now) result }
+    ensures buffer { IsCleared buf.new result }
+    ensures cause { WriteCause (K.faults sink.old) (K.faults sink.new) result }
+{
+    for v in members {
+        write_member(alloc, buf, sink, *v)?;
+    }
+    Ok(())
+}
