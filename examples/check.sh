@@ -41,9 +41,15 @@ for input in karate_batches.kc path.kc isolate.kc; do
     "$program" final $workers <"$input" | "$program" check >"$out"
     grep -q '^certified ' "$out" || wrong "$input: what final $workers writes isn't certified"
   done
+done
 
 for text in *_dense.txt cases/*_dense.txt; do
   writes "${text%_dense.txt}.kc" "$text" dense
+done
+
+for text in *_orient.txt cases/*_orient.txt; do
+  writes "${text%_orient.txt}.kc" "$text" orient 1
+  writes "${text%_orient.txt}.kc" "$text" orient 3
 done
 
 # A line of 65,537 bytes fits nowhere.
@@ -55,14 +61,14 @@ printf 'kcore 1\nvertices 1\nask 65536 0\n' | "$program" run 1 >"$out"
 [ $? = 0 ] && [ "$(grep '^reader 0 ' "$out" | wc -w)" = 65538 ] || wrong "a reader with 65536 questions: another text"
 
 # Words that name no command: nothing is written.
-for words in "" run "run 0" "run 65" "run +1" "run 00000000001" "run x" "run 1 1" "exact 1" final "final 0" "final 65" "check 1" --help --version; do
+for words in "" run "run 0" "run 65" "run +1" "run 00000000001" "run x" "run 1 1" "exact 1" final "final 0" "final 65" orient "orient 0" "orient 65" "orient 1 1" "dense 1" "check 1" --help --version; do
   "$program" $words <path.kc >"$out" 2>"$err"
   exited=$?
   [ $exited = 2 ] && [ ! -s "$out" ] && [ ! -s "$err" ] || wrong "path.kc: '$words': exit number $exited"
 done
 
 # An input that can't be read: a folder. A graph that doesn't fit into the memory that there is.
-for words in "run 1" "final 1" exact; do
+for words in "run 1" "final 1" "orient 1" exact dense; do
   "$program" $words <. >"$out" 2>"$err"
   exited=$?
   [ $exited = 3 ] && [ ! -s "$out" ] && [ ! -s "$err" ] || wrong "$words of a folder: exit number $exited"
@@ -73,7 +79,7 @@ done
 
 # A text that can't be written: the device is full.
 if [ -c /dev/full ]; then
-  for words in "run 1" "final 1" exact; do
+  for words in "run 1" "final 1" "orient 1" exact dense; do
     "$program" $words <path.kc >/dev/full 2>"$err"
     exited=$?
     [ $exited = 4 ] && [ ! -s "$err" ] || wrong "path.kc: $words to a full device: exit number $exited"
