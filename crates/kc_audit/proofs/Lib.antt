@@ -3,6 +3,7 @@ pub mod KeptLemmas
 pub mod LineLemmas
 pub mod MoveLemmas
 pub mod PairsBack
+pub mod PrintedForms
 pub mod Reaching
 pub mod RunBack
 pub mod Stepping

@@ -3,6 +3,7 @@ pub mod Flat
 pub mod Kept
 pub mod Kinds
 pub mod Laws
+pub mod Printed
 pub mod ReadBack
 pub mod Reads
 pub mod Runs

@@ -1,6 +1,7 @@
 // Laws of the definitions. The functions do nothing: each has laws as its contract.
 
 ghost use Rattle.kc_audit.specs.Laws.{ExplainedPasses, IsOneVerdict, LinesExplain};
+ghost use Rattle.kc_audit.specs.Printed.{LinesSayKinds, PrintedRunIsReadBack};
 ghost use Rattle.kc_audit.specs.ReadBack.{RunIsReadBack};
 
 /// A run whose readers are explained by definition gets no other verdict than `Explained`.
@@ -22,4 +23,14 @@ pub fn lines_explain()
 /// Lines that say what the lines of a run say are read as its group lines and its readers.
 pub fn run_is_read_back()
     ensures { RunIsReadBack }
+{}
+
+/// Each line of a run says, by its words as they are printed, what the line is for.
+pub fn lines_say_kinds()
+    ensures { LinesSayKinds }
+{}
+
+/// The printed lines of a run are read as its group lines and its readers, from bytes on.
+pub fn printed_run_is_read_back()
+    ensures { PrintedRunIsReadBack }
 {}

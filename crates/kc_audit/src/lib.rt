@@ -1,8 +1,9 @@
 //! The audit of recorded runs: is a text the text of a run, and could each reader have seen what its line claims?
 //!
-//! A [`RunText`] has the group lines of a run, each with the new levels of its members, and the replies of its readers.
-//! [`audit`] takes the group lines as a history, which starts with each vertex on level 0, and says whether it explains the
-//! replies of each reader, by points that never go back: `specs/Runs` and `specs/Verdicts`.
+//! [`read_run`] reads a run text and keeps its group lines, each with the new levels of its members, and the replies of its readers
+//! ([`RunText`]), or tells the first line that doesn't fit: `specs/Documents`. [`audit`] takes the group lines as a history,
+//! which starts with each vertex on level 0, and says whether it explains the replies of each reader, by points that never
+//! go back: `specs/Runs` and `specs/Verdicts`. [`laws`] says what the definitions come to; what a run prints is read back.
 #![tactic(auto)]
 
 mod flat;
