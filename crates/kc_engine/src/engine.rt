@@ -211,6 +211,16 @@ impl Engine {
         self.waits = false;
     }
 
+    /// Leaves the plan that waits unshown, where nobody looks levels up. Afterwards no plan waits, and the engine is otherwise
+    /// unchanged. Costs O(1).
+    pub fn leave_unshown(&mut self)
+        requires { self.old.waits ≡ true }
+        ensures { self.new ≡ record self.old { waits = false } }
+    {
+        // Graph and levels are those after the plan already.
+        self.waits = false;
+    }
+
     /// The graph, of which nothing is specified once the engine has halted.
     pub fn graph(&self) -> &Graph
         ensures value { result.now ≡ self.now.state.graph }

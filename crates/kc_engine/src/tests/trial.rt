@@ -27,7 +27,7 @@ fn is_inside(item: Item, n: u32) -> bool
 }
 
 // Whether the vertices of all the items are below n.
-fn are_inside(items: &[Item], n: u32) -> bool
+pub(crate) fn are_inside(items: &[Item], n: u32) -> bool
     ensures { OnTrue result (All (IsInside n) items.now) }
 {
     for item in items {
