@@ -1,5 +1,5 @@
 -- A batch without a fault that was applied, and its line.
-use Rattle.std.proofs.Common.{ℕ, ◌≡◌, ◌≤◌, ◌<◌, ◌+◌, Bool, true, false, List, [], ◌∷◌, ◌++◌, length, refl, sym, ◌∙◌, subst, arith, append-nil}
+use Rattle.std.proofs.Common.{ℕ, ◌≡◌, ◌≤◌, ◌<◌, ◌+◌, Bool, true, false, List, [], ◌∷◌, length, refl, ◌∙◌, subst, arith}
 use Rattle.std.proofs.lemmas.List.Sums.{length-filter, count_by-le-length}
 use Rattle.std.proofs.lemmas.List.Elements.{All-nil, All-cons, All-append}
 use Rattle.std.specs.Prelude.{Option, None, All}
@@ -15,11 +15,11 @@ use Rattle.kc_text.specs.declared.reason.Reason.{Reason}
 use Rattle.kc_text.specs.Writing.{IsPrefix}
 use Rattle.kc_batch.specs.declared.batch.Batch.{Batch}
 use Rattle.kc_batch.specs.declared.batch.Next.{Next}
-use Rattle.kc_batch.specs.declared.batch.Next.TheVariants.{Items, Refused, End}
+use Rattle.kc_batch.specs.declared.batch.Next.TheVariants.{Items, Refused}
 use Rattle.kc_batch.specs.HeaderShape.{HeaderShape}
 use Rattle.kc_batch.specs.BatchInputs.{rules_of}
 use Rattle.kc_batch.specs.Batches.{IsNext}
-use Rattle.kc_text.proofs.Known.{append_none, prefix_none}
+use Rattle.kc_text.proofs.Known.{prefix_none}
 use Rattle.kc_history.specs.declared.entries.Entry.{Entry}
 use Rattle.kc_groups.specs.declared.plans.PhasePlan.{PhasePlan}
 use Rattle.kc_groups.specs.Entries.{is_quiet, entries_in}
@@ -32,9 +32,11 @@ use Rattle.kc_session.specs.Reports.{accepted_text, refused_text}
 use Rattle.kc_session.specs.States.{stay, refusal_of, reason_of}
 use Rattle.kc_session.specs.declared.counts.Counts.{Counts}
 use Rattle.kc_session.specs.Counts.{capped, groups_of, moves_of}
+use Rattle.kc_session.specs.Audiences.{longer}
 use Rattle.kc_session.specs.Running.{RanStep, WroteSome}
 use Rattle.kc_session.specs.Outcomes.{IsRefusedFor}
 use Rattle.kc_session.specs.RunText.{step_text}
+use Rattle.kc_session.proofs.Longer.{longer_none}
 use Rattle.kc_session.proofs.Steps.{some_step}
 
 -- a batch doesn't remove more edges than there are, nor add more than it has items
@@ -73,10 +75,10 @@ well_formed s t items plans a = with_some s.graph.vertices plans (phases_are_wel
 abbrev refused_after : Counts → Counts
 refused_after c = record { batches = c.batches + 1; refused = c.refused + 1; groups = capped (c.groups + 0); moves = capped (c.moves + 0) }
 
-pub accepted_step : (report : Report) (s t : State) (b : Batch) (d : Cleaned) (plans : List PhasePlan) (before now : Option (List ℕ)) (old new : Counts) (h i : List Entry) → refusal_of s (cleaned s.graph b.items) ≡ None
+pub accepted_step : (report : Report) (s t : State) (b : Batch) (d : Cleaned) (plans : List PhasePlan) (before now : Option (List ℕ)) (old new : Counts) (h i : Option (List Entry)) → refusal_of s (cleaned s.graph b.items) ≡ None
     → d ≡ cleaned s.graph b.items → IsAfterPhases s (cleaned s.graph b.items) t plans → now ≡ append_known before (accepted_text report (old.batches + 1) d plans)
     → new ≡ record { batches = old.batches + 1; refused = old.refused + 0; groups = capped (old.groups + groups_of plans); moves = capped (old.moves + moves_of plans) }
-    → i ≡ h ++ entries_in plans → RanStep report (Items b) s t before now old new h i
+    → i ≡ longer h (entries_in plans) → RanStep report (Items b) s t before now old new h i
 accepted_step report s t b d plans before now old new h i e f a w count grown =
     let v : now ≡ append_known before (accepted_text report (old.batches + 1) (cleaned s.graph b.items) plans) = subst (λ (x : Cleaned). now ≡ append_known before (accepted_text report (old.batches + 1) x plans)) f w in
     record { step = record { state = t; phases = plans }; is_step = rw e a; last = refl; taken = rw e v; counts = rw e count; history = grown }
@@ -88,12 +90,12 @@ accepted_prefix report number s t b d plans before now e f a p =
     let v : IsPrefix before now (accepted_text report number (cleaned s.graph b.items) plans) = subst (λ (x : Cleaned). IsPrefix before now (accepted_text report number x plans)) f p in
     record { step = record { state = t; phases = plans }; is_step = rw e a; prefix = rw e v }
 
-pub refused_step : (report : Report) (s t : State) (b : Batch) (reason : Reason) (before now : Option (List ℕ)) (old new : Counts) (h i : List Entry) → IsRefusedFor s (cleaned s.graph b.items) reason t
+pub refused_step : (report : Report) (s t : State) (b : Batch) (reason : Reason) (before now : Option (List ℕ)) (old new : Counts) (h i : Option (List Entry)) → IsRefusedFor s (cleaned s.graph b.items) reason t
     → now ≡ append_known before (refused_text report (old.batches + 1) b.line reason) → new ≡ refused_after old → i ≡ h
     → RanStep report (Items b) s t before now old new h i
 refused_step report s t b reason before now old new h i r w count same =
     let v : now ≡ append_known before (refused_text report (old.batches + 1) b.line (reason_of r.fault)) = subst (λ (x : Reason). now ≡ append_known before (refused_text report (old.batches + 1) b.line x)) r.word w in
-    record { step = stay s; is_step = rw r.refused refl; last = r.same; taken = rw r.refused v; counts = rw r.refused count; history = same ∙ sym (append-nil h) }
+    record { step = stay s; is_step = rw r.refused refl; last = r.same; taken = rw r.refused v; counts = rw r.refused count; history = same ∙ longer_none h }
 
 pub refused_prefix : (report : Report) (number : ℕ) (s t : State) (b : Batch) (reason : Reason) (before now : Option (List ℕ)) → IsRefusedFor s (cleaned s.graph b.items) reason t
     → IsPrefix before now (refused_text report number b.line reason) → WroteSome report number (Items b) s before now
@@ -109,9 +111,9 @@ nothing_of report number header b s before now k e i same =
     record { step = there.0; is_step = there.1; prefix = prefix_none before now (step_text report number s b there.0.phases) same }
 
 -- a batch that the grammar refuses
-pub refused_line_written : (report : Report) (line : ℕ) (reason : Reason) (s : State) (before now : Option (List ℕ)) (old new : Counts) (h : List Entry) → now ≡ append_known before (refused_text report (old.batches + 1) line reason) → new ≡ refused_after old
+pub refused_line_written : (report : Report) (line : ℕ) (reason : Reason) (s : State) (before now : Option (List ℕ)) (old new : Counts) (h : Option (List Entry)) → now ≡ append_known before (refused_text report (old.batches + 1) line reason) → new ≡ refused_after old
     → RanStep report (Refused line reason) s s before now old new h h
-refused_line_written report line reason s before now old new h e count = record { step = stay s; is_step = refl; last = refl; taken = e; counts = count; history = sym (append-nil h) }
+refused_line_written report line reason s before now old new h e count = record { step = stay s; is_step = refl; last = refl; taken = e; counts = count; history = longer_none h }
 
 pub refused_line_prefix : (report : Report) (number line : ℕ) (reason : Reason) (s : State) (before now : Option (List ℕ)) → IsPrefix before now (refused_text report number line reason)
     → WroteSome report number (Refused line reason) s before now

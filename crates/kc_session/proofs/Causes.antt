@@ -1,6 +1,6 @@
 -- Why a session stops where a part of it does.
 use Rattle.std.proofs.Common.{ℕ, ◌≡◌, ◌∙◌, subst}
-use Rattle.std.specs.Prelude.{Result, Ok, Err}
+use Rattle.std.specs.Prelude.{Err}
 use Rattle.kc_text.specs.declared.buf.SendFault.{SendFault}
 use Rattle.kc_text.specs.declared.buf.SendFault.TheVariants as send
 use Rattle.kc_text.specs.Causes.{Rose}

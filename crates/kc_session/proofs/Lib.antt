@@ -1,5 +1,7 @@
 pub mod AgentLists
 pub mod AskingLemmas
+pub mod AudienceLemmas
+pub mod Longer
 pub mod Lists
 pub mod PassLemmas
 pub mod ReaderTexts

@@ -1,13 +1,12 @@
 -- Batches in turn: their states, and what was written of their lines while they are read one after another.
-use Rattle.std.proofs.Common.{ℕ, ◌≡◌, ◌<◌, ◌≤◌, ◌+◌, ◌-◌, ◌^◌, Bool, true, false, List, [], ◌∷◌, ◌++◌, length, append_assoc, refl, sym, ap, ◌∙◌, subst, arith, min, length-append}
+use Rattle.std.proofs.Common.{ℕ, ◌≡◌, ◌<◌, ◌≤◌, ◌+◌, Bool, true, false, List, [], ◌∷◌, ◌++◌, length, append_assoc, refl, sym, ap, ◌∙◌, subst, arith, length-append}
 use Rattle.std.specs.Prelude.{Option, Some, None, All, Err, Ok}
 use Rattle.std.specs.List.{sum_by}
 use Rattle.std.specs.Option.{option_map}
-use Rattle.std.specs.Io.KnownBytes.{append_known}
 use Rattle.std.proofs.lemmas.Option.{same_Some}
 use Rattle.std.proofs.lemmas.List.{append-nil}
 use Rattle.std.proofs.lemmas.List.Sums.{sum_by_push}
-use Rattle.std.proofs.lemmas.List.Elements.{All-nil, All-cons, All-head, All-tail}
+use Rattle.std.proofs.lemmas.List.Elements.{All-head, All-tail}
 use Rattle.kc_text.specs.declared.reason.Reason.TheVariants.{Header, LineLong, BadLine, BadVertex, TooMany, Truncated, InputLimit, EdgeLimit, PhaseLimit}
 use Rattle.kc_text.specs.Writing.{IsPrefix}
 use Rattle.kc_text.proofs.Known.{append_none, append_twice, prefix_none, prefix_longer, prefix_then}
@@ -25,11 +24,13 @@ use Rattle.kc_engine.specs.States.{State, IsSound}
 use Rattle.kc_session.specs.declared.counts.Counts.{Counts}
 use Rattle.kc_session.specs.declared.report.Report.{Report}
 use Rattle.kc_session.specs.declared.fault.SessionFault.{SessionFault}
+use Rattle.kc_session.specs.Audiences.{longer}
 use Rattle.kc_session.specs.Counts.{capped, one_if, groups_of, moves_of, refused_in, all_groups, all_moves, counts_of, counted}
-use Rattle.kc_session.specs.States.{Step, IsStep, AreSteps, last_state, history_of, is_refused}
+use Rattle.kc_session.specs.States.{Step, AreSteps, last_state, history_of, is_refused}
 use Rattle.kc_session.specs.RunText.{step_text, batch_lines}
 use Rattle.kc_session.specs.Running.{is_last_batch, RanStep, WroteSome, RunsStep, RanBatches, WroteSomeBatches, RunsBatches}
 use Rattle.kc_session.proofs.CountLemmas.{capped_more, counts_same}
+use Rattle.kc_session.proofs.Longer.{longer_none, longer_twice}
 use Rattle.kc_session.proofs.Steps.{some_step, sound_step, profile_step, one_step}
 
 -- there are states after any batches
@@ -97,10 +98,10 @@ history_append [] us = refl
 history_append (t ∷ ts) us = ap (λ (es : List Entry). entries_in t.phases ++ es) (history_append ts us) ∙ sym (append_assoc (entries_in t.phases) (history_of ts) (history_of us))
 
 -- the history after one more batch
-history_step : (ts : List Step) (t : Step) (h i j : List Entry) → i ≡ h ++ history_of ts → j ≡ i ++ entries_in t.phases → j ≡ h ++ history_of (ts ++ t ∷ [])
+history_step : (ts : List Step) (t : Step) (h i j : Option (List Entry)) → i ≡ longer h (history_of ts) → j ≡ longer i (entries_in t.phases) → j ≡ longer h (history_of (ts ++ t ∷ []))
 history_step ts t h i j e f =
-    f ∙ (ap (λ (es : List Entry). es ++ entries_in t.phases) e ∙ (append_assoc h (history_of ts) (entries_in t.phases)
-    ∙ ap (λ (es : List Entry). h ++ es) (ap (λ (es : List Entry). history_of ts ++ es) (sym (append-nil (entries_in t.phases))) ∙ sym (history_append ts (t ∷ [])))))
+    longer_twice h i j (history_of ts) (entries_in t.phases) e f
+    ∙ ap (λ (es : List Entry). longer h es) (ap (λ (es : List Entry). history_of ts ++ es) (sym (append-nil (entries_in t.phases))) ∙ sym (history_append ts (t ∷ [])))
 
 refused_append : (s : State) (bs cs : List Next) (ts us : List Step) → AreSteps s bs ts → refused_in s (bs ++ cs) (ts ++ us) ≡ refused_in s bs ts + refused_in (last_state s ts) cs us
 refused_append s [] cs [] us a = omega arith
@@ -123,12 +124,12 @@ counts_step s bs ts b t old new a e f =
     push_of f ts t = sum_by_push f ts t
 
 -- the first of the batches were run; bs are the others, and s is the state before them
-pub record Leads (report : Report) (s0 : State) (bs0 : List Next) (s : State) (bs : List Next) (before now : Option (List ℕ)) (h i : List Entry) (counts : Counts) : Type 0 where
+pub record Leads (report : Report) (s0 : State) (bs0 : List Next) (s : State) (bs : List Next) (before now : Option (List ℕ)) (h i : Option (List Entry)) (counts : Counts) : Type 0 where
   pub done : List Next
   pub all : bs0 ≡ done ++ bs
   pub ran : RanBatches report s0 s done before now h i counts
 
-leads_step : (report : Report) (s0 : State) (bs0 : List Next) (s t : State) (b : Next) (bs : List Next) (before now later : Option (List ℕ)) (h i j : List Entry) (old new : Counts) → Leads report s0 bs0 s (b ∷ bs) before now h i old
+leads_step : (report : Report) (s0 : State) (bs0 : List Next) (s t : State) (b : Next) (bs : List Next) (before now later : Option (List ℕ)) (h i j : Option (List Entry)) (old new : Counts) → Leads report s0 bs0 s (b ∷ bs) before now h i old
     → RanStep report b s t now later old new i j → Leads report s0 bs0 t bs before later h j new
 leads_step report s0 bs0 s t b bs before now later h i j old new l w =
     let r = l.ran in
@@ -149,10 +150,10 @@ leads_step report s0 bs0 s t b bs before now later h i j old new l w =
       };
     }
 
-leads_end : (report : Report) (s0 : State) (bs0 : List Next) (s : State) (before now : Option (List ℕ)) (h i : List Entry) (counts : Counts) → Leads report s0 bs0 s [] before now h i counts → RanBatches report s0 s bs0 before now h i counts
+leads_end : (report : Report) (s0 : State) (bs0 : List Next) (s : State) (before now : Option (List ℕ)) (h i : Option (List Entry)) (counts : Counts) → Leads report s0 bs0 s [] before now h i counts → RanBatches report s0 s bs0 before now h i counts
 leads_end report s0 bs0 s before now h i counts l = subst (λ (bs : List Next). RanBatches report s0 s bs before now h i counts) (sym (append-nil l.done) ∙ sym l.all) l.ran
 
-leads_some : (report : Report) (s0 : State) (bs0 : List Next) (s : State) (bs : List Next) (ts : List Step) (before now later : Option (List ℕ)) (h i : List Entry) (counts : Counts) → Leads report s0 bs0 s bs before now h i counts
+leads_some : (report : Report) (s0 : State) (bs0 : List Next) (s : State) (bs : List Next) (ts : List Step) (before now later : Option (List ℕ)) (h i : Option (List Entry)) (counts : Counts) → Leads report s0 bs0 s bs before now h i counts
     → AreSteps s bs ts → IsPrefix now later (batch_lines report (counts.batches + 1) s bs ts) → WroteSomeBatches report s0 bs0 before later
 leads_some report s0 bs0 s bs ts before now later h i counts l a p =
     let r = l.ran in
@@ -167,17 +168,17 @@ leads_some report s0 bs0 s bs ts before now later h i counts l a p =
     }
 
 -- the same where the batches are told
-abbrev pub LeadsTold : Report → State → Option (List Next) → State → Option (List Next) → Option (List ℕ) → Option (List ℕ) → List Entry → List Entry → Counts → Type 0
+abbrev pub LeadsTold : Report → State → Option (List Next) → State → Option (List Next) → Option (List ℕ) → Option (List ℕ) → Option (List Entry) → Option (List Entry) → Counts → Type 0
 LeadsTold report s0 None s told before now h i counts = Unit {0}
 LeadsTold report s0 (Some bs0) s None before now h i counts = ⊥
 LeadsTold report s0 (Some bs0) s (Some bs) before now h i counts = Leads report s0 bs0 s bs before now h i counts
 
-pub told_first : (report : Report) (s : State) (told : Option (List Next)) (before : Option (List ℕ)) (h : List Entry) (counts : Counts) → counts ≡ record { batches = 0; refused = 0; groups = 0; moves = 0 } → LeadsTold report s told s told before before h h counts
+pub told_first : (report : Report) (s : State) (told : Option (List Next)) (before : Option (List ℕ)) (h : Option (List Entry)) (counts : Counts) → counts ≡ record { batches = 0; refused = 0; groups = 0; moves = 0 } → LeadsTold report s told s told before before h h counts
 told_first report s None before h counts e = tt
 told_first report s (Some bs) before h counts e = record {
   done = [];
   all = refl;
-  ran = record { steps = []; are_steps = tt; last = refl; taken = append_none before; counts_are = e; history = sym (append-nil h) };
+  ran = record { steps = []; are_steps = tt; last = refl; taken = append_none before; counts_are = e; history = longer_none h };
 }
 
 more_follow : (next : Next) (bs : List Next) → (IsEnd next → ⊥) → is_last_batch next ≡ false → behind_batch next bs ≡ next ∷ bs
@@ -212,7 +213,7 @@ end_follows (Refused line reason) bs m = absurd m
 end_follows End bs m = refl
 
 -- a batch that isn't the last was applied and its line written
-pub told_step : (report : Report) (s0 : State) (told0 : Option (List Next)) (s t : State) (next : Next) (old new : Option (List Next)) (before now later : Option (List ℕ)) (h i j : List Entry) (counts more : Counts)
+pub told_step : (report : Report) (s0 : State) (told0 : Option (List Next)) (s t : State) (next : Next) (old new : Option (List Next)) (before now later : Option (List ℕ)) (h i j : Option (List Entry)) (counts more : Counts)
     → old ≡ option_map (behind_batch next) new → (IsEnd next → ⊥) → is_last_batch next ≡ false → LeadsTold report s0 told0 s old before now h i counts → RunsStep report next s t now later counts i j (Ok more)
     → LeadsTold report s0 told0 t new before later h j more
 told_step report s0 None s t next old new before now later h i j counts more e m l d w = tt
@@ -223,7 +224,7 @@ told_step report s0 (Some bs0) s t next (Some bs) (Some rest) before now later h
     leads_step report s0 bs0 s t next rest before now later h i j counts more (subst (λ (xs : List Next). Leads report s0 bs0 s xs before now h i counts) same d) w
 
 -- the last batch was applied and its line written
-pub told_last : (report : Report) (s0 : State) (told0 : Option (List Next)) (s t : State) (next : Next) (old new : Option (List Next)) (before now later : Option (List ℕ)) (h i j : List Entry) (counts more : Counts)
+pub told_last : (report : Report) (s0 : State) (told0 : Option (List Next)) (s t : State) (next : Next) (old new : Option (List Next)) (before now later : Option (List ℕ)) (h i j : Option (List Entry)) (counts more : Counts)
     → old ≡ option_map (behind_batch next) new → is_last_batch next ≡ true → LeadsTold report s0 told0 s old before now h i counts → RunsStep report next s t now later counts i j (Ok more)
     → RunsBatches report s0 t told0 before later h j (Ok more)
 told_last report s0 None s t next old new before now later h i j counts more e l d w = tt
@@ -235,7 +236,7 @@ told_last report s0 (Some bs0) s t next (Some bs) (Some rest) before now later h
     (leads_step report s0 bs0 s t next [] before now later h i j counts more (subst (λ (xs : List Next). Leads report s0 bs0 s xs before now h i counts) same d) w)
 
 -- there is no further batch
-pub told_end : (report : Report) (s0 : State) (told0 : Option (List Next)) (s : State) (next : Next) (old new : Option (List Next)) (before now : Option (List ℕ)) (h i : List Entry) (counts : Counts)
+pub told_end : (report : Report) (s0 : State) (told0 : Option (List Next)) (s : State) (next : Next) (old new : Option (List Next)) (before now : Option (List ℕ)) (h i : Option (List Entry)) (counts : Counts)
     → old ≡ option_map (behind_batch next) new → IsEnd next → LeadsTold report s0 told0 s old before now h i counts → RunsBatches report s0 s told0 before now h i (Ok counts)
 told_end report s0 None s next old new before now h i counts e m d = tt
 told_end report s0 (Some bs0) s next None new before now h i counts e m d = absurd d
@@ -245,7 +246,7 @@ told_end report s0 (Some bs0) s next (Some bs) (Some rest) before now h i counts
     leads_end report s0 bs0 s before now h i counts (subst (λ (xs : List Next). Leads report s0 bs0 s xs before now h i counts) same d)
 
 -- no further batch was read
-pub told_unread : (report : Report) (header : HeaderShape) (s0 t : State) (told0 : Option (List Next)) (s : State) (toks : Option (List Token)) (before now : Option (List ℕ)) (h i j : List Entry) (counts : Counts) (fault : SessionFault)
+pub told_unread : (report : Report) (header : HeaderShape) (s0 t : State) (told0 : Option (List Next)) (s : State) (toks : Option (List Token)) (before now : Option (List ℕ)) (h i j : Option (List Entry)) (counts : Counts) (fault : SessionFault)
     → IsSound MAX_EDGES s → s.graph.vertices ≡ header.n → LeadsTold report s0 told0 s (option_map (batches (rules_of header MAX_ITEMS)) toks) before now h i counts → RunsBatches report s0 t told0 before now h j (Err fault)
 told_unread report header s0 t None s toks before now h i j counts fault sound e d = tt
 told_unread report header s0 t (Some bs0) s None before now h i j counts fault sound e d = absurd d
@@ -254,7 +255,7 @@ told_unread report header s0 t (Some bs0) s (Some ts) before now h i j counts fa
     leads_some report s0 bs0 s (batches (rules_of header MAX_ITEMS) ts) there.0 before now now h i counts d there.1 (prefix_none now now (batch_lines report (counts.batches + 1) s (batches (rules_of header MAX_ITEMS) ts) there.0) refl)
 
 -- a prefix of what is due of one was written
-some_lines : (report : Report) (header : HeaderShape) (s0 : State) (bs0 : List Next) (s : State) (next : Next) (rest : List Next) (before now later : Option (List ℕ)) (h i : List Entry) (counts : Counts) → IsSound MAX_EDGES s → s.graph.vertices ≡ header.n
+some_lines : (report : Report) (header : HeaderShape) (s0 : State) (bs0 : List Next) (s : State) (next : Next) (rest : List Next) (before now later : Option (List ℕ)) (h i : Option (List Entry)) (counts : Counts) → IsSound MAX_EDGES s → s.graph.vertices ≡ header.n
     → All (IsNext (rules_of header MAX_ITEMS)) (next ∷ rest) → Leads report s0 bs0 s (next ∷ rest) before now h i counts → WroteSome report (counts.batches + 1) next s now later → WroteSomeBatches report s0 bs0 before later
 some_lines report header s0 bs0 s next rest before now later h i counts sound e all d w =
     let x = sound_step s header next w.step sound e (All-head (IsNext (rules_of header MAX_ITEMS)) next rest all) w.is_step in
@@ -275,7 +276,7 @@ some_more (Refused line EdgeLimit) rest m = (rest, refl)
 some_more (Refused line PhaseLimit) rest m = (rest, refl)
 some_more End rest m = absurd (m tt)
 
-pub told_stopped : (report : Report) (header : HeaderShape) (s0 t : State) (told0 : Option (List Next)) (s : State) (next : Next) (toks : Option (List Token)) (new : Option (List Next)) (before now later : Option (List ℕ)) (h i j : List Entry) (counts : Counts) (fault : SessionFault)
+pub told_stopped : (report : Report) (header : HeaderShape) (s0 t : State) (told0 : Option (List Next)) (s : State) (next : Next) (toks : Option (List Token)) (new : Option (List Next)) (before now later : Option (List ℕ)) (h i j : Option (List Entry)) (counts : Counts) (fault : SessionFault)
     → IsSound MAX_EDGES s → s.graph.vertices ≡ header.n → option_map (batches (rules_of header MAX_ITEMS)) toks ≡ option_map (behind_batch next) new → (IsEnd next → ⊥) → LeadsTold report s0 told0 s (option_map (batches (rules_of header MAX_ITEMS)) toks) before now h i counts
     → WroteSome report (counts.batches + 1) next s now later → RunsBatches report s0 t told0 before later h j (Err fault)
 told_stopped report header s0 t None s next toks new before now later h i j counts fault sound e f m d p = tt

@@ -1,5 +1,5 @@
 -- The whole text of a session, from its parts.
-use Rattle.std.proofs.Common.{ℕ, suc, zero, ◌≡◌, ◌+◌, ◌*◌, ◌≤◌, ◌<◌, List, [], ◌∷◌, ◌++◌, length, refl, sym, ap, ◌∙◌, arith, subst, append_assoc, append-nil}
+use Rattle.std.proofs.Common.{ℕ, suc, ◌≡◌, ◌+◌, ◌*◌, ◌≤◌, ◌<◌, List, [], ◌∷◌, ◌++◌, length, refl, sym, ap, ◌∙◌, arith, subst, append_assoc, append-nil}
 use Rattle.std.specs.Prelude.{Option, Some, None, Result, Ok, Err, All}
 use Rattle.std.specs.Option.{option_map}
 use Rattle.std.specs.Io.KnownBytes.{append_known}
@@ -34,21 +34,24 @@ use Rattle.kc_session.specs.declared.counts.Counts.{Counts}
 use Rattle.kc_session.specs.declared.ended.Ended.{Ended}
 use Rattle.kc_session.specs.declared.fault.SessionFault.{SessionFault}
 use Rattle.kc_session.specs.declared.report.Report.TheVariants.{Lines}
+use Rattle.std.proofs.lemmas.Option.{same_Some}
 use Rattle.kc_session.specs.Agents.{AgentShape, questions}
+use Rattle.kc_session.specs.Audiences.{longer}
 use Rattle.kc_session.specs.Asking.{Fit, HaveRun, AreClosed, agents_for}
-use Rattle.kc_session.specs.Counts.{counts_of, refused_in}
+use Rattle.kc_session.specs.Counts.{counts_of}
 use Rattle.kc_session.specs.Ended.{IsEnded, replies_in, greatest}
 use Rattle.kc_session.specs.ReaderLines.{reader_lines}
-use Rattle.kc_session.specs.RunText.{batch_lines}
 use Rattle.kc_session.specs.Running.{RunsBatches, RanBatches, WroteSomeBatches}
-use Rattle.kc_session.specs.SessionText.{IsSession, rest_text, body_text, session_text, WroteSession, WroteSomeOfSession, WritesSession}
+use Rattle.kc_session.specs.SessionText.{IsSession, rest_text, body_text, session_text, WroteSomeOfSession, WritesSession}
 use Rattle.kc_session.specs.States.{Step, stay, start, refusal_of, IsAfterCleaned, IsStep, AreSteps, last_state, history_of}
 use Rattle.kc_session.proofs.Steps.{sound_start, sound_step, cleaning}
 use Rattle.kc_store.specs.Seats.{StoreShape}
 use Rattle.kc_levels.specs.declared.profile.Profile.{Profile}
 use Rattle.kc_session.proofs.AgentLists.{closed_fit, closed_explained}
 use Rattle.kc_session.proofs.AskingLemmas.{replies_few}
+use Rattle.kc_session.proofs.Runs.{profile_last}
 use Rattle.kc_session.proofs.Settles.{start_states}
+use Rattle.kc_session.specs.VertexLines.{tail_text}
 
 -- a history that ends where a batch begins ends, with the batch's entries, where it leads
 end_stay : (n : ℕ) (history : List Entry) (s : State) (t : Step) → IsHistoryOf n history s → t ≡ stay s → IsHistoryOf n (history ++ entries_in t.phases) t.state
@@ -152,39 +155,43 @@ some_batches header ls before now w = record {
   prefix = prefix_longer before now _ _ w.prefix;
 }
 
-pub batches_prefix : (header : HeaderShape) (toks : Option (List Token)) (s t : State) (before now : Option (List ℕ)) (h i : List Entry) (fault other : SessionFault) → s ≡ start header.profile header.n
+pub batches_prefix : (header : HeaderShape) (toks : Option (List Token)) (s t : State) (before now : Option (List ℕ)) (h i : Option (List Entry)) (fault other : SessionFault) → s ≡ start header.profile header.n
     → RunsBatches Lines s t (option_map (batches (rules_of header MAX_ITEMS)) toks) before now h i (Err other) → WritesSession body_text header (option_map (batches (rules_of header MAX_ITEMS)) toks) before now (Err fault)
 batches_prefix header None s t before now h i fault other e w = tt
 batches_prefix header (Some ls) s t before now h i fault other e w =
     some_batches header ls before now (subst (λ (z : State). WroteSomeBatches Lines z (batches (rules_of header MAX_ITEMS) ls) before now) e w)
 
-from_start : (header : HeaderShape) (bs : List Next) (s t : State) (before now : Option (List ℕ)) (h i : List Entry) (counts : Counts) → s ≡ start header.profile header.n → RanBatches Lines s t bs before now h i counts
+from_start : (header : HeaderShape) (bs : List Next) (s t : State) (before now : Option (List ℕ)) (h i : Option (List Entry)) (counts : Counts) → s ≡ start header.profile header.n → RanBatches Lines s t bs before now h i counts
     → RanBatches Lines (start header.profile header.n) t bs before now h i counts
 from_start header bs s t before now h i counts e w = subst (λ (z : State). RanBatches Lines z t bs before now h i counts) e w
 
 -- all of them
-pub batches_written : (header : HeaderShape) (toks : Option (List Token)) (s t : State) (before now : Option (List ℕ)) (h i : List Entry) (counts : Counts) (fault : SessionFault) → s ≡ start header.profile header.n
+pub batches_written : (header : HeaderShape) (toks : Option (List Token)) (s t : State) (before now : Option (List ℕ)) (h i : Option (List Entry)) (counts : Counts) (fault : SessionFault) → s ≡ start header.profile header.n
     → RunsBatches Lines s t (option_map (batches (rules_of header MAX_ITEMS)) toks) before now h i (Ok counts) → WritesSession body_text header (option_map (batches (rules_of header MAX_ITEMS)) toks) before now (Err fault)
 batches_written header None s t before now h i counts fault e w = tt
 batches_written header (Some ls) s t before now h i counts fault e w =
     let v = from_start header (batches (rules_of header MAX_ITEMS) ls) s t before now h i counts e w in
     some_batches header ls before now (record { steps = v.steps; are_steps = v.are_steps; prefix = prefix_all before now _ v.taken })
 
--- replies that a history explains that began empty
-pub replies_of : (n : ℕ) (h i : List Entry) (steps : List Step) (asks : List Ask) (lists : List (List Reply)) → h ≡ [] → i ≡ h ++ history_of steps → AreReplies n i asks lists → AreReplies n (history_of steps) asks lists
-replies_of n h i steps asks lists none e r = subst (λ (es : List Entry). AreReplies n es asks lists) (e ∙ ap (λ (es : List Entry). es ++ history_of steps) none) r
+-- what is written after the batches, from the state after them
+rest_is : (header : HeaderShape) (ls : List Token) (ts : List Step) (t : State) (lists : List (List Reply)) → AreSteps (start header.profile header.n) (batches (rules_of header MAX_ITEMS) ls) ts → last_state (start header.profile header.n) ts ≡ t
+    → reader_lines 0 lists ++ tail_text t.profile t.graph t.levels ≡ rest_text header.profile header.n lists (history_of ts)
+rest_is header ls ts t lists a last =
+    let bs = batches (rules_of header MAX_ITEMS) ls in
+    let ends = subst (λ (z : State). IsHistoryOf header.n (history_of ts) z) last (end_steps header [] (start header.profile header.n) bs ts (sound_start header.profile header.n) refl (batches_keep_ranges (rules_of header MAX_ITEMS) ls) (record { graph = refl; levels = refl }) a) in
+    let profile : t.profile ≡ header.profile = ap (λ (z : State). z.profile) (sym last) ∙ profile_last (start header.profile header.n) bs ts a in
+    λ k. reader_lines 0 lists ++ tail_text (profile k) (sym ends.graph k) (sym ends.levels k)
 
 -- all lines of the batches, and a prefix of what is after them
-pub rest_prefix : (header : HeaderShape) (toks : Option (List Token)) (s t : State) (before now later : Option (List ℕ)) (h i : List Entry) (counts : Counts) (lists : List (List Reply)) (p : Profile) (fault : SessionFault) → s ≡ start header.profile header.n → h ≡ [] → p ≡ header.profile
-    → RunsBatches Lines s t (option_map (batches (rules_of header MAX_ITEMS)) toks) before now h i (Ok counts) → AreReplies header.n i header.asks lists → IsPrefix now later (rest_text p header.n lists i)
+pub rest_prefix : (header : HeaderShape) (toks : Option (List Token)) (s t : State) (before now later : Option (List ℕ)) (h i : Option (List Entry)) (counts : Counts) (lists : List (List Reply)) (fault : SessionFault) → s ≡ start header.profile header.n
+    → RunsBatches Lines s t (option_map (batches (rules_of header MAX_ITEMS)) toks) before now h i (Ok counts) → ((es : List Entry) → i ≡ longer h es → AreReplies header.n es header.asks lists) → IsPrefix now later (reader_lines 0 lists ++ tail_text t.profile t.graph t.levels)
     → WritesSession body_text header (option_map (batches (rules_of header MAX_ITEMS)) toks) before later (Err fault)
-rest_prefix header None s t before now later h i counts lists p fault e none q w r rest = tt
-rest_prefix header (Some ls) s t before now later h i counts lists p fault e none q w r rest =
+rest_prefix header None s t before now later h i counts lists fault e w r rest = tt
+rest_prefix header (Some ls) s t before now later h i counts lists fault e w r rest =
     let v = from_start header (batches (rules_of header MAX_ITEMS) ls) s t before now h i counts e w in
-    let here : i ≡ history_of v.steps = v.history ∙ ap (λ (es : List Entry). es ++ history_of v.steps) none in
     record {
-      session = is_session header ls v.steps lists v.are_steps (replies_of header.n h i v.steps header.asks lists none v.history r);
-      prefix = prefix_then before now later _ _ v.taken (subst (λ (z : Profile × List Entry). IsPrefix now later (rest_text z.0 header.n lists z.1)) (λ k. (q k, here k)) rest);
+      session = is_session header ls v.steps lists v.are_steps (r (history_of v.steps) v.history);
+      prefix = prefix_then before now later _ _ v.taken (subst (λ (z : List ℕ). IsPrefix now later z) (rest_is header ls v.steps t lists v.are_steps v.last) rest);
     }
 
 steps_long : (s : State) (bs : List Next) (ts : List Step) → AreSteps s bs ts → length ts ≡ length bs
@@ -209,20 +216,32 @@ ended_with header bs steps lists t counts levels e a last c l is = record {
 }
 
 -- all of it
-pub rest_written : (header : HeaderShape) (toks : Option (List Token)) (s t : State) (before now later : Option (List ℕ)) (h i : List Entry) (counts : Counts) (lists : List (List Reply)) (p : Profile) (levels : List ℕ) (e : Ended) → s ≡ start header.profile header.n → h ≡ []
-    → p ≡ header.profile → RunsBatches Lines s t (option_map (batches (rules_of header MAX_ITEMS)) toks) before now h i (Ok counts) → AreReplies header.n i header.asks lists → later ≡ append_known now (rest_text p header.n lists i) → levels ≡ t.levels
+pub rest_written : (header : HeaderShape) (toks : Option (List Token)) (s t : State) (before now later : Option (List ℕ)) (h i : Option (List Entry)) (counts : Counts) (lists : List (List Reply)) (levels : List ℕ) (e : Ended) → s ≡ start header.profile header.n
+    → RunsBatches Lines s t (option_map (batches (rules_of header MAX_ITEMS)) toks) before now h i (Ok counts) → ((es : List Entry) → i ≡ longer h es → AreReplies header.n es header.asks lists) → later ≡ append_known now (reader_lines 0 lists ++ tail_text t.profile t.graph t.levels) → levels ≡ t.levels
     → e ≡ record { batches = counts.batches; refused = counts.refused; phases = t.phases; groups = counts.groups; moves = counts.moves; edges = length t.graph.edges; replies = replies_in lists; top = greatest levels }
     → WritesSession body_text header (option_map (batches (rules_of header MAX_ITEMS)) toks) before later (Ok e)
-rest_written header None s t before now later h i counts lists p levels e f none q w r rest l is = tt
-rest_written header (Some ls) s t before now later h i counts lists p levels e f none q w r rest l is =
+rest_written header None s t before now later h i counts lists levels e f w r rest l is = tt
+rest_written header (Some ls) s t before now later h i counts lists levels e f w r rest l is =
     let bs = batches (rules_of header MAX_ITEMS) ls in
     let v = from_start header bs s t before now h i counts f w in
-    let here : i ≡ history_of v.steps = v.history ∙ ap (λ (es : List Entry). es ++ history_of v.steps) none in
     record {
-      session = is_session header ls v.steps lists v.are_steps (replies_of header.n h i v.steps header.asks lists none v.history r);
-      taken = append_twice before now later _ _ v.taken (subst (λ (z : Profile × List Entry). later ≡ append_known now (rest_text z.0 header.n lists z.1)) (λ k. (q k, here k)) rest);
+      session = is_session header ls v.steps lists v.are_steps (r (history_of v.steps) v.history);
+      taken = append_twice before now later _ _ v.taken (subst (λ (z : List ℕ). later ≡ append_known now z) (rest_is header ls v.steps t lists v.are_steps v.last) rest);
       ends = ended_with header bs v.steps lists t counts levels e v.are_steps v.last v.counts_are l is;
     }
+
+-- replies that a history explains that began empty
+pub replies_of : (n : ℕ) (h i : List Entry) (asks : List Ask) (lists : List (List Reply)) → h ≡ [] → AreReplies n i asks lists → (es : List Entry) → Some i ≡ longer (Some h) es → AreReplies n es asks lists
+replies_of n h i asks lists none r es e = subst (λ (xs : List Entry). AreReplies n xs asks lists) (same_Some _ _ e ∙ ap (λ (xs : List Entry). xs ++ es) none) r
+
+-- where nobody asks there are none
+pub no_replies : (n : ℕ) (h i : Option (List Entry)) (asks : List Ask) → asks ≡ [] → (es : List Entry) → i ≡ longer h es → AreReplies n es asks []
+no_replies n h i asks none es e = subst (λ (xs : List Ask). AreReplies n es xs []) (sym none) (record { fit = tt; explained = All-nil (AreExplained n es 0) })
+
+-- a header whose asks are none
+pub without_asks : (p : Profile) (n : ℕ) (asks : List Ask) (told : Option (List Next)) (before now : Option (List ℕ)) (result : Result Ended SessionFault) → asks ≡ [] → WritesSession body_text (record { profile = p; n = n; asks = [] }) told before now result
+    → WritesSession body_text (record { profile = p; n = n; asks = asks }) told before now result
+without_asks p n asks told before now result none w = subst (λ (xs : List Ask). WritesSession body_text (record { profile = p; n = n; asks = xs }) told before now result) (sym none) w
 
 -- the replies of agents that were opened, ran and were closed
 pub session_replies : (store : StoreShape) (n : ℕ) (h i : List Entry) (asks : List Ask) (first last : List AgentShape) (lists : List (List Reply)) → store.vertices ≡ n → first ≡ agents_for store h 0 asks → HaveRun first last → AreClosed i last lists → AreReplies n i asks lists

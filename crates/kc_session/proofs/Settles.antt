@@ -1,5 +1,5 @@
 -- What batches without readers come to.
-use Rattle.std.proofs.Common.{ℕ, ◌≡◌, List, [], refl, sym, ap, ◌∙◌, subst}
+use Rattle.std.proofs.Common.{ℕ, ◌≡◌, List, refl, ap, ◌∙◌, subst}
 use Rattle.std.specs.Prelude.{Option, Some, None, Ok, Err}
 use Rattle.std.specs.Option.{option_map}
 use Rattle.kc_graph.specs.declared.limits.TheConstants.{MAX_ITEMS}
@@ -35,12 +35,12 @@ settles_nothing header (Some ls) before now fault e =
     record { steps = there.0; are_steps = there.1; prefix = prefix_none before now _ e }
 
 -- a prefix of the notes was written
-pub settles_some : (header : HeaderShape) (told : Option (List Next)) (s t : State) (before now : Option (List ℕ)) (h i : List Entry) (fault other : SessionFault) → s ≡ start header.profile header.n → RunsBatches Notes s t told before now h i (Err other) → Settles header told before now (Err fault)
+pub settles_some : (header : HeaderShape) (told : Option (List Next)) (s t : State) (before now : Option (List ℕ)) (h i : Option (List Entry)) (fault other : SessionFault) → s ≡ start header.profile header.n → RunsBatches Notes s t told before now h i (Err other) → Settles header told before now (Err fault)
 settles_some header None s t before now h i fault other e w = tt
 settles_some header (Some bs) s t before now h i fault other e w = subst (λ (z : State). WroteSomeBatches Notes z bs before now) e w
 
 -- all of them
-pub settles_whole : (header : HeaderShape) (told : Option (List Next)) (s : State) (before now : Option (List ℕ)) (h i : List Entry) (counts : Counts) (settled : Settled) → s ≡ start header.profile header.n → settled.refused ≡ counts.refused
+pub settles_whole : (header : HeaderShape) (told : Option (List Next)) (s : State) (before now : Option (List ℕ)) (h i : Option (List Entry)) (counts : Counts) (settled : Settled) → s ≡ start header.profile header.n → settled.refused ≡ counts.refused
     → RunsBatches Notes s settled.engine.state told before now h i (Ok counts) → Settles header told before now (Ok settled)
 settles_whole header None s before now h i counts settled e r w = tt
 settles_whole header (Some bs) s before now h i counts settled e r w =

@@ -1,5 +1,6 @@
 pub mod Agents
 pub mod Asking
+pub mod Audiences
 pub mod ReaderLines
 pub mod VertexLines
 pub mod States

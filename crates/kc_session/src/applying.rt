@@ -1,15 +1,15 @@
 //! What the batches of an input do, one after another, to the engine that takes them.
 ghost use Rattle.std.specs.Prelude.{◌≡◌, ◌≤◌, length, All, IfOk, OnOk};
 ghost use Rattle.kc_graph.specs.Cleaning.{IsInside, cleaned};
-ghost use Rattle.kc_engine.specs.Showing.{IsAbreast};
+ghost use Rattle.kc_session.specs.Audiences.{store_of, shown_to, IsAbreast};
 ghost use Rattle.kc_session.specs.States.{start, IsOpen};
 ghost use Rattle.kc_session.specs.Outcomes.{Becomes};
 
+use crate::audience::{Audience, show};
 use kc_engine::{BatchPlan, Engine, EngineFault, Shape};
 use kc_graph::{Cleaned, Item, MAX_EDGES, MAX_ITEMS, MAX_VERTICES, clean};
 use kc_levels::Profile;
 use kc_rounds::Gate;
-use kc_store::{Store, Writer};
 use kc_text::Reason;
 use std::alloc::{AllocError, Global};
 use std::thread::Threads;
@@ -46,32 +46,30 @@ pub fn open(alloc: Global, profile: Profile, n: u32, workers: u32) -> Result<Eng
 }
 
 /// Applies a batch without a fault: its items are cleaned, and then it is refused and changes nothing, or its edges leave and
-/// come in, and the writer shows its phases. Fails only if memory runs out; the engine isn't used again.
+/// come in, and its phases are shown. Fails only if memory runs out; the engine isn't used again.
 ///
-/// Costs what `clean`, `Engine::plan` and `Engine::show` cost.
+/// Costs what `clean` and `Engine::plan` cost, and `Engine::show` where there are readers.
 pub fn apply<R: Threads + Sync, G: Gate + Sync>(
     rt: &R,
     alloc: Global,
     gate: &G,
-    store: &Store,
-    writer: &mut Writer,
+    audience: &mut Audience<'_>,
     engine: &mut Engine,
     items: &[Item],
 ) -> Result<Outcome, AllocError>
-    requires table { writer.old.table ≡ store.now.table }
-    requires abreast { IsAbreast writer.old.state engine.old.state }
+    requires abreast { IsAbreast audience.old engine.old.state }
     requires open { IsOpen engine.old }
     requires inside { All (IsInside engine.old.state.graph.vertices) items.now }
     requires few { length items.now ≤ MAX_ITEMS }
-    ensures outcome { IfOk result (λ o. Becomes engine.old.state (cleaned engine.old.state.graph items.now) o engine.new.state writer.old.state writer.new.state) }
-    ensures table { writer.new.table ≡ writer.old.table }
-    ensures abreast { OnOk result (IsAbreast writer.new.state engine.new.state) }
+    ensures outcome { IfOk result (λ o. Becomes engine.old.state (cleaned engine.old.state.graph items.now) o engine.new.state (shown_to audience.old) (shown_to audience.new)) }
+    ensures store { store_of audience.new ≡ store_of audience.old }
+    ensures abreast { OnOk result (IsAbreast audience.new engine.new.state) }
     ensures open { OnOk result (IsOpen engine.new) }
 {
     let cleaned = clean(rt, alloc, engine.graph(), items)?;
     match engine.plan(rt, alloc, gate, &cleaned) {
         Ok(plan) => {
-            engine.show(rt, gate, store, writer, &plan);
+            show(rt, gate, audience, engine, &plan);
             Ok(Outcome::Accepted(cleaned, plan))
         }
         Err(EngineFault::EdgeLimit { .. }) => Ok(Outcome::Refused(Reason::EdgeLimit)),

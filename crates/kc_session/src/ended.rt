@@ -27,8 +27,8 @@ pub struct Ended {
     pub top: u16,
 }
 
-// How many replies there are.
-fn count_replies(lists: &[Replies]) -> u32
+/// How many replies there are; they are fewer than 2^32.
+pub fn count_replies(lists: &[Replies]) -> u32
     requires { replies_in lists.now < 2 ^ 32 }
     ensures { result ≡ replies_in lists.now }
 {
@@ -58,11 +58,10 @@ fn greatest(levels: &[u16]) -> u16
 }
 
 impl Ended {
-    /// What a session ends with that came to these counts, this engine, these replies and these levels.
-    pub fn with(counts: Counts, engine: &Engine, lists: &[Replies], levels: &[u16]) -> Ended
-        requires open { IsOpen engine.now }
-        requires few { replies_in lists.now < 2 ^ 32 }
-        ensures { result ≡ record { batches = counts.batches; refused = counts.refused; phases = engine.now.state.phases; groups = counts.groups; moves = counts.moves; edges = length engine.now.state.graph.edges; replies = replies_in lists.now; top = greatest levels.now } }
+    /// What a session ends with that came to these counts, this engine, so many replies and these levels.
+    pub fn with(counts: Counts, engine: &Engine, replies: u32, levels: &[u16]) -> Ended
+        requires { IsOpen engine.now }
+        ensures { result ≡ record { batches = counts.batches; refused = counts.refused; phases = engine.now.state.phases; groups = counts.groups; moves = counts.moves; edges = length engine.now.state.graph.edges; replies = replies; top = greatest levels.now } }
     {
         Ended {
             batches: counts.batches,
@@ -71,7 +70,7 @@ impl Ended {
             groups: counts.groups,
             moves: counts.moves,
             edges: engine.graph().edge_count(),
-            replies: count_replies(lists),
+            replies,
             top: greatest(levels),
         }
     }

@@ -3,7 +3,7 @@
 //! [`run_session`] opens an engine and a store, and runs two branches side by side. One reads batch after batch, applies it, shows it
 //! in the store and tells it (`batches`). In the other an [`Agent`] for each ask puts its questions to the store and keeps the replies.
 //! Afterwards the agents are closed by the writer, whose history explains their replies, and a last pass reads the levels of all
-//! vertices. `specs/SessionText` says what is written and what is true of it.
+//! vertices. Where nobody asks, no store is opened (`audience`). `specs/SessionText` says what is written and what is true of it.
 //!
 //! [`settle`] applies the batches of an input where nobody reads meanwhile.
 #![tactic(auto)]
@@ -11,6 +11,7 @@
 mod agent;
 mod agents;
 mod applying;
+mod audience;
 mod batches;
 mod counts;
 mod ended;

@@ -7,14 +7,13 @@ ghost use Rattle.kc_session.specs.Faults.{FaultCause};
 ghost use Rattle.kc_session.specs.Settling.{IsSettled, Settles};
 
 use crate::applying::open;
-use crate::batches::run_batches;
+use crate::batches::run_unseen;
 use crate::fault::SessionFault;
 use crate::report::Report;
 use kc_batch::Header;
 use kc_engine::Engine;
 use kc_graph::MAX_ITEMS;
 use kc_rounds::Gate;
-use kc_store::Store;
 use kc_text::{LineBuf, LineReader, Sink, Source};
 use std::alloc::Global;
 use std::thread::Threads;
@@ -30,8 +29,10 @@ pub struct Settled {
 
 /// Applies the batches after a header, in up to `workers` threads, 1 to 64, and writes a note of each that is refused (`Settles`).
 ///
-/// After Ok the engine hasn't halted, it is for the header's profile and number of vertices, and both invariants hold (`IsSettled`). `ReadFault` and `WriteFault` come only where a read of the source, or a write to the sink, failed in
-/// this call; after either, and after `Memory`, the sink took a prefix of the notes. Costs what reading, `clean`, `Engine::plan` and `Engine::show` cost, and a store of its own.
+/// After Ok the engine hasn't halted, it is for the header's profile and number of vertices, and both invariants hold (`IsSettled`).
+/// `ReadFault` and `WriteFault` come only where a read of the source, or a write to the sink, failed in this call; after either, and
+/// after `Memory`, the sink took a prefix of the notes. Asks are not put: no phase is shown, and no store is opened. Costs what
+/// reading, `clean` and `Engine::plan` cost.
 pub fn settle<R: Threads + Sync, S: Source, K: Sink, G: Gate + Sync>(
     rt: &R,
     alloc: Global,
@@ -52,16 +53,13 @@ pub fn settle<R: Threads + Sync, S: Source, K: Sink, G: Gate + Sync>(
     let mut reader = reader;
     let n = header.n;
     let profile = header.profile;
-    let (store, mut writer) = Store::open(alloc, n, 0)?;
     let mut engine = open(alloc, profile, n, workers)?;
-    let counts = run_batches(
+    let counts = run_unseen(
         rt,
         alloc,
         gate,
         n,
         profile,
-        &store,
-        &mut writer,
         &mut engine,
         &mut buf,
         &mut reader,

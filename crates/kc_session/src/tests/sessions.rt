@@ -55,24 +55,65 @@ fn run<R: Threads + Sync, G: Gate + Sync>(
 const BATCHES: &[u8] =
     b"kcore 1\nvertices 5\nask 2 4\nbatch\n0 1\nend\nbatch\n1 9\nend\nbatch\n- 0 1\n0 2\nend\n";
 
+// The same input, in which nobody asks.
+const UNREAD: &[u8] =
+    b"kcore 1\nvertices 5\n# ask 2 4\nbatch\n0 1\nend\nbatch\n1 9\nend\nbatch\n- 0 1\n0 2\nend\n";
+
+// The text of both before the line of the reader, and after it.
+const OF_BATCHES: &[u8] =
+    b"kcore-run 1\nvertices 5\nbatch 1 loops 0 repeats 0 idle 0 removed 0 added 1\nphase 1 insert quiet 0\ngroup 1 0 0:1 1:1\nbatch 2 refused line 8 bad-vertex\nbatch 3 loops 0 repeats 0 idle 0 removed 1 added 1\nphase 2 delete quiet 0\ngroup 2 0 0:0 1:0\nphase 3 insert quiet 0\ngroup 3 0 0:1 2:1\n";
+
+const OF_VERTICES: &[u8] =
+    b"vertex 0 level 1 est 2 low 1 high 2 up 1 down 1\nvertex 1 level 0 est 0 low 0 high 0 up 0 down 0\nvertex 2 level 1 est 2 low 1 high 2 up 1 down 1\nvertex 3 level 0 est 0 low 0 high 0 up 0 down 0\nvertex 4 level 0 est 0 low 0 high 0 up 0 down 0\nend\n";
+
+// Whether a text is these three parts, one after another.
+fn is_made_of(text: &[u8], first: &[u8], second: &[u8], third: &[u8]) -> bool {
+    match text.strip_prefix(first) {
+        Some(rest) => rest.strip_prefix(second) == Some(third),
+        None => false,
+    }
+}
+
+// What both come to but for the replies.
+const COUNTS: Ended = Ended {
+    batches: 3,
+    refused: 1,
+    phases: 3,
+    groups: 3,
+    moves: 6,
+    edges: 1,
+    replies: 0,
+    top: 1,
+};
+
 #[test]
 fn a_session_is_written_and_counted(rt: HostRuntime) -> Result<(), Fail> {
     let (ended, text) = run(&rt, rt.alloc(), &OpenGate::new(), 2, BATCHES, &[])?;
-    assert_eq!(rt;
-        text.as_slice(),
-        b"kcore-run 1\nvertices 5\nbatch 1 loops 0 repeats 0 idle 0 removed 0 added 1\nphase 1 insert quiet 0\ngroup 1 0 0:1 1:1\nbatch 2 refused line 8 bad-vertex\nbatch 3 loops 0 repeats 0 idle 0 removed 1 added 1\nphase 2 delete quiet 0\ngroup 2 0 0:0 1:0\nphase 3 insert quiet 0\ngroup 3 0 0:1 2:1\nreader 0 4=0 4=0\nvertex 0 level 1 est 2 low 1 high 2 up 1 down 1\nvertex 1 level 0 est 0 low 0 high 0 up 0 down 0\nvertex 2 level 1 est 2 low 1 high 2 up 1 down 1\nvertex 3 level 0 est 0 low 0 high 0 up 0 down 0\nvertex 4 level 0 est 0 low 0 high 0 up 0 down 0\nend\n".as_slice()
+    assert!(rt;
+        is_made_of(
+            text.as_slice(),
+            OF_BATCHES,
+            b"reader 0 4=0 4=0\n",
+            OF_VERTICES
+        )
     );
-    let counts = Ended {
-        batches: 3,
-        refused: 1,
-        phases: 3,
-        groups: 3,
-        moves: 6,
-        edges: 1,
-        replies: 2,
-        top: 1,
-    };
-    assert_eq!(rt; ended?, counts);
+    assert_eq!(rt;
+        ended?,
+        Ended {
+            replies: 2,
+            ..COUNTS
+        }
+    );
+    Ok(())
+}
+
+#[test]
+fn a_session_without_asks_lacks_the_reader_lines_alone(rt: HostRuntime) -> Result<(), Fail> {
+    let gate = HoldsPublication::new();
+    let (ended, text) = run(&rt, rt.alloc(), &gate, 2, UNREAD, &[])?;
+    assert!(rt; is_made_of(text.as_slice(), OF_BATCHES, b"", OF_VERTICES));
+    assert_eq!(rt; ended?, COUNTS);
+    assert_eq!(rt; gate.published.load(SeqCst), 0);
     Ok(())
 }
 

@@ -1,25 +1,18 @@
-use Rattle.std.proofs.Common.{◌≡◌, ◌∙◌, ap, subst, refl, sym}
+use Rattle.std.proofs.Common.{◌≡◌, ◌∙◌, ap, subst, sym}
 use Rattle.kc_graph.specs.declared.cleaning.Cleaned.{Cleaned}
 use Rattle.kc_graph.specs.Shape.{GraphShape}
 use Rattle.kc_graph.specs.Cleaning.{cleaned}
 use Rattle.kc_engine.specs.Batches.{IsAfterPhases}
 use Rattle.kc_engine.specs.Planning.{EngineView, IsPlanned}
-use Rattle.kc_session.proofs.ApplyLemmas.{IsDue, after_phases, show_vertices, show_continues, shown_on, open_after, abreast_after}
+use Rattle.kc_session.proofs.ApplyLemmas.{IsDue, after_phases, lead_over, open_after}
 use Rattle.kc_session.proofs.applying.apply.Goals as goal
 
-pub show-requires-clause-vertices : goal.show-requires-clause-vertices
-show-requires-clause-vertices g c κs within =
+pub show-requires-clause-lead : goal.show-requires-clause-lead
+show-requires-clause-lead g c κs within =
     let same : c.in_ok-cleaned.cleaned ≡ cleaned c.args.engine.now.state.graph c.args.items.now =
     c.in_ok-cleaned.ensures ∙ ap (λ (h : GraphShape). cleaned h c.args.items.now) c.graph.ensures.value in
-    let due : IsDue c.args.writer.now.state c.args.engine.now c.args.items.now = record { abreast = c.requires.abreast; open_for = c.requires.open; inside = c.requires.inside; few = c.requires.few } in
-    show_vertices c.args.writer.now.state c.args.engine.now c.plan.new.self c.args.items.now c.in_ok-cleaned.cleaned c.in-Ok.plan due same c.in-Ok.ensures.answer
-
-pub show-requires-clause-continues : goal.show-requires-clause-continues
-show-requires-clause-continues g c κs within =
-    let same : c.in_ok-cleaned.cleaned ≡ cleaned c.args.engine.now.state.graph c.args.items.now =
-    c.in_ok-cleaned.ensures ∙ ap (λ (h : GraphShape). cleaned h c.args.items.now) c.graph.ensures.value in
-    let due : IsDue c.args.writer.now.state c.args.engine.now c.args.items.now = record { abreast = c.requires.abreast; open_for = c.requires.open; inside = c.requires.inside; few = c.requires.few } in
-    show_continues c.args.writer.now.state c.args.engine.now c.plan.new.self c.args.items.now c.in_ok-cleaned.cleaned c.in-Ok.plan due same c.in-Ok.ensures.answer
+    let due : IsDue c.args.engine.now c.args.items.now = record { open_for = c.requires.open; inside = c.requires.inside; few = c.requires.few } in
+    lead_over c.args.audience.now c.args.engine.now c.plan.new.self c.args.items.now c.in_ok-cleaned.cleaned c.in-Ok.plan due c.requires.abreast same c.in-Ok.ensures.answer
 
 pub returns-in-Ok-clause-outcome : goal.returns-in-Ok-clause-outcome
 returns-in-Ok-clause-outcome g c =
@@ -29,12 +22,5 @@ returns-in-Ok-clause-outcome g c =
     let after = after_phases c.args.engine.now c.plan.new.self c.args.items.now c.in_ok-cleaned.cleaned c.in-Ok.plan same c.in-Ok.ensures.answer in
     (rw c.requires.open.limit at p.accepted, same, subst (λ (z : EngineView). IsAfterPhases c.args.engine.now.state (cleaned c.args.engine.now.state.graph c.args.items.now) z.state c.in-Ok.plan.phases) (sym c.show.ensures.engine) after, c.show.ensures.shown)
 
-pub returns-in-Ok-clause-abreast : goal.returns-in-Ok-clause-abreast
-returns-in-Ok-clause-abreast g c =
-    let same : c.in_ok-cleaned.cleaned ≡ cleaned c.args.engine.now.state.graph c.args.items.now =
-    c.in_ok-cleaned.ensures ∙ ap (λ (h : GraphShape). cleaned h c.args.items.now) c.graph.ensures.value in
-    let due : IsDue c.args.writer.now.state c.args.engine.now c.args.items.now = record { abreast = c.requires.abreast; open_for = c.requires.open; inside = c.requires.inside; few = c.requires.few } in
-    abreast_after c.show.new.writer.state c.plan.new.self c.show.new.self (shown_on c.args.writer.now.state c.show.new.writer.state c.args.engine.now c.plan.new.self c.args.items.now c.in_ok-cleaned.cleaned c.in-Ok.plan due same c.in-Ok.ensures.answer c.show.ensures.shown) c.show.ensures.engine
-
 pub returns-in-Ok-clause-open : goal.returns-in-Ok-clause-open
-returns-in-Ok-clause-open g c = open_after c.args.engine.now c.plan.new.self c.show.new.self c.in_ok-cleaned.cleaned c.in-Ok.plan c.requires.open c.in-Ok.ensures.answer c.in-Ok.ensures.sound c.show.ensures.engine
+returns-in-Ok-clause-open g c = open_after c.args.engine.now c.plan.new.self c.show.new.engine c.in_ok-cleaned.cleaned c.in-Ok.plan c.requires.open c.in-Ok.ensures.answer c.in-Ok.ensures.sound c.show.ensures.engine

@@ -1,6 +1,6 @@
-use Rattle.std.proofs.Common.{◌+◌, ap, refl, []}
+use Rattle.std.proofs.Common.{◌+◌, refl, []}
 use Rattle.std.proofs.lemmas.Result.{err_from_is_err_and}
-use Rattle.kc_store.specs.declared.roles.WriterState.{WriterState}
+use Rattle.kc_session.specs.Audiences.{shown_to}
 use Rattle.kc_session.proofs.BatchSteps.{few_removed, few_added, few_quiet, well_formed, accepted_step, accepted_prefix, refused_step, refused_prefix, nothing_of, refused_line_written, refused_line_prefix}
 use Rattle.kc_session.proofs.batches.run_batch.Goals as goal
 
@@ -39,8 +39,8 @@ pub returns-in-Accepted-clause-step : goal.returns-in-Accepted-clause-step
 returns-in-Accepted-clause-step g c =
     let o = rw (c.as_slice.ensures, c.in-Accepted.is) at c.in_ok-cleaned-in-Items.ensures.outcome in
     rw c.in-Items.is
-    (accepted_step c.args.report c.args.engine.now.state c.apply.new.engine.state c.in-Items.batch c.in-Accepted.cleaned c.in-Accepted.plan.phases _ _ c.args.counts _ c.args.writer.now.state.history _ o.0 o.1 o.2
-    (rw c.as_slice-phases.ensures at c.in_ok-write_accepted-in-Accepted.ensures.text) (rw c.as_slice-phases.ensures at c.with_accepted.ensures) o.3.history)
+    (accepted_step c.args.report c.args.engine.now.state c.apply.new.engine.state c.in-Items.batch c.in-Accepted.cleaned c.in-Accepted.plan.phases _ _ c.args.counts _ (shown_to c.args.audience.now) _ o.0 o.1 o.2
+    (rw c.as_slice-phases.ensures at c.in_ok-write_accepted-in-Accepted.ensures.text) (rw c.as_slice-phases.ensures at c.with_accepted.ensures) o.3)
 
 pub returns-in_err-write_refusal-in-Refused-2-clause-step : goal.returns-in_err-write_refusal-in-Refused-2-clause-step
 returns-in_err-write_refusal-in-Refused-2-clause-step g c =
@@ -51,7 +51,7 @@ returns-in_err-write_refusal-in-Refused-2-clause-step g c =
 pub returns-in-Items-clause-step : goal.returns-in-Items-clause-step
 returns-in-Items-clause-step g c =
     let o = rw (c.as_slice.ensures, c.in-Refused-2.is) at c.in_ok-cleaned-in-Items.ensures.outcome in
-    rw c.in-Items.is (refused_step c.args.report c.args.engine.now.state c.apply.new.engine.state c.in-Items.batch c.in-Refused-2.reason _ _ c.args.counts _ c.args.writer.now.state.history _ o.0 c.in_ok-write_refusal-in-Refused-2.ensures.text c.with_refused.ensures (ap (λ (w : WriterState). w.history) o.1))
+    rw c.in-Items.is (refused_step c.args.report c.args.engine.now.state c.apply.new.engine.state c.in-Items.batch c.in-Refused-2.reason _ _ c.args.counts _ (shown_to c.args.audience.now) _ o.0 c.in_ok-write_refusal-in-Refused-2.ensures.text c.with_refused.ensures o.1)
 
 pub returns-in_err-cleaned-in-Items-clause-step : goal.returns-in_err-cleaned-in-Items-clause-step
 returns-in_err-cleaned-in-Items-clause-step g c =
@@ -65,4 +65,4 @@ returns-in_err-write_refusal-in-Refused-clause-step g c =
 
 pub returns-in-Refused-clause-step : goal.returns-in-Refused-clause-step
 returns-in-Refused-clause-step g c =
-    rw c.in-Refused.is (refused_line_written c.args.report c.in-Refused.line c.in-Refused.reason c.args.engine.now.state _ _ c.args.counts _ c.args.writer.now.state.history c.in_ok-write_refusal-in-Refused.ensures.text c.with_refused-in-Refused.ensures)
+    rw c.in-Refused.is (refused_line_written c.args.report c.in-Refused.line c.in-Refused.reason c.args.engine.now.state _ _ c.args.counts _ (shown_to c.args.audience.now) c.in_ok-write_refusal-in-Refused.ensures.text c.with_refused-in-Refused.ensures)

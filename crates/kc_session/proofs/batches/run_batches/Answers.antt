@@ -1,8 +1,9 @@
-use Rattle.std.proofs.Common.{◌≡◌, ◌≤◌, ◌+◌, ◌∙◌, refl, sym, ap, arith, false, []}
+use Rattle.std.proofs.Common.{◌≡◌, ◌∙◌, refl, sym, ap, arith, false, []}
 use Rattle.std.proofs.lemmas.Result.{err_from_is_err_and}
 use Rattle.kc_batch.specs.Tokens.{tokens_left}
 use Rattle.kc_engine.specs.States.{State}
 use Rattle.kc_session.specs.declared.counts.Counts.{Counts}
+use Rattle.kc_session.specs.Audiences.{shown_to}
 use Rattle.kc_session.specs.Running.{is_last_batch}
 use Rattle.kc_session.proofs.Steps.{sound_step, profile_step}
 use Rattle.kc_session.proofs.Runs.{told_first, told_step, told_last, told_end, told_unread, told_stopped, takes_some, not_end, few_more, fewer_more}
@@ -10,7 +11,7 @@ use Rattle.kc_session.proofs.batches.run_batches.Goals as goal
 
 pub loop-next-init : goal.loop-next-init
 loop-next-init g c = let none = c.none-counts.ensures in record {
-  table = refl;
+  store = refl;
   abreast = c.requires.abreast;
   open_for = c.requires.open;
   vertices = c.requires.vertices;
@@ -29,12 +30,12 @@ returns-in_err-next-clause-text g c =
     let p = err_from_is_err_and c.from_residual.result c.from_residual.ensures.1 in
     rw p.1
     (told_unread c.args.report (record { profile = c.args.profile; n = c.args.n; asks = [] }) c.args.engine.now.state c.loop-next.engine.state _ c.loop-next.engine.state (tokens_left c.loop-next.reader (g.S.Source.left c.loop-next.src))
-    _ _ _ c.loop-next.writer.state.history _ c.loop-next.counts p.0 i.open_for.sound i.vertices i.told)
+    _ _ _ (shown_to c.loop-next.audience) _ c.loop-next.counts p.0 i.open_for.sound i.vertices i.told)
 
 pub returns-in-End-clause-text : goal.returns-in-End-clause-text
 returns-in-End-clause-text g c =
     let i = c.loop-next.invariant in
-    (told_end c.args.report c.args.engine.now.state _ c.loop-next.engine.state c.in_ok-next.next _ _ _ _ _ c.loop-next.writer.state.history c.loop-next.counts c.in_ok-next.ensures.batches (rw c.in-End.is tt) i.told)
+    (told_end c.args.report c.args.engine.now.state _ c.loop-next.engine.state c.in_ok-next.next _ _ _ _ _ (shown_to c.loop-next.audience) c.loop-next.counts c.in_ok-next.ensures.batches (rw c.in-End.is tt) i.told)
 
 pub returns-in_err-counts-clause-text : goal.returns-in_err-counts-clause-text
 returns-in_err-counts-clause-text g c =
@@ -42,13 +43,13 @@ returns-in_err-counts-clause-text g c =
     let p = err_from_is_err_and c.from_residual-in_err-counts.result c.from_residual-in_err-counts.ensures.1 in
     rw p.1
     (told_stopped c.args.report (record { profile = c.args.profile; n = c.args.n; asks = [] }) c.args.engine.now.state c.run_batch.new.engine.state _ c.loop-next.engine.state c.in_ok-next.next
-    (tokens_left c.loop-next.reader (g.S.Source.left c.loop-next.src)) _ _ _ _ _ c.loop-next.writer.state.history _ c.loop-next.counts p.0 i.open_for.sound i.vertices c.in_ok-next.ensures.batches (not_end c.in_ok-next.next c.in_default.not-End) i.told
+    (tokens_left c.loop-next.reader (g.S.Source.left c.loop-next.src)) _ _ _ _ _ (shown_to c.loop-next.audience) _ c.loop-next.counts p.0 i.open_for.sound i.vertices c.in_ok-next.ensures.batches (not_end c.in_ok-next.next c.in_default.not-End) i.told
     c.in_err-counts.ensures.step)
 
 pub returns-then-last-clause-text : goal.returns-then-last-clause-text
 returns-then-last-clause-text g c =
     let i = c.loop-next.invariant in
-    told_last c.args.report c.args.engine.now.state _ c.loop-next.engine.state c.run_batch.new.engine.state c.in_ok-next.next _ _ _ _ _ _ c.loop-next.writer.state.history _ c.loop-next.counts c.in_ok-counts.counts
+    told_last c.args.report c.args.engine.now.state _ c.loop-next.engine.state c.run_batch.new.engine.state c.in_ok-next.next _ _ _ _ _ _ (shown_to c.loop-next.audience) _ c.loop-next.counts c.in_ok-counts.counts
     c.in_ok-next.ensures.batches (sym c.is_last-last.ensures ∙ c.if-last.true) i.told c.in_ok-counts.ensures.step
 
 pub run_batch-requires-clause-batch : goal.run_batch-requires-clause-batch
@@ -66,14 +67,14 @@ loop-next-preserved g c =
     let z = sound_step c.loop-next.engine.state (record { profile = c.args.profile; n = c.args.n; asks = [] }) c.in_ok-next.next step.step i.open_for.sound i.vertices c.in_ok-next.ensures.sound step.is_step in
     let takes = takes_some c.in_ok-next.next _ _ c.in_ok-next.ensures.takes more last in
     record {
-      table = c.in_ok-counts.ensures.table ∙ i.table;
+      store = c.in_ok-counts.ensures.store ∙ i.store;
       abreast = c.in_ok-counts.ensures.abreast;
       open_for = c.in_ok-counts.ensures.open;
       vertices = rw step.last z.1;
       profile = ap (λ (z : State). z.profile) step.last ∙ (profile_step c.loop-next.engine.state c.in_ok-next.next step.step step.is_step ∙ i.profile);
       empty = c.in_ok-counts.ensures.empty;
       told =
-          told_step c.args.report c.args.engine.now.state _ c.loop-next.engine.state c.run_batch.new.engine.state c.in_ok-next.next _ _ _ _ _ _ c.loop-next.writer.state.history _ c.loop-next.counts c.in_ok-counts.counts
+          told_step c.args.report c.args.engine.now.state _ c.loop-next.engine.state c.run_batch.new.engine.state c.in_ok-next.next _ _ _ _ _ _ (shown_to c.loop-next.audience) _ c.loop-next.counts c.in_ok-counts.counts
           c.in_ok-next.ensures.batches more last i.told step;
       few = few_more _ _ _ _ _ (ap (λ (z : Counts). z.batches) step.counts) takes i.few;
       fewer = fewer_more c.loop-next.engine.state c.in_ok-next.next step.step c.loop-next.counts c.in_ok-counts.counts step.counts i.fewer;

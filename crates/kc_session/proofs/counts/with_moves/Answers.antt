@@ -1,4 +1,4 @@
-use Rattle.std.proofs.Common.{ℕ, ◌≡◌, ◌<◌, length, arith, sym}
+use Rattle.std.proofs.Common.{length, arith}
 use Rattle.kc_history.specs.declared.entries.Entry.{Entry}
 use Rattle.kc_session.proofs.CountLemmas.{capped_next, capped_all}
 use Rattle.kc_session.proofs.counts.with_moves.Goals as goal

@@ -1,6 +1,6 @@
-use Rattle.std.proofs.Common.{ℕ, ◌≡◌, List, length, refl, arith}
+use Rattle.std.proofs.Common.{List, length, refl, arith}
 use Rattle.kc_history.specs.declared.replies.Reply.{Reply}
-use Rattle.kc_session.proofs.SumLemmas.{sum_next, sum_all, sum_room}
+use Rattle.kc_session.proofs.SumLemmas.{sum_next, sum_all}
 use Rattle.kc_session.proofs.ended.count_replies.Goals as goal
 
 pub loop-replies-preserved : goal.loop-replies-preserved

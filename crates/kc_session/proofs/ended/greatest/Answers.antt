@@ -1,4 +1,4 @@
-use Rattle.std.proofs.Common.{ℕ, ◌≡◌, List, length, arith}
+use Rattle.std.proofs.Common.{arith}
 use Rattle.kc_session.proofs.SumLemmas.{greatest_next, greatest_all}
 use Rattle.kc_session.proofs.ended.greatest.Goals as goal
 

@@ -1,26 +1,20 @@
-use Rattle.std.proofs.Common.{ℕ, ◌≡◌, ◌<◌, List, length, refl, sym, ap, ◌∙◌, subst, arith}
+use Rattle.std.proofs.Common.{ℕ, List, refl, sym, ap, ◌∙◌, subst, arith}
 use Rattle.std.specs.Prelude.{All}
 use Rattle.std.proofs.lemmas.Result.{err_from_is_err_and}
-use Rattle.std.specs.Io.KnownBytes.{append_known}
-use Rattle.kc_text.specs.Writing.{IsPrefix}
-use Rattle.kc_history.specs.declared.entries.Entry.{Entry}
-use Rattle.kc_history.specs.declared.replies.Reply.{Reply}
 use Rattle.kc_batch.specs.HeaderShape.{HeaderShape}
 use Rattle.kc_batch.specs.Headers.{IsAsk}
 use Rattle.kc_batch.specs.Tokens.{tokens_left}
-use Rattle.kc_store.specs.declared.roles.WriterState.{WriterState}
 use Rattle.kc_store.specs.Seats.{WriterShape}
-use Rattle.kc_engine.specs.States.{State}
 use Rattle.kc_session.specs.declared.counts.Counts.{Counts}
 use Rattle.kc_session.specs.declared.ended.Ended.{Ended}
 use Rattle.kc_session.specs.Agents.{AgentShape}
 use Rattle.kc_session.specs.Asking.{HaveRun}
-use Rattle.kc_session.specs.SessionText.{rest_text}
 use Rattle.kc_session.specs.States.{start}
 use Rattle.kc_session.proofs.AgentLists.{ready_to_run, ready_to_close}
+use Rattle.kc_session.proofs.AudienceLemmas.{store_has_writer, shown_by_writer, writer_is_abreast}
 use Rattle.kc_session.proofs.Causes.{same_cause, sent_cause}
 use Rattle.kc_session.proofs.LastLines.{joined_abreast}
-use Rattle.kc_session.proofs.SessionTexts.{body_none, batches_prefix, batches_written, rest_prefix, rest_written, session_replies, few_replies}
+use Rattle.kc_session.proofs.SessionTexts.{body_none, batches_prefix, batches_written, rest_prefix, rest_written, replies_of, session_replies, few_replies}
 use Rattle.kc_session.proofs.session.run_opened.Goals as goal
 
 pub open_agents-requires-clause-few : goal.open_agents-requires-clause-few
@@ -32,27 +26,29 @@ open_agents-requires-clause-ranges g c =
     subst (λ (k : ℕ). All (IsAsk k) c.header.inside.asks) (sym size) c.header.invariant.asks
 
 pub side_by_side-requires-clause-agents : goal.side_by_side-requires-clause-agents
-side_by_side-requires-clause-agents g c κs within = rw c.in_ok-agents.ensures.agents (ready_to_run c.args.store.now c.args.writer.now.state.history 0 c.header.inside.asks)
+side_by_side-requires-clause-agents g c κs within = rw c.in_ok-agents.ensures.agents (ready_to_run c.args.store.now c.args.writer.state.history 0 c.header.inside.asks)
 
 pub close_all-requires-clause-agents : goal.close_all-requires-clause-agents
 close_all-requires-clause-agents g c =
-    ready_to_close c.args.store.now c.args.writer.now.state.history 0 c.header.inside.asks c.side_by_side.new.agents.items
+    ready_to_close c.args.store.now c.args.writer.state.history 0 c.header.inside.asks c.side_by_side.new.agents.items
     (subst (λ (xs : List AgentShape). HaveRun xs c.side_by_side.new.agents.items) c.in_ok-agents.ensures.agents c.side_by_side.ensures.agents)
 
 pub write_rest-requires-clause-abreast : goal.write_rest-requires-clause-abreast
-write_rest-requires-clause-abreast g c = joined_abreast c.side_by_side.new.writer.state c.close_all.new.writer.state c.side_by_side.new.engine.state c.in_ok-counts.ensures.abreast c.in_ok-lists.ensures.state
+write_rest-requires-clause-abreast g c =
+    let there = writer_is_abreast c.side_by_side.new.audience c.args.store.now c.into_writer-writer.result c.side_by_side.new.engine.state c.side_by_side.ensures.store c.into_writer-writer.ensures c.in_ok-counts.ensures.abreast in
+    joined_abreast c.into_writer-writer.result.state c.close_all.new.writer.state c.side_by_side.new.engine.state there.1 c.in_ok-lists.ensures.state
 
 pub write_rest-requires-clause-few : goal.write_rest-requires-clause-few
 write_rest-requires-clause-few g c =
     let size = c.requires.size ∙ ap (λ (z : HeaderShape). z.n) (sym c.header.view_is) in
-    let r = session_replies c.args.store.now c.header.inside.n c.args.writer.now.state.history c.side_by_side.new.writer.state.history c.header.inside.asks c.in_ok-agents.agents.items c.side_by_side.new.agents.items c.in_ok-lists.lists.items size c.in_ok-agents.ensures.agents c.side_by_side.ensures.agents c.in_ok-lists.ensures.replies in
+    let r = session_replies c.args.store.now c.header.inside.n c.args.writer.state.history c.into_writer-writer.result.state.history c.header.inside.asks c.in_ok-agents.agents.items c.side_by_side.new.agents.items c.in_ok-lists.lists.items size c.in_ok-agents.ensures.agents c.side_by_side.ensures.agents c.in_ok-lists.ensures.replies in
     let few = few_replies c.header.inside.n c.header.inside.asks c.in_ok-lists.lists.items r.fit c.header.invariant.asks c.header.invariant.few in
     rw c.as_slice.ensures.value few.1
 
-pub with-requires-clause-few : goal.with-requires-clause-few
-with-requires-clause-few g c =
+pub count_replies-replies-requires : goal.count_replies-replies-requires
+count_replies-replies-requires g c =
     let size = c.requires.size ∙ ap (λ (z : HeaderShape). z.n) (sym c.header.view_is) in
-    let r = session_replies c.args.store.now c.header.inside.n c.args.writer.now.state.history c.side_by_side.new.writer.state.history c.header.inside.asks c.in_ok-agents.agents.items c.side_by_side.new.agents.items c.in_ok-lists.lists.items size c.in_ok-agents.ensures.agents c.side_by_side.ensures.agents c.in_ok-lists.ensures.replies in
+    let r = session_replies c.args.store.now c.header.inside.n c.args.writer.state.history c.into_writer-writer.result.state.history c.header.inside.asks c.in_ok-agents.agents.items c.side_by_side.new.agents.items c.in_ok-lists.lists.items size c.in_ok-agents.ensures.agents c.side_by_side.ensures.agents c.in_ok-lists.ensures.replies in
     let few = few_replies c.header.inside.n c.header.inside.asks c.in_ok-lists.lists.items r.fit c.header.invariant.asks c.header.invariant.few in
     rw c.as_slice-2.ensures.value few.0
 
@@ -82,13 +78,11 @@ pub returns-in_err-levels-clause-text : goal.returns-in_err-levels-clause-text
 returns-in_err-levels-clause-text g c =
     let first = c.requires.start ∙ ap (λ (z : HeaderShape). start z.profile z.n) (sym c.header.view_is) in
     let none = ap (λ (w : WriterShape). w.state.history) c.in_ok-agents.ensures.same ∙ c.requires.none in
-    let hist = ap (λ (w : WriterState). w.history) c.in_ok-lists.ensures.state in
-    let profile = c.in_ok-counts.ensures.profile ∙ ap (λ (z : State). z.profile) first in
     let size = c.requires.size ∙ ap (λ (z : HeaderShape). z.n) (sym c.header.view_is) in
-    let r = session_replies c.args.store.now c.header.inside.n c.args.writer.now.state.history c.side_by_side.new.writer.state.history c.header.inside.asks c.in_ok-agents.agents.items c.side_by_side.new.agents.items c.in_ok-lists.lists.items size c.in_ok-agents.ensures.agents c.side_by_side.ensures.agents c.in_ok-lists.ensures.replies in
+    let r = session_replies c.args.store.now c.header.inside.n c.args.writer.state.history c.into_writer-writer.result.state.history c.header.inside.asks c.in_ok-agents.agents.items c.side_by_side.new.agents.items c.in_ok-lists.lists.items size c.in_ok-agents.ensures.agents c.side_by_side.ensures.agents c.in_ok-lists.ensures.replies in
     let p = err_from_is_err_and c.from_residual-in_err-levels.result c.from_residual-in_err-levels.ensures.1 in
-    let rest = subst (λ (z : List (List Reply) × List Entry). IsPrefix (g.K.Sink.taken c.side_by_side.new.sink) (g.K.Sink.taken c.write_rest.new.sink) (rest_text c.side_by_side.new.engine.state.profile c.header.inside.n z.0 z.1)) (λ k. (c.as_slice.ensures.value k, hist k)) c.in_err-levels.ensures.text in
-    rw (p.1, ← c.header.view_is) (rest_prefix (record { profile = c.header.inside.profile; n = c.header.inside.n; asks = c.header.inside.asks }) (tokens_left c.args.reader (g.S.Source.left c.args.src.now)) _ _ _ _ _ _ _ c.in_ok-counts.counts c.in_ok-lists.lists.items c.side_by_side.new.engine.state.profile p.0 first none profile c.in_ok-counts.ensures.text r rest)
+    let rest = rw c.as_slice.ensures.value at c.in_err-levels.ensures.text in
+    rw (p.1, ← c.header.view_is) (rest_prefix (record { profile = c.header.inside.profile; n = c.header.inside.n; asks = c.header.inside.asks }) (tokens_left c.args.reader (g.S.Source.left c.args.src.now)) _ _ _ _ _ _ _ c.in_ok-counts.counts c.in_ok-lists.lists.items p.0 first c.in_ok-counts.ensures.text (λ es e. replies_of c.header.inside.n _ _ c.header.inside.asks c.in_ok-lists.lists.items none r es (sym (shown_by_writer c.side_by_side.new.audience c.into_writer-writer.result c.into_writer-writer.ensures) ∙ e)) rest)
 
 pub returns-in_err-levels-clause-cause : goal.returns-in_err-levels-clause-cause
 returns-in_err-levels-clause-cause g c =
@@ -99,9 +93,14 @@ pub returns-clause-text : goal.returns-clause-text
 returns-clause-text g c =
     let first = c.requires.start ∙ ap (λ (z : HeaderShape). start z.profile z.n) (sym c.header.view_is) in
     let none = ap (λ (w : WriterShape). w.state.history) c.in_ok-agents.ensures.same ∙ c.requires.none in
-    let hist = ap (λ (w : WriterState). w.history) c.in_ok-lists.ensures.state in
-    let profile = c.in_ok-counts.ensures.profile ∙ ap (λ (z : State). z.profile) first in
     let size = c.requires.size ∙ ap (λ (z : HeaderShape). z.n) (sym c.header.view_is) in
-    let r = session_replies c.args.store.now c.header.inside.n c.args.writer.now.state.history c.side_by_side.new.writer.state.history c.header.inside.asks c.in_ok-agents.agents.items c.side_by_side.new.agents.items c.in_ok-lists.lists.items size c.in_ok-agents.ensures.agents c.side_by_side.ensures.agents c.in_ok-lists.ensures.replies in
-    let rest = subst (λ (z : List (List Reply) × List Entry). g.K.Sink.taken c.write_rest.new.sink ≡ append_known (g.K.Sink.taken c.side_by_side.new.sink) (rest_text c.side_by_side.new.engine.state.profile c.header.inside.n z.0 z.1)) (λ k. (c.as_slice.ensures.value k, hist k)) c.in_ok-levels.ensures.text in
-    rw (← c.header.view_is) (rest_written (record { profile = c.header.inside.profile; n = c.header.inside.n; asks = c.header.inside.asks }) (tokens_left c.args.reader (g.S.Source.left c.args.src.now)) _ _ _ _ _ _ _ c.in_ok-counts.counts c.in_ok-lists.lists.items c.side_by_side.new.engine.state.profile c.as_slice-3.result.now c.with.result first none profile c.in_ok-counts.ensures.text r rest (c.as_slice-3.ensures.value ∙ c.in_ok-levels.ensures.levels) (rw c.as_slice-2.ensures.value at c.with.ensures))
+    let r = session_replies c.args.store.now c.header.inside.n c.args.writer.state.history c.into_writer-writer.result.state.history c.header.inside.asks c.in_ok-agents.agents.items c.side_by_side.new.agents.items c.in_ok-lists.lists.items size c.in_ok-agents.ensures.agents c.side_by_side.ensures.agents c.in_ok-lists.ensures.replies in
+    let rest = rw c.as_slice.ensures.value at c.in_ok-levels.ensures.text in
+    rw (← c.header.view_is) (rest_written (record { profile = c.header.inside.profile; n = c.header.inside.n; asks = c.header.inside.asks }) (tokens_left c.args.reader (g.S.Source.left c.args.src.now)) _ _ _ _ _ _ _ c.in_ok-counts.counts c.in_ok-lists.lists.items c.as_slice-3.result.now c.with.result first c.in_ok-counts.ensures.text (λ es e. replies_of c.header.inside.n _ _ c.header.inside.asks c.in_ok-lists.lists.items none r es (sym (shown_by_writer c.side_by_side.new.audience c.into_writer-writer.result c.into_writer-writer.ensures) ∙ e)) rest (c.as_slice-3.ensures.value ∙ c.in_ok-levels.ensures.levels) (rw (c.count_replies-replies.ensures, c.as_slice-2.ensures.value) at c.with.ensures))
+
+pub close_all-requires-clause-table : goal.close_all-requires-clause-table
+close_all-requires-clause-table g c =
+    (writer_is_abreast c.side_by_side.new.audience c.args.store.now c.into_writer-writer.result c.side_by_side.new.engine.state c.side_by_side.ensures.store c.into_writer-writer.ensures c.in_ok-counts.ensures.abreast).0
+
+pub into_writer-writer-requires : goal.into_writer-writer-requires
+into_writer-writer-requires g c = store_has_writer c.side_by_side.new.audience c.args.store.now c.side_by_side.ensures.store

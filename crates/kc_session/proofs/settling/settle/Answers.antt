@@ -1,23 +1,16 @@
 use Rattle.std.proofs.Common.{refl, ◌∙◌, ap}
 use Rattle.std.proofs.lemmas.Result.{err_from_is_err_and}
 use Rattle.kc_engine.specs.States.{State}
-use Rattle.kc_store.specs.Seats.{WriterShape}
 use Rattle.kc_batch.specs.Tokens.{tokens_left}
 use Rattle.kc_session.specs.declared.counts.Counts.{Counts}
 use Rattle.kc_session.specs.declared.settling.Settled.{Settled}
 use Rattle.kc_session.proofs.Causes.{same_cause}
-use Rattle.kc_session.proofs.Steps.{opened_is_abreast}
 use Rattle.kc_session.proofs.Settles.{settles_nothing, settles_some, settles_whole}
 use Rattle.kc_session.proofs.settling.settle.Goals as goal
 
-pub returns-in_err-store-clause-text : goal.returns-in_err-store-clause-text
-returns-in_err-store-clause-text g c =
-    let p = err_from_is_err_and c.from_residual.result c.from_residual.ensures.1 in
-    rw (p.1, ← c.header.view_is) (settles_nothing (record { profile = c.header.inside.profile; n = c.header.inside.n; asks = c.header.inside.asks }) (tokens_left c.args.reader (g.S.Source.left c.args.src.now)) _ _ p.0 refl)
-
 pub returns-in_err-engine-clause-text : goal.returns-in_err-engine-clause-text
 returns-in_err-engine-clause-text g c =
-    let p = err_from_is_err_and c.from_residual-in_err-engine.result c.from_residual-in_err-engine.ensures.1 in
+    let p = err_from_is_err_and c.from_residual.result c.from_residual.ensures.1 in
     rw (p.1, ← c.header.view_is) (settles_nothing (record { profile = c.header.inside.profile; n = c.header.inside.n; asks = c.header.inside.asks }) (tokens_left c.args.reader (g.S.Source.left c.args.src.now)) _ _ p.0 refl)
 
 pub returns-in_err-counts-clause-text : goal.returns-in_err-counts-clause-text
@@ -40,6 +33,3 @@ returns-clause-settled g c = rw (← c.header.view_is) (record {
   vertices = c.in_ok-counts.ensures.vertices;
   sound = c.in_ok-counts.ensures.open.sound;
 })
-
-pub run_batches-requires-clause-abreast : goal.run_batches-requires-clause-abreast
-run_batches-requires-clause-abreast g c κs within = opened_is_abreast c.header.inside.profile c.header.inside.n _ _ (ap (λ (w : WriterShape). w.state) c.in_ok-store.ensures.writer) c.in_ok-engine.ensures.state

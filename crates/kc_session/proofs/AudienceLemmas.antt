@@ -1,0 +1,33 @@
+-- An audience of readers, by their writer.
+use Rattle.std.proofs.Common.{◌≡◌, refl, sym, ap, ◌∙◌, subst}
+use Rattle.std.specs.Prelude.{Some, None}
+use Rattle.std.proofs.lemmas.Option.{same_Some}
+use Rattle.kc_store.specs.Seats.{StoreShape, WriterShape}
+use Rattle.kc_engine.specs.States.{State}
+use Rattle.kc_engine.specs.Showing as showing
+use Rattle.kc_session.specs.declared.audience.Audience.{Audience}
+use Rattle.kc_session.specs.declared.audience.Audience.TheVariants.{Readers, Nobody}
+use Rattle.kc_session.specs.Audiences.{store_of, writer_of, shown_to, IsAbreast}
+
+-- where there is a store, there is its writer
+pub store_has_writer : (a : Audience) (store : StoreShape) → store_of a ≡ Some store → writer_of a ≡ None → ⊥
+store_has_writer (Readers place writer) store e f = absurd cc
+store_has_writer Nobody store e f = absurd cc
+
+-- what was shown is the writer's history
+pub shown_by_writer : (a : Audience) (writer : WriterShape) → writer_of a ≡ Some writer → shown_to a ≡ Some writer.state.history
+shown_by_writer (Readers place w) writer e = ap (λ (x : WriterShape). Some x.state.history) (same_Some _ _ e)
+shown_by_writer Nobody writer e = absurd cc
+
+-- so the writer is abreast
+pub writer_is_abreast : (a : Audience) (store : StoreShape) (writer : WriterShape) (s : State) → store_of a ≡ Some store → writer_of a ≡ Some writer → IsAbreast a s → (writer.table ≡ store.table) × showing.IsAbreast writer.state s
+writer_is_abreast (Readers place w) store writer s e f h =
+    let same : w ≡ writer = same_Some _ _ f in
+    let there : place.now ≡ store = same_Some _ _ e in
+    (ap (λ (x : WriterShape). x.table) (sym same) ∙ (h.0 ∙ ap (λ (x : StoreShape). x.table) there), subst (λ (x : WriterShape). showing.IsAbreast x.state s) same h.1)
+writer_is_abreast Nobody store writer s e f h = absurd cc
+
+-- where there is no store, nothing is shown
+pub nobody_is_shown : (a : Audience) → store_of a ≡ None → shown_to a ≡ None
+nobody_is_shown (Readers place w) e = absurd cc
+nobody_is_shown Nobody e = refl
