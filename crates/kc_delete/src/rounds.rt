@@ -26,7 +26,7 @@ pub struct Tally {
 }
 
 // The least number of edges whose halves are worth a sort, so that the row of each vertex is gone through once.
-const LEAST_TOGETHER: usize = 65_536;
+const LEAST_TOGETHER: usize = 8_192;
 
 // Takes the edges out, one after another. Levels stay.
 fn unlink_each<L: Ledger>(adj: &mut LevelAdj, removed: &[Edge], steps: &mut Steps<L>)

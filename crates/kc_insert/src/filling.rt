@@ -12,7 +12,7 @@ use std::alloc::{AllocError, Global};
 use std::sync::ledger::Ledger;
 
 // The least number of edges whose halves are worth a sort, so that the row of each vertex is gone through once.
-const LEAST_TOGETHER: usize = 65_536;
+const LEAST_TOGETHER: usize = 8_192;
 
 // As `link_edges` says, edge by edge.
 fn link_each<L: Ledger>(
