@@ -1,5 +1,5 @@
 -- The line of `check` as it is put together, and as its definition has it.
-use Rattle.std.proofs.Common.{ℕ, ◌≡◌, List, [], ◌∷◌, ◌++◌, length, append_assoc, refl, subst}
+use Rattle.std.proofs.Common.{ℕ, ◌≡◌, List, [], ◌∷◌, ◌++◌, append_assoc, subst}
 use Rattle.std.specs.Prelude.{Option, Result, decimal, codes}
 use Rattle.kc_text.specs.declared.buf.SendFault.{SendFault}
 use Rattle.kc_text.specs.declared.reason.Reason.{Reason}

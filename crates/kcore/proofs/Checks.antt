@@ -1,5 +1,5 @@
 -- The text of `check`, from what was read.
-use Rattle.std.proofs.Common.{ℕ, ◌≡◌, Bool, true, List, refl, sym, ◌∙◌, subst}
+use Rattle.std.proofs.Common.{ℕ, ◌≡◌, Bool, true, List, refl}
 use Rattle.std.specs.Prelude.{Option, Some, None, Result, Ok, Err, IfSome}
 use Rattle.std.specs.Option.{option_map}
 use Rattle.std.specs.Io.KnownBytes.{append_known}

@@ -18,3 +18,5 @@ pub mod OrientTexts
 pub mod FinalTexts
 pub mod CheckLines
 pub mod Checks
+pub mod NoteLines
+pub mod Certified

@@ -19,3 +19,4 @@ pub mod Waiting
 pub mod Rising
 pub mod OrientLines
 pub mod OrientText
+pub mod CertificateLaw

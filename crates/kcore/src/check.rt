@@ -12,12 +12,7 @@ use kc_text::{LineBuf, LineReader, Reason, SendFault, Sink, Source};
 use std::alloc::{AllocError, Global};
 
 // Appends a name, with its blanks, and a number.
-fn fill_named(
-    alloc: Global,
-    buf: &mut LineBuf,
-    name: &[u8],
-    value: u32,
-) -> Result<(), AllocError>
+fn fill_named(alloc: Global, buf: &mut LineBuf, name: &[u8], value: u32) -> Result<(), AllocError>
     ensures { OnOk result (buf.new ≡ (buf.old ++ name.now) ++ decimal value) }
 {
     buf.text(alloc, name)?;

@@ -1,5 +1,6 @@
 //! What the definition of the text comes to. Each function does nothing; its contract is a law.
 ghost use Rattle.kcore.specs.Laws.{InputHasText, RepliesHaveText, TextsAreAlike, HasOneText, StatesArePoints, EachPointIsNear, EachStateHolds};
+ghost use Rattle.kcore.specs.CertificateLaw.{FinalIsCertified};
 ghost use Rattle.kcore.specs.ExactText.{IsExactText};
 ghost use Rattle.kcore.specs.FinalText.{IsFinalText};
 ghost use Rattle.kcore.specs.OrientText.{IsOrientText};
@@ -25,6 +26,12 @@ pub fn input_has_one_exact_text()
 /// For each input there is exactly one text of `final`, so it is the same for every number of workers.
 pub fn input_has_one_final_text()
     ensures { HasOneText IsFinalText }
+{}
+
+/// What `final` writes of an input with a header, where that isn't longer than an input may be, is read as the certificate of the last
+/// graph and levels, and what `check` writes of it is `certified`.
+pub fn final_is_certified()
+    ensures { FinalIsCertified }
 {}
 
 /// For each input there is exactly one oriented text.

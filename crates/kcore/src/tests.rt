@@ -381,13 +381,16 @@ fn faults_end_an_exact_text(rt: HostRuntime) -> Result<(), Fail> {
 }
 
 // The graph and the levels of the path, in a certificate.
-const PATH_CERTIFICATE: &[u8] = b"kcore-cert 1\nprofile 1\nvertices 5\nedges 2\nedge 0 1\nedge 1 2\nlevel 0 1\nlevel 1 1\nlevel 2 1\nlevel 3 0\nlevel 4 0\nend\n";
+const PATH_CERTIFICATE: &[u8] =
+    b"kcore-cert 1\nprofile 1\nvertices 5\nedges 2\nedge 0 1\nedge 1 2\nlevel 0 1\nlevel 1 1\nlevel 2 1\nlevel 3 0\nlevel 4 0\nend\n";
 
 // The same under the second profile.
-const FINE_CERTIFICATE: &[u8] = b"kcore-cert 1\nprofile 2\nvertices 5\nedges 2\nedge 0 1\nedge 1 2\nlevel 0 1\nlevel 1 2\nlevel 2 1\nlevel 3 0\nlevel 4 0\nend\n";
+const FINE_CERTIFICATE: &[u8] =
+    b"kcore-cert 1\nprofile 2\nvertices 5\nedges 2\nedge 0 1\nedge 1 2\nlevel 0 1\nlevel 1 2\nlevel 2 1\nlevel 3 0\nlevel 4 0\nend\n";
 
 // A note, and the certificate of the path among three vertices.
-const NOTED_CERTIFICATE: &[u8] = b"# batch 2 refused line 9 bad-vertex\nkcore-cert 1\nprofile 1\nvertices 3\nedges 2\nedge 0 1\nedge 1 2\nlevel 0 1\nlevel 1 1\nlevel 2 1\nend\n";
+const NOTED_CERTIFICATE: &[u8] =
+    b"# batch 2 refused line 9 bad-vertex\nkcore-cert 1\nprofile 1\nvertices 3\nedges 2\nedge 0 1\nedge 1 2\nlevel 0 1\nlevel 1 1\nlevel 2 1\nend\n";
 
 #[test]
 fn prints_certificates(rt: HostRuntime) -> Result<(), Fail> {
