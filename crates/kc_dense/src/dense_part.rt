@@ -18,8 +18,8 @@ pub struct Dense {
 /// The dense part of a graph (`IsDensePart`): the vertices of the densest suffix of its peeling list, of several the longest. No
 /// vertices of the graph have more than twice as many edges between them for each of them.
 ///
-/// Costs time O((n + m) log n) for n vertices and m edges, and memory for at most eight numbers a vertex, one of which it hands out.
-/// Fails only if memory runs out.
+/// Costs time O((n + m) log n) for n vertices and m edges, and memory for at most five numbers a vertex, of which it hands
+/// out one for each member. Fails only if memory runs out.
 pub fn densest(alloc: Global, graph: &Graph) -> Result<Dense, AllocError>
     ensures members { IfOk result (λ d. IsDensePart graph.now d.members.items) }
     ensures edges { IfOk result (λ d. d.edges ≡ edges_within graph.now (members_of d.members.items)) }

@@ -32,11 +32,15 @@ impl Suffix {
 /// The peeling list of a graph, with its densest suffix.
 #[derive(Drop)]
 pub struct Peeled {
+    /// All vertices, in the order in which they were taken.
     pub order: Vec<u32>,
+    /// The densest suffix of them, of several the longest.
     pub densest: Suffix,
 }
 
 /// Peels a graph (`IsPeelingList`), and finds the densest suffix, of several the longest (`IsDensestSuffix`), on the way.
+///
+/// Costs time O((n + m) log n) for n vertices and m edges. Fails only if memory runs out.
 pub fn peel(alloc: Global, graph: &Graph) -> Result<Peeled, AllocError>
     ensures peeled { IfOk result (λ p. IsPeelingList graph.now p.order.items) }
     ensures densest { IfOk result (λ p. IsDensestSuffix graph.now (drop p.densest.first p.order.items) p.order.items) }

@@ -12,10 +12,12 @@ use std::alloc::{AllocError, Global};
 /// Stands in place of the degree of a vertex that was taken.
 const TAKEN: u32 = u32::MAX;
 
-/// A vertex that was taken, with the degree that it had among those that were left.
+/// A vertex that was taken, with what went with it.
 #[derive(Clone, Copy)]
 pub struct Taken {
+    /// The vertex.
     pub vertex: u32,
+    /// How many of its neighbours were left.
     pub degree: u32,
 }
 
