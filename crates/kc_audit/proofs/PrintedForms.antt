@@ -1,6 +1,6 @@
 -- Printed lines say their kinds, and the lines of a run are read back from bytes.
-use Rattle.std.proofs.Common.{ℕ, ◌+◌, ◌^◌, ◌≤◌, ◌<◌, ◌≡◌, Bool, true, false, ◌&&◌, List, [], ◌∷◌, ◌++◌, length, map, refl, sym, ap, ◌∙◌, arith, length-append}
-use Rattle.std.specs.Prelude.{Some, None, decimal, nat_lt, nat_le, codes}
+use Rattle.std.proofs.Common.{ℕ, ◌+◌, ◌<◌, ◌≡◌, Bool, true, false, ◌&&◌, List, [], ◌∷◌, ◌++◌, length, map, refl, sym, ap, arith, length-append}
+use Rattle.std.specs.Prelude.{Some, decimal, nat_lt, codes}
 use Rattle.std.specs.List.{list_all, join_with_byte}
 use Rattle.std.proofs.lemmas.Bool.Decides.{nat_tests}
 use Rattle.kc_text.specs.declared.line.Line.{Line}
@@ -8,15 +8,14 @@ use Rattle.kc_text.specs.declared.line.Body.TheVariants as body
 use Rattle.kc_text.specs.declared.reason.Reason.{Reason}
 use Rattle.kc_text.specs.declared.reason.Reason.TheVariants as reason
 use Rattle.kc_text.specs.Numbers.{number_of}
-use Rattle.kc_text.specs.Words.{words, words_from, is_skip}
-use Rattle.kc_text.specs.Printing.{is_word, is_line, printed, lines_of_words}
+use Rattle.kc_text.specs.Words.{words, words_from}
+use Rattle.kc_text.specs.Printing.{is_word, lines_of_words}
 use Rattle.kc_text.specs.Reasons.{reason_word}
 use Rattle.kc_text.proofs.PrintedText.{numbers_back, words_back, lines_back}
 use Rattle.kc_history.specs.declared.replies.Reply.{Reply}
 use Rattle.kc_audit.specs.Kept.{kept}
 use Rattle.kc_audit.specs.Kinds.{Kind, InputEnd, is_version, is_refusal, direction_kind, kind_of_words, kind_of}
 use Rattle.kc_audit.specs.Words.{first_number, has_fields}
-use Rattle.kc_audit.specs.Documents.{document_of}
 use Rattle.kc_audit.specs.ReadBack.{pair_word, pair_words, run_kinds}
 use Rattle.kc_audit.specs.Printed.{IsSmall, AreSmall, Says, IsRefusedReason, direction_word, LinesSayKinds, SayAll, PrintedRunIsReadBack}
 use Rattle.kc_audit.proofs.RunBack.{run_is_read_back}
