@@ -1,6 +1,6 @@
 use Rattle.std.proofs.Common.{◌≡◌, [], ◌∷◌, ◌++◌, refl, sym, ap, ◌∙◌, arith}
 use Rattle.std.proofs.lemmas.Grind.{common_steps}
-use Rattle.kc_intake.specs.Views.{drainer_role, drained_of}
+use Rattle.kc_intake.specs.Views.{drained_of}
 use Rattle.kc_intake.specs.declared.roles.Role.TheVariants.{Drains}
 use Rattle.kc_intake.proofs.Draining.{begins_from, adds_from, learns_from}
 use Rattle.kc_intake.proofs.Shapes.{drainer_stays, held_as, held_told, held_whole, added}
