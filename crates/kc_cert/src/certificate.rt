@@ -4,7 +4,9 @@ use kc_levels::{Levels, Profile};
 /// A graph and a level for each of its vertices, with the profile of the thresholds that the levels are to meet.
 #[derive(Drop)]
 pub struct Certificate {
+    /// Which thresholds the levels go by.
     pub profile: Profile,
     pub graph: Graph,
+    /// The level of each vertex, in order.
     pub levels: Levels,
 }
