@@ -10,6 +10,7 @@ use crate::dense_lines::{write_dense_head, write_members, write_size};
 use crate::documents::Document;
 use kc_dense::densest;
 use kc_engine::Engine;
+use kc_levels::Profile;
 use kc_report::write_end;
 use kc_text::{LineBuf, SendFault, Sink};
 use std::alloc::Global;
@@ -52,7 +53,12 @@ pub struct Dense;
 impl Document for Dense {
     ghost is_document = { IsDense };
 
-    fn write<K: Sink>(alloc: Global, engine: &Engine, sink: &mut K) -> Result<(), SendFault> {
+    fn write<K: Sink>(
+        alloc: Global,
+        _profile: Profile,
+        engine: &Engine,
+        sink: &mut K,
+    ) -> Result<(), SendFault> {
         let n = engine.graph().vertices();
         let dense = match densest(alloc, engine.graph()) {
             Ok(dense) => dense,

@@ -14,7 +14,7 @@ use crate::documents::Document;
 use crate::orient_lines::{write_orient_head, write_oriented};
 use kc_engine::Engine;
 use kc_graph::Graph;
-use kc_levels::Levels;
+use kc_levels::{Levels, Profile};
 use kc_orient::{Orientation, colour};
 use kc_report::write_end;
 use kc_text::{LineBuf, SendFault, Sink};
@@ -101,7 +101,12 @@ pub struct Orient;
 impl Document for Orient {
     ghost is_document = { IsOrientedText };
 
-    fn write<K: Sink>(alloc: Global, engine: &Engine, sink: &mut K) -> Result<(), SendFault> {
+    fn write<K: Sink>(
+        alloc: Global,
+        _profile: Profile,
+        engine: &Engine,
+        sink: &mut K,
+    ) -> Result<(), SendFault> {
         let n = engine.graph().vertices();
         let (oriented, colours) = match orient_and_colour(alloc, engine.graph(), engine.levels()) {
             Ok(both) => both,
