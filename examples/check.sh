@@ -35,6 +35,11 @@ for text in *_exact.txt cases/*_exact.txt; do
   writes "${text%_exact.txt}.kc" "$text" exact
 done
 
+for text in *_final.txt cases/*_final.txt; do
+  writes "${text%_final.txt}.kc" "$text" final 1
+  writes "${text%_final.txt}.kc" "$text" final 3
+done
+
 # What `final` writes is certified, with any number of workers.
 for input in karate_batches.kc path.kc isolate.kc; do
   for workers in 1 3; do

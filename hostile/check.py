@@ -24,7 +24,11 @@ from trials import BATCHES, Command, Kcore
 
 COMMANDS = [
     Command("run 2", BATCHES, is_noted=False),
+    Command("final 2", BATCHES, is_noted=True),
+    Command("orient 2", BATCHES, is_noted=True),
     Command("exact", BATCHES, is_noted=True),
+    Command("dense", BATCHES, is_noted=True),
+    Command("check", ["karate_batches_final.txt"], is_noted=False),
 ]
 
 
