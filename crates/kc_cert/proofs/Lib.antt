@@ -4,6 +4,7 @@ pub mod EdgeSteps
 pub mod LevelSteps
 pub mod LineTexts
 pub mod NumberWords
+pub mod OneVerdict
 pub mod ReadBack
 pub mod SaidLines
 pub mod Saying

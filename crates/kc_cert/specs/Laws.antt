@@ -29,6 +29,10 @@ CertificateIsReadBack =
 abbrev pub HasVerdict : Type 0
 HasVerdict = (cert : Certificate) → (verdict : Verdict) × IsVerdict cert verdict
 
+-- two verdicts of a certificate within the limits are the same, since no vertex breaks both invariants
+abbrev pub VerdictIsOne : Type 0
+VerdictIsOne = (cert : Certificate) (first second : Verdict) → IsCertificate cert → IsVerdict cert first → IsVerdict cert second → first ≡ second
+
 -- the verdict of a certificate in which both invariants hold is `Certified`, and no other
 abbrev pub VerdictIsCertified : Type 0
 VerdictIsCertified = (cert : Certificate) (verdict : Verdict) → MeetsBoth cert.profile cert.graph cert.levels → IsVerdict cert verdict → verdict ≡ Certified
