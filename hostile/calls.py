@@ -78,6 +78,19 @@ def little_memory(kcore):
     yield trial
 
 
+def little_stack(kcore):
+    """Nothing recurses as deep as its input is long, or as a path in its graph."""
+    trial = Trial("a stack of 128 KiB")
+    path = b"".join(b"%d %d\n" % (v, v + 1) for v in range(9999))
+    long_path = b"kcore 1\nvertices 10000\nbatch\n" + path + b"end\nbatch\n- 4999 5000\nend\n"
+    cases = [*kcore.cases()]
+    cases += [(command.words, command.words.split(), long_path, *kcore.whole(command, long_path)) for command in kcore.batch_commands()]
+    for name, words, data, status, whole in cases:
+        ended = kcore.program.run(words, data, preexec_fn=limited(resource.RLIMIT_STACK, 128 << 10))
+        trial.ended(name, ended, {status: "whole"}, whole)
+    yield trial
+
+
 def failing_reads(kcore):
     for name, words, data, status, whole in kcore.cases():
         trial = Trial(f"{name}, one read of 7 bytes fails")
@@ -123,12 +136,11 @@ def long_texts(kcore):
 
 
 def interrupted_calls(kcore):
-    trial = Trial("a signal interrupts one read or write, which may be a fault")
+    trial = Trial("a signal interrupts one read or write")
     for name, words, data, status, whole in kcore.cases():
-        for kind, fault in ("read", READ_FAULT), ("write", WRITE_FAULT):
+        for kind in "read", "write":
             for number, ended in in_turn(kcore, words, data, kind, errno.EINTR, (7, 5)):
-                wanted = {fault: "prefix", status: "whole"} if ended.calls["failed"] else {status: "whole"}
-                trial.ended(f"{name}, {kind} {number}", ended, wanted, whole)
+                trial.ended(f"{name}, {kind} {number}", ended, {status: "whole"}, whole)
     yield trial
 
 
@@ -168,4 +180,4 @@ def without_processes():
     resource.setrlimit(resource.RLIMIT_NPROC, (0, 0))
 
 
-TRIALS = [nothing_fails, refused_memory, halted_engine, little_memory, failing_reads, failing_writes, long_texts, interrupted_calls, small_pieces, threads_not_started]
+TRIALS = [nothing_fails, refused_memory, halted_engine, little_memory, little_stack, failing_reads, failing_writes, long_texts, interrupted_calls, small_pieces, threads_not_started]

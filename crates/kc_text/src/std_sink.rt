@@ -3,12 +3,12 @@ ghost use Rattle.std.specs.Prelude.{◌≡◌, ◌<◌, ◌≤◌, length, IfOk,
 ghost use Rattle.kc_text.specs.Causes.{Rose};
 
 use crate::{Failed, Sink};
-use std::io::Write;
+use std::io::{ErrorKind, Write};
 use std::marker::Model;
 
 /// A writer as a sink, as the program's standard output. It doesn't tell its bytes.
 ///
-/// Each error of the writer is a fault, and so is a write that takes nothing.
+/// Each error of the writer is a fault, but that a signal interrupted a write: it is made again. A write that takes nothing is a fault too.
 /// A contract sees it as an `Outlet`: its count of faults, and whether it was flushed since the last write.
 #[derive(Drop)]
 pub struct StdSink<W> {
@@ -76,12 +76,14 @@ impl<W: Write + Drop> Sink for StdSink<W> {
         ensures unflushed { self.new.is_flushed ≡ false }
     {
         self.is_flushed = false;
-        match self.writer.write(bytes) {
-            Ok(count) if count > 0 => Ok(count),
-            _ => {
-                self.faults = self.faults.saturating_add(1);
-                Err(Failed)
+        for _turn in 0..u64::MAX {
+            match self.writer.write(bytes) {
+                Ok(count) if count > 0 => return Ok(count),
+                Err(e) if e.kind() == ErrorKind::Interrupted => {}
+                _ => break,
             }
         }
+        self.faults = self.faults.saturating_add(1);
+        Err(Failed)
     }
 }

@@ -2,12 +2,12 @@
 ghost use Rattle.std.specs.Prelude.{◌≡◌, None};
 
 use crate::{Failed, Source};
-use std::io::Read;
+use std::io::{ErrorKind, Read};
 use std::marker::Model;
 
 /// A reader as a source, as the program's standard input. It tells no bytes.
 ///
-/// Each error of the reader is a fault. A contract sees it as its count of faults.
+/// Each error of the reader is a fault, but that a signal interrupted a read: it is made again. A contract sees it as its count of faults.
 #[derive(Drop)]
 pub struct StdSource<R> {
     reader: R,
@@ -37,12 +37,14 @@ impl<R: Read + Drop> Source for StdSource<R> {
     ghost faults = { λ s. s };
 
     fn read(&mut self, buf: &mut [u8]) -> Result<usize, Failed> {
-        match self.reader.read(buf) {
-            Ok(count) => Ok(count),
-            Err(_) => {
-                self.faults = self.faults.saturating_add(1);
-                Err(Failed)
+        for _turn in 0..u64::MAX {
+            match self.reader.read(buf) {
+                Ok(count) => return Ok(count),
+                Err(e) if e.kind() == ErrorKind::Interrupted => {}
+                Err(_) => break,
             }
         }
+        self.faults = self.faults.saturating_add(1);
+        Err(Failed)
     }
 }

@@ -1,5 +1,5 @@
 // Each public call, on values that were worked out by hand.
-ghost use Rattle.std.specs.Prelude.{◌<◌};
+ghost use Rattle.std.specs.Prelude.{◌≡◌, ◌<◌, IfOk};
 
 use crate::{
     Body, Failed, Line, LineBuf, LineFault, LineReader, MemSink, MemSource, NullSink, Reason,
@@ -225,6 +225,48 @@ impl Write for Gone {
     fn flush(&mut self) -> io::Result<()> {
         Err(io::Error::from(io::ErrorKind::TimedOut))
     }
+}
+
+// A device whose calls a signal interrupts, so many times.
+#[derive(Drop)]
+struct Interrupted {
+    times: u32,
+}
+
+impl Interrupted {
+    fn take(&mut self, count: usize) -> io::Result<usize>
+        ensures { IfOk result (λ k. k ≡ count) }
+    {
+        if self.times == 0 {
+            return Ok(count);
+        }
+        self.times -= 1;
+        Err(io::Error::from(io::ErrorKind::Interrupted))
+    }
+}
+
+impl Read for Interrupted {
+    fn read(&mut self, buf: &mut [u8]) -> io::Result<usize> {
+        self.take(buf.len())
+    }
+}
+
+impl Write for Interrupted {
+    fn write(&mut self, buf: &[u8]) -> io::Result<usize> {
+        self.take(buf.len())
+    }
+
+    fn flush(&mut self) -> io::Result<()> {
+        Ok(())
+    }
+}
+
+#[test]
+fn interrupted_calls_are_made_again(rt: HostRuntime) -> Result<(), Fail> {
+    let mut buf = [0u8; 3];
+    assert_eq!(rt; StdSource::new(Interrupted { times: 5 }).read(&mut buf), Ok(3));
+    assert_eq!(rt; StdSink::new(Interrupted { times: 5 }).write(b"ab"), Ok(2));
+    Ok(())
 }
 
 #[test]
