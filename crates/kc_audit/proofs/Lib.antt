@@ -4,9 +4,12 @@ pub mod LineLemmas
 pub mod MoveLemmas
 pub mod PairsBack
 pub mod PrintedForms
+pub mod PrintedParts
+pub mod ReplyLevels
 pub mod Reaching
 pub mod RunBack
 pub mod Stepping
 pub mod VerdictLemmas
+pub mod SomeVerdict
 pub mod Walking
 pub mod WordLemmas

@@ -3,6 +3,7 @@
 use Rattle.std.specs.Prelude.{ℕ, suc, ◌==◌, nat_le, nat_lt, Bool, true, false, ◌&&◌, List, [], ◌∷◌, ◌++◌, length, Option, Some, None, Result, Ok, Err, if◌then◌else◌}
 use Rattle.kc_graph.specs.declared.limits.TheConstants.{MAX_VERTICES}
 use Rattle.kc_text.specs.declared.line.Line.{Line}
+use Rattle.kc_text.specs.Lines.{lines}
 use Rattle.kc_text.specs.declared.reason.Reason.{Reason}
 use Rattle.kc_text.specs.declared.reason.Reason.TheVariants.{LineLong, BadLine, BadVertex, Truncated, InputLimit}
 use Rattle.kc_history.specs.declared.replies.Reply.{Reply}
@@ -14,6 +15,7 @@ use Rattle.kc_audit.specs.declared.stage.Stage.{Stage}
 use Rattle.kc_audit.specs.declared.stage.Stage.TheVariants.{Batches, Groups, Readers, VertexLines, Closed}
 use Rattle.kc_audit.specs.declared.stage.Turn.{Turn}
 use Rattle.kc_audit.specs.declared.stage.Turn.TheVariants.{Go, Stop, End}
+use Rattle.kc_audit.specs.Kept.{kept}
 use Rattle.kc_audit.specs.Kinds.{Kind, kind_of}
 use Rattle.kc_audit.specs.Kinds as kind
 use Rattle.kc_audit.specs.Runs.{are_below}
@@ -181,6 +183,10 @@ after_head (line ∷ rest) = onward line.number (vertices_of (kind_of line.body)
 unfoldable pub document_of : List Line → Document
 document_of [] = Refused 0 Truncated
 document_of (line ∷ rest) = onward line.number (head_of (kind_of line.body)) (λ u. after_head rest)
+
+-- what bytes say as a run text: at most `limit` bytes a line, of the first `room` bytes
+abbrev pub document_in : ℕ → ℕ → List ℕ → Document
+document_in limit room bytes = document_of (kept (lines limit room bytes))
 
 -- what a line does, where the run was lengthened already
 abbrev pub step_told : RunText → Turn → Step

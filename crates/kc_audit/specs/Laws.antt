@@ -15,6 +15,10 @@ use Rattle.kc_audit.specs.Verdicts.{replies_of, IsExplained, IsVerdict}
 abbrev pub ExplainedPasses : Type 0
 ExplainedPasses = (run : RunText) (verdict : AuditVerdict) → ((r : ℕ) → r < length run.readers → IsExplained run (replies_of run r)) → IsVerdict run verdict → verdict ≡ Explained
 
+-- each run has a verdict
+abbrev pub HasVerdict : Type 0
+HasVerdict = (run : RunText) → (verdict : AuditVerdict) × IsVerdict run verdict
+
 -- two verdicts on one run are the same
 abbrev pub IsOneVerdict : Type 0
 IsOneVerdict = (run : RunText) (first second : AuditVerdict) → IsVerdict run first → IsVerdict run second → first ≡ second

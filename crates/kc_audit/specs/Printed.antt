@@ -4,14 +4,12 @@ use Rattle.std.specs.List.{list_all}
 use Rattle.kc_graph.specs.declared.limits.TheConstants.{MAX_VERTICES}
 use Rattle.kc_text.specs.declared.reason.Reason.{Reason}
 use Rattle.kc_text.specs.declared.reason.Reason.TheVariants as reason
-use Rattle.kc_text.specs.Lines.{lines}
 use Rattle.kc_text.specs.Printing.{is_word, is_line, printed}
 use Rattle.kc_text.specs.Reasons.{reason_word}
 use Rattle.kc_text.specs.Words.{is_skip}
 use Rattle.kc_history.specs.declared.replies.Reply.{Reply}
-use Rattle.kc_audit.specs.Kept.{kept}
 use Rattle.kc_audit.specs.Kinds.{Kind, Head, Vertices, Accepted, Refused, Phase, Group, Reader, Vertex, Close, InputEnd, kind_of_words}
-use Rattle.kc_audit.specs.Documents.{document_of}
+use Rattle.kc_audit.specs.Documents.{document_in}
 use Rattle.kc_audit.specs.Documents as document
 use Rattle.kc_audit.specs.ReadBack.{pair_words, BatchText, BatchesFit, ReadersFit, batch_groups, run_kinds}
 
@@ -64,4 +62,4 @@ SayAll (ws ∷ ls) (k ∷ ks) = Says ws k × SayAll ls ks
 abbrev pub PrintedRunIsReadBack : Type 0
 PrintedRunIsReadBack = (limit room n : ℕ) (bs : List BatchText) (rs : List (List Reply)) (ls : List (List (List ℕ))) → 1 ≤ n → n ≤ MAX_VERTICES → BatchesFit n 0 bs → length rs ≤ 64 → ReadersFit n rs
     → SayAll ls (run_kinds n bs rs) → list_all (is_line limit) ls ≡ true → length (printed ls) ≤ room
-    → document_of (kept (lines limit room (printed ls))) ≡ document.Accepted (record { vertices = n; groups = batch_groups bs; readers = rs })
+    → document_in limit room (printed ls) ≡ document.Accepted (record { vertices = n; groups = batch_groups bs; readers = rs })

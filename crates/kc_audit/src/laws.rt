@@ -1,6 +1,6 @@
 // Laws of the definitions. The functions do nothing: each has laws as its contract.
 
-ghost use Rattle.kc_audit.specs.Laws.{ExplainedPasses, IsOneVerdict, LinesExplain};
+ghost use Rattle.kc_audit.specs.Laws.{ExplainedPasses, HasVerdict, IsOneVerdict, LinesExplain};
 ghost use Rattle.kc_audit.specs.Printed.{LinesSayKinds, PrintedRunIsReadBack};
 ghost use Rattle.kc_audit.specs.ReadBack.{RunIsReadBack};
 
@@ -9,7 +9,12 @@ pub fn explained_passes()
     ensures { ExplainedPasses }
 {}
 
-/// A run has one verdict.
+/// Each run has a verdict, also where there is no memory for an audit.
+pub fn has_verdict()
+    ensures { HasVerdict }
+{}
+
+/// A run has no two verdicts.
 pub fn one_verdict()
     ensures { IsOneVerdict }
 {}

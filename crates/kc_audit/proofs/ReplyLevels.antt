@@ -1,0 +1,46 @@
+-- Replies that group lines explain tell levels of their members, or 0.
+use Rattle.std.proofs.Common.{ℕ, zero, suc, ◌≤◌, ◌≡◌, true, List, [], ◌∷◌, take, set, get_or, replicate, refl, arith}
+use Rattle.std.specs.Prelude.{nat_le, All}
+use Rattle.std.proofs.lemmas.Bool.{and_from, and_parts, le-leb, leb-true}
+use Rattle.std.proofs.lemmas.List.Elements.{All-head, All-tail}
+use Rattle.kc_history.specs.declared.replies.Reply.{Reply}
+use Rattle.kc_history.specs.Points.{with_moves, levels_after}
+use Rattle.kc_history.specs.Replies.{AreExplained}
+use Rattle.kc_audit.specs.declared.groups.GroupLine.{GroupLine}
+use Rattle.kc_audit.specs.Runs.{moves_of, history_of}
+use Rattle.kc_audit.specs.ReadBack.{have_levels}
+
+abbrev pub HaveLevels : GroupLine → Type 0
+HaveLevels g = have_levels g.members ≡ true
+
+-- each level has 16 bits
+abbrev AreLow : List ℕ → Type 0
+AreLow x = (v : ℕ) → get_or x v 0 ≤ 65535
+
+set_low : (x : List ℕ) (i level : ℕ) → AreLow x → level ≤ 65535 → AreLow (set x i level)
+set_low [] i level low here = low
+set_low (l ∷ ls) zero level low here = λ v. elim v as (λ u. get_or (level ∷ ls) u 0 ≤ 65535) [ zero ↦ here | suc u ↦ low (suc u) ]
+set_low (l ∷ ls) (suc i) level low here =
+    let rest = set_low ls i level (λ u. low (suc u)) here in
+    λ v. elim v as (λ u. get_or (l ∷ set ls i level) u 0 ≤ 65535) [ zero ↦ low 0 | suc u ↦ rest u ]
+
+moves_low : (ms : List Reply) (x : List ℕ) → AreLow x → have_levels ms ≡ true → AreLow (with_moves x (moves_of ms))
+moves_low [] x low h = low
+moves_low (m ∷ ms) x low h =
+    let p = and_parts (nat_le m.level 65535) (have_levels ms) h in
+    moves_low ms (set x m.vertex m.level) (set_low x m.vertex m.level low (leb-true m.level 65535 p.0)) p.1
+
+after_low : (gs : List GroupLine) (p : ℕ) (x : List ℕ) → AreLow x → All HaveLevels gs → AreLow (levels_after x (take p (history_of gs)))
+after_low gs zero x low h = low
+after_low [] (suc p) x low h = low
+after_low (g ∷ gs) (suc p) x low h = after_low gs p (with_moves x (moves_of g.members)) (moves_low g.members x low (All-head HaveLevels g gs h)) (All-tail HaveLevels g gs h)
+
+zeros_low : (n : ℕ) → AreLow (replicate n 0)
+zeros_low zero = λ v. omega arith
+zeros_low (suc n) = λ v. elim v as (λ u. get_or (0 ∷ replicate n 0) u 0 ≤ 65535) [ zero ↦ omega arith | suc u ↦ zeros_low n u ]
+
+pub reply_levels : (n : ℕ) (gs : List GroupLine) (from : ℕ) (rs : List Reply) → All HaveLevels gs → AreExplained n (history_of gs) from rs → have_levels rs ≡ true
+reply_levels n gs from [] h e = refl
+reply_levels n gs from (r ∷ rs) h e =
+    let there = after_low gs e.0 (replicate n 0) (zeros_low n) h r.vertex in
+    and_from (nat_le r.level 65535) (have_levels rs) (le-leb r.level 65535 (omega (arith, there, e.1.1.0.level))) (reply_levels n gs e.0 rs h e.1.1.1)
