@@ -4,9 +4,8 @@ use Rattle.std.proofs.lemmas.Bool.{cases_lt}
 use Rattle.std.proofs.lemmas.List.{ext_get_or}
 use Rattle.std.proofs.lemmas.List.Elements.{All-head, All-tail}
 use Rattle.std.specs.Prelude.{All, not}
-use Rattle.kc_graph.specs.declared.limits.TheConstants.{MAX_EDGES}
 use Rattle.kc_graph.specs.Numbers.{RisesFrom, has_number}
-use Rattle.kc_graph.specs.Shape.{GraphShape, Pair, EdgesFrom, IsGraph, same_edge, neighbours_of, has_edge, joined, insert_edge, remove_edge, with_edges, without_edges}
+use Rattle.kc_graph.specs.Shape.{GraphShape, Pair, EdgesFrom, same_edge, has_edge, joined, insert_edge, remove_edge, with_edges, without_edges}
 use Rattle.kc_graph.specs.Changes.{CanAdd, CanRemove, AllAbsent}
 use Rattle.kc_graph.specs.KeptRows.{edges_of, rows_joined, rows_parted, IsKept}
 use Rattle.kc_graph.specs.Halves.{AreGiven, AreGivenSome, AreTaken}

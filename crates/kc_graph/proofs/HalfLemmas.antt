@@ -1,8 +1,8 @@
 -- Lemmas on half-edges that come into rows, or leave them.
-use Rattle.std.proofs.Common.{ℕ, suc, zero, ◌+◌, ◌≤◌, ◌<◌, ◌≡◌, ◌≢◌, inl, inr, Bool, true, false, ◌||◌, ◌&&◌, cond, eqb, List, [], ◌∷◌, ◌++◌, length, get_or, set, take, refl, ap, sym, ◌∙◌, arith}
+use Rattle.std.proofs.Common.{ℕ, suc, ◌+◌, ◌-◌, ◌≤◌, ◌<◌, ◌≡◌, ◌≢◌, inl, inr, Bool, true, false, ◌||◌, ◌&&◌, cond, eqb, List, [], ◌∷◌, ◌++◌, length, get_or, set, take, drop, refl, ap, sym, ◌∙◌, arith}
 use Rattle.std.proofs.lemmas.Bool.{cases_eq}
 use Rattle.std.proofs.lemmas.Bool.Decides.{nat_tests}
-use Rattle.std.proofs.lemmas.List.{length-set, get_or-set_same, get_or-set_other, take_more}
+use Rattle.std.proofs.lemmas.List.{length-set, get_or-set_same, get_or-set_other, take_more, take_all, drop_more, length-drop}
 use Rattle.std.proofs.lemmas.List.Sorted.{list_any-IsPermutation}
 use Rattle.std.specs.List.{list_any}
 use Rattle.std.specs.List.Sorted.{IsPermutation}
@@ -33,23 +33,62 @@ has_edge_any e (f ∷ fs) = ap (λ b. same_edge e f || b) (has_edge_any e fs)
 pub has_edge-permutation : (e : Pair) (es fs : List Pair) → IsPermutation es fs → has_edge e fs ≡ has_edge e es
 has_edge-permutation e es fs same = has_edge_any e fs ∙ sym (list_any-IsPermutation (same_edge e) es fs same) ∙ sym (has_edge_any e es)
 
--- both halves of one more edge
-pub both_next : (es hs : List Pair) (i v w : ℕ) (e : Pair) → i < length es → e ≡ get_or es i (0, 0) → has_edge (v, w) hs ≡ joined v w (take i es) → has_edge (v, w) ((hs ++ e ∷ []) ++ (e.1, e.0) ∷ []) ≡ joined v w (take (i + 1) es)
-both_next es hs i v w e h is before =
-    has_edge-push (v, w) (e.1, e.0) (hs ++ e ∷ [])
-    ∙ ap (λ b. b || same_edge (v, w) (e.1, e.0)) (has_edge-push (v, w) e hs ∙ ap (λ b. b || same_edge (v, w) e) before)
-    ∙ regroup (has_edge (v, w) (take i es)) (has_edge (w, v) (take i es)) (same_edge (v, w) e) (same_edge (v, w) (e.1, e.0)) (same_edge (w, v) e) turned
-    ∙ sym (rw (take_more es i (0, 0) h, ← is, has_edge-push (v, w) e (take i es), has_edge-push (w, v) e (take i es)) refl)
+-- the half at the greater end of one more edge
+pub turned_next : (es hs : List Pair) (i v w : ℕ) (e : Pair) → i < length es → e ≡ get_or es i (0, 0) → has_edge (v, w) hs ≡ has_edge (w, v) (take i es) → has_edge (v, w) (hs ++ (e.1, e.0) ∷ []) ≡ has_edge (w, v) (take (i + 1) es)
+turned_next es hs i v w e h is before =
+    has_edge-push (v, w) (e.1, e.0) hs
+    ∙ ap (λ b. b || same_edge (v, w) (e.1, e.0)) before
+    ∙ ap (λ b. has_edge (w, v) (take i es) || b) turned
+    ∙ sym (rw (take_more es i (0, 0) h, ← is, has_edge-push (w, v) e (take i es)) refl)
   where
     turned : same_edge (v, w) (e.1, e.0) ≡ same_edge (w, v) e
     turned = grind (arith, nat_tests)
 
-    regroup : (a b c d f : Bool) → d ≡ f → (((a || b) || c) || d) ≡ ((a || c) || (b || f))
-    regroup true b c d f e = refl
-    regroup false true true d f e = refl
-    regroup false true false d f e = refl
-    regroup false false true d f e = refl
-    regroup false false false d f e = e
+-- one more half of a list is put at the end of others
+pub moved_next : (list hs : List Pair) (i : ℕ) (e h : Pair) → i < length list → h ≡ get_or list i (0, 0) → has_edge e (hs ++ h ∷ []) || has_edge e (drop (i + 1) list) ≡ has_edge e hs || has_edge e (drop i list)
+moved_next list hs i e h lt is =
+    ap (λ b. b || has_edge e (drop (i + 1) list)) (has_edge-push e h hs)
+    ∙ regroup (has_edge e hs) (same_edge e h) (has_edge e (drop (i + 1) list))
+    ∙ sym (rw (drop_more list i (0, 0) lt, ← is) refl)
+  where
+    regroup : (a b c : Bool) → ((a || b) || c) ≡ (a || (b || c))
+    regroup true b c = refl
+    regroup false b c = refl
+
+-- the half at the lesser end of one more edge
+pub merged_next : (list es hs : List Pair) (i k : ℕ) (d e : Pair) → k < length es → e ≡ get_or es k (0, 0) → has_edge d hs || has_edge d (drop i list) ≡ has_edge d list || has_edge d (take k es) → has_edge d (hs ++ e ∷ []) || has_edge d (drop i list) ≡ has_edge d list || has_edge d (take (k + 1) es)
+merged_next list es hs i k d e lt is before =
+    ap (λ b. b || has_edge d (drop i list)) (has_edge-push d e hs)
+    ∙ regroup (has_edge d hs) (same_edge d e) (has_edge d (drop i list)) (has_edge d list) (has_edge d (take k es)) before
+    ∙ sym (rw (take_more es k (0, 0) lt, ← is, has_edge-push d e (take k es)) refl)
+  where
+    regroup : (a b c f g : Bool) → (a || c) ≡ (f || g) → ((a || b) || c) ≡ (f || (g || b))
+    regroup true b c true g h = refl
+    regroup true b c false true h = refl
+    regroup true true c false false h = refl
+    regroup true false c false false h = h
+    regroup false true c true g h = refl
+    regroup false true c false true h = refl
+    regroup false true c false false h = refl
+    regroup false false c true g h = h
+    regroup false false c false true h = h
+    regroup false false c false false h = h
+
+-- all halves after the merge
+pub merged_last : (list es hs : List Pair) (i k v w : ℕ) (n : ℕ) → length list - i ≤ n → length es ≤ k → ((a b : ℕ) → has_edge (a, b) list ≡ has_edge (b, a) es) → ((d : Pair) → has_edge d hs || has_edge d (drop i list) ≡ has_edge d list || has_edge d (take k es)) → has_edge (v, w) (hs ++ take n (drop i list)) ≡ joined v w es
+merged_last list es hs i k v w n enough all turned same =
+    ap (λ (t : List Pair). has_edge (v, w) (hs ++ t)) (take_all n (drop i list) (rw (length-drop i list) enough))
+    ∙ has_edge-append (v, w) hs (drop i list)
+    ∙ same (v, w)
+    ∙ ap (λ (t : List Pair). has_edge (v, w) list || has_edge (v, w) t) (take_all k es all)
+    ∙ ap (λ b. b || has_edge (v, w) es) (turned v w)
+    ∙ swap (has_edge (w, v) es) (has_edge (v, w) es)
+  where
+    swap : (a b : Bool) → (a || b) ≡ (b || a)
+    swap true true = refl
+    swap true false = refl
+    swap false true = refl
+    swap false false = refl
 
 -- halves of one vertex
 

@@ -1,4 +1,4 @@
-ghost use Rattle.std.specs.Prelude.{◌≡◌, ℕ, ◌+◌, ◌<◌, ◌≤◌, [], length, false, true, All, IfOk, OnOk, OnErr};
+ghost use Rattle.std.specs.Prelude.{◌≡◌, ℕ, ◌+◌, ◌<◌, ◌≤◌, [], length, slice_index, false, true, All, IfOk, OnOk, OnErr};
 ghost use Rattle.kc_graph.specs.Numbers.{RisesFrom};
 ghost use Rattle.kc_graph.specs.Shape.{GraphShape, EdgesFrom, IsGraph, neighbours_of, has_edge, with_edge, without_edge, with_edges, without_edges};
 ghost use Rattle.kc_graph.specs.Changes.{AllAbsent, AllPresent};
@@ -10,6 +10,9 @@ use crate::links;
 use crate::rows::Row;
 use std::alloc::{AllocError, Global};
 use std::marker::Model;
+
+// So many rows are looked at together.
+const TOGETHER: usize = 16;
 
 /// A graph on the vertices 0 to n - 1, without loops, each edge once.
 ///
@@ -89,6 +92,37 @@ impl Graph {
         self.rows[v as usize].as_slice()
     }
 
+    /// True, after a look at the first and the last neighbour of v, if it has any.
+    ///
+    /// Rows lie anywhere in memory, and a look at several of them together takes little longer than at one: a loop that passes over
+    /// the rows of many vertices looks at some of them, and then passes over these.
+    pub fn is_at_hand(&self, v: u32) -> bool
+        ensures { result ≡ true }
+    {
+        match self.rows.get(v as usize) {
+            Some(row) => row.is_at_hand(),
+            None => true,
+        }
+    }
+
+    /// The vertex at a place of a list, for loops that pass over the rows of its vertices in turn: before the first of 16 has its
+    /// turn, the rows of the 16 are looked at together (`is_at_hand`).
+    pub fn in_turn(&self, vertices: &[u32], place: usize) -> u32
+        requires { place < length vertices.now }
+        ensures { result ≡ slice_index vertices.now place }
+    {
+        let v = vertices[place];
+        if place % TOGETHER > 0 {
+            return v;
+        }
+        for k in place..vertices.len().min(place + TOGETHER) {
+            if !self.is_at_hand(vertices[k]) {
+                return 0;
+            }
+        }
+        v
+    }
+
     /// Puts in an edge that is not there (`with_edge`); fewer than `MAX_EDGES` edges may be there.
     ///
     /// Fails only if memory runs out, and the graph is then unchanged. The memory comes from the
@@ -125,7 +159,7 @@ impl Graph {
     ///
     /// Fails only if memory runs out, and the graph is then unchanged.
     ///
-    /// Costs a sort of two pairs an edge, for which it takes memory, and for each vertex that gets neighbours one pass over them
+    /// Costs a sort of one pair an edge and a merge, for which it takes memory, and for each vertex that gets neighbours one pass over them
     /// and over those that it had above the least of them.
     pub fn insert_all(&mut self, alloc: Global, edges: &[Edge]) -> Result<(), AllocError>
         requires ascending { EdgesFrom self.old.vertices 0 0 edges.now }
@@ -147,7 +181,7 @@ impl Graph {
     ///
     /// Fails only if memory runs out, and the graph is then unchanged.
     ///
-    /// Costs a sort of two pairs an edge, for which it takes memory, and for each vertex that loses neighbours one pass over those
+    /// Costs a sort of one pair an edge and a merge, for which it takes memory, and for each vertex that loses neighbours one pass over those
     /// that it had.
     pub fn remove_all(&mut self, alloc: Global, edges: &[Edge]) -> Result<(), AllocError>
         requires ascending { EdgesFrom self.old.vertices 0 0 edges.now }

@@ -34,6 +34,21 @@ pub fn part(rows: &mut Vec<Row>, a: u32, b: u32)
     rows[b as usize].remove(a);
 }
 
+// The rows of so many halves are looked at together.
+const AHEAD: usize = 32;
+
+// Whether the rows of the first halves are at hand, which they are after a look at each.
+fn are_at_hand(rows: &[Row], halves: &[Half]) -> bool {
+    for k in 0..halves.len().min(AHEAD) {
+        if let Some(row) = rows.get(halves[k].vertex() as usize) {
+            if !row.is_at_hand() {
+                return false;
+            }
+        }
+    }
+    true
+}
+
 /// Puts the other end of each half into the row of its vertex, by one merge for each run of halves of one vertex. After a refusal
 /// some may have been put in.
 pub fn give_all(rows: &mut Vec<Row>, halves: &[Half]) -> Result<(), AllocError>
@@ -42,8 +57,14 @@ pub fn give_all(rows: &mut Vec<Row>, halves: &[Half]) -> Result<(), AllocError>
     ensures err { OnErr result (AreGivenSome rows.old.items rows.new.items halves.now) }
 {
     let mut rest = halves;
+    let mut looked = rest.len();
     while let Some(first) = rest.first() {
-        let (run, later) = rest.split_at(run_len(rest));
+        let mut near = true;
+        if rest.len() <= looked {
+            near = are_at_hand(rows, rest);
+            looked = rest.len().saturating_sub(AHEAD);
+        }
+        let (run, later) = rest.split_at(run_len(rest, near));
         rows[first.v as usize].insert_all(run)?;
         rest = later;
     }
@@ -57,8 +78,14 @@ pub fn take_all(rows: &mut Vec<Row>, halves: &[Half])
     ensures { AreTaken rows.old.items rows.new.items halves.now }
 {
     let mut rest = halves;
+    let mut looked = rest.len();
     while let Some(first) = rest.first() {
-        let (run, later) = rest.split_at(run_len(rest));
+        let mut near = true;
+        if rest.len() <= looked {
+            near = are_at_hand(rows, rest);
+            looked = rest.len().saturating_sub(AHEAD);
+        }
+        let (run, later) = rest.split_at(run_len(rest, near));
         rows[first.v as usize].remove_all(run);
         rest = later;
     }

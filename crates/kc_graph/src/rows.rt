@@ -1,4 +1,4 @@
-ghost use Rattle.std.specs.Prelude.{◌≡◌, ℕ, ◌<◌, ◌↔◌, ◌||◌, not, [], List, IsTrue, OnOk, OnErr, All, filter};
+ghost use Rattle.std.specs.Prelude.{◌≡◌, ℕ, ◌<◌, ◌↔◌, ◌||◌, not, true, [], List, IsTrue, OnOk, OnErr, All, filter};
 ghost use Rattle.kc_graph.specs.Numbers.{has_number, put, without, RisesFrom, Found};
 ghost use Rattle.kc_graph.specs.Halves.{has_second, SecondsRise};
 
@@ -54,6 +54,15 @@ impl Row {
         ensures { result.now ≡ self.now }
     {
         self.items.as_slice()
+    }
+
+    /// Whether the first number is no greater than the last, as in every row: a look at both ends, which are at hand then for a
+    /// pass over the row.
+    pub fn is_at_hand(&self) -> bool
+        ensures { result ≡ true }
+    {
+        let n = self.items.len();
+        n == 0 || self.items[0] <= self.items[n - 1]
     }
 
     pub fn has(&self, x: u32) -> bool

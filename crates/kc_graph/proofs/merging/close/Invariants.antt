@@ -1,4 +1,4 @@
-use Rattle.std.proofs.Common.{◌≡◌, ◌≤◌, ◌++◌, take, drop}
+use Rattle.std.proofs.Common.{◌≡◌, ◌++◌, take, drop}
 use Rattle.kc_graph.proofs.merging.close.Given as goal
 
 abbrev pub invariant-loop : goal.invariant-loop

@@ -1,7 +1,7 @@
-use Rattle.std.proofs.Common.{ℕ, ◌≡◌, ◌+◌, ◌≤◌, ◌<◌, ◌∙◌, length, get_or, ap, arith, sym, subst}
+use Rattle.std.proofs.Common.{ℕ, ◌≡◌, ◌≤◌, ◌<◌, ◌∙◌, length, get_or, ap, arith}
 use Rattle.std.proofs.lemmas.List.{get_or_read}
 use Rattle.kc_graph.specs.Shape.{Pair}
-use Rattle.kc_graph.proofs.MergeLemmas.{IsKeeping, keeping_it, taking_it}
+use Rattle.kc_graph.proofs.MergeLemmas.{keeping_it, taking_it}
 use Rattle.kc_graph.proofs.merging.keep_others.Goals.{then-j-outgoing, then-j-outgoing-via-then-j-outgoing, then-j-outgoing-via-else-j-outgoing+then-other-x, else-j-outgoing+else-other-x}
 use Rattle.kc_graph.proofs.merging.keep_others.Goals as goal
 

@@ -1,7 +1,7 @@
 use Rattle.std.proofs.Common.{ℕ, ◌≡◌, ◌-◌, ◌+◌, ◌<◌, ◌∙◌, take, get_or, refl, ap, arith, rules}
 use Rattle.std.proofs.lemmas.List.{get_or_read}
 use Rattle.kc_graph.specs.Shape.{Pair}
-use Rattle.kc_graph.proofs.MergeLemmas.{IsMerging, merging_first, merging_new, merging_old, merging_both, merged_rises, merged_has}
+use Rattle.kc_graph.proofs.MergeLemmas.{merging_first, merging_new, merging_old, merging_both, merged_rises, merged_has}
 use Rattle.kc_graph.proofs.merging.merge_back.Goals.{then-x-w, else-x-w, else-i-gt0-via-then-i-gt0+else-w-index, else-i-gt0-via-else-i-gt0}
 use Rattle.kc_graph.proofs.merging.merge_back.Goals as goal
 

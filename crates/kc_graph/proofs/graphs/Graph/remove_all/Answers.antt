@@ -1,5 +1,5 @@
-use Rattle.std.proofs.Common.{ℕ, ◌≡◌, ◌≤◌, ◌∙◌, true, length, sym, arith}
-use Rattle.kc_graph.specs.Shape.{EdgesFrom, has_edge, joined}
+use Rattle.std.proofs.Common.{◌≡◌, ◌∙◌, true, sym, arith}
+use Rattle.kc_graph.specs.Shape.{EdgesFrom, has_edge}
 use Rattle.kc_graph.specs.Changes.{CanRemove}
 use Rattle.kc_graph.specs.Halves.{AreTaken}
 use Rattle.kc_graph.proofs.ChangeLemmas.{can_remove_ascending}
