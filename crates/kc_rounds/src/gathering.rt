@@ -6,8 +6,8 @@ use std::alloc::{AllocError, Global};
 use std::thread;
 use std::thread::Threads;
 
-// How many vertices ahead room is made.
-const AHEAD: usize = 8;
+// For so many vertices room is made at once.
+const TOGETHER: usize = 16;
 
 /// What is gathered at a vertex, by several threads at once at several: a number and some vertices.
 pub trait RoundGather {
@@ -20,8 +20,8 @@ pub trait RoundGather {
     /// At which vertices may be gathered.
     ghost may_gather: { Self → ℕ → Type 0 };
 
-    /// As many vertices as are found at `v`, or more. Is asked some vertices ahead, so that what it reads of `v` is at hand when
-    /// `v` has its turn.
+    /// As many vertices as are found at `v`, or more. Is asked for 16 vertices together, before the first of them has its turn, so
+    /// that what it reads of them is at hand then.
     fn room(&self, v: u32) -> usize
         requires { may_gather self.now v }
         ensures { length (finds self.now v) ≤ result };
@@ -45,6 +45,17 @@ pub struct Gathered {
     pub found: Vec<u32>,
 }
 
+// Room for what is found at the first vertices.
+fn room_for<F: RoundGather>(vertices: &[u32], what: &F) -> usize
+    requires { All (F.may_gather what.now) vertices.now }
+{
+    let mut room = 0usize;
+    for i in 0..vertices.len().min(TOGETHER) {
+        room = room.saturating_add(what.room(vertices[i]));
+    }
+    room
+}
+
 // Gathers at the vertices of a piece, in order.
 fn gather_piece<F: RoundGather>(
     alloc: Global,
@@ -58,8 +69,8 @@ fn gather_piece<F: RoundGather>(
     let mut lengths = Vec::with_capacity(alloc, piece.len())?;
     let mut found = Vec::new(alloc);
     for i in 0..piece.len() {
-        if piece.len() - i > AHEAD {
-            found.reserve(what.room(piece[i + AHEAD]))?;
+        if i % TOGETHER == 0 {
+            found.reserve(room_for(&piece[i..], what))?;
         }
         let before = found.len();
         numbers.push(what.gather(piece[i], &mut found)?)?;
