@@ -1,17 +1,12 @@
 -- What stands in the buckets after a vertex came into one, or left it.
-use Rattle.std.proofs.Common.{ℕ, zero, suc, replicate, ◌≤◌, ◌<◌, ◌≡◌, ◌≢◌, ◌⊎◌, inl, inr, Bool, true, false, ◌&&◌, List, [], ◌∷◌, ◌++◌, length, get_or, set, refl, ap, sym, ◌∙◌, arith, subst}
+use Rattle.std.proofs.Common.{ℕ, replicate, ◌≤◌, ◌<◌, ◌≡◌, ◌≢◌, ◌⊎◌, inl, inr, Bool, true, false, ◌&&◌, List, [], ◌∷◌, ◌++◌, length, get_or, set, refl, ap, sym, ◌∙◌, arith}
 use Rattle.std.specs.Prelude.{filter}
 use Rattle.std.proofs.lemmas.Bool.{cases_eq, cases_Bool, true≢false}
 use Rattle.std.proofs.lemmas.Bool.Decides.{nat_tests}
-use Rattle.std.proofs.lemmas.List.{length-set, get_or-set_same, get_or-set_other}
+use Rattle.std.proofs.lemmas.List.{get_or-set_same, get_or-set_other}
 use Rattle.kc_graph.specs.Numbers.{has_number}
-use Rattle.kc_graph.specs.Shape.{GraphShape, Pair, with_edge}
 use Rattle.kc_graph.proofs.NumberLemmas.{has_number-append, has_number-push}
-use Rattle.kc_graph.proofs.NeighbourLemmas.{neighbours_of_insert_other}
-use Rattle.kc_levels.specs.declared.profile.Profile.{Profile}
-use Rattle.kc_levels.specs.LevelList.{at_least, MeetsUpper, IsCapped}
 use Rattle.kc_adj.proofs.Marks.{empty_list}
-use Rattle.kc_insert.specs.BucketQueue.{IsFiled, IsQueued}
 use Rattle.kc_insert.specs.Counting.{AreWaiting}
 
 -- what holds of a new bucket at its level, and of the old bucket at each other level, holds at every level
@@ -74,48 +69,6 @@ waiting_more n x l k w queue inside h on from s = record {
       (λ e there. elim (pushed_is u w (get_or queue k []) there) [ inl is ↦ ap (λ t. get_or x t 0) is ∙ on ∙ sym e | inr old ↦ s.level k u from old ∙ sym e ])
       (λ ne there. s.level j u le there);
 }
-
--- a vertex is filed at its level
-filed_more : (p : Profile) (g : GraphShape) (y : List ℕ) (w : ℕ) (queue after : List (List ℕ)) → IsQueued p g y queue → IsCapped p g.vertices y → w < g.vertices → after ≡ set queue (get_or y w 0) (get_or queue (get_or y w 0) [] ++ w ∷ []) → IsQueued p g y after × IsFiled y after w × ((u : ℕ) → IsFiled y queue u → IsFiled y after u)
-filed_more p g y w queue after s capped h is = rw is (
-  record {
-    sized = length-set queue (get_or y w 0) (get_or queue (get_or y w 0) [] ++ w ∷ []) ∙ s.sized;
-    waiting = waiting_more g.vertices y 0 (get_or y w 0) w queue wide h refl (omega arith) s.waiting;
-    found = λ u hu. elim (s.found u hu) [ inl at ↦ inl (stays u at) | inr fine ↦ inr fine ];
-  },
-  now_there queue (get_or y w 0) (w ∷ []) wide w (grind (arith, nat_tests)),
-  stays,
-)
-  where
-    wide : get_or y w 0 < length queue
-    wide = omega (arith, s.sized, capped w h)
-
-    stays : (u : ℕ) → IsFiled y queue u → IsFiled y (set queue (get_or y w 0) (get_or queue (get_or y w 0) [] ++ w ∷ [])) u
-    stays u at = still_there queue (get_or y w 0) (w ∷ []) wide (get_or y u 0) u at
-
--- an edge came in, and both its ends are filed
-relinked : (p : Profile) (g : GraphShape) (y : List ℕ) (e : Pair) (queue : List (List ℕ)) → IsQueued p g y queue → IsFiled y queue e.0 → IsFiled y queue e.1 → IsQueued p (with_edge g e) y queue
-unfolding at_least
-relinked p g y e queue s low high_ = record {
-  sized = s.sized;
-  waiting = record { vertex = s.waiting.vertex; level = s.waiting.level };
-  found = λ u h. elim (cases_eq u e.0) [
-    | inl is ↦ inl (subst (IsFiled y queue) (sym is) low)
-    | inr no_low ↦ elim (cases_eq u e.1) [
-      | inl is ↦ inl (subst (IsFiled y queue) (sym is) high_)
-      | inr no_high ↦ elim (s.found u h) [ inl at ↦ inl at | inr fine ↦ inr (same u no_low no_high fine) ]
-    ]
-  ];
-}
-  where
-    same : (u : ℕ) → u ≢ e.0 → u ≢ e.1 → MeetsUpper p g y u → MeetsUpper p (with_edge g e) y u
-    same u no_low no_high fine = rw (neighbours_of_insert_other u e.0 e.1 g.edges no_low no_high) fine
-
-pub queued_linked : (p : Profile) (g h : GraphShape) (y z : List ℕ) (e : Pair) (queue low_filed both_filed : List (List ℕ)) → h ≡ with_edge g e → z ≡ y → IsQueued p g y queue → IsCapped p g.vertices y → e.0 < e.1 → e.1 < g.vertices → low_filed ≡ set queue (get_or z e.0 0) (get_or queue (get_or z e.0 0) [] ++ e.0 ∷ []) → both_filed ≡ set low_filed (get_or z e.1 0) (get_or low_filed (get_or z e.1 0) [] ++ e.1 ∷ []) → IsQueued p h z both_filed
-queued_linked p g h y z e queue low_filed both_filed linked levels s capped order within low high_ =
-    let first = filed_more p g y e.0 queue low_filed s capped (omega (arith, order, within)) (rw levels at low) in
-    let second = filed_more p g y e.1 low_filed both_filed first.0 capped within (rw levels at high_) in
-    rw (linked, levels) (relinked p g y e both_filed second.0 (second.2 e.0 first.1) second.1)
 
 -- nobody waits in empty buckets
 pub waiting_none : (n : ℕ) (x : List ℕ) (k : ℕ) → AreWaiting n x 0 (replicate k [])

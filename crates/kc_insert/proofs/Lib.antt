@@ -1,5 +1,5 @@
 pub mod Buckets
-pub mod Linking
+pub mod Filing
 pub mod Flips
 pub mod Lifting
 pub mod Efforts

@@ -1,7 +1,6 @@
 -- Those who came to a level rise from it together, over several levels at once: they count each other on each of the levels, and
 -- nobody else whom they count, or who counts them, stands on the way.
-use Rattle.std.proofs.Common.{ℕ, suc, zero, ◌+◌, ◌*◌, ◌-◌, ◌≤◌, ◌<◌, ◌≡◌, ◌⊎◌, inl, inr, Bool, true, false, leb, eqb, not, List, [], length, get_or, refl, ap, sym, ◌∙◌, arith, subst}
-use Rattle.std.specs.Prelude.{count_by}
+use Rattle.std.proofs.Common.{ℕ, suc, zero, ◌+◌, ◌*◌, ◌-◌, ◌≤◌, ◌<◌, ◌≡◌, ◌⊎◌, inl, inr, true, false, leb, eqb, not, List, [], length, get_or, refl, ap, sym, ◌∙◌, arith, subst}
 use Rattle.std.proofs.Math.Nat.{mul-le-mul_right}
 use Rattle.std.proofs.lemmas.Bool.{cases_lt, cases_eq, cases_Bool, true≢false}
 use Rattle.std.proofs.lemmas.Bool.Decides.{nat_tests}
@@ -11,11 +10,9 @@ use Rattle.kc_graph.specs.Shape.{GraphShape, Pair, IsGraph, neighbours_of, has_e
 use Rattle.kc_graph.proofs.NeighbourLemmas.{neighbours_both}
 use Rattle.kc_levels.specs.declared.profile.Profile.{Profile}
 use Rattle.kc_levels.specs.Thresholds.{high, group_of, top_level}
-use Rattle.kc_levels.specs.LevelList.{at_least, MeetsUpper, IsRaising}
-use Rattle.kc_levels.specs.Moved.{is_moved}
+use Rattle.kc_levels.specs.LevelList.{at_least, IsRaising}
 use Rattle.kc_levels.proofs.AtLeast.{below_everywhere}
 use Rattle.kc_levels.proofs.Raising.{raising_many}
-use Rattle.kc_adj.specs.LeveledGraph.{IsCounted}
 use Rattle.kc_insert.specs.Effort.{effort}
 use Rattle.kc_insert.specs.Sweeping.{all_at, IsSweeping, HaveCome}
 use Rattle.kc_insert.specs.Together.{IsFree}

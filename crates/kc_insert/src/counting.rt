@@ -100,10 +100,11 @@ pub fn part<L: Ledger>(
 {
     let _n = adj.graph().vertices();
     let _levels = adj.levels();
-    for v in risers {
-        if levels.get(*v) == level {
-            part_from(adj, levels, counts, level, *v, steps);
-            adj.lift(*v, level, steps);
+    for i in 0..risers.len() {
+        let v = adj.graph().in_turn(risers, i);
+        if levels.get(v) == level {
+            part_from(adj, levels, counts, level, v, steps);
+            adj.lift(v, level, steps);
         }
     }
 }
@@ -187,7 +188,12 @@ impl RoundGather for Beginning<'_> {
     ghost may_gather = { λ what v. (v < what.adj.now.graph.vertices) × (length what.levels.now ≡ what.adj.now.graph.vertices) };
 
     fn room(&self, v: u32) -> usize {
-        self.adj.graph().neighbours(v).len()
+        let graph = self.adj.graph();
+        if graph.is_at_hand(v) {
+            graph.neighbours(v).len()
+        } else {
+            usize::MAX
+        }
     }
 
     fn gather(&self, v: u32, found: &mut Vec<u32>) -> Result<u32, AllocError> {

@@ -1,102 +1,164 @@
-ghost use Rattle.std.specs.Prelude.{◌≡◌, ℕ, ◌+◌, ◌*◌, ◌<◌, ◌≤◌, [], OnOk, length, replicate};
+ghost use Rattle.std.specs.Prelude.{◌≡◌, ◌≢◌, ℕ, List, ◌+◌, ◌*◌, ◌<◌, ◌≤◌, All, OnOk, length, slice_index, slice_set};
 ghost use Rattle.kc_graph.specs.Shape.{EdgesFrom, with_edges};
 ghost use Rattle.kc_graph.specs.Changes.{AllAbsent, CanAdd};
 ghost use Rattle.kc_levels.specs.Thresholds.{top_level};
-ghost use Rattle.kc_levels.specs.LevelList.{MeetsUpper, IsCapped};
-ghost use Rattle.kc_insert.specs.BucketQueue.{IsQueued};
+ghost use Rattle.kc_levels.specs.LevelList.{IsCapped};
+ghost use Rattle.kc_levels.specs.Following.{IsCopied};
+ghost use Rattle.kc_insert.specs.BucketQueue.{IsFiling};
 
 use kc_adj::{LevelAdj, LevelLists, Steps};
 use kc_graph::{Edge, MAX_EDGES};
-use kc_levels::Thresholds;
+use kc_levels::{Levels, Thresholds};
 use std::alloc::{AllocError, Global};
 use std::sync::ledger::Ledger;
 
 // The least number of edges whose halves are worth a sort, so that the row of each vertex is gone through once.
 const LEAST_TOGETHER: usize = 8_192;
 
-// As `link_edges` says, edge by edge.
+// Links the edges, one after another. Levels stay.
 fn link_each<L: Ledger>(
     alloc: Global,
-    th: &Thresholds,
     adj: &mut LevelAdj,
-    queue: &mut LevelLists<u32>,
     added: &[Edge],
     steps: &mut Steps<L>,
 ) -> Result<(), AllocError>
-    requires scale { th.now.vertices ≡ adj.old.graph.vertices }
-    requires capped { IsCapped th.now.profile adj.old.graph.vertices adj.old.levels }
-    requires upper { (v : ℕ) → v < adj.old.graph.vertices → MeetsUpper th.now.profile adj.old.graph adj.old.levels v }
-    requires empty { queue.old ≡ replicate (top_level th.now.profile th.now.vertices + 1) [] }
     requires addable { CanAdd adj.old.graph added.now }
-    ensures graph { OnOk result (adj.new.graph ≡ with_edges adj.old.graph added.now) }
-    ensures levels { OnOk result (adj.new.levels ≡ adj.old.levels) }
-    ensures queued { OnOk result (IsQueued th.now.profile adj.new.graph adj.new.levels queue.new) }
+    ensures value { OnOk result (adj.new ≡ record adj.old { graph = with_edges adj.old.graph added.now }) }
     ensures cost { OnOk result (steps.new ≡ steps.old + 3 * length added.now) }
 {
     for e in added {
         adj.link(alloc, *e, steps)?;
-        queue.file(adj.level(e.a), e.a)?;
-        queue.file(adj.level(e.b), e.b)?;
     }
     Ok(())
 }
 
-// As `link_edges` says, the edges of a vertex by one merge.
-fn link_together<L: Ledger>(
-    alloc: Global,
-    th: &Thresholds,
-    adj: &mut LevelAdj,
-    queue: &mut LevelLists<u32>,
-    added: &[Edge],
-    steps: &mut Steps<L>,
-) -> Result<(), AllocError>
-    requires scale { th.now.vertices ≡ adj.old.graph.vertices }
-    requires capped { IsCapped th.now.profile adj.old.graph.vertices adj.old.levels }
-    requires upper { (v : ℕ) → v < adj.old.graph.vertices → MeetsUpper th.now.profile adj.old.graph adj.old.levels v }
-    requires empty { queue.old ≡ replicate (top_level th.now.profile th.now.vertices + 1) [] }
-    requires ascending { EdgesFrom adj.old.graph.vertices 0 0 added.now }
-    requires absent { AllAbsent adj.old.graph added.now }
-    requires room { length adj.old.graph.edges + length added.now ≤ MAX_EDGES }
-    ensures graph { OnOk result (adj.new.graph ≡ with_edges adj.old.graph added.now) }
-    ensures levels { OnOk result (adj.new.levels ≡ adj.old.levels) }
-    ensures queued { OnOk result (IsQueued th.now.profile adj.new.graph adj.new.levels queue.new) }
-    ensures cost { OnOk result (steps.new ≡ steps.old + 3 * length added.now) }
-{
-    adj.link_all(alloc, added, steps)?;
-    for e in added {
-        queue.file(adj.level(e.a), e.a)?;
-        queue.file(adj.level(e.b), e.b)?;
-    }
-    Ok(())
-}
-
-/// Links the edges, which ascend, and files both ends of each, so that every vertex that breaks the upper invariant by them is in
-/// the queue. No vertex breaks it before, and the queue is empty. Counts 3 steps for each edge.
+/// Links the edges, which ascend. Levels stay. Counts 3 steps for each edge.
 ///
 /// Fails only if memory runs out; the graph is then unspecified.
 pub fn link_edges<L: Ledger>(
     alloc: Global,
-    th: &Thresholds,
     adj: &mut LevelAdj,
-    queue: &mut LevelLists<u32>,
     added: &[Edge],
     steps: &mut Steps<L>,
 ) -> Result<(), AllocError>
-    requires scale { th.now.vertices ≡ adj.old.graph.vertices }
-    requires capped { IsCapped th.now.profile adj.old.graph.vertices adj.old.levels }
-    requires upper { (v : ℕ) → v < adj.old.graph.vertices → MeetsUpper th.now.profile adj.old.graph adj.old.levels v }
-    requires empty { queue.old ≡ replicate (top_level th.now.profile th.now.vertices + 1) [] }
     requires ascending { EdgesFrom adj.old.graph.vertices 0 0 added.now }
     requires absent { AllAbsent adj.old.graph added.now }
     requires room { length adj.old.graph.edges + length added.now ≤ MAX_EDGES }
-    ensures graph { OnOk result (adj.new.graph ≡ with_edges adj.old.graph added.now) }
-    ensures levels { OnOk result (adj.new.levels ≡ adj.old.levels) }
-    ensures queued { OnOk result (IsQueued th.now.profile adj.new.graph adj.new.levels queue.new) }
+    ensures value { OnOk result (adj.new ≡ record adj.old { graph = with_edges adj.old.graph added.now }) }
     ensures cost { OnOk result (steps.new ≡ steps.old + 3 * length added.now) }
 {
     if added.len() < LEAST_TOGETHER {
-        link_each(alloc, th, adj, queue, added, steps)
-    } else {
-        link_together(alloc, th, adj, queue, added, steps)
+        link_each(alloc, adj, added, steps)?;
+        return Ok(());
     }
+    adj.link_all(alloc, added, steps)?;
+    Ok(())
+}
+
+// Copies the fresh count of v, and files v where this is another one than before and more than its group allows.
+fn file_end(
+    th: &Thresholds,
+    levels: &Levels,
+    fresh: &[u32],
+    queue: &mut LevelLists<u32>,
+    counts: &mut Vec<u32>,
+    v: u32,
+) -> Result<(), AllocError>
+    requires vertex { v < length fresh.now }
+    requires levels { length levels.now ≡ length fresh.now }
+    requires counts { length counts.old.items ≡ length fresh.now }
+    requires scale { th.now.vertices ≡ length fresh.now }
+    requires capped { IsCapped th.now.profile th.now.vertices levels.now }
+    requires room { length queue.old ≡ top_level th.now.profile th.now.vertices + 1 }
+    ensures copied { OnOk result (counts.new.items ≡ slice_set counts.old.items v (slice_index fresh.now v)) }
+    ensures room { OnOk result (length queue.new ≡ length queue.old) }
+    ensures filing { OnOk result ((before : List ℕ) → IsFiling th.now.profile th.now.vertices levels.now fresh.now before counts.old.items queue.old → IsFiling th.now.profile th.now.vertices levels.now fresh.now before counts.new.items queue.new) }
+{
+    let own = fresh[v as usize];
+    if counts[v as usize] == own {
+        return Ok(());
+    }
+    counts[v as usize] = own;
+    let level = levels.get(v);
+    if own > th.high(th.group(level)) {
+        queue.file(level, v)?;
+    }
+    Ok(())
+}
+
+// As `file_end` says, for the lesser end of each edge.
+fn file_lesser_ends(
+    th: &Thresholds,
+    levels: &Levels,
+    fresh: &[u32],
+    queue: &mut LevelLists<u32>,
+    counts: &mut Vec<u32>,
+    edges: &[Edge],
+) -> Result<(), AllocError>
+    requires inside { All (λ e. e.1 < length fresh.now) edges.now }
+    requires levels { length levels.now ≡ length fresh.now }
+    requires counts { length counts.old.items ≡ length fresh.now }
+    requires scale { th.now.vertices ≡ length fresh.now }
+    requires capped { IsCapped th.now.profile th.now.vertices levels.now }
+    requires room { length queue.old ≡ top_level th.now.profile th.now.vertices + 1 }
+    ensures copied { OnOk result (IsCopied fresh.now counts.old.items counts.new.items (λ v. All (λ e. v ≢ e.0) edges.now)) }
+    ensures room { OnOk result (length queue.new ≡ length queue.old) }
+    ensures filing { OnOk result ((before : List ℕ) → IsFiling th.now.profile th.now.vertices levels.now fresh.now before counts.old.items queue.old → IsFiling th.now.profile th.now.vertices levels.now fresh.now before counts.new.items queue.new) }
+{
+    for e in edges {
+        file_end(th, levels, fresh, queue, counts, e.a)?;
+    }
+    Ok(())
+}
+
+// As `file_end` says, for the greater end of each edge.
+fn file_greater_ends(
+    th: &Thresholds,
+    levels: &Levels,
+    fresh: &[u32],
+    queue: &mut LevelLists<u32>,
+    counts: &mut Vec<u32>,
+    edges: &[Edge],
+) -> Result<(), AllocError>
+    requires inside { All (λ e. e.1 < length fresh.now) edges.now }
+    requires levels { length levels.now ≡ length fresh.now }
+    requires counts { length counts.old.items ≡ length fresh.now }
+    requires scale { th.now.vertices ≡ length fresh.now }
+    requires capped { IsCapped th.now.profile th.now.vertices levels.now }
+    requires room { length queue.old ≡ top_level th.now.profile th.now.vertices + 1 }
+    ensures copied { OnOk result (IsCopied fresh.now counts.old.items counts.new.items (λ v. All (λ e. v ≢ e.1) edges.now)) }
+    ensures room { OnOk result (length queue.new ≡ length queue.old) }
+    ensures filing { OnOk result ((before : List ℕ) → IsFiling th.now.profile th.now.vertices levels.now fresh.now before counts.old.items queue.old → IsFiling th.now.profile th.now.vertices levels.now fresh.now before counts.new.items queue.new) }
+{
+    for e in edges {
+        file_end(th, levels, fresh, queue, counts, e.b)?;
+    }
+    Ok(())
+}
+
+/// Copies the fresh counts of the ends of the edges, and files each end once, by its level, whose count is another one than before
+/// and more than its group allows.
+///
+/// The lesser ends go first: where the edges ascend, so do they, and the rows of who is filed next to another often lie near each
+/// other. Fails only if memory runs out.
+pub fn file_ends(
+    th: &Thresholds,
+    levels: &Levels,
+    fresh: &[u32],
+    queue: &mut LevelLists<u32>,
+    counts: &mut Vec<u32>,
+    edges: &[Edge],
+) -> Result<(), AllocError>
+    requires inside { All (λ e. e.1 < length fresh.now) edges.now }
+    requires levels { length levels.now ≡ length fresh.now }
+    requires counts { length counts.old.items ≡ length fresh.now }
+    requires scale { th.now.vertices ≡ length fresh.now }
+    requires capped { IsCapped th.now.profile th.now.vertices levels.now }
+    requires room { length queue.old ≡ top_level th.now.profile th.now.vertices + 1 }
+    ensures copied { OnOk result (IsCopied fresh.now counts.old.items counts.new.items (λ v. All (λ e. (v ≢ e.0) × (v ≢ e.1)) edges.now)) }
+    ensures filing { OnOk result ((before : List ℕ) → IsFiling th.now.profile th.now.vertices levels.now fresh.now before counts.old.items queue.old → IsFiling th.now.profile th.now.vertices levels.now fresh.now before counts.new.items queue.new) }
+{
+    file_lesser_ends(th, levels, fresh, queue, counts, edges)?;
+    file_greater_ends(th, levels, fresh, queue, counts, edges)?;
+    Ok(())
 }

@@ -6,8 +6,7 @@ ghost use Rattle.kc_levels.specs.Moved.{moved_count, moves_between};
 ghost use Rattle.kc_insert.specs.Effort.{effort};
 ghost use Rattle.kc_insert.specs.Working.{IsReady};
 
-use crate::copying::copy_ends;
-use crate::filling::link_edges;
+use crate::filling::{file_ends, link_edges};
 use crate::sweeping::raise_queued;
 use crate::work::InsertionWork;
 use kc_adj::{LevelAdj, Steps};
@@ -76,8 +75,15 @@ pub fn insert_phase<R: Threads + Sync, G: Gate + Sync, L: Ledger>(
 {
     let _levels = adj.levels();
     let _top = th.top();
-    link_edges(alloc, th, adj, &mut work.sweep.queue, added, steps)?;
-    copy_ends(&mut work.sweep.counts, adj.own_counts(), added);
+    link_edges(alloc, adj, added, steps)?;
+    file_ends(
+        th,
+        adj.levels(),
+        adj.own_counts(),
+        &mut work.sweep.queue,
+        &mut work.sweep.counts,
+        added,
+    )?;
     raise_queued(rounds, alloc, th, adj, &mut work.sweep, steps)?;
     let moves = work.take_moves(alloc)?;
     Ok(moves)

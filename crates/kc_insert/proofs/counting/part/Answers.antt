@@ -1,4 +1,4 @@
-use Rattle.std.proofs.Common.{◌+◌, ◌<◌, get_or, refl, sym, ◌∙◌, arith}
+use Rattle.std.proofs.Common.{◌+◌, ◌<◌, get_or, ap, refl, sym, ◌∙◌, arith}
 use Rattle.kc_graph.proofs.NumberLemmas.{has_number_at}
 use Rattle.kc_insert.specs.Counting.{steps_on}
 use Rattle.kc_insert.proofs.Parting.{distinct_at, steps_at_on, steps_at_off, parted_some_at, parted_on_at, parted_off_at, parted_last, steps_last, settling_first, goes_same, less_same, settles_below, settles, settles_not, settling_last}
@@ -7,53 +7,53 @@ use Rattle.kc_insert.proofs.counting.part.Goals as goal
 
 pub get-requires : goal.get-requires
 get-requires g c =
-    let low : get_or c.args.risers.now c.loop-v.v-index 0 < c.args.adj.now.graph.vertices = c.requires.vertices _ (has_number_at _ c.args.risers.now c.loop-v.v-index (omega arith) refl) in
+    let low : get_or c.args.risers.now c.loop-i.i 0 < c.args.adj.now.graph.vertices = c.requires.vertices _ (has_number_at _ c.args.risers.now c.loop-i.i (omega arith) refl) in
     omega (arith, low, c.requires.sized)
 
 pub part_from-requires-clause-vertex : goal.part_from-requires-clause-vertex
-part_from-requires-clause-vertex g c = rw c.loop-v.invariant.3.graph (c.requires.vertices _ (has_number_at _ c.args.risers.now c.loop-v.v-index (omega arith) refl))
+part_from-requires-clause-vertex g c = rw (c.in_turn-v.ensures, c.loop-i.invariant.3.graph) (c.requires.vertices _ (has_number_at _ c.args.risers.now c.loop-i.i (omega arith) refl))
 
 pub part_from-requires-clause-some : goal.part_from-requires-clause-some
 part_from-requires-clause-some g c =
-    λ u goes near. parted_some_at _ _ _ c.args.risers.now c.loop-v.v-index (omega arith) _ _ _ c.requires.graph c.loop-v.invariant.0 c.loop-v.invariant.1 (rw c.get.ensures at c.if-get-level.true) u
-    (sym (goes_same _ _ _ _ _ _ c.loop-v.invariant.3 u) ∙ goes) (rw c.loop-v.invariant.3.graph at near)
+    λ u goes near. parted_some_at _ _ _ c.args.risers.now c.loop-i.i (omega arith) _ _ _ c.requires.graph c.loop-i.invariant.0 c.loop-i.invariant.1 (rw (c.get.ensures, c.in_turn-v.ensures) at c.if-get-level.true) u
+    (sym (goes_same _ _ _ _ _ _ c.loop-i.invariant.3 u) ∙ goes) (rw (c.in_turn-v.ensures, c.loop-i.invariant.3.graph) at near)
 
 pub lift-requires-clause-vertex : goal.lift-requires-clause-vertex
-lift-requires-clause-vertex g c = rw c.loop-v.invariant.3.graph (c.requires.vertices _ (has_number_at _ c.args.risers.now c.loop-v.v-index (omega arith) refl))
+lift-requires-clause-vertex g c = rw (c.in_turn-v.ensures, c.loop-i.invariant.3.graph) (c.requires.vertices _ (has_number_at _ c.args.risers.now c.loop-i.i (omega arith) refl))
 
 pub lift-requires-clause-over : goal.lift-requires-clause-over
-lift-requires-clause-over g c = settles_below _ _ _ _ c.args.risers.now c.loop-v.v-index (omega arith) c.loop-v.invariant.3
+lift-requires-clause-over g c = rw c.in_turn-v.ensures (settles_below _ _ _ _ c.args.risers.now c.loop-i.i (omega arith) c.loop-i.invariant.3)
 
-pub loop-v-preserved : goal.loop-v-preserved
-loop-v-preserved g c =
+pub loop-i-preserved : goal.loop-i-preserved
+loop-i-preserved g c =
     let all = c.args.steps.now + steps_on c.args.adj.now.graph c.args.levels.now c.args.level c.args.risers.now in
-    let distinct = (distinct_at c.args.adj.now.graph c.args.levels.now c.args.level c.args.risers.now c.loop-v.v-index (omega arith) c.loop-v.invariant.1).1 in
+    let distinct = (distinct_at c.args.adj.now.graph c.args.levels.now c.args.level c.args.risers.now c.loop-i.i (omega arith) c.loop-i.invariant.1).1 in
     elim c.if-get-level.branch [
       | then-get-level w ↦
-          let on = rw c.get.ensures at w.if-get-level.true in
-          let low : get_or c.args.risers.now c.loop-v.v-index 0 < c.args.adj.now.graph.vertices = c.requires.vertices _ (has_number_at _ c.args.risers.now c.loop-v.v-index (omega arith) refl) in
-          let less = less_same _ _ _ _ _ _ _ _ _ c.loop-v.invariant.3 w.part_from.ensures.less in (
-            rw w.counts-is (parted_on_at _ _ _ c.args.risers.now c.loop-v.v-index (omega arith) _ _ _ c.requires.graph c.loop-v.invariant.0 _ c.loop-v.invariant.1 on less),
+          let on = rw (c.get.ensures, c.in_turn-v.ensures) at w.if-get-level.true in
+          let low : get_or c.args.risers.now c.loop-i.i 0 < c.args.adj.now.graph.vertices = c.requires.vertices _ (has_number_at _ c.args.risers.now c.loop-i.i (omega arith) refl) in
+          let less = less_same _ _ _ _ _ _ _ _ _ c.loop-i.invariant.3 (rw c.in_turn-v.ensures at w.part_from.ensures.less) in (
+            rw w.counts-is (parted_on_at _ _ _ c.args.risers.now c.loop-i.i (omega arith) _ _ _ c.requires.graph c.loop-i.invariant.0 _ c.loop-i.invariant.1 on less),
             distinct,
-            rw (w.steps-is, w.lift.ensures.cost, w.part_from.ensures.cost, c.loop-v.invariant.3.graph) (steps_at_on c.args.adj.now.graph c.args.levels.now c.args.level c.args.risers.now c.loop-v.v-index (omega arith) c.loop-v.steps all on c.loop-v.invariant.2),
-            rw w.adj-is (settles _ _ _ _ c.args.risers.now c.loop-v.v-index (omega arith) c.loop-v.invariant.3 _ low on w.lift.ensures.value),
+            rw (w.steps-is, w.lift.ensures.cost, w.part_from.ensures.cost, c.in_turn-v.ensures, c.loop-i.invariant.3.graph) (steps_at_on c.args.adj.now.graph c.args.levels.now c.args.level c.args.risers.now c.loop-i.i (omega arith) c.loop-i.steps all on c.loop-i.invariant.2),
+            rw w.adj-is (settles _ _ _ _ c.args.risers.now c.loop-i.i (omega arith) c.loop-i.invariant.3 _ low on (rw c.in_turn-v.ensures at w.lift.ensures.value)),
           )
       | else-get-level w ↦ (
-        rw w.counts-is (parted_off_at _ _ _ c.args.risers.now c.loop-v.v-index (omega arith) _ _ _ c.requires.graph c.loop-v.invariant.0 (λ e. w.if-get-level.false (c.get.ensures ∙ e))),
+        rw w.counts-is (parted_off_at _ _ _ c.args.risers.now c.loop-i.i (omega arith) _ _ _ c.requires.graph c.loop-i.invariant.0 (λ e. w.if-get-level.false (c.get.ensures ∙ ap (λ k. get_or c.args.levels.now k 0) c.in_turn-v.ensures ∙ e))),
         distinct,
-        rw w.steps-is (steps_at_off c.args.adj.now.graph c.args.levels.now c.args.level c.args.risers.now c.loop-v.v-index (omega arith) c.loop-v.steps all (λ e. w.if-get-level.false (c.get.ensures ∙ e)) c.loop-v.invariant.2),
-        rw w.adj-is (settles_not _ _ _ _ c.args.risers.now c.loop-v.v-index (omega arith) c.loop-v.invariant.3 (λ e. w.if-get-level.false (c.get.ensures ∙ e))),
+        rw w.steps-is (steps_at_off c.args.adj.now.graph c.args.levels.now c.args.level c.args.risers.now c.loop-i.i (omega arith) c.loop-i.steps all (λ e. w.if-get-level.false (c.get.ensures ∙ ap (λ k. get_or c.args.levels.now k 0) c.in_turn-v.ensures ∙ e)) c.loop-i.invariant.2),
+        rw w.adj-is (settles_not _ _ _ _ c.args.risers.now c.loop-i.i (omega arith) c.loop-i.invariant.3 (λ e. w.if-get-level.false (c.get.ensures ∙ ap (λ k. get_or c.args.levels.now k 0) c.in_turn-v.ensures ∙ e))),
       )
     ]
 
-pub loop-v-init : goal.loop-v-init
-loop-v-init g c = (c.requires.listed, c.requires.distinct, refl, settling_first _ _ _ _ (c.levels-levels.ensures.sized) c.requires.below)
+pub loop-i-init : goal.loop-i-init
+loop-i-init g c = (c.requires.listed, c.requires.distinct, refl, settling_first _ _ _ _ (c.levels-levels.ensures.sized) c.requires.below)
 
 pub returns-clause-seen : goal.returns-clause-seen
-returns-clause-seen g c = parted_last c.args.adj.now.graph c.args.levels.now c.args.level c.args.risers.now c.loop-v.v-index _ _ _ c.loop-v.invariant.0 (omega arith)
+returns-clause-seen g c = parted_last c.args.adj.now.graph c.args.levels.now c.args.level c.args.risers.now c.loop-i.i _ _ _ c.loop-i.invariant.0 (omega arith)
 
 pub returns-clause-settled : goal.returns-clause-settled
-returns-clause-settled g c = settling_last _ _ _ _ c.args.risers.now c.loop-v.v-index (omega arith) c.loop-v.invariant.3
+returns-clause-settled g c = settling_last _ _ _ _ c.args.risers.now c.loop-i.i (omega arith) c.loop-i.invariant.3
 
 pub returns-clause-cost : goal.returns-clause-cost
-returns-clause-cost g c = steps_last c.args.adj.now.graph c.args.levels.now c.args.level c.args.risers.now c.loop-v.v-index _ _ c.loop-v.invariant.2 (omega arith)
+returns-clause-cost g c = steps_last c.args.adj.now.graph c.args.levels.now c.args.level c.args.risers.now c.loop-i.i _ _ c.loop-i.invariant.2 (omega arith)

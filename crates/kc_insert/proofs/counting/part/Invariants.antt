@@ -4,9 +4,9 @@ use Rattle.kc_insert.specs.Counting.{goes_on, AreSeen, sees_listed, steps_on}
 use Rattle.kc_insert.proofs.Parting.{IsSettling}
 use Rattle.kc_insert.proofs.counting.part.Given as goal
 
-abbrev pub invariant-loop-v : goal.invariant-loop-v
-invariant-loop-v g l =
-    AreSeen l.initial.adj.graph (goes_on l.initial.adj.levels l.levels l.level) (sees_listed l.levels l.level (drop l.v-index l.risers)) l.initial.counts.items l.counts.items
-    × AreDistinct (drop l.v-index l.risers)
-    × (l.steps + steps_on l.initial.adj.graph l.levels l.level (drop l.v-index l.risers) ≡ l.initial.steps + steps_on l.initial.adj.graph l.levels l.level l.risers)
-    × IsSettling l.initial.adj l.adj l.levels l.level l.risers (drop l.v-index l.risers)
+abbrev pub invariant-loop-i : goal.invariant-loop-i
+invariant-loop-i g l =
+    AreSeen l.initial.adj.graph (goes_on l.initial.adj.levels l.levels l.level) (sees_listed l.levels l.level (drop l.i l.risers)) l.initial.counts.items l.counts.items
+    × AreDistinct (drop l.i l.risers)
+    × (l.steps + steps_on l.initial.adj.graph l.levels l.level (drop l.i l.risers) ≡ l.initial.steps + steps_on l.initial.adj.graph l.levels l.level l.risers)
+    × IsSettling l.initial.adj l.adj l.levels l.level l.risers (drop l.i l.risers)

@@ -1,5 +1,5 @@
 use Rattle.kc_graph.proofs.ChangeLemmas.{can_add_ascending}
 use Rattle.kc_insert.proofs.filling.link_edges.Goals as goal
 
-pub link_each-requires-clause-addable : goal.link_each-requires-clause-addable
-link_each-requires-clause-addable g c = can_add_ascending c.args.adj.now.graph 0 0 c.args.added.now c.requires.ascending c.requires.absent c.requires.room
+pub link_each-requires : goal.link_each-requires
+link_each-requires g c = record { addable = can_add_ascending c.args.adj.now.graph 0 0 c.args.added.now c.requires.ascending c.requires.absent c.requires.room }

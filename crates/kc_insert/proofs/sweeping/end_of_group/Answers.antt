@@ -1,5 +1,4 @@
-use Rattle.std.proofs.Common.{◌≤◌, arith}
-use Rattle.kc_levels.specs.Thresholds.{group_of}
+use Rattle.std.proofs.Common.{arith}
 use Rattle.kc_levels.proofs.Groups.{group_of-mono}
 use Rattle.kc_insert.proofs.sweeping.end_of_group.Goals as goal
 

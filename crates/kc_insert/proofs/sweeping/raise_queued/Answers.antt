@@ -1,6 +1,5 @@
-use Rattle.std.proofs.Common.{◌≡◌, refl, ◌∙◌, arith}
+use Rattle.std.proofs.Common.{refl, ◌∙◌, arith}
 use Rattle.kc_graph.specs.Shape.{IsGraph}
-use Rattle.kc_levels.specs.Thresholds.{top_level}
 use Rattle.kc_insert.proofs.Sweeps.{sweeping_first, come_first, come_on, sweeping_last}
 use Rattle.kc_insert.proofs.sweeping.raise_queued.Goals as goal
 

@@ -1,4 +1,4 @@
-use Rattle.std.proofs.Common.{ℕ, true, ◌+◌, ◌-◌, ◌<◌, ◌≤◌, ◌≡◌, List, length, get_or, ap, sym, ◌∙◌, arith, rules}
+use Rattle.std.proofs.Common.{ℕ, true, ◌+◌, ◌-◌, ◌<◌, ◌≤◌, ◌≡◌, get_or, ap, sym, ◌∙◌, arith}
 use Rattle.kc_graph.specs.Numbers.{has_number}
 use Rattle.kc_levels.specs.Thresholds.{high, group_of, top_level}
 use Rattle.kc_insert.specs.Together.{IsFree}

@@ -3,7 +3,7 @@ use Rattle.std.proofs.lemmas.List.Sums.{length-filter, count_by-le-length}
 use Rattle.kc_graph.specs.Shape.{neighbours_of}
 use Rattle.kc_insert.proofs.counting.BeginningRoundGather.room.Goals as goal
 
-pub returns : goal.returns
-returns c =
+pub returns-then-is_at_hand : goal.returns-then-is_at_hand
+returns-then-is_at_hand c =
     let test : ℕ → Bool = λ w. ltb c.args.self.now.level (get_or c.args.self.now.adj.now.levels w 0) in
-    omega (arith, length-filter test (neighbours_of c.args.v c.args.self.now.adj.now.graph.edges), count_by-le-length test (neighbours_of c.args.v c.args.self.now.adj.now.graph.edges), ap length (rw c.graph.ensures at c.neighbours.ensures.value))
+    omega (arith, length-filter test (neighbours_of c.args.v c.args.self.now.adj.now.graph.edges), count_by-le-length test (neighbours_of c.args.v c.args.self.now.adj.now.graph.edges), ap length (rw c.graph-graph.ensures at c.neighbours.ensures.value))
