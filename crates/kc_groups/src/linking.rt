@@ -1,5 +1,5 @@
 // The moves of a phase, gathered into a tree for each group.
-ghost use Rattle.std.specs.Prelude.{◌≡◌, ℕ, Bool, ◌+◌, ◌<◌, ◌≤◌, ◌||◌, IfOk, false, length};
+ghost use Rattle.std.specs.Prelude.{◌≡◌, ℕ, Bool, ◌+◌, ◌<◌, ◌≤◌, ◌||◌, IfOk, false, true, length, slice_index};
 ghost use Rattle.kc_graph.specs.Shape.{EdgesFrom};
 ghost use Rattle.kc_groups.specs.Forest.{AreGathered};
 ghost use Rattle.kc_groups.specs.Gathering.{vertices, AreNumbered, in_rows, in_edges};
@@ -20,6 +20,34 @@ fn lone_places(alloc: Global, m: u32) -> Result<Vec<u32>, AllocError>
     Ok(parents)
 }
 
+// The rows of so many moves are looked at together.
+const TOGETHER: u32 = 16;
+
+// Whether the rows of the vertices of the moves from this place on are at hand, which they are after a look at each.
+fn are_at_hand(graph: &Graph, moves: &[Move], place: u32) -> bool
+    requires { place ≤ length moves.now }
+    ensures { result ≡ true }
+{
+    let end = moves.len().min(place as usize + TOGETHER as usize);
+    for k in place as usize..end {
+        if !graph.is_at_hand(moves[k].vertex) {
+            return false;
+        }
+    }
+    true
+}
+
+// The vertex of the move at `place`. Before the first of 16 has its turn, the rows of the 16 are looked at together.
+fn vertex_in_turn(graph: &Graph, moves: &[Move], place: u32) -> u32
+    requires { place < length moves.now }
+    ensures { result ≡ slice_index (vertices moves.now) place }
+{
+    if place % TOGETHER == 0 && !are_at_hand(graph, moves, place) {
+        return 0;
+    }
+    moves[place as usize].vertex
+}
+
 // Joins the move at `place` with those of its neighbours at lesser places.
 fn link_row(graph: &Graph, moves: &[Move], places: &[u32], parents: &mut Vec<u32>, place: u32)
     requires inside { place < length moves.now }
@@ -27,7 +55,7 @@ fn link_row(graph: &Graph, moves: &[Move], places: &[u32], parents: &mut Vec<u32
     requires gathered { AreGathered (length moves.now) (in_rows graph.now (vertices moves.now) place) parents.old.items }
     ensures { AreGathered (length moves.now) (in_rows graph.now (vertices moves.now) (place + 1)) parents.new.items }
 {
-    for w in graph.neighbours(moves[place as usize].vertex) {
+    for w in graph.neighbours(vertex_in_turn(graph, moves, place)) {
         let other = places[*w as usize];
         if other < place {
             join(parents, place, other);

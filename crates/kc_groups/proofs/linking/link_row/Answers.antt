@@ -8,7 +8,7 @@ use Rattle.kc_groups.proofs.linking.link_row.Goals as goal
 use Rattle.kc_groups.proofs.linking.link_row.Goals.{then-other-place, else-other-place}
 
 pub neighbours-w-items-requires : goal.neighbours-w-items-requires
-neighbours-w-items-requires c = vertex_inside c.args.graph.now.vertices c.args.moves.now c.args.place c.requires.numbered.below c.requires.inside
+neighbours-w-items-requires c = omega (arith, c.vertex_in_turn.ensures, vertex_at c.args.moves.now c.args.place c.requires.inside, vertex_inside c.args.graph.now.vertices c.args.moves.now c.args.place c.requires.numbered.below c.requires.inside)
 
 pub loop-w-init : goal.loop-w-init
 loop-w-init c =
@@ -42,5 +42,5 @@ loop-w-preserved c =
 pub returns : goal.returns
 returns c =
     let vs = vertices c.args.moves.now in
-    let is : c.neighbours-w-items.result.now ≡ neighbours_of (get_or (vertices c.args.moves.now) c.args.place 0) c.args.graph.now.edges = c.neighbours-w-items.ensures.value ∙ ap (λ v. neighbours_of v c.args.graph.now.edges) (vertex_at c.args.moves.now c.args.place c.requires.inside) in
+    let is : c.neighbours-w-items.result.now ≡ neighbours_of (get_or (vertices c.args.moves.now) c.args.place 0) c.args.graph.now.edges = c.neighbours-w-items.ensures.value ∙ ap (λ v. neighbours_of v c.args.graph.now.edges) c.vertex_in_turn.ensures in
     rw (many c.args.moves.now) at (row_last c.args.graph.now vs c.args.place c.neighbours-w-items.result.now c.loop-w.parents.items c.loop-w.w-index (omega arith) is c.loop-w.invariant)
