@@ -23,6 +23,7 @@ Whole runs, each with all its edges inserted:
               are long
 - fours       999,996 edges, the complete graphs of 166,666 times four of 1,048,576 vertices, as SNAP text in one batch: the
               rounds are long and many, and passes over neighbours short
+- greatest    1,000,000 edges between 16,777,216 vertices, each pair as likely as another, in one batch
 - exact       2,000,000 edges between 262,144 vertices, each pair as likely as another, in two batches: the command `exact`
 
 Parts of a run, each the difference of two runs that differ in nothing else:
@@ -46,7 +47,7 @@ WHOLE = (
     "uniform", "snap1000", "snap10000", "snap100000", "power", "grid",
     "power1000", "power100000", "grid1000", "grid100000",
     "uniform-window", "power-window", "grid-window",
-    "long", "fours", "exact",
+    "long", "fours", "greatest", "exact",
 )
 PARTS = ("read", "clean", "print", "three", "link+raise")
 SIDE = 707
@@ -146,6 +147,7 @@ def make_inputs(folder):
     write_input(folder, "grid-twice-refused", n, [grid, grid], last="stop")
     write_long(folder)
     write_fours(folder)
+    write_input(folder, "greatest", 1 << 24, [signed(uniform_edges(1 << 24, 1_000_000, 19))])
     uniform = uniform_edges(1 << 18, 2_000_000, 13)
     write_input(folder, "exact", 1 << 18, [signed(uniform[:1_000_000]), signed(uniform[1_000_000:])])
     write_input(folder, "none", n, [])
@@ -249,7 +251,7 @@ def main():
         folder = options.keep or scratch
         os.makedirs(folder, exist_ok=True)
         # The input that came with the last row, and the last that is made.
-        if not all(os.path.exists(input_path(folder, name)) for name in ("long", "fours", "exact", "one")):
+        if not all(os.path.exists(input_path(folder, name)) for name in ("long", "fours", "greatest", "exact", "one")):
             print("making the inputs ..", flush=True)
             # In a process of its own: the memory of this one would count as that of the programs that it starts.
             maker = multiprocessing.Process(target=make_inputs, args=(folder,))

@@ -1,0 +1,69 @@
+#!/usr/bin/env python3
+"""What certificates cost: `kcore final 1` beside `run 1`, and `check` beside reading as many lines of edges.
+
+    bench/certificates.py [--program PATH] [--runs N] [--edges M]
+
+Of graphs whose edges are pairs of vertices by chance, 1,000,000 between 100,000 vertices and 8,000,000 (or M) between 1,048,576, in
+batches of 1,000,000. Prints seconds of processor time, each of the best of N runs (3):
+
+- run, final      of the same batches, and the ratio of the second to the first
+- read            what `run` takes to read and clean all edges once more, where all of them are there already and nobody moves: the
+                  difference of two runs
+- check           of what `final` wrote, and the ratio to `read`
+
+It judges nothing: times on a shared machine are ratios at best.
+"""
+import argparse
+import os
+import random
+import subprocess
+import tempfile
+
+from bench import in_batches, input_path, run_once, write_input
+
+BATCH = 1_000_000
+
+
+def edges_by_chance(n, m):
+    """Distinct edges, in any order."""
+    draw = random.Random(23)
+    edges = {}
+    while len(edges) < m:
+        a, b = draw.randrange(n), draw.randrange(n)
+        if a != b:
+            edges[min(a, b), max(a, b)] = None
+    return list(edges)
+
+
+def best(program, words, path, runs):
+    return min(run_once(program, words, path)[0] for _ in range(runs))
+
+
+def print_row(program, folder, n, m, runs):
+    batches = in_batches(edges_by_chance(n, m), BATCH)
+    write_input(folder, "once", n, batches)
+    write_input(folder, "twice", n, batches * 2)
+    once, twice, certificate = (input_path(folder, name) for name in ("once", "twice", "certificate"))
+    with open(once, "rb") as source, open(certificate, "wb") as sink:
+        subprocess.run([program, "final", "1"], stdin=source, stdout=sink, check=True)
+    run, final = best(program, ["run", "1"], once, runs), best(program, ["final", "1"], once, runs)
+    read, check = best(program, ["run", "1"], twice, runs) - run, best(program, ["check"], certificate, runs)
+    print(f"{m} edges between {n} vertices")
+    print(f"  run {run:.3f} s, final {final:.3f} s: {final / run:.2f} times")
+    print(f"  read {read:.3f} s, check {check:.3f} s: {check / read:.2f} times", flush=True)
+
+
+def main():
+    here = os.path.dirname(os.path.abspath(__file__))
+    parser = argparse.ArgumentParser(description=__doc__, formatter_class=argparse.RawDescriptionHelpFormatter)
+    parser.add_argument("--program", default=os.path.join(here, "..", "crates", "kcore", "out", "kcore"))
+    parser.add_argument("--runs", type=int, default=3)
+    parser.add_argument("--edges", type=int, default=8_000_000)
+    options = parser.parse_args()
+    with tempfile.TemporaryDirectory() as folder:
+        for n, m in (100_000, min(1_000_000, options.edges)), (1 << 20, options.edges):
+            print_row(os.path.abspath(options.program), folder, n, m, options.runs)
+
+
+if __name__ == "__main__":
+    main()
