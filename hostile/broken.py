@@ -1,6 +1,7 @@
 """Inputs and command lines that are broken: cut off, without end, of any bytes."""
 import os
 import random
+import re
 
 from devices import queued
 from inputs import EXAMPLES, example, with_refusal, without_replies
@@ -9,7 +10,7 @@ from trials import BATCHES, DONE, REFUSED, USAGE, Command, Trial
 
 MOST_MEMORY = 64 * 1024  # KiB, for a small graph
 MEBIBYTE, GIBIBYTE = 1 << 20, 1 << 30
-RUN = Command("run 1", BATCHES, False)
+RUN, CHECK = Command("run 1", BATCHES, False), Command("check", [], False)
 HEAD = b"kcore 1\nvertices 5\n"
 
 
@@ -24,6 +25,24 @@ def cuts(kcore):
                 got, wanted = (ended.status, without_replies(ended.text)), kcore.cut(command, data[:size])
                 trial.holds(got == wanted and not ended.errors, f"after {size} bytes: {got} in place of {wanted}")
             yield trial
+
+
+def cut_certificates(kcore):
+    """Refused at the line that is cut, or at the end after it, where what is left of the line fits."""
+    data = example("karate_batches_final.txt")
+    trial = Trial(f"check, karate_batches_final.txt, cut off after each of its {len(data)} bytes")
+    status, whole = kcore.whole(CHECK, data)
+    for size in range(len(data) + 1):
+        ended = kcore.program.run(["check"], data[:size])
+        # The last line fits without its line feed too.
+        if size >= len(data) - 1:
+            trial.ended(f"{size} bytes", ended, {status: "whole"}, whole)
+            continue
+        trial.ended(f"{size} bytes", ended, {REFUSED: "whole"}, ended.text)
+        line = data[:size].count(b"\n") + 1
+        refused = re.fullmatch(rb"refused line ([0-9]+) (header|bad-line|truncated)\n", ended.text)
+        trial.holds(refused and line <= int(refused[1]) <= line + 1, f"{size} bytes: {ended.text!r}")
+    yield trial
 
 
 def asks_without_end(kcore):
@@ -130,4 +149,4 @@ def workers(kcore):
     yield trial
 
 
-TRIALS = [words, workers, cuts, byte_values, random_inputs, asks_without_end, great_inputs]
+TRIALS = [words, workers, cuts, cut_certificates, byte_values, random_inputs, asks_without_end, great_inputs]
