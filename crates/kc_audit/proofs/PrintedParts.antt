@@ -39,6 +39,9 @@ prints_both a b f g x y = record {
   say = λ more rest s. subst (λ ls. SayAll ls (f (g rest))) (sym (append_assoc x.lines y.lines more)) (x.say (y.lines ++ more) (g rest) (y.say more rest s));
 }
 
+pub prints_as : (text : List ℕ) (f g : List Kind → List Kind) → ((rest : List Kind) → f rest ≡ g rest) → Prints text f → Prints text g
+prints_as text f g same p = record { lines = p.lines; text_is = p.text_is; say = λ more rest s. subst (λ ks. SayAll (p.lines ++ more) ks) (same rest) (p.say more rest s) }
+
 -- no line is longer than all of them
 lines_fit : (limit : ℕ) (ls : List (List (List ℕ))) (ks : List Kind) → SayAll ls ks → length (printed ls) ≤ limit → list_all (is_line limit) ls ≡ true
 unfolding printed

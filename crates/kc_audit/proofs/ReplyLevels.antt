@@ -1,14 +1,14 @@
 -- Replies that group lines explain tell levels of their members, or 0.
-use Rattle.std.proofs.Common.{ℕ, zero, suc, ◌≤◌, ◌≡◌, true, List, [], ◌∷◌, take, set, get_or, replicate, refl, arith}
+use Rattle.std.proofs.Common.{ℕ, zero, suc, ◌≤◌, ◌≡◌, true, List, [], ◌∷◌, ◌++◌, take, set, get_or, replicate, refl, arith}
 use Rattle.std.specs.Prelude.{nat_le, All}
 use Rattle.std.proofs.lemmas.Bool.{and_from, and_parts, le-leb, leb-true}
-use Rattle.std.proofs.lemmas.List.Elements.{All-head, All-tail}
+use Rattle.std.proofs.lemmas.List.Elements.{All-nil, All-cons, All-append, All-head, All-tail}
 use Rattle.kc_history.specs.declared.replies.Reply.{Reply}
 use Rattle.kc_history.specs.Points.{with_moves, levels_after}
 use Rattle.kc_history.specs.Replies.{AreExplained}
 use Rattle.kc_audit.specs.declared.groups.GroupLine.{GroupLine}
 use Rattle.kc_audit.specs.Runs.{moves_of, history_of}
-use Rattle.kc_audit.specs.ReadBack.{have_levels}
+use Rattle.kc_audit.specs.ReadBack.{PhaseText, BatchText, Took, Left, have_levels, GroupsFit, PhasesFit, BatchesFit, last_phase, phase_groups, batch_groups}
 
 abbrev pub HaveLevels : GroupLine → Type 0
 HaveLevels g = have_levels g.members ≡ true
@@ -44,3 +44,20 @@ reply_levels n gs from [] h e = refl
 reply_levels n gs from (r ∷ rs) h e =
     let there = after_low gs e.0 (replicate n 0) (zeros_low n) h r.vertex in
     and_from (nat_le r.level 65535) (have_levels rs) (le-leb r.level 65535 (omega (arith, there, e.1.1.0.level))) (reply_levels n gs e.0 rs h e.1.1.1)
+
+-- the levels of the members of a run that fits have 16 bits
+groups_low : (n p low : ℕ) (gs : List GroupLine) → GroupsFit n p low gs → All HaveLevels gs
+groups_low n p low [] f = All-nil HaveLevels
+groups_low n p low (g ∷ gs) f = All-cons HaveLevels g gs f.0.levels (groups_low n p (suc g.label) gs f.1)
+
+phases_low : (n p : ℕ) (xs : List PhaseText) → PhasesFit n p xs → All HaveLevels (phase_groups xs)
+phases_low n p [] f = All-nil HaveLevels
+phases_low n p (x ∷ []) f = All-append HaveLevels x.groups [] (groups_low n (suc p) 0 x.groups f) (All-nil HaveLevels)
+phases_low n p (x ∷ y ∷ []) f =
+    All-append HaveLevels x.groups (y.groups ++ []) (groups_low n (suc p) 0 x.groups f.1.1.0) (All-append HaveLevels y.groups [] (groups_low n (suc (suc p)) 0 y.groups f.1.1.1) (All-nil HaveLevels))
+phases_low n p (x ∷ y ∷ z ∷ xs) f = absurd f
+
+pub batches_low : (n p : ℕ) (bs : List BatchText) → BatchesFit n p bs → All HaveLevels (batch_groups bs)
+batches_low n p [] f = All-nil HaveLevels
+batches_low n p (Took xs ∷ bs) f = All-append HaveLevels (phase_groups xs) (batch_groups bs) (phases_low n p xs f.0) (batches_low n (last_phase p xs) bs f.1)
+batches_low n p (Left ∷ bs) f = batches_low n p bs f

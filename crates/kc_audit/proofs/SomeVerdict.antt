@@ -80,8 +80,8 @@ first_unexplained run rs (suc k) within = elim (first_unexplained run rs k (omeg
   | inl before ↦ elim (explained_or_not run.vertices (history_of run.groups) (take (suc k) rs) 0) [
     | inl here ↦ inl here
     | inr unfit ↦
-      let e : suc k - 1 ≡ k = omega arith in
-      inr (suc k, record { counted = omega arith; within = within; before = rw e before; unfit = unfit })
+        let e : suc k - 1 ≡ k = omega arith in
+        inr (suc k, record { counted = omega arith; within = within; before = rw e before; unfit = unfit })
   ]
 ]
 
