@@ -7,7 +7,7 @@ use Rattle.kc_text.specs.Printing.{printed_line}
 use Rattle.kc_text.specs.Reasons.{reason_word}
 use Rattle.kc_text.specs.Writing.{Sends, Appends}
 use Rattle.kc_text.proofs.Known.{appends_send}
-use Rattle.kcore.specs.CheckText.{refused_document_line}
+use Rattle.kcore.specs.DocumentLines.{refused_document_line}
 
 pub certified_filled : (n m : ℕ) (old a b : List ℕ) → old ≡ [] → a ≡ (old ++ codes "certified vertices ") ++ decimal n → b ≡ (a ++ codes " edges ") ++ decimal m
     → b ++ 10 ∷ [] ≡ printed_line (codes "certified" ∷ codes "vertices" ∷ decimal n ∷ codes "edges" ∷ decimal m ∷ [])

@@ -20,7 +20,8 @@ use Rattle.kc_cert.specs.Verdicts.{IsVerdict}
 use Rattle.kc_cert.proofs.SomeVerdict.{has_verdict}
 use Rattle.kc_session.specs.declared.fault.SessionFault.{SessionFault}
 use Rattle.kcore.specs.declared.limits.TheConstants.{LINE_LIMIT, INPUT_LIMIT}
-use Rattle.kcore.specs.CheckText.{verdict_line, is_breach, refused_document_line, IsDocumentText, WritesCheck}
+use Rattle.kcore.specs.CheckText.{verdict_line, is_breach, IsDocumentText, WritesCheck}
+use Rattle.kcore.specs.DocumentLines.{refused_document_line}
 
 -- each document has a text
 some_text : (d : Document) → (text : List ℕ) × ((refused : Bool) × IsDocumentText d text refused)

@@ -19,4 +19,12 @@ pub mod FinalTexts
 pub mod CheckLines
 pub mod Checks
 pub mod NoteLines
+pub mod LineNumbers
+pub mod HeaderRanges
 pub mod Certified
+pub mod PhaseGroups
+pub mod RunBatches
+pub mod RunReaders
+pub mod RunVertices
+pub mod Explained
+pub mod Audits

@@ -1,6 +1,6 @@
 -- The text of `orient`, and what holds of it.
-use Rattle.std.proofs.Common.{ℕ, ◌≡◌, ◌≤◌, ◌<◌, ◌*◌, List, ◌++◌, length, get_or, refl, sym, ap, ◌∙◌, subst, arith}
-use Rattle.std.specs.Prelude.{Option, Some, None, Result, Err}
+use Rattle.std.proofs.Common.{ℕ, ◌≡◌, ◌≤◌, List, ◌++◌, length, get_or, refl, sym, ap, ◌∙◌, subst, arith}
+use Rattle.std.specs.Prelude.{Option, Result, Err}
 use Rattle.kc_text.specs.declared.buf.SendFault.{SendFault}
 use Rattle.kc_text.specs.Lines.{lines}
 use Rattle.kc_text.specs.Writing.{Appends}
@@ -9,8 +9,7 @@ use Rattle.kc_graph.specs.declared.limits.TheConstants.{MAX_EDGES, MAX_ITEMS}
 use Rattle.kc_levels.specs.declared.profile.Profile.{Profile}
 use Rattle.kc_levels.specs.declared.profile.Profile.TheVariants.{Two}
 use Rattle.kc_levels.specs.LevelList.{MeetsUpper}
-use Rattle.kc_bound.specs.Cores.{IsCoreness}
-use Rattle.kc_orient.specs.Shape.{out_neighbours, orientation}
+use Rattle.kc_orient.specs.Shape.{orientation}
 use Rattle.kc_orient.specs.Colouring.{IsColouring}
 use Rattle.kc_orient.proofs.Upward.{out_neighbours_are_few, outs_at, outs_sized}
 use Rattle.kc_orient.proofs.Colourings.{colourings_are_one, colouring_is_proper, colours_are_few}

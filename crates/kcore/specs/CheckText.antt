@@ -6,11 +6,10 @@ use Rattle.kc_cert.specs.declared.verdict.Verdict.TheVariants.{Certified, Upper,
 use Rattle.kc_cert.specs.Documents.{Document, Accepted, Refused}
 use Rattle.kc_cert.specs.Laws.{document_in}
 use Rattle.kc_cert.specs.Verdicts.{IsVerdict}
-use Rattle.kc_text.specs.declared.reason.Reason.{Reason}
 use Rattle.kc_text.specs.Printing.{printed_line}
-use Rattle.kc_text.specs.Reasons.{reason_word}
 use Rattle.kc_session.specs.declared.fault.SessionFault.{SessionFault}
 use Rattle.kcore.specs.declared.limits.TheConstants.{LINE_LIMIT, INPUT_LIMIT}
+use Rattle.kcore.specs.DocumentLines.{refused_document_line}
 use Rattle.kcore.specs.Writing.{WritesText}
 
 -- the line of a verdict
@@ -24,10 +23,6 @@ abbrev pub is_breach : Verdict → Bool
 is_breach Certified = false
 is_breach (Upper v) = true
 is_breach (Lower v) = true
-
--- the line of a document that is refused at this line
-abbrev pub refused_document_line : ℕ → Reason → List ℕ
-refused_document_line line reason = printed_line (codes "refused" ∷ codes "line" ∷ decimal line ∷ reason_word reason ∷ [])
 
 -- the one line for a certificate whose levels come to this
 pub record IsVerdictText (cert : Certificate) (text : List ℕ) (refused : Bool) : Type 0 where

@@ -4,12 +4,13 @@ use Rattle.std.specs.Str.{bytes_eq}
 use Rattle.kc_text.specs.Causes.{Rose, Outlet}
 use Rattle.kc_text.specs.Numbers.{number_of}
 use Rattle.kcore.specs.declared.command.Command.{Command}
-use Rattle.kcore.specs.declared.command.Command.TheVariants.{Run, Final, Orient, Exact, Check, Dense}
+use Rattle.kcore.specs.declared.command.Command.TheVariants.{Run, Final, Orient, Exact, Check, Audit, Dense}
 use Rattle.kcore.specs.declared.status.Status.{Status}
 use Rattle.kcore.specs.declared.status.Status.TheVariants.{Done, Refused, Usage, ReadFault, WriteFault, Memory}
 use Rattle.kcore.specs.Inputs.{input_said}
 use Rattle.kcore.specs.RunText.{IsRunText}
 use Rattle.kcore.specs.CheckText.{IsCheckText}
+use Rattle.kcore.specs.AuditText.{IsAuditText}
 use Rattle.kcore.specs.ExactText.{IsExactText}
 use Rattle.kcore.specs.FinalText.{IsFinalText}
 use Rattle.kcore.specs.OrientText.{IsOrientText, OrientsSparsely}
@@ -37,6 +38,7 @@ command_of [] = None
 command_of (w ∷ []) =
     if bytes_eq w (codes "exact") then Some Exact
     else if bytes_eq w (codes "check") then Some Check
+    else if bytes_eq w (codes "audit") then Some Audit
     else if bytes_eq w (codes "dense") then Some Dense
     else None
 command_of (w ∷ a ∷ []) = with_workers w (few_workers (number_of a))
@@ -49,6 +51,7 @@ FitsWorkers (Some (Final workers)) = (1 ≤ workers) × (workers ≤ 64)
 FitsWorkers (Some (Orient workers)) = (1 ≤ workers) × (workers ≤ 64)
 FitsWorkers (Some Exact) = Unit {0}
 FitsWorkers (Some Check) = Unit {0}
+FitsWorkers (Some Audit) = Unit {0}
 FitsWorkers (Some Dense) = Unit {0}
 FitsWorkers None = Unit {0}
 
@@ -60,6 +63,7 @@ IsText (Final workers) bytes text refused = IsFinalText (input_said bytes) text 
 IsText (Orient workers) bytes text refused = IsOrientText (input_said bytes) text refused
 IsText Exact bytes text refused = IsExactText (input_said bytes) text refused
 IsText Check bytes text refused = IsCheckText bytes text refused
+IsText Audit bytes text refused = IsAuditText bytes text refused
 IsText Dense bytes text refused = IsDenseText (input_said bytes) text refused
 
 abbrev pub Wrote : Command → List ℕ → Option (List ℕ) → Option (List ℕ) → Status → Type 0
@@ -89,6 +93,7 @@ Holds (Some (Run workers)) (Some bytes) = Unit {0}
 Holds (Some (Final workers)) (Some bytes) = HoldsThroughout (input_said bytes)
 Holds (Some (Orient workers)) (Some bytes) = HoldsThroughout (input_said bytes) × OrientsSparsely (input_said bytes)
 Holds (Some Check) (Some bytes) = Unit {0}
+Holds (Some Audit) (Some bytes) = Unit {0}
 Holds (Some Exact) (Some bytes) = HoldsThroughout (input_said bytes) × FitsExactly (input_said bytes)
 Holds (Some Dense) (Some bytes) = HasHalfDensity (input_said bytes)
 

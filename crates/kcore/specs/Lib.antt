@@ -7,7 +7,9 @@ pub mod VertexLines
 pub mod Documents
 pub mod ExactText
 pub mod FinalText
+pub mod DocumentLines
 pub mod CheckText
+pub mod AuditText
 pub mod DenseLines
 pub mod DenseText
 pub mod Texts
@@ -20,3 +22,4 @@ pub mod Rising
 pub mod OrientLines
 pub mod OrientText
 pub mod CertificateLaw
+pub mod AuditLaw

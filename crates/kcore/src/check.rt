@@ -1,23 +1,16 @@
 //! The command `check`: what the levels of a certificate come to.
-ghost use Rattle.std.specs.Prelude.{◌≡◌, ◌++◌, ◌∷◌, [], OnOk, decimal};
+ghost use Rattle.std.specs.Prelude.{◌≡◌, ◌++◌, ◌∷◌, [], OnOk};
 ghost use Rattle.kc_text.specs.Writing.{Appends, WriteCause};
 ghost use Rattle.kc_session.specs.Faults.{FaultCause};
-ghost use Rattle.kcore.specs.CheckText.{verdict_line, is_breach, refused_document_line, WritesCheck};
+ghost use Rattle.kcore.specs.CheckText.{verdict_line, is_breach, WritesCheck};
 
+use crate::document_lines::{fill_named, write_document_refused};
 use crate::limits::{INPUT_LIMIT, LINE_LIMIT};
 use kc_cert::{CertFault, Certificate, Verdict, read_certificate, verify};
 use kc_levels::Thresholds;
 use kc_session::SessionFault;
-use kc_text::{LineBuf, LineReader, Reason, SendFault, Sink, Source};
+use kc_text::{LineBuf, LineReader, SendFault, Sink, Source};
 use std::alloc::{AllocError, Global};
-
-// Appends a name, with its blanks, and a number.
-fn fill_named(alloc: Global, buf: &mut LineBuf, name: &[u8], value: u32) -> Result<(), AllocError>
-    ensures { OnOk result (buf.new ≡ (buf.old ++ name.now) ++ decimal value) }
-{
-    buf.text(alloc, name)?;
-    buf.number(alloc, value)
-}
 
 fn fill_verdict(
     alloc: Global,
@@ -55,37 +48,6 @@ fn write_verdict<K: Sink>(
     }
 }
 
-fn fill_refused(
-    alloc: Global,
-    buf: &mut LineBuf,
-    line: u32,
-    reason: Reason,
-) -> Result<(), AllocError>
-    requires { buf.old ≡ [] }
-    ensures { OnOk result (buf.new ++ 10 ∷ [] ≡ refused_document_line line reason) }
-{
-    fill_named(alloc, buf, b"refused line ", line)?;
-    buf.text(alloc, b" ")?;
-    buf.text(alloc, reason.word())
-}
-
-// Writes the line of a document that is refused at this line.
-fn write_refused<K: Sink>(
-    alloc: Global,
-    sink: &mut K,
-    line: u32,
-    reason: Reason,
-) -> Result<(), SendFault>
-    ensures text { Appends (K.taken sink.old) (K.taken sink.new) (refused_document_line line reason) result }
-    ensures cause { WriteCause (K.faults sink.old) (K.faults sink.new) result }
-{
-    let mut buf = LineBuf::new(alloc);
-    match fill_refused(alloc, &mut buf, line, reason) {
-        Ok(()) => buf.send(alloc, sink),
-        Err(fault) => Err(SendFault::Memory(fault)),
-    }
-}
-
 /// Reads a certificate and writes the one line of what its levels come to, or of the line at which it is refused. Says whether it is
 /// refused, or breaks an invariant.
 pub fn check_input<S: Source, K: Sink>(
@@ -105,7 +67,7 @@ pub fn check_input<S: Source, K: Sink>(
             Ok(is_breach(verdict))
         }
         Err(CertFault::Refused { line, reason }) => {
-            write_refused(alloc, sink, line, reason)?;
+            write_document_refused(alloc, sink, line, reason)?;
             Ok(true)
         }
         Err(CertFault::ReadFault) => Err(SessionFault::ReadFault),

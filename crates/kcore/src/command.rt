@@ -21,6 +21,8 @@ pub enum Command {
     Exact,
     /// `check`: read a certificate, and print what its levels come to.
     Check,
+    /// `audit`: read a run text, and print whether its groups explain its readers.
+    Audit,
     /// `dense`: apply the batches of an input in turn, and print a dense part of the graph after them.
     Dense,
 }
@@ -65,6 +67,8 @@ fn of_one(name: &[u8]) -> Option<Command>
         Some(Command::Exact)
     } else if is_word(name, b"check") {
         Some(Command::Check)
+    } else if is_word(name, b"audit") {
+        Some(Command::Audit)
     } else if is_word(name, b"dense") {
         Some(Command::Dense)
     } else {

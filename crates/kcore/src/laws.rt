@@ -1,5 +1,6 @@
 //! What the definition of the text comes to. Each function does nothing; its contract is a law.
 ghost use Rattle.kcore.specs.Laws.{InputHasText, RepliesHaveText, TextsAreAlike, HasOneText, StatesArePoints, EachPointIsNear, EachStateHolds};
+ghost use Rattle.kcore.specs.AuditLaw.{RunIsExplained};
 ghost use Rattle.kcore.specs.CertificateLaw.{FinalIsCertified};
 ghost use Rattle.kcore.specs.ExactText.{IsExactText};
 ghost use Rattle.kcore.specs.FinalText.{IsFinalText};
@@ -16,6 +17,12 @@ pub fn input_has_text()
 /// in them is the same for every number of workers, and however the readers ran beside the batches.
 pub fn texts_are_alike()
     ensures { TextsAreAlike }
+{}
+
+/// What `run` writes of an input with a header, where that isn't longer than an input may be, is read as the groups of the history and
+/// the replies of the readers; the groups explain each reader; and what `audit` writes of it is `explained`.
+pub fn run_is_explained()
+    ensures { RunIsExplained }
 {}
 
 /// For each input there is exactly one exact text.

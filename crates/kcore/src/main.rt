@@ -3,7 +3,7 @@
 //! [`top::run_command`] is the program; `main` only hands it the words of the command line, the standard input and
 //! output, and ends with its exit number. Each command reads a header first ([`inputs`]). Then `run` hands the batches and the readers
 //! over to `kc_session`, and `final`, `orient`, `exact` and `dense` write a document of what the batches lead to ([`documents`]). `check`
-//! reads such a certificate instead ([`check`]).
+//! reads such a certificate instead ([`check`]), and `audit` what a run wrote ([`audit`]).
 #![tactic(auto)]
 
 ghost use Rattle.std.specs.Prelude.{◌≡◌, drop, map, string_bytes, IfOk};
@@ -11,10 +11,12 @@ ghost use Rattle.std.specs.Vec.Iter.{into_iter_items};
 ghost use Rattle.kcore.specs.declared.status.Status.{Status};
 ghost use Rattle.kcore.specs.Commands.{EndsAs, exit_number};
 
+mod audit;
 mod check;
 mod command;
 mod dense;
 mod dense_lines;
+mod document_lines;
 mod documents;
 mod exact;
 mod final_text;

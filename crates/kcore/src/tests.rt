@@ -1,6 +1,7 @@
 // The top call over sources and sinks in memory. Each text was worked out by hand from its input.
 ghost use Rattle.std.specs.Prelude.{◌<◌};
 
+mod audit;
 mod comparing;
 mod dense;
 mod hostile;
@@ -234,6 +235,7 @@ fn other_words_name_no_command(rt: HostRuntime) -> Result<(), Fail> {
         "final 0",
         "final 65",
         "check 1",
+        "audit 1",
         "dense 1",
         "gen 0 5 1 3",
         "--help",

@@ -3,6 +3,7 @@ ghost use Rattle.std.specs.Prelude.{◌≡◌, ◌↔◌, None, Option};
 ghost use Rattle.kcore.specs.Commands.{command_of, Answers, Holds, HasCause};
 ghost use Rattle.kcore.specs.Writing.{status_of};
 
+use crate::audit::audit_input;
 use crate::check::check_input;
 use crate::command::Command;
 use crate::dense::Dense;
@@ -53,6 +54,10 @@ fn status_of(ended: Result<bool, SessionFault>) -> Status
 /// of workers. The text of `check` is one line: the verdict of the certificate that the bytes are (`IsVerdict` of `kc_cert`), or the first
 /// line that doesn't fit and why; it is refused where it isn't `certified`.
 ///
+/// The text of `audit` is one line too: whether the group lines of the run that the bytes are explain its readers (`IsVerdict` of
+/// `kc_audit`), or the first line that doesn't fit and why; it is refused where it isn't `explained`. What `run` writes is
+/// explained, where it isn't longer than an input may be ([`laws`](crate::laws)).
+///
 /// There is one text of `orient` too, whatever the number of workers. The graph after the batches is oriented by the levels after
 /// them: no vertex has more out-neighbours than six times its coreness, and where the header gives the second profile than four
 /// times. The ends of an edge have different colours, and no colour is above the number of its vertex's out-neighbours.
@@ -88,6 +93,7 @@ pub fn run_command<R: Threads + Sync, S: Source + Send, K: Sink + Send, G: Gate 
             rt, alloc, gate, workers, input, output,
         )),
         Some(Command::Check) => status_of(check_input(alloc, input, output)),
+        Some(Command::Audit) => status_of(audit_input(alloc, input, output)),
         Some(Command::Exact) => status_of(settle_input::<Exact, R, S, K, G>(
             rt, alloc, gate, 1, input, output,
         )),

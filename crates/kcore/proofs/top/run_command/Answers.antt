@@ -19,3 +19,6 @@ returns-in-Some-Check-clause-holds g c = holds (command_of c.args.words.now) (g.
 
 pub returns-in-Some-Dense-clause-holds : goal.returns-in-Some-Dense-clause-holds
 returns-in-Some-Dense-clause-holds g c = holds (command_of c.args.words.now) (g.S.Source.left c.args.input.now)
+
+pub returns-in-Some-Audit-clause-holds : goal.returns-in-Some-Audit-clause-holds
+returns-in-Some-Audit-clause-holds g c = holds (command_of c.args.words.now) (g.S.Source.left c.args.input.now)

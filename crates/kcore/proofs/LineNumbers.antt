@@ -1,0 +1,118 @@
+-- The numbers of lines within the limit of the input, and of the lines of batches, are small.
+use Rattle.std.proofs.Common.{ℕ, suc, zero, ◌+◌, ◌≤◌, ◌<◌, true, false, List, [], ◌∷◌, ◌++◌, length, arith}
+use Rattle.std.specs.Prelude.{◌^◌, ◌==◌, nat_le, All, if◌then◌else◌}
+use Rattle.std.proofs.lemmas.List.Elements.{All-nil, All-cons, All-head, All-tail}
+use Rattle.kc_graph.specs.declared.items.Item.{Item}
+use Rattle.kc_text.specs.declared.line.Line.{Line}
+use Rattle.kc_text.specs.declared.line.Body.TheVariants as body
+use Rattle.kc_text.specs.Lines.{lines, lines_from, last_of, line_of}
+use Rattle.kc_batch.specs.declared.batch.Next.{Next}
+use Rattle.kc_batch.specs.declared.batch.Next.TheVariants.{Items, Refused, End}
+use Rattle.kc_batch.specs.declared.rules.Rules.{Rules}
+use Rattle.kc_batch.specs.declared.token.Token.{Token}
+use Rattle.kc_batch.specs.declared.token.Kind.{Kind}
+use Rattle.kc_batch.specs.declared.token.Kind.TheVariants as kind
+use Rattle.kc_batch.specs.declared.turn.Turn.{Turn}
+use Rattle.kc_batch.specs.declared.turn.Turn.TheVariants.{Add, Close, Pass, Stop}
+use Rattle.kc_batch.specs.Batches.{Place, Between, Within, Passing, batches, batches_from, step_between, step_within, step_passing}
+use Rattle.kc_batch.specs.Kept.{is_skipped, kept}
+use Rattle.kc_batch.specs.Tokens.{tokens}
+use Rattle.kc_batch.specs.Turns.{turn_of}
+use Rattle.kcore.specs.declared.limits.TheConstants.{LINE_LIMIT, INPUT_LIMIT}
+
+abbrev IsAtMost : ℕ → Line → Type 0
+IsAtMost last line = line.number ≤ last
+
+from_last : (limit n last : ℕ) (piece : List ℕ) → n + 1 ≤ last → All (IsAtMost last) (last_of limit n piece)
+from_last limit n last [] h = All-cons (IsAtMost last) _ [] (omega (arith, h)) (All-nil (IsAtMost last))
+from_last limit n last (b ∷ bs) h =
+    let end : Line = record { number = n + 1; body = body.End } in
+    All-cons (IsAtMost last) (line_of limit n (b ∷ bs)) (end ∷ []) (omega (arith, h)) (All-cons (IsAtMost last) end [] h (All-nil (IsAtMost last)))
+
+lines_low : (limit n room last : ℕ) (piece bs : List ℕ) → n + room + 1 ≤ last → All (IsAtMost last) (lines_from limit n room piece bs)
+unfolding lines_from
+lines_low limit n room last piece [] h = from_last limit n last piece (omega (arith, h))
+lines_low limit n zero last piece (b ∷ bs) h = All-cons (IsAtMost last) _ [] (omega (arith, h)) (All-nil (IsAtMost last))
+lines_low limit n (suc room) last piece (b ∷ bs) h =
+    elim (b == 10) as (λ t. All (IsAtMost last) (if t then line_of limit n piece ∷ lines_from limit (n + 1) room [] bs else lines_from limit n room (piece ++ b ∷ []) bs)) [
+      | true ↦ All-cons (IsAtMost last) (line_of limit n piece) (lines_from limit (n + 1) room [] bs) (omega (arith, h)) (lines_low limit (n + 1) room last [] bs (omega (arith, h)))
+      | false ↦ lines_low limit n room last (piece ++ b ∷ []) bs (omega (arith, h))
+    ]
+
+-- the number of a line can be printed
+abbrev pub IsNumbered : Line → Type 0
+IsNumbered line = line.number < 2 ^ 32
+
+kept_all : (P : Line → Type 0) (ls : List Line) → All P ls → All P (kept ls)
+kept_all P [] h = All-nil P
+kept_all P (line ∷ rest) h =
+    elim (is_skipped line.body) as (λ t. All P (if t then kept rest else line ∷ kept rest)) [
+      | true ↦ kept_all P rest (All-tail P line rest h)
+      | false ↦ All-cons P line (kept rest) (All-head P line rest h) (kept_all P rest (All-tail P line rest h))
+    ]
+
+weaker : (ls : List Line) (last : ℕ) → last < 2 ^ 32 → All (IsAtMost last) ls → All IsNumbered ls
+weaker ls last h all = λ i d inside. omega (arith, h, all i d inside)
+
+pub kept_are_numbered : (bytes : List ℕ) → All IsNumbered (kept (lines LINE_LIMIT INPUT_LIMIT bytes))
+kept_are_numbered bytes =
+    kept_all IsNumbered (lines LINE_LIMIT INPUT_LIMIT bytes) (weaker _ (1 + INPUT_LIMIT + 1) (omega arith) (lines_low LINE_LIMIT 1 INPUT_LIMIT (1 + INPUT_LIMIT + 1) [] bytes (omega arith)))
+
+abbrev IsSmallToken : Token → Type 0
+IsSmallToken t = t.number < 2 ^ 32
+
+small_tokens : (ls : List Line) → All IsNumbered ls → All IsSmallToken (tokens ls)
+small_tokens [] h = All-nil IsSmallToken
+small_tokens (line ∷ rest) h = All-cons IsSmallToken _ (tokens rest) (All-head IsNumbered line rest h) (small_tokens rest (All-tail IsNumbered line rest h))
+
+-- a batch, whose line has a number that can be printed
+abbrev pub HasSmallLine : Next → Type 0
+HasSmallLine (Items batch) = batch.line < 2 ^ 32
+HasSmallLine (Refused line r) = line < 2 ^ 32
+HasSmallLine End = ⊥
+
+abbrev Are : List Next → Type 0
+Are bs = All HasSmallLine bs
+
+between_small : (t : Token) (k : Kind) (within between passing : List Next) → IsSmallToken t → Are within → Are between → Are passing → Are (step_between t k within between passing)
+between_small t kind.BatchStart within between passing s w b p = w
+between_small t kind.BatchEnd within between passing s w b p = All-cons HasSmallLine _ _ s b
+between_small t (kind.Item item) within between passing s w b p = All-cons HasSmallLine _ _ s p
+between_small t kind.Other within between passing s w b p = All-cons HasSmallLine _ _ s p
+between_small t kind.TooLong within between passing s w b p = All-cons HasSmallLine _ _ s p
+between_small t kind.Limit within between passing s w b p = All-cons HasSmallLine _ [] s (All-nil HasSmallLine)
+between_small t kind.InputEnd within between passing s w b p = All-nil HasSmallLine
+
+passing_small : (t : Token) (k : Kind) (between passing : List Next) → IsSmallToken t → Are between → Are passing → Are (step_passing t k between passing)
+passing_small t kind.BatchStart between passing s b p = p
+passing_small t kind.BatchEnd between passing s b p = b
+passing_small t (kind.Item item) between passing s b p = p
+passing_small t kind.Other between passing s b p = p
+passing_small t kind.TooLong between passing s b p = p
+passing_small t kind.Limit between passing s b p = All-cons HasSmallLine _ [] s (All-nil HasSmallLine)
+passing_small t kind.InputEnd between passing s b p = All-nil HasSmallLine
+
+within_small : (items : List Item) (t : Token) (turn : Turn) (more : Item → List Next) (between passing : List Next) → IsSmallToken t → ((item : Item) → Are (more item)) → Are between → Are passing → Are (step_within items t turn more between passing)
+within_small items t (Add item) more between passing s m b p = m item
+within_small items t Close more between passing s m b p = All-cons HasSmallLine _ _ s b
+within_small items t (Pass reason) more between passing s m b p = All-cons HasSmallLine _ _ s p
+within_small items t (Stop reason) more between passing s m b p = All-cons HasSmallLine _ [] s (All-nil HasSmallLine)
+
+small_from : (rules : Rules) (place : Place) (ts : List Token) → All IsSmallToken ts → Are (batches_from rules place ts)
+unfolding batches_from
+small_from rules place [] h = All-nil HasSmallLine
+small_from rules Between (t ∷ rest) h =
+    let later = All-tail IsSmallToken t rest h in
+    between_small t t.kind (batches_from rules (Within []) rest) (batches_from rules Between rest) (batches_from rules Passing rest) (All-head IsSmallToken t rest h)
+    (small_from rules (Within []) rest later) (small_from rules Between rest later) (small_from rules Passing rest later)
+small_from rules (Within items) (t ∷ rest) h =
+    let later = All-tail IsSmallToken t rest h in
+    within_small items t (turn_of rules (nat_le rules.item_limit (length items)) t.kind) (λ item. batches_from rules (Within (items ++ item ∷ [])) rest) (batches_from rules Between rest) (batches_from rules Passing rest) (All-head IsSmallToken t rest h)
+    (λ item. small_from rules (Within (items ++ item ∷ [])) rest later) (small_from rules Between rest later) (small_from rules Passing rest later)
+small_from rules Passing (t ∷ rest) h =
+    let later = All-tail IsSmallToken t rest h in
+    passing_small t t.kind (batches_from rules Between rest) (batches_from rules Passing rest) (All-head IsSmallToken t rest h) (small_from rules Between rest later) (small_from rules Passing rest later)
+
+-- batches of numbered lines
+pub batches_have_small_lines : (rules : Rules) (ls : List Line) → All IsNumbered ls → All HasSmallLine (batches rules (tokens ls))
+batches_have_small_lines rules ls h = small_from rules Between (tokens ls) (small_tokens ls h)

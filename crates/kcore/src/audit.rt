@@ -1,0 +1,77 @@
+//! The command `audit`: whether the groups of a run text explain its readers.
+ghost use Rattle.std.specs.Prelude.{◌≡◌, ◌++◌, ◌∷◌, [], OnOk};
+ghost use Rattle.kc_text.specs.Writing.{Appends, WriteCause};
+ghost use Rattle.kc_session.specs.Faults.{FaultCause};
+ghost use Rattle.kcore.specs.AuditText.{verdict_line, is_unexplained, WritesAudit};
+
+use crate::document_lines::{fill_named, write_document_refused};
+use crate::limits::{INPUT_LIMIT, RUN_LINE_LIMIT};
+use kc_audit::{AuditFault, AuditVerdict, audit, read_run};
+use kc_session::SessionFault;
+use kc_text::{LineBuf, LineReader, SendFault, Sink, Source};
+use std::alloc::{AllocError, Global};
+
+fn fill_verdict(alloc: Global, buf: &mut LineBuf, verdict: AuditVerdict) -> Result<(), AllocError>
+    requires { buf.old ≡ [] }
+    ensures { OnOk result (buf.new ++ 10 ∷ [] ≡ verdict_line verdict) }
+{
+    match verdict {
+        AuditVerdict::Explained => buf.text(alloc, b"explained"),
+        AuditVerdict::Unexplained { reader, ask } => {
+            fill_named(alloc, buf, b"unexplained reader ", reader)?;
+            fill_named(alloc, buf, b" ask ", ask)
+        }
+    }
+}
+
+// Writes the line of a verdict.
+fn write_verdict<K: Sink>(
+    alloc: Global,
+    sink: &mut K,
+    verdict: AuditVerdict,
+) -> Result<(), SendFault>
+    ensures text { Appends (K.taken sink.old) (K.taken sink.new) (verdict_line verdict) result }
+    ensures cause { WriteCause (K.faults sink.old) (K.faults sink.new) result }
+{
+    let mut buf = LineBuf::new(alloc);
+    match fill_verdict(alloc, &mut buf, verdict) {
+        Ok(()) => buf.send(alloc, sink),
+        Err(fault) => Err(SendFault::Memory(fault)),
+    }
+}
+
+/// Reads a run text and writes the one line of whether its groups explain its readers, or of the line at which it is refused. Says
+/// whether it is refused, or a reader isn't explained.
+pub fn audit_input<S: Source, K: Sink>(
+    alloc: Global,
+    src: &mut S,
+    sink: &mut K,
+) -> Result<bool, SessionFault>
+    ensures text { WritesAudit (S.left src.old) (K.taken sink.old) (K.taken sink.new) result }
+    ensures cause { FaultCause (S.faults src.old) (S.faults src.new) (K.faults sink.old) (K.faults sink.new) result }
+{
+    let mut reader = LineReader::new(alloc, RUN_LINE_LIMIT, INPUT_LIMIT)?;
+    match read_run(alloc, &mut reader, src) {
+        Ok(run) => {
+            let verdict = audit(alloc, &run)?;
+            write_verdict(alloc, sink, verdict)?;
+            Ok(is_unexplained(verdict))
+        }
+        Err(AuditFault::Refused { line, reason }) => {
+            write_document_refused(alloc, sink, line, reason)?;
+            Ok(true)
+        }
+        Err(AuditFault::ReadFault) => Err(SessionFault::ReadFault),
+        Err(AuditFault::Memory(e)) => Err(SessionFault::Memory(e)),
+    }
+}
+
+// Whether the replies of some reader aren't explained.
+fn is_unexplained(verdict: AuditVerdict) -> bool
+    ensures { result ≡ is_unexplained verdict }
+{
+    match verdict {
+        AuditVerdict::Explained => false,
+        AuditVerdict::Unexplained { .. } => true,
+    }
+}

@@ -1,0 +1,51 @@
+//! Parts of the one line that `check` and `audit` write.
+ghost use Rattle.std.specs.Prelude.{◌≡◌, ◌++◌, ◌∷◌, [], OnOk, decimal};
+ghost use Rattle.kc_text.specs.Writing.{Appends, WriteCause};
+ghost use Rattle.kcore.specs.DocumentLines.{refused_document_line};
+
+use kc_text::{LineBuf, Reason, SendFault, Sink};
+use std::alloc::{AllocError, Global};
+
+/// Appends a name, with its blanks, and a number.
+pub fn fill_named(
+    alloc: Global,
+    buf: &mut LineBuf,
+    name: &[u8],
+    value: u32,
+) -> Result<(), AllocError>
+    ensures { OnOk result (buf.new ≡ (buf.old ++ name.now) ++ decimal value) }
+{
+    buf.text(alloc, name)?;
+    buf.number(alloc, value)
+}
+
+fn fill_refused(
+    alloc: Global,
+    buf: &mut LineBuf,
+    line: u32,
+    reason: Reason,
+) -> Result<(), AllocError>
+    requires { buf.old ≡ [] }
+    ensures { OnOk result (buf.new ++ 10 ∷ [] ≡ refused_document_line line reason) }
+{
+    fill_named(alloc, buf, b"refused line ", line)?;
+    buf.text(alloc, b" ")?;
+    buf.text(alloc, reason.word())
+}
+
+/// Writes the line of a document that is refused at this line.
+pub fn write_document_refused<K: Sink>(
+    alloc: Global,
+    sink: &mut K,
+    line: u32,
+    reason: Reason,
+) -> Result<(), SendFault>
+    ensures text { Appends (K.taken sink.old) (K.taken sink.new) (refused_document_line line reason) result }
+    ensures cause { WriteCause (K.faults sink.old) (K.faults sink.new) result }
+{
+    let mut buf = LineBuf::new(alloc);
+    match fill_refused(alloc, &mut buf, line, reason) {
+        Ok(()) => buf.send(alloc, sink),
+        Err(fault) => Err(SendFault::Memory(fault)),
+    }
+}
