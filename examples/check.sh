@@ -48,6 +48,13 @@ for input in karate_batches.kc path.kc isolate.kc; do
   done
 done
 
+# What `run` writes is explained.
+for text in *.txt cases/*.txt; do
+  [ "$text" != readers.txt ] && grep -q '^kcore-run' "$text" || continue
+  "$program" audit <"$text" >"$out"
+  [ $? = 0 ] && grep -qx explained "$out" || wrong "$text isn't explained"
+done
+
 for text in *_dense.txt cases/*_dense.txt; do
   writes "${text%_dense.txt}.kc" "$text" dense
 done
@@ -64,16 +71,19 @@ done
 # The most questions that a reader may have.
 printf 'kcore 1\nvertices 1\nask 65536 0\n' | "$program" run 1 >"$out"
 [ $? = 0 ] && [ "$(grep '^reader 0 ' "$out" | wc -w)" = 65538 ] || wrong "a reader with 65536 questions: another text"
+# Its line has more than 65,536 bytes, as a line of a run text may.
+"$program" audit <"$out" | grep -qx explained || wrong "a reader with 65536 questions isn't explained"
+sed '/^reader 0/s/=0$/=1/' "$out" | "$program" audit | grep -qx 'unexplained reader 0 ask 65536' || wrong "a reader with 65536 questions: its last reply"
 
 # Words that name no command: nothing is written.
-for words in "" run "run 0" "run 65" "run +1" "run 00000000001" "run x" "run 1 1" "exact 1" final "final 0" "final 65" orient "orient 0" "orient 65" "orient 1 1" "dense 1" "check 1" --help --version; do
+for words in "" run "run 0" "run 65" "run +1" "run 00000000001" "run x" "run 1 1" "exact 1" final "final 0" "final 65" orient "orient 0" "orient 65" "orient 1 1" "dense 1" "check 1" "audit 1" --help --version; do
   "$program" $words <path.kc >"$out" 2>"$err"
   exited=$?
   [ $exited = 2 ] && [ ! -s "$out" ] && [ ! -s "$err" ] || wrong "path.kc: '$words': exit number $exited"
 done
 
 # An input that can't be read: a folder. A graph that doesn't fit into the memory that there is.
-for words in "run 1" "final 1" "orient 1" exact dense; do
+for words in "run 1" "final 1" "orient 1" exact dense audit; do
   "$program" $words <. >"$out" 2>"$err"
   exited=$?
   [ $exited = 3 ] && [ ! -s "$out" ] && [ ! -s "$err" ] || wrong "$words of a folder: exit number $exited"
@@ -109,11 +119,14 @@ refuses() {
   [ $? = "$1" ] && [ ! -s "$out" ] && grep -q -e "$2" "$err" || wrong "snap_to_kcore.py: '$3' ${*:4}"
 }
 
-# What readers are told depends on how the threads run, and all else is in readers.txt. The history explains each reply.
+# What readers are told depends on how the threads run, and all else is in readers.txt. The history explains each reply. Where one
+# reply is another by 1, `audit` and explained.py name the same reply, or none.
 for workers in 1 2 4 4 4; do
   "$program" run $workers <readers.kc >"$out"
   [ $? = 0 ] && sed -E '/^reader/s/=[01]/=L/g' "$out" | cmp -s - readers.txt || wrong "readers.kc: another text than in readers.txt"
   python3 explained.py <"$out" 2>"$err" || wrong "readers.kc: $(cat "$err")"
+  "$program" audit <"$out" | grep -qx explained || wrong "readers.kc: its text isn't explained"
+  python3 explained.py --changed "$program" <"$out" || wrong "readers.kc: a changed reply"
   sed '/^reader 0/s/0=. 4=.$/0=0 4=2/' "$out" | python3 explained.py 2>"$err" && wrong "explained.py: a level that 4 never has"
 done
 

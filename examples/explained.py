@@ -2,10 +2,15 @@
 """Says whether the readers of a run text were told levels of its history.
 
     kcore run 4 < readers.kc | python3 explained.py
+    kcore run 4 < readers.kc | python3 explained.py --changed kcore
 
 Each reply `V=L` has to be the level of V at a point of the history: before the first line `group`, or after one of them. The points of
 one reader never go back. Exits with 0 if that is so, and else with 1 and the first reply for which there is no point.
+
+With --changed the text is changed at one reply in turn, to the next level up and down, and `PROGRAM audit` has to name the same reply
+of each changed text, or `explained`. Exits with 1 and the first text of which it doesn't.
 """
+import subprocess
 import sys
 
 
@@ -29,7 +34,37 @@ def first_misfit(text):
     return None
 
 
+def changed(text):
+    """The texts that differ in one reply by 1."""
+    lines = text.splitlines(keepends=True)
+    for i, line in enumerate(lines):
+        words = line.split()
+        for j, word in enumerate(words[2:], 2) if words[:1] == ["reader"] else []:
+            vertex, level = map(int, word.split("="))
+            for other in {level + 1, max(level - 1, 0)} - {level}:
+                new = " ".join([*words[:j], f"{vertex}={other}", *words[j + 1 :]])
+                yield "".join([*lines[:i], new + "\n", *lines[i + 1 :]])
+
+
+def verdict(misfit):
+    """What `audit` has to write of a text with this misfit."""
+    return "unexplained reader %d ask %d\n" % misfit if misfit else "explained\n"
+
+
+def first_other(program, text):
+    """The first changed text of which the program doesn't write the verdict, or None."""
+    for one in changed(text):
+        if subprocess.run([program, "audit"], input=one, capture_output=True, text=True).stdout != verdict(first_misfit(one)):
+            return one
+    return None
+
+
 if __name__ == "__main__":
+    if sys.argv[1:2] == ["--changed"]:
+        other = first_other(sys.argv[2], sys.stdin.read())
+        if other:
+            sys.exit("another verdict by audit of:\n" + other)
+        sys.exit()
     misfit = first_misfit(sys.stdin.read())
     if misfit:
         print("reader %d, question %d: no point of the history fits" % misfit, file=sys.stderr)

@@ -29,6 +29,7 @@ COMMANDS = [
     Command("exact", BATCHES, is_noted=True),
     Command("dense", BATCHES, is_noted=True),
     Command("check", ["karate_batches_final.txt"], is_noted=False),
+    Command("audit", ["karate_batches.txt"], is_noted=False),
 ]
 
 
