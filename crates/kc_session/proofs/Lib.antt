@@ -16,3 +16,5 @@ pub mod Causes
 pub mod SessionTexts
 pub mod LastLines
 pub mod SumLemmas
+pub mod LoadLemmas
+pub mod LoadReads

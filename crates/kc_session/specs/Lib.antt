@@ -13,3 +13,7 @@ pub mod Running
 pub mod Settling
 pub mod Ended
 pub mod SessionText
+pub mod Generated
+pub mod Generating
+pub mod LoadVectors
+pub mod LoadInputs

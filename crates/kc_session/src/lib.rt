@@ -5,7 +5,8 @@
 //! Afterwards the agents are closed by the writer, whose history explains their replies, and a last pass reads the levels of all
 //! vertices. Where nobody asks, no store is opened (`audience`). `specs/SessionText` says what is written and what is true of it.
 //!
-//! [`settle`] applies the batches of an input where nobody reads meanwhile.
+//! [`settle`] applies the batches of an input where nobody reads meanwhile. [`GenSource`] is a source of a generated input, whose text
+//! `specs/Generated` defines.
 #![tactic(auto)]
 
 mod agent;
@@ -16,7 +17,10 @@ mod batches;
 mod counts;
 mod ended;
 mod fault;
+mod gen_source;
+mod generator;
 mod last_pass;
+pub mod laws;
 mod readers;
 mod report;
 mod session;
@@ -27,6 +31,7 @@ pub use agent::Agent;
 pub use agents::{close_all, open_agents, run_agents};
 pub use ended::Ended;
 pub use fault::SessionFault;
+pub use gen_source::GenSource;
 pub use last_pass::read_all;
 pub use readers::write_readers;
 pub use session::run_session;

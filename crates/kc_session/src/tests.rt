@@ -1,6 +1,7 @@
 // Agents by hand, over a store that no batch has changed yet.
 ghost use Rattle.std.specs.Prelude.{◌≡◌, [], ◌∷◌, IfOk};
 
+mod loads;
 mod sessions;
 
 use crate::Agent;
