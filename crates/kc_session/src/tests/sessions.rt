@@ -153,9 +153,12 @@ const TURNS: u64 = 10_000_000;
 // Two groups, and a reader that asks for both vertices of the first.
 const TWO_GROUPS: &[u8] = b"kcore 1\nvertices 6\nask 1 0 1\nbatch\n+ 0 1\n+ 2 3\nend\n";
 
-// The text of that session around the line of the reader.
+// The same groups, and a reader that asks for a vertex of the second.
+const SECOND_IS_ASKED: &[u8] = b"kcore 1\nvertices 6\nask 1 2\nbatch\n+ 0 1\n+ 2 3\nend\n";
+
+// The text of both sessions before the replies.
 const BEFORE: &[u8] =
-    b"kcore-run 1\nvertices 6\nbatch 1 loops 0 repeats 0 idle 0 removed 0 added 2\nphase 1 insert quiet 0\ngroup 1 0 0:1 1:1\ngroup 1 2 2:1 3:1\nreader 0 0=";
+    b"kcore-run 1\nvertices 6\nbatch 1 loops 0 repeats 0 idle 0 removed 0 added 2\nphase 1 insert quiet 0\ngroup 1 0 0:1 1:1\ngroup 1 2 2:1 3:1\nreader 0 ";
 
 // Holds a thread until a flag is set, for at most so many turns; then it tells that they ran out.
 fn hold(until: &AtomicBool, ran_out: &AtomicBool) {
@@ -209,8 +212,21 @@ fn a_group_takes_effect_at_once(rt: HostRuntime) -> Result<(), Fail> {
     assert!(rt; text.as_slice().starts_with(BEFORE));
     let told = &text.as_slice()[BEFORE.len()..];
     assert!(rt;
-        told.starts_with(b"0 1=0\n") || told.starts_with(b"0 1=1\n") || told.starts_with(b"1 1=1\n")
+        told.starts_with(b"0=0 1=0\n") || told.starts_with(b"0=0 1=1\n") || told.starts_with(b"0=1 1=1\n")
     );
+    Ok(())
+}
+
+// The second group is published only after the reader was told a level of it, which is thus the one from before. The levels after
+// the batches would be explained as well.
+#[test]
+fn a_reply_is_from_before_what_waits_for_it(rt: HostRuntime) -> Result<(), Fail> {
+    let gate = HoldsPublication::new();
+    let (ended, text) = run(&rt, rt.alloc(), &gate, 1, SECOND_IS_ASKED, &[])?;
+    let _ended = ended?;
+    assert!(rt; !gate.ran_out.load(SeqCst));
+    assert!(rt; text.as_slice().starts_with(BEFORE));
+    assert!(rt; text.as_slice()[BEFORE.len()..].starts_with(b"2=0\n"));
     Ok(())
 }
 
@@ -241,7 +257,7 @@ fn a_reader_looks_while_batches_are_shown(rt: HostRuntime) -> Result<(), Fail> {
     let _ended = ended?;
     assert!(rt; !gate.ran_out.load(SeqCst));
     assert!(rt; text.as_slice().starts_with(BEFORE));
-    assert!(rt; text.as_slice()[BEFORE.len()..].starts_with(b"1 1=1\n"));
+    assert!(rt; text.as_slice()[BEFORE.len()..].starts_with(b"0=1 1=1\n"));
     Ok(())
 }
 
