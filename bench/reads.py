@@ -9,7 +9,7 @@ each number of vertices:
 - the nanoseconds of a plain load, of a read of one load (nothing is marked) and of three (all is marked, nothing is
   published), and of one beside a writer that shows plans all the time, each with one reader
 - the ratios of these to a plain load
-- how many times one reader's rate eight readers have together
+- how many times one reader's rate eight readers have together, and so of eight threads that load from one array
 - the nanoseconds of a mark, a publication and a clearing of one move
 
 and for the largest store how long it takes to open, beside zeroing as much memory. It judges nothing: times on a shared
@@ -50,7 +50,7 @@ def print_reads(best, n):
 
     plain = each("plain")
     print(f"{n} vertices")
-    print(f"  {'plain load':16} {plain:8.2f} ns")
+    print(f"  {'plain load':16} {plain:8.2f} ns   {1:6.2f} plain loads   eight threads together {plain / each('plain', 8):5.2f} times one")
     for name, what in READS:
         one, eight = each(what), each(what, 8)
         print(f"  {name:16} {one:8.2f} ns   {one / plain:6.2f} plain loads   eight readers together {one / eight:5.2f} times one")

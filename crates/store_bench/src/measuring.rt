@@ -6,7 +6,7 @@ ghost use Rattle.kc_groups.specs.WellFormed.{IsWellFormed};
 ghost use Rattle.kc_store.specs.Showing.{IsIdle};
 
 use crate::plans::make_plans;
-use crate::reading::{Reader, by_chance, make_readers, run_readers, sum_of};
+use crate::reading::{Reader, by_chance, make_readers, run_loads, run_readers};
 use crate::showing::{mark, may_begin, show, show_all, show_next};
 use anyhow::ensure;
 use kc_groups::PhasePlan;
@@ -81,21 +81,34 @@ fn read_ones(readers: &[Reader], reads: u64) -> bool {
     readers.iter().all(|reader| reader.sum == reads)
 }
 
-// Loads from an array of as many words as a store has.
-fn print_plain<R: Clock + Print>(
+// Loads from an array of as many words as a store has, by so many threads at once.
+fn print_plain<R: Threads + Sync + Clock + Print>(
     rt: &R,
     alloc: Global,
     rows: Rows,
     order: &[u32],
+    count: u32,
 ) -> anyhow::Result<()>
-    requires { rows.vertices ≤ MAX_VERTICES }
+    requires vertices { rows.vertices ≤ MAX_VERTICES }
+    requires some { 0 < count }
 {
     let words = vec![in alloc; 1u64; 3 * rows.vertices as usize + 1]?;
+    let mut sums = vec![in alloc; 0u64; count as usize]?;
+    let loads = order.len() as u64;
     let start = Instant::now(rt)?;
-    let sum = sum_of(words.as_slice(), order);
+    run_loads(rt, words.as_slice(), order, sums.as_mut_slice());
     let time = start.elapsed(rt)?;
-    ensure!(sum == order.len() as u64, "a load from memory was wrong");
-    rows.print(rt, "plain 1", sum, time)?;
+    ensure!(
+        sums.iter().all(|sum| *sum == loads),
+        "a load from memory was wrong"
+    );
+    let name = format!(in alloc; "plain {count}")?;
+    rows.print(
+        rt,
+        name.as_str(),
+        u64::from(count).saturating_mul(loads),
+        time,
+    )?;
     Ok(())
 }
 
@@ -279,13 +292,12 @@ pub fn print_reads<R: Threads + Sync + Clock + Print>(
     let order = order.as_slice();
     let plans = make_plans(alloc, sizes.vertices, sizes.plans)?;
     let plans = plans.as_slice();
-    print_plain(rt, alloc, rows, order)?;
     print_for(rt, alloc, rows, order, plans, 1)?;
     print_for(rt, alloc, rows, order, plans, 8)?;
     print_moves(rt, alloc, rows, &plans[0])
 }
 
-// Prints the measurements for so many readers at once.
+// Prints the measurements for so many threads that load, or readers, at once.
 fn print_for<R: Threads + Sync + Clock + Print>(
     rt: &R,
     alloc: Global,
@@ -299,6 +311,7 @@ fn print_for<R: Threads + Sync + Clock + Print>(
     requires two { 2 ≤ length plans.now }
     requires some { 0 < count }
 {
+    print_plain(rt, alloc, rows, order, count)?;
     print_at_rest(rt, alloc, rows, order, &plans[0], count)?;
     print_marked(rt, alloc, rows, order, &plans[0], &plans[1], count)?;
     print_beside(rt, alloc, rows, order, plans, count)

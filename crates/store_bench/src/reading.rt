@@ -21,8 +21,8 @@ pub fn by_chance(alloc: Global, n: u32, count: u32) -> Result<Vec<u32>, AllocErr
     Ok(order)
 }
 
-/// The sum of the words of the vertices in this order, where the word of a vertex v is at place v + 1.
-pub fn sum_of(words: &[u64], order: &[u32]) -> u64 {
+// The sum of the words of the vertices in this order, where the word of a vertex v is at place v + 1.
+fn sum_of(words: &[u64], order: &[u32]) -> u64 {
     let mut sum = 0u64;
     for v in order {
         let place = *v as usize + 1;
@@ -31,6 +31,19 @@ pub fn sum_of(words: &[u64], order: &[u32]) -> u64 {
         }
     }
     sum
+}
+
+/// Loads the words of the vertices in this order in a thread for each of the sums, which is what they come to.
+pub fn run_loads<R: Threads + Sync>(rt: &R, words: &[u64], order: &[u32], sums: &mut [u64])
+    requires some { 0 < length sums.old }
+{
+    let threads = sums.len();
+    thread::for_each_mut(
+        rt,
+        sums,
+        threads,
+        &|_, sum: &mut u64| { *sum = sum_of(words, order) },
+    );
 }
 
 /// Who reads.
