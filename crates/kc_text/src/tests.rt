@@ -264,7 +264,10 @@ impl Write for Interrupted {
 #[test]
 fn interrupted_calls_are_made_again(rt: HostRuntime) -> Result<(), Fail> {
     let mut buf = [0u8; 3];
-    assert_eq!(rt; StdSource::new(Interrupted { times: 5 }).read(&mut buf), Ok(3));
+    assert_eq!(rt;
+        StdSource::new(Interrupted { times: 5 }).read(&mut buf),
+        Ok(3)
+    );
     assert_eq!(rt; StdSink::new(Interrupted { times: 5 }).write(b"ab"), Ok(2));
     Ok(())
 }

@@ -212,7 +212,9 @@ fn a_group_takes_effect_at_once(rt: HostRuntime) -> Result<(), Fail> {
     assert!(rt; text.as_slice().starts_with(BEFORE));
     let told = &text.as_slice()[BEFORE.len()..];
     assert!(rt;
-        told.starts_with(b"0=0 1=0\n") || told.starts_with(b"0=0 1=1\n") || told.starts_with(b"0=1 1=1\n")
+        told.starts_with(b"0=0 1=0\n")
+            || told.starts_with(b"0=0 1=1\n")
+            || told.starts_with(b"0=1 1=1\n")
     );
     Ok(())
 }
