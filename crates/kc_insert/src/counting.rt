@@ -78,6 +78,34 @@ fn part_from<L: Ledger>(
     }
 }
 
+// The rows of those of so many risers who stay on a level are looked at together.
+const TOGETHER: usize = 16;
+
+// Whether the rows of those of the next risers who stay on the level are at hand, which they are after a look at each.
+fn are_at_hand(adj: &LevelAdj, levels: &Levels, level: u16, risers: &[u32]) -> bool
+    ensures { result ≡ true }
+{
+    let now = levels.as_slice();
+    for k in 0..risers.len().min(TOGETHER) {
+        let v = risers[k];
+        if now.get(v as usize) == Some(&level) && !adj.graph().is_at_hand(v) {
+            return false;
+        }
+    }
+    true
+}
+
+// The riser at a place. Before the first of 16 has its turn, the rows of those of them who stay on the level are looked at together.
+fn riser_in_turn(adj: &LevelAdj, levels: &Levels, level: u16, risers: &[u32], place: usize) -> u32
+    requires { place < length risers.now }
+    ensures { result ≡ slice_index risers.now place }
+{
+    if place % TOGETHER == 0 && !are_at_hand(adj, levels, level, &risers[place..]) {
+        return 0;
+    }
+    risers[place]
+}
+
 /// Of those who had come to the level, who stays on it is counted no more by those who go on, and is put on the level in the graph.
 pub fn part<L: Ledger>(
     adj: &mut LevelAdj,
@@ -101,7 +129,7 @@ pub fn part<L: Ledger>(
     let _n = adj.graph().vertices();
     let _levels = adj.levels();
     for i in 0..risers.len() {
-        let v = adj.graph().in_turn(risers, i);
+        let v = riser_in_turn(adj, levels, level, risers, i);
         if levels.get(v) == level {
             part_from(adj, levels, counts, level, v, steps);
             adj.lift(v, level, steps);

@@ -284,8 +284,9 @@ fn lift_all<L: Ledger>(adj: &mut LevelAdj, levels: &Levels, risen: &[u32], steps
     ensures cost { steps.new ≡ steps.old + (degrees adj.old.graph risen.now + length risen.now) }
 {
     let _levels = adj.levels();
-    for v in risen {
-        adj.lift(*v, levels.get(*v), steps);
+    for i in 0..risen.len() {
+        let v = adj.graph().in_turn(risen, i);
+        adj.lift(v, levels.get(v), steps);
     }
 }
 

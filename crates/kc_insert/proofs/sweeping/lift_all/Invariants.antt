@@ -3,7 +3,7 @@ use Rattle.kc_insert.specs.Counting.{degrees}
 use Rattle.kc_insert.proofs.Lifting.{IsLiftingAll}
 use Rattle.kc_insert.proofs.sweeping.lift_all.Given as goal
 
-abbrev pub invariant-loop-v : goal.invariant-loop-v
-invariant-loop-v g l =
-    IsLiftingAll l.initial.adj l.adj l.levels (drop l.v-index l.risen)
-    × (l.steps + degrees l.initial.adj.graph (drop l.v-index l.risen) ≡ l.initial.steps + (degrees l.initial.adj.graph l.risen + l.v-index))
+abbrev pub invariant-loop-i : goal.invariant-loop-i
+invariant-loop-i g l =
+    IsLiftingAll l.initial.adj l.adj l.levels (drop l.i l.risen)
+    × (l.steps + degrees l.initial.adj.graph (drop l.i l.risen) ≡ l.initial.steps + (degrees l.initial.adj.graph l.risen + l.i))
