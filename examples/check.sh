@@ -83,13 +83,20 @@ for words in "" run "run 0" "run 65" "run +1" "run 00000000001" "run x" "run 1 1
 done
 
 # An input that can't be read: a folder. A graph that doesn't fit into the memory that there is.
-for words in "run 1" "final 1" "orient 1" exact dense audit; do
+for words in "run 1" "final 1" "orient 1" exact dense; do
   "$program" $words <. >"$out" 2>"$err"
   exited=$?
   [ $exited = 3 ] && [ ! -s "$out" ] && [ ! -s "$err" ] || wrong "$words of a folder: exit number $exited"
   (ulimit -v 20000 && printf 'kcore 1\nvertices 1048576\n' | "$program" $words >"$out" 2>"$err")
   exited=$?
   [ $exited = 5 ] && [ ! -s "$err" ] || wrong "$words with 20 MB for 1048576 vertices: exit number $exited"
+done
+
+# Nor can a document that is read be a folder.
+for words in check audit; do
+  "$program" $words <. >"$out" 2>"$err"
+  exited=$?
+  [ $exited = 3 ] && [ ! -s "$out" ] && [ ! -s "$err" ] || wrong "$words of a folder: exit number $exited"
 done
 
 # A text that can't be written: the device is full.
