@@ -17,7 +17,7 @@ use Rattle.kc_session.specs.States.{start, last_state}
 use Rattle.kc_session.proofs.Runs.{profile_last}
 use Rattle.kcore.specs.declared.limits.TheConstants.{LINE_LIMIT, INPUT_LIMIT}
 use Rattle.kcore.specs.declared.command.Command.{Command}
-use Rattle.kcore.specs.declared.command.Command.TheVariants.{Run, Final, Orient, Exact, Check, Audit, Dense}
+use Rattle.kcore.specs.declared.command.Command.TheVariants.{Run, Final, Orient, Exact, Check, Audit, Dense, Gen}
 use Rattle.kcore.specs.Corenesses.{AreCorenesses}
 use Rattle.kcore.specs.VertexLines.{vertex_lines}
 use Rattle.kcore.specs.Documents.{HasDocuments, WritesDocument}
@@ -79,3 +79,4 @@ holds (Some Audit) (Some bytes) = tt
 holds (Some (Orient workers)) (Some bytes) = (each_state_holds bytes, orients_sparsely bytes)
 holds (Some Exact) (Some bytes) = (each_state_holds bytes, fits_behind (header_of (kept (lines LINE_LIMIT INPUT_LIMIT bytes))))
 holds (Some Dense) (Some bytes) = has_half_density bytes
+holds (Some (Gen seed n batches items workers)) (Some bytes) = tt

@@ -10,6 +10,7 @@ pub mod SomeCorenesses
 pub mod ExactTexts
 pub mod DenseLineLemmas
 pub mod DenseTexts
+pub mod LoadTexts
 pub mod WordLists
 pub mod WaitingLemmas
 pub mod RisingLemmas

@@ -15,9 +15,31 @@ one_word [] a n e = absurd (omega arith)
 one_word (x ∷ []) a n e = let p : x ≡ a = same_Some _ _ e in rw p refl
 one_word (x ∷ y ∷ more) a n e = absurd (omega arith)
 
-pub other_words : (ws : List (List ℕ)) → length ws ≢ 1 → length ws ≢ 2 → command_of ws ≡ None
+pub six_words : (ws : List (List ℕ)) (a b c d e f : List ℕ) → length ws ≡ 6 → slice_get ws 0 ≡ Some a → slice_get ws 1 ≡ Some b → slice_get ws 2 ≡ Some c → slice_get ws 3 ≡ Some d → slice_get ws 4 ≡ Some e → slice_get ws 5 ≡ Some f
+    → ws ≡ a ∷ b ∷ c ∷ d ∷ e ∷ f ∷ []
+six_words [] a b c d e f n k0 k1 k2 k3 k4 k5 = absurd (omega arith)
+six_words (x0 ∷ []) a b c d e f n k0 k1 k2 k3 k4 k5 = absurd (omega arith)
+six_words (x0 ∷ x1 ∷ []) a b c d e f n k0 k1 k2 k3 k4 k5 = absurd (omega arith)
+six_words (x0 ∷ x1 ∷ x2 ∷ []) a b c d e f n k0 k1 k2 k3 k4 k5 = absurd (omega arith)
+six_words (x0 ∷ x1 ∷ x2 ∷ x3 ∷ []) a b c d e f n k0 k1 k2 k3 k4 k5 = absurd (omega arith)
+six_words (x0 ∷ x1 ∷ x2 ∷ x3 ∷ x4 ∷ []) a b c d e f n k0 k1 k2 k3 k4 k5 = absurd (omega arith)
+six_words (x0 ∷ x1 ∷ x2 ∷ x3 ∷ x4 ∷ x5 ∷ []) a b c d e f n k0 k1 k2 k3 k4 k5 =
+    let p0 : x0 ≡ a = same_Some _ _ k0 in
+    let p1 : x1 ≡ b = same_Some _ _ k1 in
+    let p2 : x2 ≡ c = same_Some _ _ k2 in
+    let p3 : x3 ≡ d = same_Some _ _ k3 in
+    let p4 : x4 ≡ e = same_Some _ _ k4 in
+    let p5 : x5 ≡ f = same_Some _ _ k5 in
+    rw (p0, p1, p2, p3, p4, p5) refl
+six_words (x0 ∷ x1 ∷ x2 ∷ x3 ∷ x4 ∷ x5 ∷ x6 ∷ more) a b c d e f n k0 k1 k2 k3 k4 k5 = absurd (omega arith)
+
+pub other_words : (ws : List (List ℕ)) → length ws ≢ 1 → length ws ≢ 2 → length ws ≢ 6 → command_of ws ≡ None
 unfolding command_of
-other_words [] n m = refl
-other_words (x ∷ []) n m = absurd (n refl)
-other_words (x ∷ y ∷ []) n m = absurd (m refl)
-other_words (x ∷ y ∷ z ∷ more) n m = refl
+other_words [] n m k = refl
+other_words (x0 ∷ []) n m k = absurd (n refl)
+other_words (x0 ∷ x1 ∷ []) n m k = absurd (m refl)
+other_words (x0 ∷ x1 ∷ x2 ∷ []) n m k = refl
+other_words (x0 ∷ x1 ∷ x2 ∷ x3 ∷ []) n m k = refl
+other_words (x0 ∷ x1 ∷ x2 ∷ x3 ∷ x4 ∷ []) n m k = refl
+other_words (x0 ∷ x1 ∷ x2 ∷ x3 ∷ x4 ∷ x5 ∷ []) n m k = absurd (k refl)
+other_words (x0 ∷ x1 ∷ x2 ∷ x3 ∷ x4 ∷ x5 ∷ x6 ∷ more) n m k = refl

@@ -1,10 +1,12 @@
 -- The command lines, and what each command writes for the bytes that it reads.
-use Rattle.std.specs.Prelude.{ℕ, ◌≡◌, ◌≤◌, nat_le, Bool, true, false, ◌&&◌, List, [], ◌∷◌, Option, Some, None, if◌then◌else◌, codes, ◌⊎◌}
+use Rattle.std.specs.Prelude.{ℕ, ◌≡◌, ◌≤◌, ◌*◌, nat_le, Bool, true, false, ◌&&◌, List, [], ◌∷◌, Option, Some, None, if◌then◌else◌, codes, ◌⊎◌}
 use Rattle.std.specs.Str.{bytes_eq}
 use Rattle.kc_text.specs.Causes.{Rose, Outlet}
 use Rattle.kc_text.specs.Numbers.{number_of}
+use Rattle.kc_graph.specs.declared.limits.TheConstants.{MAX_VERTICES, MAX_ITEMS}
+use Rattle.kc_session.specs.Generated.{generated, IsLoad}
 use Rattle.kcore.specs.declared.command.Command.{Command}
-use Rattle.kcore.specs.declared.command.Command.TheVariants.{Run, Final, Orient, Exact, Check, Audit, Dense}
+use Rattle.kcore.specs.declared.command.Command.TheVariants.{Run, Final, Orient, Exact, Check, Audit, Dense, Gen}
 use Rattle.kcore.specs.declared.status.Status.{Status}
 use Rattle.kcore.specs.declared.status.Status.TheVariants.{Done, Refused, Usage, ReadFault, WriteFault, Memory}
 use Rattle.kcore.specs.Inputs.{input_said}
@@ -15,6 +17,7 @@ use Rattle.kcore.specs.ExactText.{IsExactText}
 use Rattle.kcore.specs.FinalText.{IsFinalText}
 use Rattle.kcore.specs.OrientText.{IsOrientText, OrientsSparsely}
 use Rattle.kcore.specs.DenseText.{IsDenseText}
+use Rattle.kcore.specs.LoadText.{IsLoadText}
 use Rattle.kcore.specs.Texts.{WritesWhole, WritesPrefix}
 use Rattle.kcore.specs.Laws.{HoldsThroughout, FitsExactly, HasHalfDensity}
 
@@ -32,6 +35,20 @@ with_workers name (Some workers) =
     else if bytes_eq name (codes "orient") then Some (Orient workers)
     else None
 
+-- the numbers of a load: 1 to 16,777,216 vertices, and 1 to 1,024 batches of at most 1,048,576 items, which are at most 33,554,432 in all
+abbrev pub fits_load : ℕ → ℕ → ℕ → Bool
+fits_load n batches items =
+    (nat_le 1 n && nat_le n MAX_VERTICES) && ((nat_le 1 batches && nat_le batches 1024) && (nat_le items MAX_ITEMS && nat_le (batches * items) 33554432))
+
+-- `gen` with these numbers: a seed, and those of a load, and so many workers
+abbrev pub gen_with : Option ℕ → Option ℕ → Option ℕ → Option ℕ → Option ℕ → Option Command
+gen_with (Some seed) (Some n) (Some batches) (Some items) (Some workers) = if fits_load n batches items then Some (Gen seed n batches items workers) else None
+gen_with (Some seed) (Some n) (Some batches) (Some items) None = None
+gen_with (Some seed) (Some n) (Some batches) None workers = None
+gen_with (Some seed) (Some n) None items workers = None
+gen_with (Some seed) None batches items workers = None
+gen_with None n batches items workers = None
+
 -- the command of a command line without the program's name
 unfoldable pub command_of : List (List ℕ) → Option Command
 command_of [] = None
@@ -42,13 +59,17 @@ command_of (w ∷ []) =
     else if bytes_eq w (codes "dense") then Some Dense
     else None
 command_of (w ∷ a ∷ []) = with_workers w (few_workers (number_of a))
-command_of (w ∷ a ∷ b ∷ more) = None
+command_of (w ∷ s ∷ n ∷ b ∷ m ∷ a ∷ []) =
+    if bytes_eq w (codes "gen") then gen_with (number_of s) (number_of n) (number_of b) (number_of m) (few_workers (number_of a))
+    else None
+command_of _ = None
 
--- the workers of a command are 1 to 64
+-- the workers of a command are 1 to 64, and the numbers of a load are in their ranges
 abbrev pub FitsWorkers : Option Command → Type 0
 FitsWorkers (Some (Run workers)) = (1 ≤ workers) × (workers ≤ 64)
 FitsWorkers (Some (Final workers)) = (1 ≤ workers) × (workers ≤ 64)
 FitsWorkers (Some (Orient workers)) = (1 ≤ workers) × (workers ≤ 64)
+FitsWorkers (Some (Gen seed n batches items workers)) = ((1 ≤ workers) × (workers ≤ 64)) × IsLoad n batches items
 FitsWorkers (Some Exact) = Unit {0}
 FitsWorkers (Some Check) = Unit {0}
 FitsWorkers (Some Audit) = Unit {0}
@@ -65,6 +86,7 @@ IsText Exact bytes text refused = IsExactText (input_said bytes) text refused
 IsText Check bytes text refused = IsCheckText bytes text refused
 IsText Audit bytes text refused = IsAuditText bytes text refused
 IsText Dense bytes text refused = IsDenseText (input_said bytes) text refused
+IsText (Gen seed n batches items workers) bytes text refused = IsLoadText (input_said bytes) text refused
 
 abbrev pub Wrote : Command → List ℕ → Option (List ℕ) → Option (List ℕ) → Status → Type 0
 Wrote command bytes before now Done = WritesWhole (IsText command bytes) before now false
@@ -74,13 +96,25 @@ Wrote command bytes before now ReadFault = WritesPrefix (IsText command bytes) b
 Wrote command bytes before now WriteFault = WritesPrefix (IsText command bytes) before now
 Wrote command bytes before now Memory = WritesPrefix (IsText command bytes) before now
 
--- what a sink took, where the words name a command and the source tells its bytes: with Done and Refused the text
--- of the command for these bytes, refused exactly where the command refuses some of them; with a fault or without
--- memory a prefix of it
+-- the bytes that a command works on, where they are told: `gen` makes them itself, and to the others the source tells them
+abbrev pub worked_on : Command → Option (List ℕ) → Option (List ℕ)
+worked_on (Gen seed n batches items workers) left = Some (generated seed n batches items)
+worked_on command left = left
+
+abbrev pub WroteOf : Command → Option (List ℕ) → Option (List ℕ) → Option (List ℕ) → Status → Type 0
+WroteOf command None before now status = Unit {0}
+WroteOf command (Some bytes) before now status = Wrote command bytes before now status
+
+-- what a sink took, where the words name a command and its bytes are told: with Done and Refused the text of the command for these
+-- bytes, refused exactly where the command refuses some of them; with a fault or without memory a prefix of it
 abbrev pub Answers : Option Command → Option (List ℕ) → Option (List ℕ) → Option (List ℕ) → Status → Type 0
 Answers None left before now status = Unit {0}
-Answers (Some command) None before now status = Unit {0}
-Answers (Some command) (Some bytes) before now status = Wrote command bytes before now status
+Answers (Some command) left before now status = WroteOf command (worked_on command left) before now status
+
+-- the command reads nothing
+abbrev pub ReadsNothing : Option Command → Type 0
+ReadsNothing (Some (Gen seed n batches items workers)) = Unit {0}
+ReadsNothing _ = ⊥
 
 -- where the source tells its bytes, in each state of `final`, of `orient` and of `exact` both invariants hold, and what the levels stand
 -- for bounds the coreness, in an exact text also on each line of a vertex the coreness that stands there; in the last state of `orient`
@@ -96,6 +130,7 @@ Holds (Some Check) (Some bytes) = Unit {0}
 Holds (Some Audit) (Some bytes) = Unit {0}
 Holds (Some Exact) (Some bytes) = HoldsThroughout (input_said bytes) × FitsExactly (input_said bytes)
 Holds (Some Dense) (Some bytes) = HasHalfDensity (input_said bytes)
+Holds (Some (Gen seed n batches items workers)) (Some bytes) = Unit {0}
 
 -- the counts of faults of the source, r, and of the sink, w: a fault is answered only where the count of its object
 -- rose, and every other count is as it was

@@ -12,6 +12,7 @@ pub mod CheckText
 pub mod AuditText
 pub mod DenseLines
 pub mod DenseText
+pub mod LoadText
 pub mod Texts
 pub mod Opening
 pub mod Writing

@@ -1,22 +1,29 @@
 //! The commands of the program.
 ghost use Rattle.std.specs.Prelude.{◌≡◌, ◌≤◌, ◌∷◌, [], IfSome};
 ghost use Rattle.kc_text.specs.Numbers.{number_of};
-ghost use Rattle.kcore.specs.Commands.{few_workers, command_of, FitsWorkers};
+ghost use Rattle.kcore.specs.Commands.{few_workers, fits_load, gen_with, command_of, FitsWorkers};
 
 use crate::word::is_word;
+use kc_graph::{MAX_ITEMS, MAX_VERTICES};
 use kc_text::{Words, read_number};
 
 /// What the words of a command line ask for.
 #[derive(Clone, Copy, Debug, PartialEq, Eq)]
 pub enum Command {
     /// `run W`: apply the batches of an input in turn with W workers, 1 to 64, and print each batch and then each vertex.
-    Run { workers: u32 },
+    Run {
+        workers: u32,
+    },
     /// `final W`: apply the batches of an input in turn with W workers, 1 to 64, and print the certificate of the graph and the levels
     /// after them.
-    Final { workers: u32 },
+    Final {
+        workers: u32,
+    },
     /// `orient W`: apply the batches of an input in turn with W workers, 1 to 64, and print the colour and the out-neighbours of each
     /// vertex after them.
-    Orient { workers: u32 },
+    Orient {
+        workers: u32,
+    },
     /// `exact`: apply the batches of an input in turn, and print the coreness of each vertex after them.
     Exact,
     /// `check`: read a certificate, and print what its levels come to.
@@ -25,6 +32,15 @@ pub enum Command {
     Audit,
     /// `dense`: apply the batches of an input in turn, and print a dense part of the graph after them.
     Dense,
+    /// `gen SEED N B M W`: apply B batches, 1 to 1,024, of M items each, at most 1,048,576, and 33,554,432 in all, that are drawn from a seed
+    /// between N vertices, 1 to 16,777,216, in turn with W workers, 1 to 64, beside two readers, and print what it comes to.
+    Gen {
+        seed: u32,
+        n: u32,
+        batches: u32,
+        items: u32,
+        workers: u32,
+    },
 }
 
 // A number of workers, 1 to 64.
@@ -76,6 +92,60 @@ fn of_one(name: &[u8]) -> Option<Command>
     }
 }
 
+// Whether these are numbers of a load.
+fn fits_load(n: u32, batches: u32, items: u32) -> bool
+    ensures { result ≡ fits_load n batches items }
+{
+    n >= 1
+        && n <= MAX_VERTICES
+        && batches >= 1
+        && batches <= 1024
+        && items <= MAX_ITEMS
+        && batches * items <= 33_554_432
+}
+
+// `gen` with the numbers that five words say.
+fn gen_with(seed: &[u8], n: &[u8], batches: &[u8], items: &[u8], workers: &[u8]) -> Option<Command>
+    ensures command { result ≡ gen_with (number_of seed.now) (number_of n.now) (number_of batches.now) (number_of items.now) (few_workers (number_of workers.now)) }
+    ensures few { FitsWorkers result }
+{
+    let seed = read_number(seed)?;
+    let n = read_number(n)?;
+    let batches = read_number(batches)?;
+    let items = read_number(items)?;
+    let workers = few_workers(workers)?;
+    if !fits_load(n, batches, items) {
+        return None;
+    }
+    Some(Command::Gen {
+        seed,
+        n,
+        batches,
+        items,
+        workers,
+    })
+}
+
+// The command of six words.
+#[tactic(auto, unfolding(crate::specs::Commands::command_of))]
+fn of_six(
+    name: &[u8],
+    seed: &[u8],
+    n: &[u8],
+    batches: &[u8],
+    items: &[u8],
+    workers: &[u8],
+) -> Option<Command>
+    ensures command { result ≡ command_of (name.now ∷ seed.now ∷ n.now ∷ batches.now ∷ items.now ∷ workers.now ∷ []) }
+    ensures few { FitsWorkers result }
+{
+    if is_word(name, b"gen") {
+        gen_with(seed, n, batches, items, workers)
+    } else {
+        None
+    }
+}
+
 impl Command {
     /// The command of a command line, or None where the words name none.
     pub fn from_words(words: &Words) -> Option<Command>
@@ -85,6 +155,16 @@ impl Command {
         let count = words.len();
         if count == 1 {
             return of_one(words.word(0));
+        }
+        if count == 6 {
+            return of_six(
+                words.word(0),
+                words.word(1),
+                words.word(2),
+                words.word(3),
+                words.word(4),
+                words.word(5),
+            );
         }
         if count != 2 {
             return None;

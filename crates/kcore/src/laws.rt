@@ -6,6 +6,7 @@ ghost use Rattle.kcore.specs.ExactText.{IsExactText};
 ghost use Rattle.kcore.specs.FinalText.{IsFinalText};
 ghost use Rattle.kcore.specs.OrientText.{IsOrientText};
 ghost use Rattle.kcore.specs.DenseText.{IsDenseText};
+ghost use Rattle.kcore.specs.LoadText.{IsLoadText};
 
 /// Each input has a text of a run, and so have all replies that fit its asks and that the history of its batches explains.
 pub fn input_has_text()
@@ -49,6 +50,12 @@ pub fn input_has_one_orient_text()
 /// For each input there is exactly one dense text.
 pub fn input_has_one_dense_text()
     ensures { HasOneText IsDenseText }
+{}
+
+/// For each input there is exactly one line of `gen`, so what is printed of a generated load is the same at each run, for every number of
+/// workers.
+pub fn input_has_one_load_text()
+    ensures { HasOneText IsLoadText }
 {}
 
 /// The states of each input are points of its history, which is that of its phases, one after another.

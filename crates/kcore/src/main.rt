@@ -3,7 +3,7 @@
 //! [`top::run_command`] is the program; `main` only hands it the words of the command line, the standard input and
 //! output, and ends with its exit number. Each command reads a header first ([`inputs`]). Then `run` hands the batches and the readers
 //! over to `kc_session`, and `final`, `orient`, `exact` and `dense` write a document of what the batches lead to ([`documents`]). `check`
-//! reads such a certificate instead ([`check`]), and `audit` what a run wrote ([`audit`]).
+//! reads such a certificate instead ([`check`]), `audit` reads what a run wrote ([`audit`]), and `gen` makes an input itself ([`load`]).
 #![tactic(auto)]
 
 ghost use Rattle.std.specs.Prelude.{◌≡◌, drop, map, string_bytes, IfOk};
@@ -23,6 +23,8 @@ mod final_text;
 mod inputs;
 pub mod laws;
 mod limits;
+mod load;
+mod load_line;
 mod orient;
 mod orient_lines;
 mod run;

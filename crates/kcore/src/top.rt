@@ -1,6 +1,6 @@
 //! The top call: a command line, an input and an output.
-ghost use Rattle.std.specs.Prelude.{◌≡◌, ◌↔◌, None, Option};
-ghost use Rattle.kcore.specs.Commands.{command_of, Answers, Holds, HasCause};
+ghost use Rattle.std.specs.Prelude.{◌≡◌, ◌≢◌, ◌↔◌, None, Option};
+ghost use Rattle.kcore.specs.Commands.{command_of, Answers, Holds, HasCause, ReadsNothing};
 ghost use Rattle.kcore.specs.Writing.{status_of};
 
 use crate::audit::audit_input;
@@ -10,11 +10,12 @@ use crate::dense::Dense;
 use crate::documents::settle_input;
 use crate::exact::Exact;
 use crate::final_text::Final;
+use crate::load::run_load;
 use crate::orient::Orient;
 use crate::run::run_input;
 use crate::status::Status;
 use kc_rounds::Gate;
-use kc_session::SessionFault;
+use kc_session::{GenSource, SessionFault};
 use kc_text::{Sink, Source, Words};
 use std::alloc::Global;
 use std::thread::Threads;
@@ -35,7 +36,7 @@ fn status_of(ended: Result<bool, SessionFault>) -> Status
 /// Carries out the command that the words ask for: reads `input` and writes to `output`.
 ///
 /// The answer is `Usage` exactly where the words name no command, and then nothing is read or written. Else, where
-/// `input` tells its bytes:
+/// `input` tells its bytes, which `gen` makes itself:
 ///
 /// - with `Done` and `Refused` what `output` took is the whole text of the command for these bytes, and the answer is
 ///   `Refused` exactly where the command refuses some of them;
@@ -65,6 +66,9 @@ fn status_of(ended: Result<bool, SessionFault>) -> Status
 /// There is one text of `dense`. Its members are the vertices of the densest suffix of the peeling list of the graph, of several the
 /// longest, and no vertices of the graph have more than twice as many edges between them for each of them.
 ///
+/// There is one text of `gen`, whatever the number of workers, and nothing is read: it works on the bytes that `generated` gives for its
+/// numbers, and writes in one line what their session comes to.
+///
 /// `ReadFault` and `WriteFault` come only where the count of faults of `input`, of `output` rose in this call, and
 /// every other count is as it was. So with words of a command, bytes told and no count risen the answer is `Done` or
 /// `Refused`, as the bytes decide, or `Memory`, the one answer without a cause.
@@ -80,6 +84,7 @@ pub fn run_command<R: Threads + Sync, S: Source + Send, K: Sink + Send, G: Gate 
     ensures holds { Holds (command_of words.now) (S.left input.old) }
     ensures cause { HasCause (S.faults input.old) (S.faults input.new) (K.faults output.old) (K.faults output.new) result }
     ensures usage { (result ≡ Status.Usage) ↔ (command_of words.now ≡ None) }
+    ensures unread { ReadsNothing (command_of words.now) → (input.new ≡ input.old) × (result ≢ Status.ReadFault) }
     ensures untouched { result ≡ Status.Usage → (input.new ≡ input.old) × (output.new ≡ output.old) }
 {
     match Command::from_words(words) {
@@ -100,6 +105,18 @@ pub fn run_command<R: Threads + Sync, S: Source + Send, K: Sink + Send, G: Gate 
         Some(Command::Dense) => status_of(settle_input::<Dense, R, S, K, G>(
             rt, alloc, gate, 1, input, output,
         )),
+        Some(
+            Command::Gen {
+                seed,
+                n,
+                batches,
+                items,
+                workers,
+            },
+        ) => {
+            let source = GenSource::new(seed, n, batches, items);
+            status_of(run_load(rt, alloc, gate, workers, source, output))
+        }
         None => Status::Usage,
     }
 }

@@ -22,3 +22,6 @@ returns-in-Some-Dense-clause-holds g c = holds (command_of c.args.words.now) (g.
 
 pub returns-in-Some-Audit-clause-holds : goal.returns-in-Some-Audit-clause-holds
 returns-in-Some-Audit-clause-holds g c = holds (command_of c.args.words.now) (g.S.Source.left c.args.input.now)
+
+pub returns-in-Some-Gen-clause-holds : goal.returns-in-Some-Gen-clause-holds
+returns-in-Some-Gen-clause-holds g c = holds (command_of c.args.words.now) (g.S.Source.left c.args.input.now)

@@ -1,0 +1,5 @@
+use Rattle.kcore.proofs.CheckLines.{sent_as}
+use Rattle.kcore.proofs.load_line.write_load.Goals as goal
+
+pub returns-in-Ok-clause-text : goal.returns-in-Ok-clause-text
+returns-in-Ok-clause-text g c = sent_as _ _ _ _ _ c.in-Ok.ensures c.send.ensures.sent

@@ -1,0 +1,47 @@
+//! The command `gen`: what a generated load comes to.
+ghost use Rattle.std.specs.Prelude.{◌≡◌, ◌≤◌, Some};
+ghost use Rattle.kc_session.specs.Faults.{StepCause};
+ghost use Rattle.kcore.specs.Inputs.{input_said};
+ghost use Rattle.kcore.specs.LoadText.{IsLoadText};
+ghost use Rattle.kcore.specs.Writing.{Writes};
+
+use crate::inputs::open_input;
+use crate::load_line::write_load;
+use kc_rounds::Gate;
+use kc_session::{GenSource, SessionFault, run_session};
+use kc_text::{NullSink, Sink};
+use std::alloc::Global;
+use std::thread::Threads;
+
+/// Runs a session of the text of the source, which `run` would do too, forgets its text, and writes one line of what it comes to. Says
+/// whether something was refused.
+pub fn run_load<R: Threads + Sync, K: Sink, G: Gate + Sync>(
+    rt: &R,
+    alloc: Global,
+    gate: &G,
+    workers: u32,
+    source: GenSource,
+    sink: &mut K,
+) -> Result<bool, SessionFault>
+    requires few_workers { (1 ≤ workers) × (workers ≤ 64) }
+    ensures text { Writes IsLoadText (Some (input_said source)) (K.taken sink.old) (K.taken sink.new) result }
+    ensures cause { StepCause (K.faults sink.old) (K.faults sink.new) result }
+{
+    let mut source = source;
+    let Some((header, reader)) = open_input(alloc, &mut source, sink)? else {
+        return Ok(true);
+    };
+    let mut null = NullSink::new();
+    let ended = run_session(
+        rt,
+        alloc,
+        gate,
+        workers,
+        header,
+        reader,
+        &mut source,
+        &mut null,
+    )?;
+    write_load(alloc, sink, &ended)?;
+    Ok(ended.refused > 0)
+}

@@ -1,0 +1,42 @@
+//! The line of the text of `gen`.
+ghost use Rattle.std.specs.Prelude.{◌≡◌, ◌++◌, ◌∷◌, [], OnOk, decimal};
+ghost use Rattle.kc_text.specs.Writing.{Appends, WriteCause};
+ghost use Rattle.kcore.specs.LoadText.{load_line};
+
+use kc_session::Ended;
+use kc_text::{LineBuf, SendFault, Sink};
+use std::alloc::{AllocError, Global};
+
+// Appends a name, with its blanks, and a number.
+fn fill_named(alloc: Global, buf: &mut LineBuf, name: &[u8], value: u32) -> Result<(), AllocError>
+    ensures { OnOk result (buf.new ≡ (buf.old ++ name.now) ++ decimal value) }
+{
+    buf.text(alloc, name)?;
+    buf.number(alloc, value)
+}
+
+fn fill_load(alloc: Global, buf: &mut LineBuf, ended: &Ended) -> Result<(), AllocError>
+    requires { buf.old ≡ [] }
+    ensures { OnOk result (buf.new ++ 10 ∷ [] ≡ load_line ended.now) }
+{
+    fill_named(alloc, buf, b"gen batches ", ended.batches)?;
+    fill_named(alloc, buf, b" refused ", ended.refused)?;
+    fill_named(alloc, buf, b" phases ", ended.phases)?;
+    fill_named(alloc, buf, b" groups ", ended.groups)?;
+    fill_named(alloc, buf, b" moves ", ended.moves)?;
+    fill_named(alloc, buf, b" edges ", ended.edges)?;
+    fill_named(alloc, buf, b" replies ", ended.replies)?;
+    fill_named(alloc, buf, b" top ", u32::from(ended.top))
+}
+
+/// Writes the line of what a session ended with (`load_line`).
+pub fn write_load<K: Sink>(alloc: Global, sink: &mut K, ended: &Ended) -> Result<(), SendFault>
+    ensures text { Appends (K.taken sink.old) (K.taken sink.new) (load_line ended.now) result }
+    ensures cause { WriteCause (K.faults sink.old) (K.faults sink.new) result }
+{
+    let mut buf = LineBuf::new(alloc);
+    match fill_load(alloc, &mut buf, ended) {
+        Ok(()) => buf.send(alloc, sink),
+        Err(fault) => Err(SendFault::Memory(fault)),
+    }
+}
