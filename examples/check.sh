@@ -75,8 +75,18 @@ printf 'kcore 1\nvertices 1\nask 65536 0\n' | "$program" run 1 >"$out"
 "$program" audit <"$out" | grep -qx explained || wrong "a reader with 65536 questions isn't explained"
 sed '/^reader 0/s/=0$/=1/' "$out" | "$program" audit | grep -qx 'unexplained reader 0 ask 65536' || wrong "a reader with 65536 questions: its last reply"
 
+# What a generated load comes to: one line, the same for any number of workers. Nothing is read.
+generates() {
+  "$program" gen ${@:2} <. >"$out"
+  exited=$?
+  [ $exited = 0 ] && echo "$1" | cmp -s - "$out" || wrong "gen ${*:2}: exit number $exited, or another line than '$1'"
+}
+generates 'gen batches 1 refused 0 phases 1 groups 1 moves 4 edges 3 replies 40 top 1' 0 5 1 3 2
+line=$("$program" gen 1 20000 4 20000 1)
+generates "$line" 1 20000 4 20000 4
+
 # Words that name no command: nothing is written.
-for words in "" run "run 0" "run 65" "run +1" "run 00000000001" "run x" "run 1 1" "exact 1" final "final 0" "final 65" orient "orient 0" "orient 65" "orient 1 1" "dense 1" "check 1" "audit 1" --help --version; do
+for words in "" run "run 0" "run 65" "run +1" "run 00000000001" "run x" "run 1 1" "exact 1" final "final 0" "final 65" orient "orient 0" "orient 65" "orient 1 1" "dense 1" "check 1" "audit 1" gen "gen 0 5 1 3" "gen 0 0 1 3 1" "gen 0 5 33 1048576 1" "gen 0 5 1 3 65" --help --version; do
   "$program" $words <path.kc >"$out" 2>"$err"
   exited=$?
   [ $exited = 2 ] && [ ! -s "$out" ] && [ ! -s "$err" ] || wrong "path.kc: '$words': exit number $exited"
@@ -125,6 +135,12 @@ refuses() {
   printf -- "$3" | python3 snap_to_kcore.py "${@:4}" >"$out" 2>"$err"
   [ $? = "$1" ] && [ ! -s "$out" ] && grep -q -e "$2" "$err" || wrong "snap_to_kcore.py: '$3' ${*:4}"
 }
+
+# The text of a load, put through `run`, comes to what `gen` writes.
+for load in "0 5 1 3" "1 300 7 500" "4294967295 17 20 40" "7 1 2 3" "5 2000 3 0"; do
+  python3 generated.py $load | "$program" run 2 | python3 generated.py --counts >"$err"
+  generates "$(cat "$err")" $load 3
+done
 
 # What readers are told depends on how the threads run, and all else is in readers.txt. The history explains each reply. Where one
 # reply is another by 1, `audit` and explained.py name the same reply, or none.

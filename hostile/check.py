@@ -30,6 +30,8 @@ COMMANDS = [
     Command("dense", BATCHES, is_noted=True),
     Command("check", ["karate_batches_final.txt"], is_noted=False),
     Command("audit", ["karate_batches.txt"], is_noted=False),
+    # It reads nothing.
+    Command("gen 1 40 3 60 2", ["cases/nothing.kc"], is_noted=False),
 ]
 
 
