@@ -107,9 +107,9 @@ fn profile_in(text: &[u8]) -> Option<Profile>
     profile_of(version)
 }
 
-// The number of vertices of a line `vertices N`.
+/// The number of vertices of a line `vertices N`, 1 to `MAX_VERTICES`; None where it has another form.
 #[tactic(auto, unfolding(crate::specs::Headers::vertices_in))]
-fn vertices_in(text: &[u8]) -> Option<u32>
+pub fn vertices_in(text: &[u8]) -> Option<u32>
     ensures value { result ≡ vertices_in (words text.now) }
     ensures range { IfSome result (λ n. (1 ≤ n) × (n ≤ MAX_VERTICES)) }
 {

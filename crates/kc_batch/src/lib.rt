@@ -17,8 +17,9 @@ mod turn;
 
 pub use ask::{Ask, Asks, Vertices};
 pub use batch::{Batch, BatchFault, Next, next_batch};
-pub use header::{Header, HeaderFault};
+pub use header::{Header, HeaderFault, vertices_in};
 pub use items::Items;
+pub use kept::{next_kept, text_of};
 pub use rules::Rules;
 
 #[cfg(test)]
