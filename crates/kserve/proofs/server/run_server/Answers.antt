@@ -1,0 +1,58 @@
+use Rattle.std.proofs.Common.{◌≡◌, ◌≤◌, ◌+◌, ◌∙◌, ap, refl, sym, arith, length, List, [], ◌∷◌, ◌++◌}
+use Rattle.std.proofs.lemmas.List.{length-append}
+use Rattle.kc_graph.specs.declared.limits.TheConstants.{MAX_ITEMS}
+use Rattle.kserve.specs.declared.limits.TheConstants.{CAPACITY}
+use Rattle.kserve.proofs.Leads.{count_more}
+use Rattle.kc_intake.specs.declared.updates.Update.{Update}
+use Rattle.kc_intake.specs.Updates.{all_updates}
+use Rattle.kc_intake.specs.Views.{DrainerShape}
+use Rattle.kserve.specs.Batches.{start}
+use Rattle.kserve.proofs.ServerLemmas.{none_served, none_within, none_drained, drained_more, served_same, served_more, running_more, running_as, ended, ready, cause_on}
+use Rattle.kserve.proofs.server.run_server.Goals as goal
+
+pub loop-turn-init : goal.loop-turn-init
+loop-turn-init g c = record {
+  served = none_served {T = Unit {0}} c.args.n (start c.args.n) c.args.drainer.now.taken c.args.engine.now.state _ _ tt c.requires.drainer.1 c.requires.start refl;
+  running = (c.requires.open, (none_within c.args.n c.args.engine.now.state c.requires.start, c.requires.empty));
+  drained = none_drained c.args.intake.now c.args.drainer.now c.requires.drainer.0 c.requires.drainer.1;
+  count = ap (λ (bs : List (List Update)). length (all_updates bs)) (sym c.requires.drainer.1);
+  number = ap (λ (bs : List (List Update)). length bs) (sym c.requires.drainer.1);
+  fewer = omega arith;
+  few = omega arith;
+  cause = refl;
+}
+
+pub go_on-course-requires-clause-ready : goal.go_on-course-requires-clause-ready
+go_on-course-requires-clause-ready g c κs within =
+    let i = c.loop-turn.invariant in
+    let few : c.loop-turn.drained ≤ MAX_ITEMS = omega (arith, c.if-drained-count.false, c.requires.few) in
+    ready c.args.n c.loop-turn.drained (start c.args.n) c.loop-turn.engine c.loop-turn.drainer.taken c.loop-turn.buf _ _ c.loop-turn.course refl few i.served i.running
+
+pub loop-turn-preserved : goal.loop-turn-preserved
+loop-turn-preserved g c =
+    let i = c.loop-turn.invariant in
+    let few : c.loop-turn.drained ≤ MAX_ITEMS = omega (arith, c.if-drained-count.false, c.requires.few) in
+    let b = c.drain.new.drainer.batch in
+    let taken : c.drain.new.drainer.taken ≡ c.loop-turn.drainer.taken ++ b ∷ [] = ap (λ (d : DrainerShape). d.taken) c.in-Ok.ensures.ok in
+    let size = c.in-Ok.ensures.size in
+    let less : length b ≤ CAPACITY = omega (arith, size.1, c.requires.capacity) in
+    let served = rw c.batch-updates.ensures at c.go_on-course.ensures.served in
+    let number : c.loop-turn.number + 1 ≡ 1 + length c.loop-turn.drainer.taken = omega (arith, i.number) in
+    let shown : length c.batch.result.now ≡ length b = ap (λ (us : List Update). length us) c.batch.ensures in
+    let all = ap (λ (bs : List (List Update)). length (all_updates bs)) taken in
+    let more = count_more c.loop-turn.drainer.taken b in
+    let longer = ap (λ (bs : List (List Update)). length bs) taken ∙ length-append c.loop-turn.drainer.taken (b ∷ []) in
+    let running =
+    running_more c.args.n (c.loop-turn.number + 1) c.loop-turn.drained (start c.args.n) c.loop-turn.engine c.go_on-course.new.engine c.loop-turn.drainer.taken b c.loop-turn.buf c.go_on-course.new.buf _ _ _ c.loop-turn.course c.go_on-course.result refl few size.0 less i.served i.running served
+    (ended c.go_on-course.new.engine c.go_on-course.new.buf c.go_on-course.result c.go_on-course.ensures.open c.go_on-course.ensures.empty) in
+    record {
+      served = served_same c.args.n (start c.args.n) (c.loop-turn.drainer.taken ++ b ∷ []) c.drain.new.drainer.taken c.go_on-course.new.engine.state _ _ c.go_on-course.result taken
+          (served_more c.args.n (c.loop-turn.number + 1) (start c.args.n) c.loop-turn.engine.state c.go_on-course.new.engine.state c.loop-turn.drainer.taken b _ _ _ c.loop-turn.course c.go_on-course.result number i.served served);
+      running = running_as c.args.n (c.loop-turn.drained + length b) (c.loop-turn.drained + length c.batch.result.now) c.go_on-course.new.engine c.go_on-course.new.buf c.go_on-course.result (omega (arith, shown)) running;
+      drained = drained_more c.args.intake.now c.args.drainer.now c.loop-turn.drainer c.drain.new.drainer i.drained c.in-Ok.ensures.ok size c.in-Ok.ensures.clients;
+      count = omega (arith, i.count, shown, all, more);
+      number = omega (arith, i.number, longer);
+      fewer = omega (arith, i.fewer, shown, size.0);
+      few = omega (arith, few, shown, less);
+      cause = cause_on c.args.n (c.loop-turn.number + 1) b c.loop-turn.engine.state c.go_on-course.new.engine.state _ _ _ _ _ c.loop-turn.course c.go_on-course.result i.cause c.go_on-course.ensures.cause served;
+    }

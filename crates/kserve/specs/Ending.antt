@@ -1,0 +1,54 @@
+-- The command line, the causes of the answers, and how the program ends.
+use Rattle.std.specs.Prelude.{ℕ, ◌≡◌, nat_le, List, [], ◌∷◌, Option, Some, None, ◌&&◌, if◌then◌else◌, ◌⊎◌, Bool, true, false, Result, Ok, Err}
+use Rattle.kc_text.specs.Causes.{Rose, Outlet}
+use Rattle.kc_text.specs.Numbers.{number_of}
+use Rattle.kserve.specs.declared.fault.ServeFault.{ServeFault}
+use Rattle.kserve.specs.declared.fault.ServeFault.TheVariants as fault
+use Rattle.kserve.specs.declared.status.ServeStatus.{ServeStatus}
+use Rattle.kserve.specs.declared.status.ServeStatus.TheVariants.{Done, Refused, Usage, ReadFault, WriteFault, Memory}
+
+-- a number of workers, which is 1 to 64
+abbrev pub few_workers : Option ℕ → Option ℕ
+few_workers None = None
+few_workers (Some workers) = if nat_le 1 workers && nat_le workers 64 then Some workers else None
+
+-- the number of workers of a command line without the program's name: it is one word, that number
+unfoldable pub workers_of : List (List ℕ) → Option ℕ
+workers_of [] = None
+workers_of (w ∷ []) = few_workers (number_of w)
+workers_of (w ∷ a ∷ more) = None
+
+-- how a call ended, where the answer says whether the input is refused
+abbrev pub status_of : Result Bool ServeFault → ServeStatus
+status_of (Ok false) = Done
+status_of (Ok true) = Refused
+status_of (Err fault.ReadFault) = ReadFault
+status_of (Err fault.WriteFault) = WriteFault
+status_of (Err (fault.Memory _)) = Memory
+
+-- the counts of faults of the source, r, and of the sink, w: a fault is answered only where the count of its object rose, and every
+-- other count is as it was
+abbrev pub HasCause : ℕ → ℕ → ℕ → ℕ → ServeStatus → Type 0
+HasCause r0 r1 w0 w1 ReadFault = Rose r0 r1 × (w1 ≡ w0)
+HasCause r0 r1 w0 w1 WriteFault = (r1 ≡ r0) × Rose w0 w1
+HasCause r0 r1 w0 w1 _ = (r1 ≡ r0) × (w1 ≡ w0)
+
+-- the exit number of the program
+abbrev pub exit_number : ServeStatus → ℕ
+exit_number Done = 0
+exit_number Refused = 1
+exit_number Usage = 2
+exit_number ReadFault = 3
+exit_number WriteFault = 4
+exit_number Memory = 5
+
+-- what becomes of a status where the output can't be flushed: a call that came to its end has failed to write
+abbrev pub unflushed : ServeStatus → ServeStatus
+unflushed Done = WriteFault
+unflushed Refused = WriteFault
+unflushed status = status
+
+-- the program ends as its call did where the output was flushed and its count of faults is as it was; else the count rose
+abbrev pub EndsAs : ServeStatus → ServeStatus → Outlet → Outlet → Type 0
+EndsAs status ended before now =
+    ((ended ≡ status) × (now ≡ record before { is_flushed = true })) ⊎ ((ended ≡ unflushed status) × Rose before.faults now.faults)

@@ -1,0 +1,42 @@
+-- The lines that are written, but for those of the vertices.
+use Rattle.std.specs.Prelude.{ℕ, ◌+◌, List, [], ◌∷◌, ◌++◌, decimal, codes}
+use Rattle.std.specs.List.{flat_map}
+use Rattle.kc_graph.specs.declared.items.Item.{Item}
+use Rattle.kc_graph.specs.declared.items.Item.TheVariants.{Insert, Delete, Isolate}
+use Rattle.kc_text.specs.declared.reason.Reason.{Reason}
+use Rattle.kc_text.specs.Reasons.{reason_word}
+use Rattle.kc_report.specs.Lines.{line_of, vertices_line}
+use Rattle.kc_intake.specs.declared.updates.Update.{Update}
+
+abbrev pub magic_line : List ℕ
+magic_line = line_of (codes "kserve-run" ∷ codes "1" ∷ [])
+
+-- the two lines ahead of all others
+abbrev pub head_text : ℕ → List ℕ
+head_text n = magic_line ++ vertices_line n
+
+-- the one line of an input that is refused
+abbrev pub refused_line : ℕ → Reason → List ℕ
+refused_line line reason = line_of (codes "refused" ∷ codes "line" ∷ decimal line ∷ reason_word reason ∷ [])
+
+abbrev pub batch_line : ℕ → List ℕ
+batch_line number = line_of (codes "batch" ∷ decimal number ∷ [])
+
+-- an item as a line of an input has it
+abbrev pub item_words : Item → List (List ℕ)
+item_words (Insert u v) = codes "+" ∷ decimal u ∷ decimal v ∷ []
+item_words (Delete u v) = codes "-" ∷ decimal u ∷ decimal v ∷ []
+item_words (Isolate v) = codes "x" ∷ decimal v ∷ []
+
+-- an update: the number of its client, and its item
+abbrev pub take_line : Update → List ℕ
+take_line u = line_of (codes "take" ∷ decimal u.client ∷ item_words u.item)
+
+-- a batch: its number, and its updates
+abbrev pub batch_text : ℕ → List Update → List ℕ
+batch_text number updates = batch_line number ++ flat_map take_line updates
+
+-- the batches, of which the first has this number
+abbrev pub batch_lines : ℕ → List (List Update) → List ℕ
+batch_lines number [] = []
+batch_lines number (batch ∷ batches) = batch_text number batch ++ batch_lines (number + 1) batches

@@ -1,0 +1,78 @@
+-- The text of served scripts, and what a sink has taken of it.
+use Rattle.std.specs.Prelude.{ℕ, ◌≡◌, List, ◌++◌, Option, Some, None, Result, Ok, Err}
+use Rattle.std.specs.Io.KnownBytes.{append_known}
+use Rattle.kc_text.specs.Writing.{IsPrefix}
+use Rattle.kc_graph.specs.declared.items.Item.{Item}
+use Rattle.kc_levels.specs.declared.profile.Profile.TheVariants.{One}
+use Rattle.kc_levels.specs.LevelList.{MeetsBoth}
+use Rattle.kc_engine.specs.States.{State}
+use Rattle.kc_intake.specs.declared.updates.Update.{Update}
+use Rattle.kserve.specs.declared.fault.ServeFault.{ServeFault}
+use Rattle.kserve.specs.declared.status.ServeStatus.{ServeStatus}
+use Rattle.kserve.specs.declared.status.ServeStatus.TheVariants as status
+use Rattle.kserve.specs.Inputs.{ScriptInput, WithScripts, Refused, input_said}
+use Rattle.kserve.specs.Batches.{start, LeadTo}
+use Rattle.kserve.specs.Fitting.{Fit}
+use Rattle.kserve.specs.Lines.{head_text, batch_lines, refused_line}
+use Rattle.kserve.specs.VertexLines.{tail_text}
+
+-- the text of batches of a graph of n vertices that lead to this state
+abbrev pub served_text : ℕ → List (List Update) → State → List ℕ
+served_text n batches last = head_text n ++ (batch_lines 1 batches ++ tail_text One last.graph last.levels)
+
+-- a text of these scripts: the updates that it prints are what the clients submitted, and its lines of the vertices are of the graph and
+-- the levels to which they lead, where both invariants hold
+pub record IsServed (n : ℕ) (scripts : List (List Item)) (text : List ℕ) : Type 0 where
+  pub batches : List (List Update)
+  pub fit : Fit scripts batches
+  pub last : State
+  pub leads : LeadTo (start n) batches last
+  pub both : MeetsBoth One last.graph last.levels
+  pub text_is : text ≡ served_text n batches last
+
+-- a text of an input: one of its scripts, or the line for which it is refused
+abbrev pub IsTextOf : ScriptInput → List ℕ → Type 0
+IsTextOf (WithScripts n scripts) text = IsServed n scripts text
+IsTextOf (Refused line reason) text = text ≡ refused_line line reason
+
+-- a sink took a whole text
+pub record WritesWhole (IsText : List ℕ → Type 0) (before now : Option (List ℕ)) : Type 0 where
+  pub text : List ℕ
+  pub is_text : IsText text
+  pub taken : now ≡ append_known before text
+
+-- it took a prefix of a text
+pub record WritesPrefix (IsText : List ℕ → Type 0) (before now : Option (List ℕ)) : Type 0 where
+  pub text : List ℕ
+  pub is_text : IsText text
+  pub prefix : IsPrefix before now text
+
+-- it took a whole text of these scripts, or after a fault a prefix of one
+abbrev pub Writes : {T : Type 0} → ℕ → List (List Item) → Option (List ℕ) → Option (List ℕ) → Result T ServeFault → Type 0
+Writes n scripts before now (Ok _) = WritesWhole (IsServed n scripts) before now
+Writes n scripts before now (Err _) = WritesPrefix (IsServed n scripts) before now
+
+-- the input has scripts
+abbrev pub IsAccepted : ScriptInput → Type 0
+IsAccepted (WithScripts n scripts) = Unit {0}
+IsAccepted (Refused line reason) = ⊥
+
+-- the input is refused
+abbrev pub IsRefused : ScriptInput → Type 0
+IsRefused (WithScripts n scripts) = ⊥
+IsRefused (Refused line reason) = Unit {0}
+
+-- what a sink took, by how the call ended: with Done a text of the scripts, with Refused the line for which the input is refused, after a
+-- write fault or without memory a prefix of such a text, and else nothing
+abbrev pub Wrote : ScriptInput → Option (List ℕ) → Option (List ℕ) → ServeStatus → Type 0
+Wrote input before now status.Done = IsAccepted input × WritesWhole (IsTextOf input) before now
+Wrote input before now status.Refused = IsRefused input × WritesWhole (IsTextOf input) before now
+Wrote input before now status.Usage = now ≡ before
+Wrote input before now status.ReadFault = now ≡ before
+Wrote input before now status.WriteFault = WritesPrefix (IsTextOf input) before now
+Wrote input before now status.Memory = WritesPrefix (IsTextOf input) before now
+
+-- the same of the bytes of the source, where these are told
+abbrev pub Answers : Option (List ℕ) → Option (List ℕ) → Option (List ℕ) → ServeStatus → Type 0
+Answers None before now ended = Unit {0}
+Answers (Some bytes) before now ended = Wrote (input_said bytes) before now ended

@@ -1,0 +1,130 @@
+//! One drained batch: it is applied, and then printed.
+ghost use Rattle.std.specs.Prelude.{◌≡◌, ◌≤◌, ◌+◌, true, [], length, map, None, All, IfOk, OnOk};
+ghost use Rattle.kc_text.specs.Writing.{IsPrefix};
+ghost use Rattle.kc_graph.specs.declared.limits.TheConstants.{MAX_EDGES};
+ghost use Rattle.kc_graph.specs.Cleaning.{IsInside, cleaned};
+ghost use Rattle.kc_engine.specs.Batches.{IsAfterBatch, refusal_of};
+ghost use Rattle.kserve.specs.Batches.{start};
+ghost use Rattle.kserve.specs.Fitting.{is_due};
+ghost use Rattle.kserve.specs.Engines.{IsOpen, HasRoom};
+ghost use Rattle.kserve.specs.Serving.{AreItems, TakesBatch};
+ghost use Rattle.kserve.specs.Faults.{StopCause};
+
+use crate::fault::Stop;
+use crate::lines::write_batch;
+use kc_batch::Items;
+use kc_engine::{Engine, EngineFault, Shape};
+use kc_graph::{Item, MAX_EDGES, MAX_ITEMS, MAX_VERTICES, clean};
+use kc_intake::Update;
+use kc_levels::Profile;
+use kc_rounds::Gate;
+use kc_text::{LineBuf, Sink};
+use std::alloc::{AllocError, Global};
+use std::thread::Threads;
+
+/// The engine before the first batch of a graph of n vertices, whose phases use up to `workers` threads, 1 to 64. The error is
+/// running out of memory.
+pub fn open(alloc: Global, n: u32, workers: u32) -> Result<Engine, AllocError>
+    requires some { 1 ≤ n }
+    requires small { n ≤ MAX_VERTICES }
+    requires some_workers { 1 ≤ workers }
+    requires few_workers { workers ≤ 64 }
+    ensures state { IfOk result (λ e. e.state ≡ start n) }
+    ensures open { IfOk result IsOpen }
+{
+    Engine::open(
+        alloc,
+        Shape {
+            profile: Profile::One,
+            n,
+            workers,
+            phases_before: 0,
+            edge_limit: MAX_EDGES,
+        },
+    )
+}
+
+// Whether an item is an insertion or a deletion of two vertices below n.
+fn is_due(n: u32, item: Item) -> bool
+    ensures { result ≡ is_due n item }
+{
+    match item {
+        Item::Insert { u, v } | Item::Delete { u, v } => u < n && v < n,
+        Item::Isolate { .. } => false,
+    }
+}
+
+// The items of updates, or None where one of them isn't due.
+fn items_of(alloc: Global, n: u32, updates: &[Update]) -> Result<Option<Items>, AllocError>
+    ensures { IfOk result (λ items. AreItems n updates.now items) }
+{
+    let mut items = Vec::with_capacity(alloc, updates.len())?;
+    for update in updates {
+        if !is_due(n, update.item) {
+            return Ok(None);
+        }
+        items.push(update.item)?;
+    }
+    Ok(Some(Items::from_vec(items)))
+}
+
+// Applies items to the graph. No level is looked up meanwhile, so no phase is shown.
+fn apply<R: Threads + Sync, G: Gate + Sync>(
+    rt: &R,
+    alloc: Global,
+    gate: &G,
+    engine: &mut Engine,
+    items: &[Item],
+) -> Result<(), AllocError>
+    requires open { IsOpen engine.old }
+    requires inside { All (IsInside engine.old.state.graph.vertices) items.now }
+    requires few { length items.now ≤ MAX_ITEMS }
+    requires room { refusal_of MAX_EDGES engine.old.state (cleaned engine.old.state.graph items.now) ≡ None }
+    ensures after { OnOk result (IsAfterBatch engine.old.state (cleaned engine.old.state.graph items.now) engine.new.state) }
+    ensures open { OnOk result (IsOpen engine.new) }
+{
+    let cleaned = clean(rt, alloc, engine.graph(), items)?;
+    match engine.plan(rt, alloc, gate, &cleaned) {
+        Ok(_plan) => {
+            engine.leave_unshown();
+            Ok(())
+        }
+        Err(EngineFault::Memory(e)) => Err(e),
+        // The engine hasn't halted, and there is room for the batch.
+        Err(EngineFault::Halted | EngineFault::EdgeLimit { .. } | EngineFault::PhaseLimit { .. }) =>
+            unreachable!(),
+    }
+}
+
+/// Applies the updates of a drained batch to a graph of n vertices, and prints them as the batch with this number.
+///
+/// `Stray` comes exactly where one of the items isn't due; then nothing is applied or printed. After `WriteFault`, which only a failed
+/// write gives, and after `Memory` the sink took a prefix of the lines, and neither engine nor buffer is used again.
+pub fn take_batch<R: Threads + Sync, K: Sink, G: Gate + Sync>(
+    rt: &R,
+    alloc: Global,
+    gate: &G,
+    n: u32,
+    engine: &mut Engine,
+    buf: &mut LineBuf,
+    sink: &mut K,
+    number: u32,
+    updates: &[Update],
+) -> Result<(), Stop>
+    requires open { IsOpen engine.old }
+    requires vertices { engine.old.state.graph.vertices ≡ n }
+    requires few { length updates.now ≤ MAX_ITEMS }
+    requires room { HasRoom engine.old.state }
+    requires empty { buf.old ≡ [] }
+    ensures taken { TakesBatch n number updates.now engine.old.state engine.new.state (K.taken sink.old) (K.taken sink.new) result }
+    ensures open { OnOk result (IsOpen engine.new) }
+    ensures empty { OnOk result (buf.new ≡ []) }
+    ensures cause { StopCause (K.faults sink.old) (K.faults sink.new) result }
+{
+    let Some(items) = items_of(alloc, n, updates)? else {
+        return Err(Stop::Stray);
+    };
+    apply(rt, alloc, gate, engine, items.as_slice())?;
+    write_batch(alloc, buf, sink, number, updates)?;
+    Ok(())
+}

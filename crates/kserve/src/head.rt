@@ -1,0 +1,85 @@
+//! The first two lines of an input.
+ghost use Rattle.std.specs.Prelude.{◌≡◌, false, IfOk};
+ghost use Rattle.std.specs.Option.{option_map};
+ghost use Rattle.std.specs.Str.{bytes_eq};
+ghost use Rattle.kc_text.specs.Causes.{ReadCause};
+ghost use Rattle.kc_text.specs.Words.{words};
+ghost use Rattle.kc_batch.specs.Kept.{kept_left};
+ghost use Rattle.kserve.specs.Inputs.{is_magic, input_from, after_magic, after_head, HasRange};
+
+use kc_batch::{next_kept, text_of, vertices_in};
+use kc_text::{LineFault, LineReader, Source, next_word};
+use std::alloc::Global;
+
+/// What the first two lines of an input say.
+#[derive(Clone, Copy, Debug, PartialEq, Eq)]
+pub enum Head {
+    /// The number of vertices, 1 to `MAX_VERTICES`.
+    Vertices(u32),
+    /// The line that doesn't have its form.
+    Refused { line: u32 },
+}
+
+// Whether a word is this name.
+fn is_word(word: &[u8], name: &[u8]) -> bool
+    ensures { result ≡ bytes_eq word.now name.now }
+{
+    word == name
+}
+
+// Whether a line is `kserve 1`.
+#[tactic(auto, unfolding(crate::specs::Inputs::is_magic))]
+fn is_magic(text: &[u8]) -> bool
+    ensures { result ≡ is_magic (words text.now) }
+{
+    let Some((start, end)) = next_word(text, 0) else {
+        return false;
+    };
+    let name = &text[start..end];
+    let Some((start, end)) = next_word(text, end) else {
+        return false;
+    };
+    let version = &text[start..end];
+    next_word(text, end).is_none() && is_word(name, b"kserve") && is_word(version, b"1")
+}
+
+// Reads the line `vertices N`.
+fn read_vertices<S: Source>(
+    alloc: Global,
+    reader: &mut LineReader,
+    src: &mut S,
+) -> Result<Head, LineFault>
+    ensures head { IfOk result (λ head. option_map after_magic (kept_left reader.old (S.left src.old)) ≡ option_map (after_head head) (kept_left reader.new (S.left src.new))) }
+    ensures range { IfOk result HasRange }
+    ensures cause { ReadCause (S.faults src.old) (S.faults src.new) result }
+{
+    let second = next_kept(alloc, reader, src)?;
+    match vertices_in(text_of(&second)) {
+        Some(n) => Ok(Head::Vertices(n)),
+        None => Ok(Head::Refused {
+            line: second.number,
+        }),
+    }
+}
+
+/// Reads the lines `kserve 1` and `vertices N`, as `input_from` of `specs/Inputs` says. Afterwards the reader stands after them.
+///
+/// `Refused` tells the first of the two that doesn't have its form, or the number of the reader's `End` or `Limit` in its place.
+/// `ReadFault` comes only where the source's count of faults rose. After a fault, and where a line is refused, the reader isn't used
+/// again.
+pub fn read_head<S: Source>(
+    alloc: Global,
+    reader: &mut LineReader,
+    src: &mut S,
+) -> Result<Head, LineFault>
+    ensures head { IfOk result (λ head. option_map input_from (kept_left reader.old (S.left src.old)) ≡ option_map (after_head head) (kept_left reader.new (S.left src.new))) }
+    ensures range { IfOk result HasRange }
+    ensures cause { ReadCause (S.faults src.old) (S.faults src.new) result }
+{
+    let first = next_kept(alloc, reader, src)?;
+    if is_magic(text_of(&first)) {
+        read_vertices(alloc, reader, src)
+    } else {
+        Ok(Head::Refused { line: first.number })
+    }
+}

@@ -1,0 +1,195 @@
+//! The lines that are written, but for those of the vertices.
+ghost use Rattle.std.specs.Prelude.{◌≡◌, [], ◌∷◌, ◌++◌, OnOk, decimal};
+ghost use Rattle.std.specs.List.{flat_map};
+ghost use Rattle.kc_text.specs.Writing.{Appends, WriteCause};
+ghost use Rattle.kc_report.specs.Buffer.{IsCleared};
+ghost use Rattle.kc_report.specs.Lines.{line_of, vertices_line};
+ghost use Rattle.kserve.specs.Lines.{magic_line, head_text, refused_line, batch_line, item_words, take_line, batch_text};
+
+use kc_graph::Item;
+use kc_intake::Update;
+use kc_text::{LineBuf, Reason, SendFault, Sink};
+use std::alloc::{AllocError, Global};
+
+// Appends a name, with its blanks, and a number.
+fn fill_named(alloc: Global, buf: &mut LineBuf, name: &[u8], value: u32) -> Result<(), AllocError>
+    ensures { OnOk result (buf.new ≡ (buf.old ++ name.now) ++ decimal value) }
+{
+    buf.text(alloc, name)?;
+    buf.number(alloc, value)
+}
+
+// Writes the first line.
+fn write_magic<K: Sink>(alloc: Global, buf: &mut LineBuf, sink: &mut K) -> Result<(), SendFault>
+    requires { buf.old ≡ [] }
+    ensures text { Appends (K.taken sink.old) (K.taken sink.new) magic_line result }
+    ensures buffer { IsCleared buf.new result }
+    ensures cause { WriteCause (K.faults sink.old) (K.faults sink.new) result }
+{
+    match buf.text(alloc, b"kserve-run 1") {
+        Ok(()) => buf.send(alloc, sink),
+        Err(fault) => Err(SendFault::Memory(fault)),
+    }
+}
+
+// Writes the second line.
+fn write_vertex_count<K: Sink>(
+    alloc: Global,
+    buf: &mut LineBuf,
+    sink: &mut K,
+    n: u32,
+) -> Result<(), SendFault>
+    requires { buf.old ≡ [] }
+    ensures text { Appends (K.taken sink.old) (K.taken sink.new) (vertices_line n) result }
+    ensures buffer { IsCleared buf.new result }
+    ensures cause { WriteCause (K.faults sink.old) (K.faults sink.new) result }
+{
+    match fill_named(alloc, buf, b"vertices ", n) {
+        Ok(()) => buf.send(alloc, sink),
+        Err(fault) => Err(SendFault::Memory(fault)),
+    }
+}
+
+/// Writes the first two lines, for n vertices (`head_text`).
+pub fn write_head<K: Sink>(
+    alloc: Global,
+    buf: &mut LineBuf,
+    sink: &mut K,
+    n: u32,
+) -> Result<(), SendFault>
+    requires { buf.old ≡ [] }
+    ensures text { Appends (K.taken sink.old) (K.taken sink.new) (head_text n) result }
+    ensures buffer { IsCleared buf.new result }
+    ensures cause { WriteCause (K.faults sink.old) (K.faults sink.new) result }
+{
+    write_magic(alloc, buf, sink)?;
+    write_vertex_count(alloc, buf, sink, n)
+}
+
+fn fill_refused(
+    alloc: Global,
+    buf: &mut LineBuf,
+    line: u32,
+    reason: Reason,
+) -> Result<(), AllocError>
+    requires { buf.old ≡ [] }
+    ensures { OnOk result (buf.new ++ 10 ∷ [] ≡ refused_line line reason) }
+{
+    fill_named(alloc, buf, b"refused line ", line)?;
+    buf.text(alloc, b" ")?;
+    buf.text(alloc, reason.word())
+}
+
+/// Writes the one line of an input that is refused (`refused_line`).
+pub fn write_refused<K: Sink>(
+    alloc: Global,
+    buf: &mut LineBuf,
+    sink: &mut K,
+    line: u32,
+    reason: Reason,
+) -> Result<(), SendFault>
+    requires { buf.old ≡ [] }
+    ensures text { Appends (K.taken sink.old) (K.taken sink.new) (refused_line line reason) result }
+    ensures cause { WriteCause (K.faults sink.old) (K.faults sink.new) result }
+{
+    match fill_refused(alloc, buf, line, reason) {
+        Ok(()) => buf.send(alloc, sink),
+        Err(fault) => Err(SendFault::Memory(fault)),
+    }
+}
+
+// Writes the first line of a batch.
+fn write_number<K: Sink>(
+    alloc: Global,
+    buf: &mut LineBuf,
+    sink: &mut K,
+    number: u32,
+) -> Result<(), SendFault>
+    requires { buf.old ≡ [] }
+    ensures text { Appends (K.taken sink.old) (K.taken sink.new) (batch_line number) result }
+    ensures buffer { IsCleared buf.new result }
+    ensures cause { WriteCause (K.faults sink.old) (K.faults sink.new) result }
+{
+    match fill_named(alloc, buf, b"batch ", number) {
+        Ok(()) => buf.send(alloc, sink),
+        Err(fault) => Err(SendFault::Memory(fault)),
+    }
+}
+
+// The words of an item, each after a blank.
+fn fill_item(alloc: Global, buf: &mut LineBuf, item: Item) -> Result<(), AllocError>
+    ensures { OnOk result (buf.new ++ 10 ∷ [] ≡ buf.old ++ (32 ∷ line_of (item_words item))) }
+{
+    match item {
+        Item::Insert { u, v } => {
+            fill_named(alloc, buf, b" + ", u)?;
+            fill_named(alloc, buf, b" ", v)
+        }
+        Item::Delete { u, v } => {
+            fill_named(alloc, buf, b" - ", u)?;
+            fill_named(alloc, buf, b" ", v)
+        }
+        Item::Isolate { v } => fill_named(alloc, buf, b" x ", v),
+    }
+}
+
+fn fill_take(alloc: Global, buf: &mut LineBuf, update: Update) -> Result<(), AllocError>
+    requires { buf.old ≡ [] }
+    ensures { OnOk result (buf.new ++ 10 ∷ [] ≡ take_line update) }
+{
+    fill_named(alloc, buf, b"take ", update.client)?;
+    fill_item(alloc, buf, update.item)
+}
+
+// Writes the line of an update.
+fn write_take<K: Sink>(
+    alloc: Global,
+    buf: &mut LineBuf,
+    sink: &mut K,
+    update: &Update,
+) -> Result<(), SendFault>
+    requires { buf.old ≡ [] }
+    ensures text { Appends (K.taken sink.old) (K.taken sink.new) (take_line update.now) result }
+    ensures buffer { IsCleared buf.new result }
+    ensures cause { WriteCause (K.faults sink.old) (K.faults sink.new) result }
+{
+    match fill_take(alloc, buf, *update) {
+        Ok(()) => buf.send(alloc, sink),
+        Err(fault) => Err(SendFault::Memory(fault)),
+    }
+}
+
+// Writes the lines of updates, one after another.
+fn write_takes<K: Sink>(
+    alloc: Global,
+    buf: &mut LineBuf,
+    sink: &mut K,
+    updates: &[Update],
+) -> Result<(), SendFault>
+    requires { buf.old ≡ [] }
+    ensures text { Appends (K.taken sink.old) (K.taken sink.new) (flat_map take_line updates.now) result }
+    ensures buffer { IsCleared buf.new result }
+    ensures cause { WriteCause (K.faults sink.old) (K.faults sink.new) result }
+{
+    for update in updates {
+        write_take(alloc, buf, sink, update)?;
+    }
+    Ok(())
+}
+
+/// Writes the lines of a batch (`batch_text`): one with its number, and one for each update.
+pub fn write_batch<K: Sink>(
+    alloc: Global,
+    buf: &mut LineBuf,
+    sink: &mut K,
+    number: u32,
+    updates: &[Update],
+) -> Result<(), SendFault>
+    requires { buf.old ≡ [] }
+    ensures text { Appends (K.taken sink.old) (K.taken sink.new) (batch_text number updates.now) result }
+    ensures buffer { IsCleared buf.new result }
+    ensures cause { WriteCause (K.faults sink.old) (K.faults sink.new) result }
+{
+    write_number(alloc, buf, sink, number)?;
+    write_takes(alloc, buf, sink, updates)
+}

@@ -1,0 +1,106 @@
+//! The scripts of the clients, as an input says them.
+ghost use Rattle.std.specs.Prelude.{◌≡◌, ◌≤◌, ◌++◌, ◌∷◌, [], IfOk, OnOk};
+ghost use Rattle.std.specs.Option.{option_map};
+ghost use Rattle.kc_batch.specs.Batches.{batches_left};
+ghost use Rattle.kserve.specs.Inputs.{rules_for, scripts_from, input_said, has_room};
+ghost use Rattle.kserve.specs.Faults.{ReadingCause};
+ghost use Rattle.kserve.specs.Reading.{Says, IsSaid};
+
+use crate::fault::ServeFault;
+use crate::head::{Head, read_head};
+use crate::limits::{INPUT_LIMIT, LINE_LIMIT};
+use kc_batch::{Items, Next, next_batch};
+use kc_graph::{MAX_ITEMS, MAX_VERTICES};
+use kc_intake::MAX_CLIENTS;
+use kc_levels::Profile;
+use kc_text::{LineReader, Reason, Source};
+use std::alloc::{AllocError, Global};
+
+/// The scripts of an input.
+#[derive(Drop, Debug)]
+pub struct Scripts {
+    /// The number of vertices, 1 to `MAX_VERTICES`.
+    pub n: u32,
+    /// The script of each client, in the order of their numbers: at most `MAX_CLIENTS`.
+    pub scripts: Vec<Items>,
+    /// How many items they have together: at most `MAX_ITEMS`.
+    pub count: u32,
+}
+
+/// What an input says.
+#[derive(Drop, Debug)]
+pub enum Said {
+    /// A script for each client.
+    Accepted(Scripts),
+    /// It is refused at this line for this reason.
+    Refused { line: u32, reason: Reason },
+}
+
+// Whether a script of so many items may follow others, which are so many and have so many items.
+fn has_room(scripts: usize, count: u32, more: usize) -> bool
+    requires { more ≤ MAX_ITEMS }
+    ensures { result ≡ has_room scripts count more }
+{
+    scripts < MAX_CLIENTS as usize && count as usize + more <= MAX_ITEMS as usize
+}
+
+// Puts a script at the end.
+fn add_script(scripts: &mut Vec<Items>, script: Items) -> Result<(), AllocError>
+    ensures { OnOk result (scripts.new.items ≡ scripts.old.items ++ script ∷ []) }
+{
+    scripts.push(script)?;
+    Ok(())
+}
+
+// Reads the blocks after the head, each the script of a client.
+fn read_scripts<S: Source>(
+    alloc: Global,
+    reader: &mut LineReader,
+    src: &mut S,
+    n: u32,
+) -> Result<Said, ServeFault>
+    requires some { 1 ≤ n }
+    requires small { n ≤ MAX_VERTICES }
+    ensures said { IfOk result (λ said. Says said (option_map (scripts_from n []) (batches_left (rules_for n) reader.old (S.left src.old)))) }
+    ensures sound { IfOk result IsSaid }
+    ensures cause { ReadingCause (S.faults src.old) (S.faults src.new) result }
+{
+    let mut scripts = Vec::new(alloc);
+    let mut count = 0;
+    loop {
+        match next_batch(alloc, reader, src, n, Profile::One, MAX_ITEMS)? {
+            Next::Items(batch) => {
+                let more = batch.items.as_slice().len();
+                if !has_room(scripts.len(), count, more) {
+                    return Ok(Said::Refused {
+                        line: batch.line,
+                        reason: Reason::TooMany,
+                    });
+                }
+                count += more as u32;
+                add_script(&mut scripts, batch.items)?;
+            }
+            Next::Refused { line, reason } => return Ok(Said::Refused { line, reason }),
+            Next::End => return Ok(Said::Accepted(Scripts { n, scripts, count })),
+        }
+    }
+}
+
+/// Reads an input of scripts whole, as `input_said` of `specs/Inputs` says: the script of each client, or the first line for which it is
+/// refused, and why. Nothing after that line is read.
+///
+/// `ReadFault` comes only where the source's count of faults rose, and `Memory` where a line or the items found none.
+pub fn read_input<S: Source>(alloc: Global, src: &mut S) -> Result<Said, ServeFault>
+    ensures said { IfOk result (λ said. Says said (option_map input_said (S.left src.old))) }
+    ensures sound { IfOk result IsSaid }
+    ensures cause { ReadingCause (S.faults src.old) (S.faults src.new) result }
+{
+    let mut reader = LineReader::new(alloc, LINE_LIMIT, INPUT_LIMIT)?;
+    match read_head(alloc, &mut reader, src)? {
+        Head::Vertices(n) => read_scripts(alloc, &mut reader, src, n),
+        Head::Refused { line } => Ok(Said::Refused {
+            line,
+            reason: Reason::Header,
+        }),
+    }
+}

@@ -1,0 +1,117 @@
+//! The top call: a command line, an input and an output.
+ghost use Rattle.std.specs.Prelude.{◌≡◌, ◌≤◌, ◌↔◌, ◌∷◌, [], None, IfSome};
+ghost use Rattle.kserve.specs.Ending.{workers_of, status_of, HasCause};
+ghost use Rattle.kserve.specs.Faults.{FaultCause};
+ghost use Rattle.kserve.specs.Served.{Answers};
+
+use crate::fault::ServeFault;
+use crate::lines::write_refused;
+use crate::reading::{Said, read_input};
+use crate::serving::serve_scripts;
+use crate::status::ServeStatus;
+use kc_rounds::Gate;
+use kc_text::{LineBuf, Sink, Source, Words, read_number};
+use std::alloc::Global;
+use std::sync::Wait;
+use std::thread::Threads;
+
+// The number of workers that one word says.
+#[tactic(auto, unfolding(crate::specs::Ending::workers_of))]
+fn workers_in(word: &[u8]) -> Option<u32>
+    ensures workers { result ≡ workers_of (word.now ∷ []) }
+    ensures few { IfSome result (λ workers. (1 ≤ workers) × (workers ≤ 64)) }
+{
+    let workers = read_number(word)?;
+    if workers < 1 || workers > 64 {
+        return None;
+    }
+    Some(workers)
+}
+
+// The number of workers that the words say: they are one number, 1 to 64.
+fn workers_of(words: &Words) -> Option<u32>
+    ensures workers { result ≡ workers_of words.now }
+    ensures few { IfSome result (λ workers. (1 ≤ workers) × (workers ≤ 64)) }
+{
+    if words.len() != 1 {
+        return None;
+    }
+    workers_in(words.word(0))
+}
+
+// Reads an input, and serves its scripts or writes why it is refused. Says whether it is.
+fn serve_input<R: Threads + Wait + Sync, S: Source, K: Sink + Send, G: Gate + Sync>(
+    rt: &R,
+    alloc: Global,
+    gate: &G,
+    workers: u32,
+    src: &mut S,
+    sink: &mut K,
+) -> Result<bool, ServeFault>
+    requires few_workers { (1 ≤ workers) × (workers ≤ 64) }
+    ensures text { Answers (S.left src.old) (K.taken sink.old) (K.taken sink.new) (status_of result) }
+    ensures cause { FaultCause (S.faults src.old) (S.faults src.new) (K.faults sink.old) (K.faults sink.new) result }
+{
+    match read_input(alloc, src)? {
+        Said::Accepted(asked) => {
+            serve_scripts(rt, alloc, gate, workers, &asked, sink)?;
+            Ok(false)
+        }
+        Said::Refused { line, reason } => {
+            write_refused(alloc, &mut LineBuf::new(alloc), sink, line, reason)?;
+            Ok(true)
+        }
+    }
+}
+
+// How a call ended.
+fn status_of(ended: Result<bool, ServeFault>) -> ServeStatus
+    ensures { result ≡ status_of ended }
+{
+    match ended {
+        Ok(false) => ServeStatus::Done,
+        Ok(true) => ServeStatus::Refused,
+        Err(ServeFault::ReadFault) => ServeStatus::ReadFault,
+        Err(ServeFault::WriteFault) => ServeStatus::WriteFault,
+        Err(ServeFault::Memory(_)) => ServeStatus::Memory,
+    }
+}
+
+/// Serves the scripts of an input: each client submits its script to an intake, and one server drains it, and applies and prints batch
+/// after batch. A phase of the engine uses up to as many threads as the words say.
+///
+/// The answer is `Usage` exactly where the words aren't one number, 1 to 64, and then nothing is read or written. Else, where `input` tells
+/// its bytes:
+///
+/// - with `Done` they say scripts, and what `output` took is a text of these (`IsServed`). The batches that it prints are what the clients
+///   submitted: the items of each client, in order, are its script, nothing is lost and nothing is there twice; each batch has 1 to
+///   1,024 updates. The lines of the vertices are of the graph and the levels after these batches, in which both invariants hold;
+/// - with `Refused` they don't (`input_said`), and `output` took the one line that tells the first line for which they are refused, and why;
+/// - with `WriteFault` and `Memory` it took a prefix of such a text, or of that line, and with `ReadFault` nothing.
+///
+/// `ReadFault` and `WriteFault` come only where the count of faults of `input`, of `output` rose in this call, and every other count is as
+/// it was. So with such words, bytes told and no count risen the answer is `Done` or `Refused`, as the bytes decide, or `Memory`, the one
+/// answer without a cause.
+///
+/// All scripts are read before a client runs. A client that finds the intake full tries again, and so does the server where it is empty:
+/// the call may wait, and what it promises holds if it returns. After a fault the server goes on draining, so that no client is left
+/// waiting. The gate is told `Asking` before each update's first try, and `Replied` once it is submitted, with the client as reader and
+/// the place in its script, from 0, as ask.
+pub fn serve<R: Threads + Wait + Sync, S: Source, K: Sink + Send, G: Gate + Sync>(
+    rt: &R,
+    alloc: Global,
+    words: &Words,
+    input: &mut S,
+    output: &mut K,
+    gate: &G,
+) -> ServeStatus
+    ensures answer { Answers (S.left input.old) (K.taken output.old) (K.taken output.new) result }
+    ensures cause { HasCause (S.faults input.old) (S.faults input.new) (K.faults output.old) (K.faults output.new) result }
+    ensures usage { (result ≡ ServeStatus.Usage) ↔ (workers_of words.now ≡ None) }
+    ensures untouched { result ≡ ServeStatus.Usage → (input.new ≡ input.old) × (output.new ≡ output.old) }
+{
+    match workers_of(words) {
+        Some(workers) => status_of(serve_input(rt, alloc, gate, workers, input, output)),
+        None => ServeStatus::Usage,
+    }
+}
