@@ -1,0 +1,102 @@
+#!/usr/bin/env python3
+"""Runs kserve over and over on scripts by chance, and checks each text that it writes.
+
+    hostile/serving.py [--program PATH] [--kcore PATH] [--runs N] [--clients N] [--items N] [--seed S]
+
+In each of N (200) runs eight clients have scripts of very different lengths. Of what is printed it checks that the updates of each
+client are its script, in order, each once; that batches are numbered and have 1 to 1,024 updates; and that the lines of the vertices
+are those of `kcore run` on the same batches. Two runs on one input may print different batches, and both are right. Prints how many
+batches there were and how often updates of two clients were next to each other; the exit number is 1 where something was wrong. Whether
+threads come in each other's way depends on the machine, so this isn't part of the gate.
+"""
+import argparse
+import itertools
+import os
+import random
+import subprocess
+import sys
+
+MOST = 1024
+
+
+def script_of(draw, n, items):
+    signs = ("+", "+", "+", "-")
+    return [f"{draw.choice(signs)} {draw.randrange(n)} {draw.randrange(n)}" for _ in range(draw.randrange(items))]
+
+
+def run(program, words, text):
+    done = subprocess.run([program, *words], input=text.encode(), capture_output=True, timeout=120, check=False)
+    return done.returncode, done.stdout.decode(), done.stderr
+
+
+def block(lines):
+    return "".join(f"{line}\n" for line in ["batch", *lines, "end"])
+
+
+def batches_in(lines):
+    """The batches of the lines after the head, each a list of (client, item), and the lines after them."""
+    batches = []
+    while lines and lines[0].startswith("batch "):
+        if lines[0] != f"batch {len(batches) + 1}":
+            raise ValueError(f"{lines[0]} is batch {len(batches) + 1}")
+        taken = list(itertools.takewhile(lambda line: line.startswith("take "), lines[1:]))
+        words = [line.split(" ", 2) for line in taken]
+        batches.append([(int(client), item) for _, client, item in words])
+        lines = lines[1 + len(taken):]
+    return batches, lines
+
+
+def fault_of(n, scripts, text, kcore):
+    """What is wrong with a text, or None."""
+    lines = text.split("\n")
+    if lines[:2] != ["kserve-run 1", f"vertices {n}"]:
+        return "another head"
+    try:
+        batches, rest = batches_in(lines[2:])
+    except ValueError as fault:
+        return str(fault)
+    if any(not 1 <= len(batch) <= MOST for batch in batches):
+        return "a batch has no update, or more than 1,024"
+    found = [[] for _ in scripts]
+    for client, item in itertools.chain.from_iterable(batches):
+        found[client].append(item)
+    if found != scripts:
+        return "the updates of a client are not its script"
+    again = f"kcore 1\nvertices {n}\n" + "".join(block(item for _, item in batch) for batch in batches)
+    status, wanted, _ = run(kcore, ["run", "1"], again)
+    if status != 0:
+        return f"kcore ended with {status}"
+    if rest != [line for line in wanted.split("\n") if line.startswith(("vertex ", "end")) or not line]:
+        return "other lines of vertices than those of the batches"
+    return None
+
+
+def main():
+    crates = os.path.join(os.path.dirname(os.path.abspath(__file__)), "..", "crates")
+    parser = argparse.ArgumentParser(description=__doc__, formatter_class=argparse.RawDescriptionHelpFormatter)
+    parser.add_argument("--program", default=os.path.join(crates, "kserve", "out", "kserve"))
+    parser.add_argument("--kcore", default=os.path.join(crates, "kcore", "out", "kcore"))
+    parser.add_argument("--runs", type=int, default=200)
+    parser.add_argument("--clients", type=int, default=8)
+    parser.add_argument("--items", type=int, default=4000)
+    parser.add_argument("--seed", type=int, default=1)
+    options = parser.parse_args()
+    draw, batches, changes, wrong = random.Random(options.seed), 0, 0, 0
+    for number in range(1, options.runs + 1):
+        n = draw.choice((2, 20, 300, 2000))
+        scripts = [script_of(draw, n, draw.choice((2, 50, options.items))) for _ in range(options.clients)]
+        text = f"kserve 1\nvertices {n}\n" + "".join(map(block, scripts))
+        status, written, errors = run(options.program, [str(draw.randrange(1, 5))], text)
+        fault = f"ended with {status}" if status or errors else fault_of(n, scripts, written, options.kcore)
+        if fault:
+            wrong += 1
+            print(f"run {number}: {fault}")
+        clients = [line.split(" ")[1] for line in written.split("\n") if line.startswith("take ")]
+        batches += written.count("\nbatch ")
+        changes += sum(a != b for a, b in zip(clients, clients[1:]))
+    print(f"{options.runs} runs, {wrong} wrong; {batches} batches, {changes} changes of client")
+    sys.exit(1 if wrong else 0)
+
+
+if __name__ == "__main__":
+    main()
