@@ -4,9 +4,9 @@ use Rattle.std.specs.Prelude.{count_by}
 use Rattle.std.proofs.lemmas.Bool.{le-leb}
 use Rattle.std.proofs.lemmas.List.{length-replicate, get_or-replicate}
 use Rattle.kc_graph.specs.Shape.{GraphShape, IsGraph, neighbours_of}
-use Rattle.kc_graph.proofs.CountLemmas.{count_by-cons}
+use Rattle.kc_graph.proofs.lemmas.Counts.{count_by-cons}
 use Rattle.kc_levels.specs.LevelList.{at_least}
-use Rattle.kc_levels.proofs.AtLeast.{at_least-few}
+use Rattle.kc_levels.proofs.lemmas.AtLeast.{at_least-few}
 use Rattle.kc_adj.specs.LeveledGraph.{IsCounted, IsAdjacency}
 
 pub count-few : (g : GraphShape) (x : List ℕ) (d : ℕ) (counts : List ℕ) (v : ℕ) → IsGraph g → IsCounted g x d counts → v < g.vertices → get_or counts v 0 < g.vertices

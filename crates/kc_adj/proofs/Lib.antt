@@ -1,4 +1,5 @@
-pub mod Counted
-pub mod Moving
-pub mod Linking
-pub mod Marks
+pub mod lemmas
+mod Counted
+mod Moving
+mod Linking
+mod Marks

@@ -7,13 +7,13 @@ use Rattle.kc_graph.specs.declared.limits.TheConstants.{MAX_VERTICES, MAX_EDGES}
 use Rattle.kc_graph.specs.Numbers.{has_number}
 use Rattle.kc_graph.specs.Shape.{GraphShape, Pair, EdgesFrom, IsGraph, neighbours_of, has_edge, with_edge, without_edge, with_edges, without_edges}
 use Rattle.kc_graph.specs.Changes.{AllAbsent, AllPresent}
-use Rattle.kc_graph.proofs.ChangeLemmas.{can_add_ascending, can_remove_ascending, is_graph-with_edge, is_graph-without_edge, vertices-with_edges}
-use Rattle.kc_graph.proofs.CountLemmas.{count_by-put, count_by-without}
-use Rattle.kc_graph.proofs.EdgeLemmas.{joined_comm, joined_in_order}
-use Rattle.kc_graph.proofs.NeighbourLemmas.{has_number-neighbours_of, neighbours_rise, neighbours_of_insert_low, neighbours_of_insert_high, neighbours_of_insert_other, neighbours_of_remove_low, neighbours_of_remove_high, neighbours_of_remove_other}
+use Rattle.kc_graph.proofs.lemmas.Changes.{can_add_ascending, can_remove_ascending, is_graph-with_edge, is_graph-without_edge, vertices-with_edges}
+use Rattle.kc_graph.proofs.lemmas.Counts.{count_by-put, count_by-without}
+use Rattle.kc_graph.proofs.lemmas.Edges.{joined_comm, joined_in_order}
+use Rattle.kc_graph.proofs.lemmas.Neighbours.{has_number-neighbours_of, neighbours_rise, neighbours_of_insert_low, neighbours_of_insert_high, neighbours_of_insert_other, neighbours_of_remove_low, neighbours_of_remove_high, neighbours_of_remove_other}
 use Rattle.kc_levels.specs.LevelList.{at_least}
 use Rattle.kc_adj.specs.LeveledGraph.{LeveledGraph, IsCounted, IsAdjacency}
-use Rattle.kc_adj.specs.Linking.{share, linked, unlinked, AwaitsEdges, LosesEdges}
+use Rattle.kc_adj.specs.private.Linking.{share, linked, unlinked, AwaitsEdges, LosesEdges}
 use Rattle.kc_adj.proofs.Counted.{count-few}
 
 -- what holds of the numbers at a and b after writes there, and of the old number elsewhere, holds at each place

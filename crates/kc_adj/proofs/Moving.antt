@@ -8,13 +8,13 @@ use Rattle.std.proofs.lemmas.List.{take_all, drop_all, length-set, get_or-set_sa
 use Rattle.std.proofs.lemmas.List.Sums.{count_by_more_yes, count_by_more_no}
 use Rattle.kc_graph.specs.Numbers.{has_number}
 use Rattle.kc_graph.specs.Shape.{GraphShape, IsGraph, neighbours_of}
-use Rattle.kc_graph.proofs.NumberLemmas.{has_number_below}
-use Rattle.kc_graph.proofs.NeighbourLemmas.{neighbours_both, neighbours_rise, no_own_neighbour}
+use Rattle.kc_graph.proofs.lemmas.Numbers.{has_number_below}
+use Rattle.kc_graph.proofs.lemmas.Neighbours.{neighbours_both, neighbours_rise, no_own_neighbour}
 use Rattle.kc_levels.specs.LevelList.{at_least}
-use Rattle.kc_levels.proofs.Places.{changed}
-use Rattle.kc_levels.proofs.AtLeast.{at_least-few, at_least-set, at_least-change}
+use Rattle.kc_levels.proofs.lemmas.Writes.{changed}
+use Rattle.kc_levels.proofs.lemmas.AtLeast.{at_least-few, at_least-set, at_least-change}
 use Rattle.kc_adj.specs.LeveledGraph.{IsCounted, IsAdjacency}
-use Rattle.kc_adj.specs.Moving.{is_passed, IsMoving, IsMoved}
+use Rattle.kc_adj.specs.private.Moving.{is_passed, IsMoving, IsMoved}
 
 pub moving_first : (g : GraphShape) (x : List ℕ) (v k d : ℕ) (counts : List ℕ) → IsGraph g → IsCounted g x d counts → IsMoving g x v k d counts (neighbours_of v g.edges)
 moving_first g x v k d counts graph c = record {

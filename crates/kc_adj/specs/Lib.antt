@@ -1,4 +1,3 @@
 pub mod LeveledGraph
-pub mod Moving
-pub mod Linking
 pub mod LevelLists
+pub mod private

@@ -1,5 +1,5 @@
 ghost use Rattle.std.specs.Prelude.{◌≡◌, ◌+◌, ◌-◌, ◌<◌, ◌≤◌, ◌^◌, cond, length, slice_index, slice_set};
-ghost use Rattle.kc_adj.specs.Moving.{is_passed};
+ghost use Rattle.kc_adj.specs.private.Moving.{is_passed};
 
 /// For each vertex two counts of its neighbours, each below the number of vertices.
 #[derive(Drop)]

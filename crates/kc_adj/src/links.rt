@@ -2,7 +2,7 @@
 
 ghost use Rattle.std.specs.Prelude.{◌≡◌, ◌<◌, ◌≤◌, ◌^◌, length, slice_index};
 ghost use Rattle.kc_adj.specs.LeveledGraph.{IsAdjacency};
-ghost use Rattle.kc_adj.specs.Linking.{share, linked, unlinked, AwaitsEdges, LosesEdges};
+ghost use Rattle.kc_adj.specs.private.Linking.{share, linked, unlinked, AwaitsEdges, LosesEdges};
 
 use crate::counts::Counts;
 use kc_graph::{Edge, Graph};

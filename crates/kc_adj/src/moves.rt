@@ -4,7 +4,7 @@ ghost use Rattle.std.specs.Prelude.{◌≡◌, ◌+◌, ◌-◌, ◌<◌, ◌≤
 ghost use Rattle.kc_graph.specs.Shape.{neighbours_of};
 ghost use Rattle.kc_levels.specs.LevelList.{at_least};
 ghost use Rattle.kc_adj.specs.LeveledGraph.{IsAdjacency};
-ghost use Rattle.kc_adj.specs.Moving.{IsMoved};
+ghost use Rattle.kc_adj.specs.private.Moving.{IsMoved};
 
 use crate::counts::{Counts, as_one, gain, is_passed, lose};
 use crate::steps::Steps;

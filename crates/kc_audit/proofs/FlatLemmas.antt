@@ -7,7 +7,8 @@ use Rattle.std.proofs.Math.Seq.{drop-append_seam}
 use Rattle.kc_history.specs.declared.replies.Reply.{Reply}
 use Rattle.kc_audit.specs.declared.flat.Head.{Head}
 use Rattle.kc_audit.specs.declared.groups.GroupLine.{GroupLine}
-use Rattle.kc_audit.specs.Flat.{lines_from, EndFrom, start_of}
+use Rattle.kc_audit.specs.Flat.{lines_from, EndFrom}
+use Rattle.kc_audit.specs.private.Flat.{start_of}
 
 pub length-lines : (from : ℕ) (hs : List Head) (ms : List Reply) → length (lines_from from hs ms) ≡ length hs
 length-lines from [] ms = refl

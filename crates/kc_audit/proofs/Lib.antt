@@ -1,15 +1,16 @@
-pub mod FlatLemmas
-pub mod KeptLemmas
-pub mod LineLemmas
-pub mod MoveLemmas
-pub mod PairsBack
-pub mod PrintedForms
-pub mod PrintedParts
-pub mod ReplyLevels
-pub mod Reaching
-pub mod RunBack
-pub mod Stepping
-pub mod VerdictLemmas
-pub mod SomeVerdict
-pub mod Walking
-pub mod WordLemmas
+pub mod lemmas
+mod FlatLemmas
+mod KeptLemmas
+mod LineLemmas
+mod MoveLemmas
+mod PairsBack
+mod PrintedForms
+mod PrintedParts
+mod ReplyLevels
+mod Reaching
+mod RunBack
+mod Stepping
+mod VerdictLemmas
+mod SomeVerdict
+mod Walking
+mod WordLemmas

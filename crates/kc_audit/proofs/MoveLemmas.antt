@@ -8,7 +8,7 @@ use Rattle.kc_levels.specs.declared.moves.Move.{Move}
 use Rattle.kc_history.specs.declared.replies.Reply.{Reply}
 use Rattle.kc_history.specs.declared.entries.Entry.{Entry}
 use Rattle.kc_history.specs.Points.{with_moves, levels_at}
-use Rattle.kc_history.proofs.PointLemmas.{levels_after-append}
+use Rattle.kc_history.proofs.lemmas.Points.{levels_after-append}
 use Rattle.kc_audit.specs.declared.groups.GroupLine.{GroupLine}
 use Rattle.kc_audit.specs.Runs.{moves_of, entry_of, history_of}
 

@@ -7,7 +7,7 @@ use Rattle.std.proofs.lemmas.List.{get_or_append_left}
 use Rattle.std.proofs.lemmas.List.Sums.{position_or_len_is}
 use Rattle.std.proofs.Math.Seq.{get_or-append_seam, drop-append-add, take-append_seam}
 use Rattle.kc_text.specs.Numbers.{is_digit, is_number, number_of, value_from}
-use Rattle.kc_text.proofs.PrintedText.{numbers_back}
+use Rattle.kc_text.proofs.lemmas.Printing.{numbers_are_read_back}
 use Rattle.kc_history.specs.declared.replies.Reply.{Reply}
 use Rattle.kc_audit.specs.Runs.{are_below}
 use Rattle.kc_audit.specs.Words.{pair_of, pairs_of}
@@ -46,8 +46,8 @@ mark_place mark bs cs h e =
 
 pair_back : (mark : ℕ) (r : Reply) → 57 < mark → r.vertex < 2 ^ 32 → r.level ≤ 65535 → pair_of mark (pair_word mark r) ≡ Some r
 pair_back mark r h v l =
-    let vertex : number_of (decimal r.vertex) ≡ Some r.vertex = numbers_back.value r.vertex v in
-    let level : number_of (decimal r.level) ≡ Some r.level = numbers_back.value r.level (omega (arith, l)) in
+    let vertex : number_of (decimal r.vertex) ≡ Some r.vertex = numbers_are_read_back.value r.vertex v in
+    let level : number_of (decimal r.level) ≡ Some r.level = numbers_are_read_back.value r.level (omega (arith, l)) in
     let place = mark_place mark (decimal r.vertex) (decimal r.level) h (number_digits (decimal r.vertex) r.vertex vertex) in
     let front : take (length (decimal r.vertex)) (pair_word mark r) ≡ decimal r.vertex = take-append_seam (decimal r.vertex) (mark ∷ decimal r.level) in
     let back : drop (length (decimal r.vertex) + 1) (pair_word mark r) ≡ decimal r.level = drop-append-add (decimal r.vertex) (mark ∷ decimal r.level) 1 in

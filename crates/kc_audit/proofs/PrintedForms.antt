@@ -11,7 +11,7 @@ use Rattle.kc_text.specs.Numbers.{number_of}
 use Rattle.kc_text.specs.Words.{words, words_from}
 use Rattle.kc_text.specs.Printing.{is_word, lines_of_words}
 use Rattle.kc_text.specs.Reasons.{reason_word}
-use Rattle.kc_text.proofs.PrintedText.{numbers_back, words_back, lines_back}
+use Rattle.kc_text.proofs.lemmas.Printing.{numbers_are_read_back, words_are_read_back, lines_are_read_back}
 use Rattle.kc_history.specs.declared.replies.Reply.{Reply}
 use Rattle.kc_audit.specs.Kept.{kept}
 use Rattle.kc_audit.specs.Kinds.{Kind, InputEnd, is_version, is_refusal, direction_kind, kind_of_words, kind_of}
@@ -21,10 +21,10 @@ use Rattle.kc_audit.specs.Printed.{IsSmall, AreSmall, Says, IsRefusedReason, dir
 use Rattle.kc_audit.proofs.RunBack.{run_is_read_back}
 
 value : (n : ℕ) → IsSmall n → number_of (decimal n) ≡ Some n
-value n h = numbers_back.value n h
+value n h = numbers_are_read_back.value n h
 
 word : (n : ℕ) → IsSmall n → is_word (decimal n) ≡ true
-word n h = numbers_back.word n h
+word n h = numbers_are_read_back.word n h
 
 both : (a b : Bool) → (a && b) ≡ true → (a ≡ true) × (b ≡ true)
 both true b e = (refl, e)
@@ -100,7 +100,7 @@ abbrev text_lines : ℕ → ℕ → List (List (List ℕ)) → List Line
 text_lines n last ls = lines_of_words n ls ++ record { number = last; body = body.End } ∷ []
 
 back : (ws : List (List ℕ)) → list_all is_word ws ≡ true → words (join_with_byte 32 ws) ≡ ws
-back ws h = words_back ws h
+back ws h = words_are_read_back ws h
 
 none_skipped : (n last : ℕ) (ls : List (List (List ℕ))) (ks : List Kind) → SayAll ls ks → kept (text_lines n last ls) ≡ text_lines n last ls
 unfolding lines_of_words
@@ -119,5 +119,5 @@ all_kinds n last (ws ∷ ls) (k ∷ ks) s = rw (back ws s.0.words, s.0.kind) (ap
 pub printed_run_is_read_back : PrintedRunIsReadBack
 printed_run_is_read_back limit room n bs rs ls some most fits few readers says short whole =
     let last = 1 + length ls in
-    rw (lines_back.whole limit room ls short whole, none_skipped 1 last ls (run_kinds n bs rs) says)
+    rw (lines_are_read_back.whole limit room ls short whole, none_skipped 1 last ls (run_kinds n bs rs) says)
     (run_is_read_back n bs rs (text_lines 1 last ls) some most fits few readers (all_kinds 1 last ls (run_kinds n bs rs) says))

@@ -6,8 +6,8 @@ use Rattle.kc_history.specs.declared.entries.Entry.{Entry}
 use Rattle.kc_history.specs.declared.replies.Reply.{Reply}
 use Rattle.kc_history.specs.Points.{levels_at}
 use Rattle.kc_history.specs.Replies.{IsLevelAt, AreExplained}
-use Rattle.kc_history.proofs.ReplyLemmas.{earlier_explains}
-use Rattle.kc_audit.specs.Walks.{GoesOn, reply_at, no_reply}
+use Rattle.kc_history.proofs.lemmas.Replies.{earlier_explains}
+use Rattle.kc_audit.specs.private.Walks.{GoesOn, reply_at, no_reply}
 
 -- the replies so far lead to the point p: whatever follows them is explained from p on or not at all
 pub record IsReached (n : ℕ) (history : List Entry) (before rest : List Reply) (p : ℕ) : Type 0 where

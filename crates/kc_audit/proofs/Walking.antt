@@ -11,7 +11,7 @@ use Rattle.kc_audit.specs.declared.run_text.RunText.{RunText}
 use Rattle.kc_audit.specs.declared.verdict.AuditVerdict.{AuditVerdict}
 use Rattle.kc_audit.specs.declared.verdict.AuditVerdict.TheVariants.{Explained, Unexplained}
 use Rattle.kc_audit.specs.Runs.{history_of}
-use Rattle.kc_audit.specs.Walks.{GoesOn, EachGoesOn, AreWithin, IsAwaited, Tells, reply_at}
+use Rattle.kc_audit.specs.private.Walks.{GoesOn, EachGoesOn, AreWithin, IsAwaited, Tells, reply_at}
 use Rattle.kc_audit.specs.Verdicts.{IsVerdict}
 use Rattle.kc_audit.proofs.MoveLemmas.{moves_other, levels_next, length-history}
 use Rattle.kc_audit.proofs.Reaching.{IsAt, IsStuck, at_start, goes_on, passes, explained_so_far, explained_all, unexplained_next}

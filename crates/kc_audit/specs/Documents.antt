@@ -13,8 +13,6 @@ use Rattle.kc_audit.specs.declared.stage.PhasesLeft.TheVariants.{NoPhase, Insert
 use Rattle.kc_audit.specs.declared.stage.Place.{Place}
 use Rattle.kc_audit.specs.declared.stage.Stage.{Stage}
 use Rattle.kc_audit.specs.declared.stage.Stage.TheVariants.{Batches, Groups, Readers, VertexLines, Closed}
-use Rattle.kc_audit.specs.declared.stage.Turn.{Turn}
-use Rattle.kc_audit.specs.declared.stage.Turn.TheVariants.{Go, Stop, End}
 use Rattle.kc_audit.specs.Kept.{kept}
 use Rattle.kc_audit.specs.Kinds.{Kind, kind_of}
 use Rattle.kc_audit.specs.Kinds as kind
@@ -187,9 +185,3 @@ document_of (line ∷ rest) = onward line.number (head_of (kind_of line.body)) (
 -- what bytes say as a run text: at most `limit` bytes a line, of the first `room` bytes
 abbrev pub document_in : ℕ → ℕ → List ℕ → Document
 document_in limit room bytes = document_of (kept (lines limit room bytes))
-
--- what a line does, where the run was lengthened already
-abbrev pub step_told : RunText → Turn → Step
-step_told run (Go stage) = Goes run stage
-step_told run End = Ends run
-step_told run (Stop reason) = Stops reason

@@ -1,5 +1,5 @@
 -- Group lines whose members stand in one list.
-use Rattle.std.specs.Prelude.{ℕ, ◌≡◌, ◌≤◌, List, [], ◌∷◌, zero, suc}
+use Rattle.std.specs.Prelude.{ℕ, ◌≡◌, ◌≤◌, List, [], ◌∷◌}
 use Rattle.std.specs.List.{slice_range}
 use Rattle.kc_history.specs.declared.replies.Reply.{Reply}
 use Rattle.kc_audit.specs.declared.flat.Head.{Head}
@@ -14,9 +14,3 @@ lines_from from (h ∷ hs) members = record { phase = h.phase; label = h.label; 
 abbrev pub EndFrom : ℕ → List Head → ℕ → Type 0
 EndFrom from [] end = from ≡ end
 EndFrom from (h ∷ hs) end = (from ≤ h.end) × EndFrom h.end hs end
-
--- where the members of line i begin
-abbrev pub start_of : ℕ → List Head → ℕ → ℕ
-start_of from [] i = from
-start_of from (h ∷ hs) zero = from
-start_of from (h ∷ hs) (suc i) = start_of h.end hs i

@@ -14,13 +14,6 @@ is_skipped TooLong = false
 is_skipped Limit = false
 is_skipped End = false
 
--- the bytes of a line; none where it is too long or the input ends
-abbrev pub text_of : Body → List ℕ
-text_of (Text text) = text
-text_of TooLong = []
-text_of Limit = []
-text_of End = []
-
 -- the lines that aren't skipped
 abbrev pub kept : List Line → List Line
 kept [] = []

@@ -1,5 +1,5 @@
 -- What the lines of a run text say that aren't skipped, each by itself.
-use Rattle.std.specs.Prelude.{ℕ, Bool, true, false, ◌&&◌, ◌||◌, List, [], ◌∷◌, length, ◌≤◌, Option, Some, None, is_some, if◌then◌else◌, codes, drop}
+use Rattle.std.specs.Prelude.{ℕ, Bool, true, false, ◌&&◌, ◌||◌, List, [], ◌∷◌, Option, Some, None, is_some, if◌then◌else◌, codes}
 use Rattle.std.specs.Str.{bytes_eq}
 use Rattle.kc_text.specs.declared.line.Body.{Body}
 use Rattle.kc_text.specs.declared.line.Body.TheVariants as body
@@ -8,8 +8,6 @@ use Rattle.kc_text.specs.Reasons.{reason_word}
 use Rattle.kc_text.specs.Words.{words}
 use Rattle.kc_text.specs.Numbers.{number_of}
 use Rattle.kc_audit.specs.Words.{is_nothing, first_number, has_fields}
-use Rattle.kc_audit.specs.declared.form.Form.{Form}
-use Rattle.kc_audit.specs.declared.form.Form.TheVariants as form
 
 -- what a line says; of a group or a reader line the words after its numbers
 pub data Kind : Type 0 where
@@ -136,25 +134,3 @@ kind_of (body.Text text) = kind_of_words (words text)
 kind_of body.TooLong = TooLong
 kind_of body.Limit = Limit
 kind_of body.End = InputEnd
-
--- what the form of a text tells, where the words of a group or a reader begin at a place of it
-abbrev pub kind_told : List ℕ → Form → Kind
-kind_told text form.Head = Head
-kind_told text (form.Vertices n) = Vertices n
-kind_told text (form.Accepted t) = Accepted t
-kind_told text (form.Refused t) = Refused t
-kind_told text (form.Phase p add) = Phase p add
-kind_told text (form.Group p l from) = Group p l (words (drop from text))
-kind_told text (form.Reader r from) = Reader r (words (drop from text))
-kind_told text (form.Vertex v) = Vertex v
-kind_told text form.Close = Close
-kind_told text form.Other = Other
-kind_told text form.TooLong = TooLong
-kind_told text form.Limit = Limit
-kind_told text form.InputEnd = InputEnd
-
--- the place lies in the text
-abbrev pub IsWithin : List ℕ → Form → Type 0
-IsWithin text (form.Group p l from) = from ≤ length text
-IsWithin text (form.Reader r from) = from ≤ length text
-IsWithin text _ = Unit {0}

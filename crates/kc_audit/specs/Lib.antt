@@ -8,5 +8,5 @@ pub mod ReadBack
 pub mod Reads
 pub mod Runs
 pub mod Verdicts
-pub mod Walks
 pub mod Words
+pub mod private

@@ -1,8 +1,7 @@
 -- What the words of a line say, part by part.
-use Rattle.std.specs.Prelude.{ℕ, Bool, true, false, ◌==◌, ◌&&◌, nat_le, List, [], ◌∷◌, Option, Some, None, is_some, if◌then◌else◌, drop}
+use Rattle.std.specs.Prelude.{ℕ, Bool, true, false, ◌==◌, ◌&&◌, nat_le, List, [], ◌∷◌, Option, Some, None, is_some, if◌then◌else◌}
 use Rattle.std.specs.List.{before_first, after_first}
 use Rattle.std.specs.Str.{bytes_eq}
-use Rattle.kc_text.specs.Words.{words}
 use Rattle.kc_text.specs.Numbers.{number_of}
 use Rattle.kc_history.specs.declared.replies.Reply.{Reply}
 
@@ -19,11 +18,6 @@ before_words None ws = None
 unfoldable pub first_number : List (List ℕ) → Option (ℕ × List (List ℕ))
 first_number [] = None
 first_number (w ∷ ws) = before_words (number_of w) ws
-
--- the same, where the words after it begin at a place of the text
-abbrev pub number_found : List ℕ → Option (ℕ × ℕ) → Option (ℕ × List (List ℕ))
-number_found text (Some found) = Some (found.0, words (drop found.1 text))
-number_found text None = None
 
 -- names, with a number after each, and nothing more
 unfoldable pub has_fields : List (List ℕ) → List (List ℕ) → Bool

@@ -1,7 +1,7 @@
 //! The group lines of a run.
 ghost use Rattle.std.specs.Prelude.{◌≡◌, ◌↔◌, ◌<◌, ◌≤◌, [], ◌∷◌, ◌++◌, length, slice_get, IfSome, IsTrue, OnOk, OnErr};
 ghost use Rattle.std.specs.List.{slice_range};
-ghost use Rattle.kc_audit.specs.Flat.{start_of};
+ghost use Rattle.kc_audit.specs.private.Flat.{start_of};
 
 use crate::flat::Head;
 use kc_history::{Replies, Reply};
@@ -49,7 +49,7 @@ fn start_of(heads: &[Head], i: usize) -> usize
     if i == 0 { 0 } else { heads[i - 1].end }
 }
 
-ghost use Rattle.kc_audit.specs.Flat.{start_of};
+ghost use Rattle.kc_audit.specs.private.Flat.{start_of};
 
 // The members of one line among those of all.
 fn part_of(members: &[Reply], start: usize, end: usize) -> &[Reply]

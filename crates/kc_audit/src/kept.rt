@@ -3,7 +3,8 @@ ghost use Rattle.std.specs.Prelude.{◌≡◌, false, IfOk};
 ghost use Rattle.std.specs.Option.{option_map};
 ghost use Rattle.kc_text.specs.Causes.{ReadCause};
 ghost use Rattle.kc_text.specs.Reading.{budget, onto, Takes};
-ghost use Rattle.kc_audit.specs.Kept.{is_skipped, text_of, kept_left};
+ghost use Rattle.kc_audit.specs.Kept.{is_skipped, kept_left};
+ghost use Rattle.kc_audit.specs.private.KeptLines.{text_of};
 
 use kc_text::{Body, Line, LineFault, LineReader, Source};
 use std::alloc::Global;

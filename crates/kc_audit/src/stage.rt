@@ -3,8 +3,9 @@ ghost use Rattle.std.specs.Prelude.{◌≡◌, ℕ, ◌<◌, ◌≤◌, List, le
 ghost use Rattle.kc_text.specs.Words.{words};
 ghost use Rattle.kc_audit.specs.Runs.{IsAuditable};
 ghost use Rattle.kc_audit.specs.Words.{pairs_of};
-ghost use Rattle.kc_audit.specs.Kinds.{kind_told, IsWithin};
-ghost use Rattle.kc_audit.specs.Documents.{misfit, head_of, vertices_of, is_next, left_after, batch_step, phase_step, rises_from, is_group, members_step, replies_step, reader_step, vertex_step, readers_step, batches_step, groups_step, vertices_step, closed_step, step_of, step_told};
+ghost use Rattle.kc_audit.specs.private.Kinds.{kind_told, IsWithin};
+ghost use Rattle.kc_audit.specs.Documents.{misfit, head_of, vertices_of, is_next, left_after, batch_step, phase_step, rises_from, is_group, members_step, replies_step, reader_step, vertex_step, readers_step, batches_step, groups_step, vertices_step, closed_step, step_of};
+ghost use Rattle.kc_audit.specs.private.Documents.{step_told};
 ghost use Rattle.kc_audit.specs.declared.run_text.RunText.{RunText};
 
 use crate::RunText;

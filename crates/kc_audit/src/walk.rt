@@ -7,7 +7,7 @@
 ghost use Rattle.std.specs.Prelude.{◌≡◌, ◌≤◌, length, replicate, All, get_or, false, IfOk};
 ghost use Rattle.kc_history.specs.Points.{with_moves};
 ghost use Rattle.kc_audit.specs.Runs.{AreBelow, moves_of, IsAuditable};
-ghost use Rattle.kc_audit.specs.Walks.{GoesOn, EachGoesOn, AreWithin, HaveTold, IsAwaited, Tells};
+ghost use Rattle.kc_audit.specs.private.Walks.{GoesOn, EachGoesOn, AreWithin, HaveTold, IsAwaited, Tells};
 ghost use Rattle.kc_audit.specs.Verdicts.{IsVerdict};
 
 use crate::{AuditVerdict, RunText};

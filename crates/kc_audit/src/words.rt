@@ -3,7 +3,8 @@ ghost use Rattle.std.specs.Prelude.{◌≡◌, ◌<◌, ◌≤◌, length, drop,
 ghost use Rattle.std.specs.List.{position};
 ghost use Rattle.std.specs.Str.{bytes_eq};
 ghost use Rattle.kc_text.specs.Words.{words};
-ghost use Rattle.kc_audit.specs.Words.{is_nothing, first_number, number_found, has_fields, level_in, reply_with, pair_of, pairs_of};
+ghost use Rattle.kc_audit.specs.Words.{is_nothing, first_number, has_fields, level_in, reply_with, pair_of, pairs_of};
+ghost use Rattle.kc_audit.specs.private.Words.{number_found};
 
 use kc_history::Reply;
 use kc_text::{next_number, next_word, read_number};

@@ -15,7 +15,8 @@ use Rattle.kc_batch.specs.declared.token.Kind.TheVariants as kind
 use Rattle.kc_batch.specs.declared.turn.Turn.{Turn}
 use Rattle.kc_batch.specs.declared.turn.Turn.TheVariants.{Add, Close, Pass, Stop}
 use Rattle.kc_batch.specs.declared.batch.Next.{Next}
-use Rattle.kc_batch.specs.Turns.{is_inside, is_allowed, turn_of, IsTurn}
+use Rattle.kc_batch.specs.Turns.{is_inside, is_allowed, turn_of}
+use Rattle.kc_batch.specs.private.Turns.{IsTurn}
 use Rattle.kc_batch.specs.Batches.{Place, Between, Within, Passing, batches_from, step_between, step_within, step_passing, IsNext}
 use Rattle.kc_batch.specs.RangeLaw.{BatchesKeepRanges}
 

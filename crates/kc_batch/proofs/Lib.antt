@@ -1,10 +1,11 @@
-pub mod Asking
-pub mod BatchRanges
-pub mod FaultDecides
-pub mod Following
-pub mod HeaderEnds
-pub mod InputLemmas
-pub mod KeptLemmas
-pub mod NumberLines
-pub mod Saying
-pub mod Stepping
+pub mod lemmas
+mod Asking
+mod BatchRanges
+mod FaultDecides
+mod Following
+mod HeaderEnds
+mod InputLemmas
+mod KeptLemmas
+mod NumberLines
+mod Saying
+mod Stepping

@@ -5,7 +5,8 @@ use Rattle.std.specs.List.{slice_range}
 use Rattle.std.proofs.lemmas.Bool.Decides.{nat_tests}
 use Rattle.kc_text.specs.Words.{words, is_skip, WordAt}
 use Rattle.kc_text.specs.Numbers.{is_number, number_of, value_from, NumberAt}
-use Rattle.kc_batch.specs.Tokens.{insertion, signed, kind_of_words, kind_of_text, AreNumbers}
+use Rattle.kc_batch.specs.Tokens.{insertion, signed, kind_of_words}
+use Rattle.kc_batch.specs.private.Tokens.{kind_of_text, AreNumbers}
 
 pub two_numbers_at : (text : List ℕ) (from u mid v end : ℕ) → NumberAt text from u mid → NumberAt text mid v end → words (drop end text) ≡ [] → AreNumbers (words (drop from text)) u v
 two_numbers_at text from u mid v end a b e = record {

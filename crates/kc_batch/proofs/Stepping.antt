@@ -13,7 +13,7 @@ use Rattle.kc_batch.specs.declared.token.Kind.TheVariants as kind
 use Rattle.kc_batch.specs.declared.turn.Turn.TheVariants.{Add, Close, Pass, Stop}
 use Rattle.kc_batch.specs.declared.batch.Next.{Next}
 use Rattle.kc_batch.specs.declared.batch.Next.TheVariants.{Refused, End}
-use Rattle.kc_batch.specs.Tokens.{onto_token, behind_kind, IsLastKind}
+use Rattle.kc_batch.specs.private.Tokens.{onto_token, behind_kind, IsLastKind}
 use Rattle.kc_batch.specs.Turns.{is_inside, is_allowed, turn_of}
 use Rattle.kc_batch.specs.Batches.{whole, pass_by, after_end, items_from, batch_of, with_next}
 

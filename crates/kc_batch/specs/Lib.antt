@@ -10,3 +10,4 @@ pub mod Laws
 pub mod RangeLaw
 pub mod Tokens
 pub mod Turns
+pub mod private

@@ -1,5 +1,5 @@
 -- What the lines of batches say that aren't skipped.
-use Rattle.std.specs.Prelude.{ℕ, ◌≡◌, ◌<◌, ◌≤◌, List, [], ◌∷◌, Option, Some, None, if◌then◌else◌, codes}
+use Rattle.std.specs.Prelude.{ℕ, List, [], ◌∷◌, Option, Some, None, if◌then◌else◌, codes}
 use Rattle.std.specs.Str.{bytes_eq}
 use Rattle.std.specs.Option.{option_map}
 use Rattle.kc_graph.specs.declared.items.Item.TheVariants.{Insert, Delete, Isolate}
@@ -7,7 +7,7 @@ use Rattle.kc_text.specs.declared.line.Line.{Line}
 use Rattle.kc_text.specs.declared.line.Body.{Body}
 use Rattle.kc_text.specs.declared.line.Body.TheVariants as body
 use Rattle.kc_text.specs.Reading.{Reading}
-use Rattle.kc_text.specs.Words.{words, is_skip}
+use Rattle.kc_text.specs.Words.{words}
 use Rattle.kc_text.specs.Numbers.{number_of}
 use Rattle.kc_batch.specs.Kept.{kept_left}
 use Rattle.kc_batch.specs.declared.token.Token.{Token}
@@ -54,18 +54,6 @@ kind_of_words (first ∷ second ∷ []) = unsigned first (number_of first) (numb
 kind_of_words (sign ∷ u ∷ v ∷ []) = signed sign (number_of u) (number_of v)
 kind_of_words (a ∷ b ∷ c ∷ d ∷ more) = Other
 
--- these are two words that say u and v
-pub record AreNumbers (ws : List (List ℕ)) (u v : ℕ) : Type 0 where
-  pub first : List ℕ
-  pub second : List ℕ
-  pub words_are : ws ≡ first ∷ second ∷ []
-  pub first_is : number_of first ≡ Some u
-  pub second_is : number_of second ≡ Some v
-
--- what a text says, unless it is skipped
-unfoldable pub kind_of_text : List ℕ → Option Kind
-kind_of_text text = if is_skip (words text) then None else Some (kind_of_words (words text))
-
 -- what a line says
 abbrev pub kind_of : Body → Kind
 kind_of (body.Text text) = kind_of_words (words text)
@@ -81,25 +69,3 @@ tokens (line ∷ rest) = record { number = line.number; kind = kind_of line.body
 -- what the lines say that a reader has still to give, where its source tells what it has left
 abbrev pub tokens_left : Reading → Option (List ℕ) → Option (List Token)
 tokens_left r left = option_map tokens (kept_left r left)
-
--- the tokens that follow one of this kind: none after the end of the input or its limit
-abbrev pub behind_kind : Kind → List Token → List Token
-behind_kind Limit rest = []
-behind_kind InputEnd rest = []
-behind_kind _ rest = rest
-
--- a token and what follows it
-abbrev pub onto_token : Token → List Token → List Token
-onto_token t rest = t ∷ behind_kind t.kind rest
-
--- a token that comes again at each later call
-abbrev pub IsLastKind : Kind → Type 0
-IsLastKind Limit = Unit {0}
-IsLastKind InputEnd = Unit {0}
-IsLastKind _ = ⊥
-
--- a token takes some of a reader's budget, and the last gives none back
-abbrev pub TakesToken : Kind → ℕ → ℕ → Type 0
-TakesToken Limit old new = new ≤ old
-TakesToken InputEnd old new = new ≤ old
-TakesToken _ old new = new < old

@@ -58,10 +58,3 @@ IsBatchReason Truncated = Unit {0}
 IsBatchReason InputLimit = Unit {0}
 IsBatchReason EdgeLimit = ⊥
 IsBatchReason PhaseLimit = ⊥
-
--- what is known of a line by what it does
-abbrev pub IsTurn : Rules → Bool → Turn → Type 0
-IsTurn rules full (Add item) = IsItemOf rules item × (full ≡ false)
-IsTurn rules full Close = Unit {0}
-IsTurn rules full (Pass reason) = IsBatchReason reason
-IsTurn rules full (Stop reason) = IsBatchReason reason

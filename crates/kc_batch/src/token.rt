@@ -4,7 +4,8 @@ ghost use Rattle.std.specs.Option.{option_map};
 ghost use Rattle.kc_text.specs.Causes.{ReadCause};
 ghost use Rattle.kc_text.specs.Reading.{budget};
 ghost use Rattle.kc_text.specs.Words.{words, WordAt};
-ghost use Rattle.kc_batch.specs.Tokens.{insertion, deletion, isolation, unsigned, signed, AreNumbers, kind_of_words, kind_of_text, tokens_left, onto_token, TakesToken, IsLastKind};
+ghost use Rattle.kc_batch.specs.Tokens.{insertion, deletion, isolation, unsigned, signed, kind_of_words, tokens_left};
+ghost use Rattle.kc_batch.specs.private.Tokens.{AreNumbers, kind_of_text, onto_token, TakesToken, IsLastKind};
 
 use crate::text::is;
 use kc_graph::Item;
@@ -157,7 +158,7 @@ fn begins_with_sign(text: &[u8]) -> bool {
 }
 
 // What a line says, unless it is skipped. Items come first, since most lines are items.
-#[tactic(auto, using(crate::proofs::NumberLines::number_line), unfolding(crate::specs::Tokens::kind_of_text))]
+#[tactic(auto, using(crate::proofs::NumberLines::number_line), unfolding(crate::specs::private::Tokens::kind_of_text))]
 fn classify(text: &[u8]) -> Option<Kind>
     ensures { result ≡ kind_of_text text.now }
 {
@@ -186,6 +187,14 @@ pub fn next_token<S: Source>(
     ensures cause { ReadCause (S.faults src.old) (S.faults src.new) result }
 {
     loop {
+        if let Some((ahead, len)) = reader.whole_line() {
+            let told = classify(ahead);
+            let number = reader.pass_line(len);
+            let Some(kind) = told else {
+                continue;
+            };
+            return Ok(Token { number, kind });
+        }
         let line = reader.next_line(alloc, src)?;
         let number = line.number;
         let kind = match line.body {

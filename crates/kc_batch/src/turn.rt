@@ -1,6 +1,7 @@
 //! What a line does within a batch.
 ghost use Rattle.std.specs.Prelude.{◌≡◌};
-ghost use Rattle.kc_batch.specs.Turns.{is_inside, is_allowed, turn_of, IsTurn};
+ghost use Rattle.kc_batch.specs.Turns.{is_inside, is_allowed, turn_of};
+ghost use Rattle.kc_batch.specs.private.Turns.{IsTurn};
 
 use crate::rules::Rules;
 use crate::token::Kind;

@@ -4,7 +4,7 @@ use Rattle.std.specs.Prelude.{count_by}
 use Rattle.std.proofs.lemmas.Bool.{cases_eq, eq-eqb, ne_eqb}
 use Rattle.kc_graph.specs.Numbers.{count_below}
 use Rattle.kc_graph.specs.Shape.{Pair, EdgesFrom, neighbours_of}
-use Rattle.kc_graph.proofs.CountLemmas.{count_by-cons, count_below_agree}
+use Rattle.kc_graph.proofs.lemmas.Counts.{count_by-cons, count_below_agree}
 
 -- what passes q passes p or a
 pub count_by-cover : (p a q : ℕ → Bool) (xs : List ℕ) → ((w : ℕ) → q w ≡ true → (p w ≡ true) ⊎ (a w ≡ true)) → count_by q xs ≤ count_by p xs + count_by a xs

@@ -3,7 +3,7 @@ use Rattle.std.proofs.Common.{ℕ, suc, zero, ◌+◌, ◌≤◌, ◌<◌, ◌�
 use Rattle.std.proofs.lemmas.Bool.{cases_lt, cases_Bool, both_ways, ltb-true, lt-ltb}
 use Rattle.std.proofs.lemmas.List.Sums.{count_by-le-length}
 use Rattle.kc_graph.specs.Shape.{GraphShape, IsGraph, neighbours_of}
-use Rattle.kc_graph.proofs.NeighbourLemmas.{fewer_neighbours}
+use Rattle.kc_graph.proofs.lemmas.Neighbours.{fewer_neighbours}
 use Rattle.kc_bound.specs.Cores.{degree_within, IsCore, IsCoreness}
 use Rattle.kc_bound.specs.Laws.{EachHasCoreness}
 use Rattle.kc_bound.proofs.Removals.{rest}

@@ -4,7 +4,7 @@ use Rattle.std.specs.Prelude.{count_by}
 use Rattle.std.proofs.lemmas.Bool.{cases_lt, cases_eq, cases_Bool, both_ways, le-leb}
 use Rattle.kc_graph.specs.Shape.{GraphShape, neighbours_of}
 use Rattle.kc_levels.specs.LevelList.{at_least}
-use Rattle.kc_levels.proofs.AtLeast.{count_by-mono}
+use Rattle.kc_levels.proofs.lemmas.AtLeast.{count_by-mono}
 use Rattle.kc_bound.specs.Cores.{degree_within, IsCore}
 
 -- a member of least level, or none at all

@@ -7,9 +7,7 @@ use Rattle.kc_levels.specs.declared.profile.Profile.{Profile}
 use Rattle.kc_levels.specs.declared.profile.Profile.TheVariants.{Two}
 use Rattle.kc_levels.specs.Thresholds.{low, high, lo, grow, height, group_of, lo_after}
 use Rattle.kc_levels.specs.LevelList.{at_least, IsHeld}
-use Rattle.kc_levels.proofs.ProfileFacts.{lo_after-pos}
-use Rattle.kc_levels.proofs.Sequences.{low-pos, low-mono, high-mono, grow-ge, high-est, high-est-two}
-use Rattle.kc_levels.proofs.Groups.{height-pos, grow-height, group_of-mono}
+use Rattle.kc_levels.proofs.lemmas.Thresholds.{lo_after-pos, low-pos, low-mono, high-mono, grow-ge, high-est, high-est-two, height-pos, grow-height, group_of-mono}
 use Rattle.kc_bound.specs.Laws.{CorenessIsOne, HighBoundsCoreness, LoBoundsCoreness, EstimateIsNearCoreness}
 use Rattle.kc_bound.proofs.HighBound.{high_bound}
 use Rattle.kc_bound.proofs.LoBound.{held_core}

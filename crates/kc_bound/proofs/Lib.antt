@@ -1,12 +1,13 @@
-pub mod Counts
-pub mod HighBound
-pub mod Removals
-pub mod LoBound
-pub mod Growth
-pub mod LevelBounds
-pub mod Ordered
-pub mod Peels
-pub mod Sorting
-pub mod Existence
-pub mod Members
-pub mod PointLaw
+pub mod lemmas
+mod Counts
+mod HighBound
+mod Removals
+mod LoBound
+mod Growth
+mod LevelBounds
+mod Ordered
+mod Peels
+mod Sorting
+mod Existence
+mod Members
+mod PointLaw

@@ -5,8 +5,8 @@ use Rattle.std.proofs.lemmas.Bool.{cases_Bool, le-leb}
 use Rattle.kc_graph.specs.Shape.{GraphShape, IsGraph}
 use Rattle.kc_levels.specs.LevelList.{at_least}
 use Rattle.kc_graph.specs.Numbers.{count_below}
-use Rattle.kc_graph.proofs.CountLemmas.{count_below-le}
-use Rattle.kc_levels.proofs.AtLeast.{at_least-down}
+use Rattle.kc_graph.proofs.lemmas.Counts.{count_below-le}
+use Rattle.kc_levels.proofs.lemmas.AtLeast.{at_least-down}
 use Rattle.kc_bound.specs.Cores.{IsCore}
 use Rattle.kc_bound.proofs.Counts.{count_below-pos}
 use Rattle.kc_bound.proofs.Removals.{gone, Needs, Rest, rest}

@@ -2,21 +2,19 @@
 use Rattle.std.proofs.Common.{ℕ, suc, zero, ◌≡◌, ◌≤◌, ◌*◌, Bool, true, false, List, [], ◌∷◌, ◌++◌, take, replicate, refl, sym, arith}
 use Rattle.std.proofs.lemmas.List.{length-replicate, get_or-replicate}
 use Rattle.kc_graph.specs.Shape.{Pair, GraphShape, IsGraph, EdgesFrom, with_edges}
-use Rattle.kc_graph.proofs.ChangeLemmas.{vertices-with_edges, vertices-without_edges, inside_from_ascending}
+use Rattle.kc_graph.proofs.lemmas.Changes.{vertices-with_edges, vertices-without_edges, inside_from_ascending}
 use Rattle.kc_levels.specs.declared.profile.Profile.{Profile}
 use Rattle.kc_levels.specs.declared.profile.Profile.TheVariants.{Two}
 use Rattle.kc_levels.specs.Thresholds.{est}
 use Rattle.kc_levels.specs.LevelList.{at_least, MeetsBoth, IsBelow}
-use Rattle.kc_levels.proofs.BetweenLaw.{between_meets_both}
-use Rattle.kc_levels.proofs.BothKept.{insertion_keeps_both, deletion_keeps_both}
+use Rattle.kc_levels.proofs.lemmas.Both.{between_meets_both, insertion_keeps_both, deletion_keeps_both}
 use Rattle.kc_history.specs.declared.entries.Entry.{Entry}
 use Rattle.kc_history.specs.Points.{with_moves, with_entry, graph_after, levels_after}
 use Rattle.kc_groups.specs.declared.plans.PhasePlan.{PhasePlan}
 use Rattle.kc_groups.specs.Entries.{entries_of, entries_in, AreEntries}
 use Rattle.kc_groups.specs.Phases.{graph_after_phase, graph_with_all, AreLevelsAfterPhase, LeadOn}
 use Rattle.kc_groups.specs.Laws.{IsPhase}
-use Rattle.kc_groups.proofs.BetweenLaw.{points_lie_between}
-use Rattle.kc_groups.proofs.PhaseLaw.{kept, is_phase, phase_graph, phase_levels}
+use Rattle.kc_groups.proofs.lemmas.Phases.{points_lie_between, kept, is_phase, phase_graph, phase_levels}
 use Rattle.kc_bound.specs.Cores.{IsCoreness}
 use Rattle.kc_bound.specs.Nearness.{group_at, IsNear}
 use Rattle.kc_bound.specs.Laws.{BothAreNear, EachPointIsNear}

@@ -6,8 +6,8 @@ use Rattle.std.proofs.lemmas.Bool.{cases_lt, cases_eq, cases_Bool, both_ways, an
 use Rattle.kc_graph.specs.Shape.{GraphShape, IsGraph, neighbours_of}
 use Rattle.kc_levels.specs.LevelList.{at_least}
 use Rattle.kc_graph.specs.Numbers.{count_below}
-use Rattle.kc_graph.proofs.CountLemmas.{count_below-le}
-use Rattle.kc_levels.proofs.AtLeast.{count_by-mono}
+use Rattle.kc_graph.proofs.lemmas.Counts.{count_below-le}
+use Rattle.kc_levels.proofs.lemmas.AtLeast.{count_by-mono}
 use Rattle.kc_bound.specs.Cores.{degree_within, IsCore}
 use Rattle.kc_bound.proofs.Counts.{count_by-cover, count_below-none, count_below-pos, count_below-moved, crossing, crossing-none, crossing-moved}
 

@@ -1,4 +1,4 @@
 pub mod Cores
 pub mod Nearness
 pub mod Laws
-pub mod Peeling
+pub mod private

@@ -5,7 +5,8 @@ use Rattle.std.proofs.lemmas.Bool.{cases_lt, cases_eq}
 use Rattle.std.proofs.lemmas.Bool.Decides.{nat_tests}
 use Rattle.kc_graph.specs.Shape.{Pair, EdgesFrom, with_other, neighbours_of}
 use Rattle.kc_text.specs.Printing.{printed}
-use Rattle.kc_cert.specs.Texts.{edge_line, row_lines}
+use Rattle.kc_cert.specs.Texts.{edge_line}
+use Rattle.kc_cert.specs.private.Texts.{row_lines}
 use Rattle.kc_cert.proofs.LineTexts.{printed_append, printed_none}
 
 -- the edges whose lesser vertex is v or greater

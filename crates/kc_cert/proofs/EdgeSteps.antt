@@ -3,7 +3,7 @@ use Rattle.std.proofs.Common.{ℕ, suc, ◌+◌, ◌-◌, ◌<◌, ◌≡◌, Bo
 use Rattle.std.specs.Prelude.{Result, Ok, Err, nat_lt, ◌&&◌, if◌then◌else◌}
 use Rattle.std.proofs.lemmas.Bool.Decides.{nat_tests}
 use Rattle.kc_graph.specs.Shape.{GraphShape, Pair, IsNotBefore, EdgesFrom, has_edge, insert_edge, with_edge}
-use Rattle.kc_graph.proofs.EdgeLemmas.{edges_from_at, insert_edge_last}
+use Rattle.kc_graph.proofs.lemmas.Edges.{edges_from_at, insert_edge_last}
 use Rattle.kc_text.specs.declared.reason.Reason.{Reason}
 use Rattle.kc_text.specs.declared.reason.Reason.TheVariants.{BadLine, BadVertex}
 use Rattle.kc_cert.specs.declared.token.Kind.{Kind}

@@ -1,13 +1,14 @@
-pub mod Breaches
-pub mod EdgeRows
-pub mod EdgeSteps
-pub mod LevelSteps
-pub mod LineTexts
-pub mod NumberWords
-pub mod OneVerdict
-pub mod ReadBack
-pub mod SaidLines
-pub mod Saying
-pub mod SomeVerdict
-pub mod Stepping
-pub mod Written
+pub mod lemmas
+mod Breaches
+mod EdgeRows
+mod EdgeSteps
+mod LevelSteps
+mod LineTexts
+mod NumberWords
+mod OneVerdict
+mod ReadBack
+mod SaidLines
+mod Saying
+mod SomeVerdict
+mod Stepping
+mod Written

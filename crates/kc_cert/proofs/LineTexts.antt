@@ -8,7 +8,8 @@ use Rattle.std.proofs.Math.ListN.{drop_of_length-le}
 use Rattle.kc_graph.specs.Shape.{GraphShape}
 use Rattle.kc_levels.specs.declared.profile.Profile.{Profile}
 use Rattle.kc_text.specs.Printing.{printed_line, printed}
-use Rattle.kc_cert.specs.Texts.{profile_word, head_lines, edge_line, row_lines, level_lines, end_lines, certificate_text}
+use Rattle.kc_cert.specs.Texts.{profile_word, head_lines, edge_line, level_lines, end_lines, certificate_text}
+use Rattle.kc_cert.specs.private.Texts.{row_lines}
 
 pub printed_append : (xs ys : List (List (List ℕ))) → printed (xs ++ ys) ≡ printed xs ++ printed ys
 unfolding printed

@@ -11,12 +11,12 @@ use Rattle.kc_graph.specs.Shape.{GraphShape, Pair, IsNotBefore, EdgesFrom}
 use Rattle.kc_levels.specs.declared.profile.Profile.{Profile}
 use Rattle.kc_levels.specs.declared.profile.Profile.TheVariants.{One, Two}
 use Rattle.kc_levels.specs.Thresholds.{top_level}
-use Rattle.kc_levels.proofs.FitLaws.{top_is_low}
+use Rattle.kc_levels.proofs.lemmas.Thresholds.{top_is_low}
 use Rattle.kc_text.specs.declared.line.Line.{Line}
 use Rattle.kc_text.specs.declared.line.Body.TheVariants.{End}
 use Rattle.kc_text.specs.Printing.{is_word, is_line, printed, lines_of_words}
 use Rattle.kc_text.specs.Words.{is_skip}
-use Rattle.kc_text.proofs.PrintedText.{words_back, lines_back}
+use Rattle.kc_text.proofs.lemmas.Printing.{words_are_read_back, lines_are_read_back}
 use Rattle.kc_cert.specs.declared.certificate.Certificate.{Certificate}
 use Rattle.kc_cert.specs.declared.token.Kind.{Kind}
 use Rattle.kc_cert.specs.declared.token.Kind.TheVariants as kind
@@ -31,7 +31,7 @@ use Rattle.kc_cert.proofs.SaidLines.{Says, says_line, says_magic, says_profile, 
 step : (s s' : Stage) (k : Kind) (n : ℕ) (ws : List (List ℕ)) (ls : List (List (List ℕ))) (end : List Line) → Says ws k → stage_after s k ≡ Ok s'
     → read_from s (tokens (lines_of_words n (ws ∷ ls) ++ end)) ≡ read_from s' (tokens (lines_of_words (n + 1) ls ++ end))
 unfolding read_from tokens lines_of_words kind_of_text
-step s s' k n ws ls end say e = rw (words_back ws say.words_are, say.said, say.kind_is, e) refl
+step s s' k n ws ls end say e = rw (words_are_read_back ws say.words_are, say.said, say.kind_is, e) refl
 
 -- lines that are skipped
 skips : (s : Stage) (n : ℕ) (notes ls : List (List (List ℕ))) (end : List Line) → list_all (list_all is_word) notes ≡ true → list_all is_skip notes ≡ true
@@ -42,7 +42,7 @@ skips s n (ws ∷ notes) ls end h k =
     let p = and_parts (list_all is_word ws) (list_all (list_all is_word) notes) h in
     let q = and_parts (is_skip ws) (list_all is_skip notes) k in
     let e : n + 1 + length notes ≡ n + suc (length notes) = omega arith in
-    rw (words_back ws p.0, q.0) (rw e at (skips s (n + 1) notes ls end p.1 q.1))
+    rw (words_are_read_back ws p.0, q.0) (rw e at (skips s (n + 1) notes ls end p.1 q.1))
 
 -- the end of the input
 closes : (cert : Certificate) (n : ℕ) → read_from (AtInputEnd cert) (tokens (record { number = n; body = End } ∷ [])) ≡ Accepted cert
@@ -165,7 +165,7 @@ certificate_back cert limit room notes h big n_print n_skip fits =
     let all = notes ++ ls in
     let text : printed notes ++ certificate_text cert ≡ printed all = sym (printed_append notes ls) in
     let long : length (printed all) ≤ room = omega (arith, fits, ap length text, length-append (printed notes) (certificate_text cert)) in
-    let whole = lines_back.whole limit room all (both_print limit notes ls n_print (certificate_prints limit cert big h)) long in
+    let whole = lines_are_read_back.whole limit room all (both_print limit notes ls n_print (certificate_prints limit cert big h)) long in
     ap (λ (bs : List ℕ). document_in limit room bs) text
     ∙ ap (λ (xs : List Line). document_of (tokens xs)) whole
     ∙ skips AtMagic 1 notes ls (at_end (1 + length all)) (are_words limit notes n_print) n_skip

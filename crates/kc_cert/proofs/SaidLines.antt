@@ -7,7 +7,7 @@ use Rattle.kc_levels.specs.declared.profile.Profile.{Profile}
 use Rattle.kc_levels.specs.declared.profile.Profile.TheVariants.{One, Two}
 use Rattle.kc_text.specs.Words.{is_skip}
 use Rattle.kc_text.specs.Printing.{is_word, is_line}
-use Rattle.kc_text.proofs.PrintedText.{numbers_back}
+use Rattle.kc_text.proofs.lemmas.Printing.{numbers_are_read_back}
 use Rattle.kc_cert.specs.declared.token.Kind.{Kind}
 use Rattle.kc_cert.specs.declared.token.Kind.TheVariants as kind
 use Rattle.kc_cert.specs.Texts.{profile_word}
@@ -40,35 +40,35 @@ says_end = record { words_are = refl; short = omega arith; said = refl; kind_is 
 pub says_vertices : (n : ℕ) → n < 2 ^ 32 → Says (codes "vertices" ∷ decimal n ∷ []) (kind.Vertices n)
 unfolding kind_of_words one_number
 says_vertices n h = record {
-  words_are = rw (numbers_back.word n h) refl;
-  short = omega (arith, numbers_back.short n h);
+  words_are = rw (numbers_are_read_back.word n h) refl;
+  short = omega (arith, numbers_are_read_back.short n h);
   said = refl;
-  kind_is = rw (numbers_back.value n h) refl;
+  kind_is = rw (numbers_are_read_back.value n h) refl;
 }
 
 pub says_count : (m : ℕ) → m < 2 ^ 32 → Says (codes "edges" ∷ decimal m ∷ []) (kind.EdgeCount m)
 unfolding kind_of_words one_number
 says_count m h = record {
-  words_are = rw (numbers_back.word m h) refl;
-  short = omega (arith, numbers_back.short m h);
+  words_are = rw (numbers_are_read_back.word m h) refl;
+  short = omega (arith, numbers_are_read_back.short m h);
   said = refl;
-  kind_is = rw (numbers_back.value m h) refl;
+  kind_is = rw (numbers_are_read_back.value m h) refl;
 }
 
 pub says_edge : (a b : ℕ) → a < 2 ^ 32 → b < 2 ^ 32 → Says (codes "edge" ∷ decimal a ∷ decimal b ∷ []) (kind.Edge a b)
 unfolding kind_of_words one_number two_numbers
 says_edge a b h k = record {
-  words_are = rw (numbers_back.word a h, numbers_back.word b k) refl;
-  short = omega (arith, numbers_back.short a h, numbers_back.short b k, length-append (decimal a) (32 ∷ decimal b));
+  words_are = rw (numbers_are_read_back.word a h, numbers_are_read_back.word b k) refl;
+  short = omega (arith, numbers_are_read_back.short a h, numbers_are_read_back.short b k, length-append (decimal a) (32 ∷ decimal b));
   said = refl;
-  kind_is = rw (numbers_back.value a h, numbers_back.value b k) refl;
+  kind_is = rw (numbers_are_read_back.value a h, numbers_are_read_back.value b k) refl;
 }
 
 pub says_level : (v l : ℕ) → v < 2 ^ 32 → l < 2 ^ 32 → Says (codes "level" ∷ decimal v ∷ decimal l ∷ []) (kind.Level v l)
 unfolding kind_of_words one_number two_numbers
 says_level v l h k = record {
-  words_are = rw (numbers_back.word v h, numbers_back.word l k) refl;
-  short = omega (arith, numbers_back.short v h, numbers_back.short l k, length-append (decimal v) (32 ∷ decimal l));
+  words_are = rw (numbers_are_read_back.word v h, numbers_are_read_back.word l k) refl;
+  short = omega (arith, numbers_are_read_back.short v h, numbers_are_read_back.short l k, length-append (decimal v) (32 ∷ decimal l));
   said = refl;
-  kind_is = rw (numbers_back.value v h, numbers_back.value l k) refl;
+  kind_is = rw (numbers_are_read_back.value v h, numbers_are_read_back.value l k) refl;
 }

@@ -13,7 +13,8 @@ use Rattle.kc_text.specs.Words.{words, is_skip}
 use Rattle.kc_cert.specs.declared.token.Token.{Token}
 use Rattle.kc_cert.specs.declared.token.Kind.{Kind}
 use Rattle.kc_cert.specs.declared.token.Kind.TheVariants.{Magic, Close, Other}
-use Rattle.kc_cert.specs.Tokens.{one_number, two_numbers, profile_in, is_version, is_nothing, edge_kind, level_kind, vertices_kind, count_kind, profile_kind, kind_of_words, kind_of_text, kind_of, tokens, behind_kind, onto_token}
+use Rattle.kc_cert.specs.Tokens.{one_number, two_numbers, profile_in, is_version, is_nothing, edge_kind, level_kind, vertices_kind, count_kind, profile_kind, kind_of_words, kind_of_text, kind_of, tokens}
+use Rattle.kc_cert.specs.private.Tokens.{behind_kind, onto_token}
 
 -- lines may follow one of this kind
 abbrev pub GoesOn : Kind → Type 0

@@ -9,9 +9,10 @@ use Rattle.kc_cert.specs.declared.read.CertFault.TheVariants as fault
 use Rattle.kc_cert.specs.declared.token.Token.{Token}
 use Rattle.kc_cert.specs.declared.token.Kind.{Kind}
 use Rattle.kc_cert.specs.declared.token.Kind.TheVariants as kind
-use Rattle.kc_cert.specs.Tokens.{onto_token}
+use Rattle.kc_cert.specs.private.Tokens.{onto_token}
 use Rattle.kc_cert.specs.Documents.{Stage, AtMagic, AtProfile, AtVertices, AtEdgeCount, AtBody, AtInputEnd, Done, Accepted, Refused, stage_after, input_end_of, read_from}
-use Rattle.kc_cert.specs.Reads.{IsAnswer, Answers}
+use Rattle.kc_cert.specs.Reads.{IsAnswer}
+use Rattle.kc_cert.specs.private.Reads.{Answers}
 use Rattle.kc_cert.proofs.Saying.{GoesOn}
 
 -- a line is due

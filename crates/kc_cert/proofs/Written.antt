@@ -5,7 +5,7 @@ use Rattle.std.specs.Io.KnownBytes.{append_known}
 use Rattle.std.proofs.lemmas.List.{append-nil}
 use Rattle.kc_text.specs.declared.buf.SendFault.{SendFault}
 use Rattle.kc_text.specs.Writing.{IsPrefix, Appends}
-use Rattle.kc_text.proofs.Known.{append_none, append_twice, prefix_then, prefix_longer}
+use Rattle.kc_text.proofs.lemmas.Writing.{append_none, append_twice, prefix_then, prefix_longer}
 
 -- all of the text but this rest was taken
 pub record Writes (before now : Option (List ℕ)) (text rest : List ℕ) : Type 0 where

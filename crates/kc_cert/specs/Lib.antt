@@ -4,3 +4,4 @@ pub mod Reads
 pub mod Texts
 pub mod Tokens
 pub mod Verdicts
+pub mod private

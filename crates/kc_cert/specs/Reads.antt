@@ -1,13 +1,12 @@
 -- What an answer of `read_certificate` says of the lines.
-use Rattle.std.specs.Prelude.{ℕ, ◌≡◌, List, Option, Result, Ok, Err, IfSome}
+use Rattle.std.specs.Prelude.{ℕ, ◌≡◌, Result, Ok, Err}
 use Rattle.kc_text.specs.Causes.{Rose}
 use Rattle.kc_text.specs.declared.line.LineFault.{LineFault}
 use Rattle.kc_text.specs.declared.line.LineFault.TheVariants as line
 use Rattle.kc_cert.specs.declared.certificate.Certificate.{Certificate}
 use Rattle.kc_cert.specs.declared.read.CertFault.{CertFault}
 use Rattle.kc_cert.specs.declared.read.CertFault.TheVariants as fault
-use Rattle.kc_cert.specs.declared.token.Token.{Token}
-use Rattle.kc_cert.specs.Documents.{Stage, Document, Accepted, Refused, read_from}
+use Rattle.kc_cert.specs.Documents.{Document, Accepted, Refused}
 
 -- the fault of a line that wasn't given
 abbrev pub fault_of : LineFault → CertFault
@@ -20,10 +19,6 @@ IsAnswer (Ok cert) said = said ≡ Accepted cert
 IsAnswer (Err (fault.Refused line reason)) said = said ≡ Refused line reason
 IsAnswer (Err fault.ReadFault) said = Unit {0}
 IsAnswer (Err (fault.Memory _)) said = Unit {0}
-
--- the same of the lines where these are due, if the lines are told
-abbrev pub Answers : Stage → Option (List Token) → Result Certificate CertFault → Type 0
-Answers stage told result = IfSome told (λ ts. IsAnswer result (read_from stage ts))
 
 -- a read fault comes only where the count rose, and else the count stays
 abbrev pub CertCause : {T : Type 0} → ℕ → ℕ → Result T CertFault → Type 0

@@ -1,5 +1,5 @@
 -- A certificate as it is written.
-use Rattle.std.specs.Prelude.{ℕ, ◌+◌, ◌≤◌, ◌≡◌, List, [], ◌∷◌, ◌++◌, length, map, filter, nat_lt, decimal, codes}
+use Rattle.std.specs.Prelude.{ℕ, ◌+◌, ◌≤◌, ◌≡◌, List, [], ◌∷◌, ◌++◌, length, map, decimal, codes}
 use Rattle.kc_graph.specs.declared.limits.TheConstants.{MAX_VERTICES, MAX_EDGES}
 use Rattle.kc_graph.specs.Shape.{Pair, GraphShape, IsGraph}
 use Rattle.kc_levels.specs.declared.profile.Profile.{Profile}
@@ -21,10 +21,6 @@ head_lines p g =
 
 abbrev pub edge_line : Pair → List (List ℕ)
 edge_line e = codes "edge" ∷ decimal e.0 ∷ decimal e.1 ∷ []
-
--- the edges of v and those of these vertices that are greater
-abbrev pub row_lines : ℕ → List ℕ → List (List (List ℕ))
-row_lines v ws = map (λ w. edge_line (v, w)) (filter (λ w. nat_lt v w) ws)
 
 -- the levels of the vertices from v on
 unfoldable pub level_lines : ℕ → List ℕ → List (List (List ℕ))

@@ -111,13 +111,3 @@ tokens (line ∷ rest) = token_before line.number (kind_of line.body) (tokens re
 -- the same of the lines that a reader has still to give, where its source tells what it has left
 abbrev pub tokens_left : Reading → Option (List ℕ) → Option (List Token)
 tokens_left r left = option_map tokens (lines_left r left)
-
--- what follows a line of this kind: nothing after the end of the input or its limit
-abbrev pub behind_kind : Kind → List Token → List Token
-behind_kind kind.Limit rest = []
-behind_kind kind.InputEnd rest = []
-behind_kind _ rest = rest
-
--- a line and what follows it
-abbrev pub onto_token : Token → List Token → List Token
-onto_token t rest = t ∷ behind_kind t.kind rest

@@ -1,5 +1,5 @@
 -- What a verdict says of a certificate.
-use Rattle.std.specs.Prelude.{ℕ, ◌<◌, ◌≡◌}
+use Rattle.std.specs.Prelude.{ℕ, ◌<◌}
 use Rattle.kc_levels.specs.LevelList.{MeetsUpper, MeetsLower}
 use Rattle.kc_cert.specs.declared.certificate.Certificate.{Certificate}
 use Rattle.kc_cert.specs.declared.verdict.Verdict.{Verdict}
@@ -30,9 +30,3 @@ abbrev pub IsVerdict : Certificate → Verdict → Type 0
 IsVerdict cert Certified = MeetThroughout cert
 IsVerdict cert (Upper v) = IsFirstBreach cert v (HasUpper cert)
 IsVerdict cert (Lower v) = IsFirstBreach cert v (HasLower cert)
-
--- what is found at vertex v alone
-abbrev pub IsVerdictAt : Certificate → ℕ → Verdict → Type 0
-IsVerdictAt cert v Certified = HasUpper cert v × HasLower cert v
-IsVerdictAt cert v (Upper w) = (w ≡ v) × ¬ (HasUpper cert v)
-IsVerdictAt cert v (Lower w) = (w ≡ v) × ¬ (HasLower cert v)

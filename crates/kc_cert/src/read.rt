@@ -2,7 +2,8 @@
 ghost use Rattle.std.specs.Prelude.{◌≡◌, ℕ, ◌≤◌, [], length, IfOk, IfSome};
 ghost use Rattle.kc_cert.specs.Tokens.{tokens_left};
 ghost use Rattle.kc_cert.specs.Documents.{AtProfile, AtVertices, AtEdgeCount, AtBody, AtInputEnd, empty_certificate, document_of};
-ghost use Rattle.kc_cert.specs.Reads.{Answers, IsAnswer, CertCause};
+ghost use Rattle.kc_cert.specs.private.Reads.{Answers};
+ghost use Rattle.kc_cert.specs.Reads.{IsAnswer, CertCause};
 ghost use Rattle.kc_cert.specs.Texts.{IsCertificate};
 
 use crate::Certificate;

@@ -4,7 +4,8 @@ ghost use Rattle.std.specs.Option.{option_map};
 ghost use Rattle.std.specs.Str.{bytes_eq};
 ghost use Rattle.kc_text.specs.Causes.{ReadCause};
 ghost use Rattle.kc_text.specs.Words.{words};
-ghost use Rattle.kc_cert.specs.Tokens.{one_number, two_numbers, profile_named, profile_in, is_version, kind_of_words, kind_of_text, tokens_left, onto_token};
+ghost use Rattle.kc_cert.specs.Tokens.{one_number, two_numbers, profile_named, profile_in, is_version, kind_of_words, kind_of_text, tokens_left};
+ghost use Rattle.kc_cert.specs.private.Tokens.{onto_token};
 
 use kc_levels::Profile;
 use kc_text::{Body, LineFault, LineReader, Source, next_number, next_word};
@@ -178,6 +179,14 @@ pub fn next_token<S: Source>(
     ensures cause { ReadCause (S.faults src.old) (S.faults src.new) result }
 {
     loop {
+        if let Some((ahead, len)) = reader.whole_line() {
+            let told = classify(ahead);
+            let number = reader.pass_line(len);
+            let Some(kind) = told else {
+                continue;
+            };
+            return Ok(Token { number, kind });
+        }
         let line = reader.next_line(alloc, src)?;
         let number = line.number;
         let kind = match line.body {

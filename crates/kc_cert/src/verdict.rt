@@ -1,7 +1,8 @@
 //! Whether the levels of a certificate meet both invariants.
 ghost use Rattle.std.specs.Prelude.{◌≡◌, ◌<◌, ◌-◌, ◌^◌, All, length, get_or, nat_le, count_by};
 ghost use Rattle.kc_levels.specs.LevelList.{IsCapped};
-ghost use Rattle.kc_cert.specs.Verdicts.{IsVerdict, IsVerdictAt};
+ghost use Rattle.kc_cert.specs.Verdicts.{IsVerdict};
+ghost use Rattle.kc_cert.specs.private.Verdicts.{IsVerdictAt};
 
 use crate::Certificate;
 use kc_levels::Thresholds;

@@ -2,11 +2,12 @@
 ghost use Rattle.std.specs.Prelude.{◌≡◌, ◌++◌, ◌∷◌, [], length, map, codes, OnOk, decimal};
 ghost use Rattle.kc_text.specs.Printing.{printed};
 ghost use Rattle.kc_text.specs.Writing.{Appends, WriteCause};
-ghost use Rattle.kc_cert.specs.Texts.{profile_word, head_lines, edge_line, row_lines, level_lines, certificate_text};
+ghost use Rattle.kc_cert.specs.Texts.{profile_word, head_lines, edge_line, level_lines, certificate_text};
+ghost use Rattle.kc_cert.specs.private.Texts.{row_lines};
 
 use kc_graph::Graph;
 use kc_levels::{Levels, Profile};
-use kc_text::{LineBuf, SendFault, Sink};
+use kc_text::{LineBuf, SendFault, Sink, fill_named};
 use std::alloc::{AllocError, Global};
 
 // Writes a line of one text.
@@ -25,14 +26,6 @@ fn write_text<K: Sink>(
         Ok(()) => buf.send(alloc, sink),
         Err(fault) => Err(SendFault::Memory(fault)),
     }
-}
-
-// Appends a name, with its blanks, and a number.
-fn fill_named(alloc: Global, buf: &mut LineBuf, name: &[u8], value: u32) -> Result<(), AllocError>
-    ensures { OnOk result (buf.new ≡ (buf.old ++ name.now) ++ decimal value) }
-{
-    buf.text(alloc, name)?;
-    buf.number(alloc, value)
 }
 
 // Writes a line of a name, with its blank, and a number.

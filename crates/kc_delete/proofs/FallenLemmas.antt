@@ -4,10 +4,10 @@ use Rattle.std.proofs.lemmas.Bool.{cases_eq}
 use Rattle.std.proofs.lemmas.Bool.Decides.{nat_tests}
 use Rattle.std.proofs.lemmas.List.{get_or-set_same, get_or-set_other}
 use Rattle.kc_graph.specs.Numbers.{has_number}
-use Rattle.kc_graph.proofs.NumberLemmas.{has_number-push}
+use Rattle.kc_graph.proofs.lemmas.Numbers.{has_number-push}
 use Rattle.kc_levels.specs.Moved.{is_moved}
-use Rattle.kc_levels.proofs.Ascending.{distinct_push}
-use Rattle.kc_delete.specs.Fallen.{AreFallen}
+use Rattle.kc_levels.proofs.lemmas.Moves.{distinct_push}
+use Rattle.kc_delete.specs.private.Fallen.{AreFallen}
 
 pub fallen_none : (x : List ℕ) → AreFallen x x []
 fallen_none x = record { listed = λ v. grind (arith, nat_tests); once = record {} }

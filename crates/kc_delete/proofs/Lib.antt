@@ -1,3 +1,3 @@
-pub mod WaitingLemmas
-pub mod SettlingLemmas
-pub mod FallenLemmas
+mod WaitingLemmas
+mod SettlingLemmas
+mod FallenLemmas

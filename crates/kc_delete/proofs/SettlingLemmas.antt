@@ -8,19 +8,20 @@ use Rattle.std.proofs.lemmas.List.Sums.{sum_by-set, count_by-le-length}
 use Rattle.std.proofs.Math.Nat.{mul-le-mul_right}
 use Rattle.kc_graph.specs.Numbers.{has_number}
 use Rattle.kc_graph.specs.Shape.{GraphShape, Pair, IsGraph, EdgesFrom, neighbours_of, without_edge, without_edges}
-use Rattle.kc_graph.proofs.NumberLemmas.{has_number_index}
-use Rattle.kc_graph.proofs.CountLemmas.{count_by-cons}
-use Rattle.kc_graph.proofs.NeighbourLemmas.{neighbours_both, neighbours_of_remove_other, no_own_neighbour}
-use Rattle.kc_graph.proofs.ChangeLemmas.{vertices-without_edges}
+use Rattle.kc_graph.proofs.lemmas.Numbers.{has_number_index}
+use Rattle.kc_graph.proofs.lemmas.Counts.{count_by-cons}
+use Rattle.kc_graph.proofs.lemmas.Neighbours.{neighbours_both, neighbours_of_remove_other, no_own_neighbour}
+use Rattle.kc_graph.proofs.lemmas.Changes.{vertices-without_edges}
 use Rattle.kc_levels.specs.declared.profile.Profile.{Profile}
 use Rattle.kc_levels.specs.Thresholds.{low}
-use Rattle.kc_levels.specs.LevelList.{at_least, IsHeld, MeetsLower, IsDesired, IsCapped, IsLowering, IsLowered}
-use Rattle.kc_levels.proofs.Places.{changed}
-use Rattle.kc_levels.proofs.AtLeast.{at_least-set, at_least-kept}
-use Rattle.kc_levels.proofs.Lowering.{lowering_first, lowering_more, lowering_done}
+use Rattle.kc_levels.specs.LevelList.{at_least, IsHeld, MeetsLower, IsDesired, IsCapped, IsLowered}
+use Rattle.kc_levels.specs.private.LevelList.{IsLowering}
+use Rattle.kc_levels.proofs.lemmas.Writes.{changed}
+use Rattle.kc_levels.proofs.lemmas.AtLeast.{at_least-set, at_least-kept}
+use Rattle.kc_levels.proofs.lemmas.Lowering.{lowering_first, lowering_more, lowering_done}
 use Rattle.kc_adj.specs.LeveledGraph.{LeveledGraph}
-use Rattle.kc_delete.specs.Waiting.{IsSifted, IsTaken}
-use Rattle.kc_delete.specs.Settling.{WaitsOrMeets, IsSettling, StillWait, IsUntouched, IsLookedAt, ends_of}
+use Rattle.kc_delete.specs.private.Waiting.{IsSifted, IsTaken}
+use Rattle.kc_delete.specs.private.Settling.{WaitsOrMeets, IsSettling, StillWait, IsUntouched, IsLookedAt, ends_of}
 
 -- a mark more
 pub still_set : (waits : List Bool) (v : ℕ) → v < length waits → StillWait waits (set waits v true)

@@ -5,13 +5,13 @@ use Rattle.std.proofs.lemmas.Bool.Decides.{nat_tests}
 use Rattle.std.proofs.lemmas.List.{length-replicate, length-set, get_or-set_same, get_or-set_other, take_more}
 use Rattle.kc_graph.specs.Numbers.{has_number}
 use Rattle.kc_graph.specs.Shape.{GraphShape}
-use Rattle.kc_graph.proofs.NumberLemmas.{has_number-push, has_number_at}
+use Rattle.kc_graph.proofs.lemmas.Numbers.{has_number-push, has_number_at}
 use Rattle.kc_levels.specs.declared.profile.Profile.{Profile}
 use Rattle.kc_levels.specs.Thresholds.{low, group_of}
 use Rattle.kc_levels.specs.LevelList.{at_least, IsHeld, MeetsLower}
-use Rattle.kc_adj.proofs.Marks.{empty_list}
-use Rattle.kc_delete.specs.Waiting.{AreFiled, IsSifted}
-use Rattle.kc_delete.specs.Settling.{is_short}
+use Rattle.kc_adj.proofs.lemmas.Lists.{empty_list}
+use Rattle.kc_delete.specs.private.Waiting.{AreFiled, IsSifted}
+use Rattle.kc_delete.specs.private.Settling.{is_short}
 
 has_number-filter : (u : ℕ) (p : ℕ → Bool) (xs : List ℕ) → has_number u (filter p xs) ≡ has_number u xs && p u
 has_number-filter u p [] = refl

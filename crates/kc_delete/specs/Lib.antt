@@ -1,4 +1,2 @@
-pub mod Waiting
-pub mod Settling
-pub mod Fallen
 pub mod Working
+pub mod private

@@ -1,6 +1,6 @@
 ghost use Rattle.std.specs.Prelude.{◌≡◌, ℕ, ◌<◌, ◌≤◌, List, [], IfOk, OnOk, length, slice_index, slice_set};
 ghost use Rattle.kc_levels.specs.Moved.{moves_between};
-ghost use Rattle.kc_delete.specs.Fallen.{AreFallen};
+ghost use Rattle.kc_delete.specs.private.Fallen.{AreFallen};
 
 use kc_levels::{Levels, Moves, moves_of};
 use std::alloc::{AllocError, Global};

@@ -5,7 +5,7 @@ ghost use Rattle.kc_graph.specs.Changes.{AllPresent, CanRemove};
 ghost use Rattle.kc_levels.specs.LevelList.{MeetsLower, IsCapped, IsLowered};
 ghost use Rattle.kc_levels.specs.Moved.{moved_count, moves_between};
 ghost use Rattle.kc_delete.specs.Working.{IsReady};
-ghost use Rattle.kc_delete.specs.Settling.{WaitsOrMeets, ends_of};
+ghost use Rattle.kc_delete.specs.private.Settling.{WaitsOrMeets, ends_of};
 
 use crate::settling::{add_if_short, settle};
 use crate::waiting::Waiting;

@@ -5,8 +5,8 @@ ghost use Rattle.std.specs.Bool.{OnTrue, OnFalse};
 ghost use Rattle.kc_graph.specs.Shape.{IsGraph, neighbours_of};
 ghost use Rattle.kc_levels.specs.Thresholds.{top_level};
 ghost use Rattle.kc_levels.specs.LevelList.{IsCapped, IsLowered};
-ghost use Rattle.kc_delete.specs.Fallen.{AreFallen};
-ghost use Rattle.kc_delete.specs.Settling.{IsSettling, WaitsOrMeets, StillWait, IsUntouched, IsLookedAt};
+ghost use Rattle.kc_delete.specs.private.Fallen.{AreFallen};
+ghost use Rattle.kc_delete.specs.private.Settling.{IsSettling, WaitsOrMeets, StillWait, IsUntouched, IsLookedAt};
 
 use crate::fallen::Fallen;
 use crate::short::is_short;

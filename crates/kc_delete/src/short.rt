@@ -4,7 +4,7 @@ ghost use Rattle.std.specs.Prelude.{◌≡◌, ◌<◌, ◌≤◌, slice_index};
 ghost use Rattle.std.specs.Bool.{OnFalse};
 ghost use Rattle.kc_levels.specs.Thresholds.{top_level};
 ghost use Rattle.kc_levels.specs.LevelList.{MeetsLower};
-ghost use Rattle.kc_delete.specs.Settling.{is_short};
+ghost use Rattle.kc_delete.specs.private.Settling.{is_short};
 
 use kc_adj::LevelAdj;
 use kc_levels::Thresholds;

@@ -1,7 +1,7 @@
 ghost use Rattle.std.specs.Prelude.{◌≡◌, ℕ, ◌<◌, ◌≤◌, ◌-◌, ◌⊎◌, ◌&&◌, ◌||◌, List, Bool, true, false, not, [], All, IfOk, IfSome, IfNone, OnOk, OnErr, length, replicate, slice_index_or, slice_set};
 ghost use Rattle.kc_graph.specs.Numbers.{has_number};
 ghost use Rattle.kc_levels.specs.LevelList.{IsCapped};
-ghost use Rattle.kc_delete.specs.Waiting.{AreFiled, IsSifted, IsTaken};
+ghost use Rattle.kc_delete.specs.private.Waiting.{AreFiled, IsSifted, IsTaken};
 
 use crate::short::Short;
 use kc_adj::{LevelAdj, LevelLists};
@@ -32,7 +32,7 @@ pub struct Waiting {
 
 impl Model for Waiting {
     ghost use Rattle.std.specs.Prelude.{List, Bool};
-    ghost use Rattle.kc_delete.specs.Waiting.{AreFiled};
+    ghost use Rattle.kc_delete.specs.private.Waiting.{AreFiled};
 
     ghost Value = { List Bool };
 

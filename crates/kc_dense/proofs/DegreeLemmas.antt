@@ -5,8 +5,8 @@ use Rattle.std.proofs.lemmas.Bool.{cases_eq, eq-eqb, ne_eqb}
 use Rattle.std.proofs.lemmas.List.Sums.{sum_by-cons}
 use Rattle.kc_graph.specs.Numbers.{has_number}
 use Rattle.kc_graph.specs.Shape.{GraphShape, Pair, EdgesFrom, IsGraph, neighbours_of}
-use Rattle.kc_graph.proofs.CountLemmas.{count_by-cons}
-use Rattle.kc_graph.proofs.NeighbourLemmas.{neighbours_rise}
+use Rattle.kc_graph.proofs.lemmas.Counts.{count_by-cons}
+use Rattle.kc_graph.proofs.lemmas.Neighbours.{neighbours_rise}
 use Rattle.kc_dense.specs.Sets.{members_of, degree_within, edges_within, IsOnce}
 use Rattle.kc_dense.proofs.SetLemmas.{has_first, has_other, once_from_rising, count_by-agree, count_by-one_more}
 

@@ -6,7 +6,7 @@ use Rattle.std.proofs.lemmas.Nat.{mul-le}
 use Rattle.std.proofs.lemmas.List.Sums.{sum_by-cons}
 use Rattle.kc_graph.specs.Numbers.{has_number}
 use Rattle.kc_graph.specs.Shape.{GraphShape, IsGraph}
-use Rattle.kc_graph.proofs.CountLemmas.{count_by-cons}
+use Rattle.kc_graph.proofs.lemmas.Counts.{count_by-cons}
 use Rattle.kc_dense.specs.Sets.{members_of, degree_within, edges_within, IsOnce, AreVertices}
 use Rattle.kc_dense.specs.Dense.{IsPeeled, IsPeelingList, IsSuffix}
 use Rattle.kc_dense.specs.Laws.{DensePartIsHalfAsDense}

@@ -1,8 +1,9 @@
-pub mod TournamentLemmas
-pub mod SetLemmas
-pub mod DegreeLemmas
-pub mod FactorLemmas
-pub mod PeelingLemmas
-pub mod RemainingLemmas
-pub mod WalkLemmas
-pub mod MemberLemmas
+pub mod lemmas
+mod TournamentLemmas
+mod SetLemmas
+mod DegreeLemmas
+mod FactorLemmas
+mod PeelingLemmas
+mod RemainingLemmas
+mod WalkLemmas
+mod MemberLemmas

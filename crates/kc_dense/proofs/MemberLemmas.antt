@@ -7,8 +7,8 @@ use Rattle.std.proofs.lemmas.List.{length-append}
 use Rattle.std.proofs.lemmas.List.Sorted.{sum_by-IsPermutation}
 use Rattle.kc_graph.specs.Numbers.{has_number, RisesFrom}
 use Rattle.kc_graph.specs.Shape.{GraphShape}
-use Rattle.kc_graph.proofs.CountLemmas.{count_by-cons}
-use Rattle.kc_graph.proofs.NumberLemmas.{has_number_at}
+use Rattle.kc_graph.proofs.lemmas.Counts.{count_by-cons}
+use Rattle.kc_graph.proofs.lemmas.Numbers.{has_number_at}
 use Rattle.kc_dense.specs.Sets.{IsOnce}
 use Rattle.kc_dense.specs.Dense.{IsPeelingList, IsDensestSuffix, IsDensePart}
 use Rattle.kc_dense.proofs.SetLemmas.{has_other, count_by-none, has_number-permutation, same_length, once_from_rising}

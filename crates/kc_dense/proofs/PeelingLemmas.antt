@@ -3,9 +3,10 @@ use Rattle.std.proofs.Common.{ℕ, suc, zero, ◌+◌, ◌*◌, ◌≤◌, ◌<�
 use Rattle.std.proofs.lemmas.Bool.{cases_eq, cases_lt, cases_Bool, true≢false, ltb-true, lt-ltb, eq-eqb, ne_eqb}
 use Rattle.std.proofs.lemmas.Nat.{mul-le}
 use Rattle.std.proofs.lemmas.List.{length-append, drop_at}
-use Rattle.kc_graph.specs.Numbers.{has_number, without, put, RisesFrom}
+use Rattle.kc_graph.specs.Numbers.{has_number, RisesFrom}
+use Rattle.kc_graph.specs.private.Numbers.{without, put}
 use Rattle.kc_graph.specs.Shape.{GraphShape}
-use Rattle.kc_graph.proofs.NumberLemmas.{has_number-without, has_number-put, rises_from_put, same_rising}
+use Rattle.kc_graph.proofs.lemmas.Numbers.{has_number-without, has_number-put, rises_from_put, same_rising}
 use Rattle.kc_dense.specs.Sets.{members_of, degree_within, edges_within, IsOnce}
 use Rattle.kc_dense.specs.Dense.{IsNext, IsPeeled, IsPeelingList, IsSuffix, IsAsDense, IsDensestSuffix, IsDensePart}
 use Rattle.kc_dense.specs.Laws.{EachHasPeelingList, PeelingListIsOne, EachHasDensePart, DensePartIsOne}

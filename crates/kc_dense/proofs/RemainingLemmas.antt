@@ -6,13 +6,13 @@ use Rattle.std.proofs.lemmas.List.{get_or-set_same, get_or-set_other, get_or_def
 use Rattle.kc_graph.specs.declared.limits.TheConstants.{MAX_VERTICES}
 use Rattle.kc_graph.specs.Numbers.{has_number, RisesFrom}
 use Rattle.kc_graph.specs.Shape.{GraphShape, IsGraph, neighbours_of}
-use Rattle.kc_graph.proofs.NumberLemmas.{has_number-push, rises_at_least}
-use Rattle.kc_graph.proofs.NeighbourLemmas.{neighbours_both, no_own_neighbour, neighbour_below}
+use Rattle.kc_graph.proofs.lemmas.Numbers.{has_number-push, rises_at_least}
+use Rattle.kc_graph.proofs.lemmas.Neighbours.{neighbours_both, no_own_neighbour, neighbour_below}
 use Rattle.kc_dense.specs.declared.remaining.TheConstants.{TAKEN}
 use Rattle.kc_dense.specs.Sets.{degree_within}
 use Rattle.kc_dense.specs.Dense.{IsNext}
-use Rattle.kc_dense.specs.Tournaments.{IsFirstLeast}
-use Rattle.kc_dense.specs.Remaining.{is_left, all_but, AreRemaining, lowered}
+use Rattle.kc_dense.specs.private.Tournaments.{IsFirstLeast}
+use Rattle.kc_dense.specs.private.Remaining.{is_left, all_but, AreRemaining, lowered}
 use Rattle.kc_dense.proofs.SetLemmas.{has_other, count_by-all}
 use Rattle.kc_dense.proofs.DegreeLemmas.{IsWithout, degree_agree, degree_without}
 

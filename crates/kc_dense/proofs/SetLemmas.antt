@@ -7,9 +7,10 @@ use Rattle.std.proofs.lemmas.Bool.{cases_eq, eq-eqb, ne_eqb}
 use Rattle.std.proofs.lemmas.Bool.Decides.{nat_tests}
 use Rattle.std.proofs.lemmas.List.Elements.{All-get_or, All-from_get_or}
 use Rattle.std.proofs.lemmas.List.Sorted.{list_any-IsPermutation}
-use Rattle.kc_graph.specs.Numbers.{has_number, without, RisesFrom}
-use Rattle.kc_graph.proofs.CountLemmas.{count_by-cons}
-use Rattle.kc_graph.proofs.NumberLemmas.{has_number_below, has_number-without, without_absent, has_number_index, has_number_at}
+use Rattle.kc_graph.specs.Numbers.{has_number, RisesFrom}
+use Rattle.kc_graph.specs.private.Numbers.{without}
+use Rattle.kc_graph.proofs.lemmas.Counts.{count_by-cons}
+use Rattle.kc_graph.proofs.lemmas.Numbers.{has_number_below, has_number-without, without_absent, has_number_index, has_number_at}
 use Rattle.kc_dense.specs.Sets.{members_of, IsOnce}
 
 -- the first number of a list is in it, and another is where it is in the rest

@@ -7,7 +7,7 @@ use Rattle.std.proofs.lemmas.List.{get_or-set_same, get_or-set_other, get_or-tak
 use Rattle.std.proofs.lemmas.Nat.{pow_pos}
 use Rattle.std.specs.Int.{IsPowerOfTwo}
 use Rattle.kc_dense.specs.declared.tournament.TheConstants.{GREATEST}
-use Rattle.kc_dense.specs.Tournaments.{IsPlayed, IsTree, IsFirstLeastWithin, IsFirstLeast}
+use Rattle.kc_dense.specs.private.Tournaments.{IsPlayed, IsTree, IsFirstLeastWithin, IsFirstLeast}
 
 -- a node with children is the lesser of the two
 abbrev pub IsPlayedAt : List ℕ → ℕ → Type 0

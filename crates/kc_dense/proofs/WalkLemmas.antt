@@ -4,14 +4,15 @@ use Rattle.std.specs.Prelude.{count_by}
 use Rattle.std.proofs.lemmas.Bool.{cases_eq, cases_lt, ltb-true, ltb-false, lt-ltb, eq-eqb, ne_eqb}
 use Rattle.std.proofs.lemmas.Nat.{mul-le}
 use Rattle.std.proofs.lemmas.List.{append_assoc, append-nil, drop_at, length-append, length-drop, take-append-drop, nil_from_length}
-use Rattle.kc_graph.specs.Numbers.{has_number, without}
+use Rattle.kc_graph.specs.Numbers.{has_number}
+use Rattle.kc_graph.specs.private.Numbers.{without}
 use Rattle.kc_graph.specs.Shape.{GraphShape, Pair, EdgesFrom, IsGraph}
-use Rattle.kc_graph.proofs.CountLemmas.{count_by-cons}
-use Rattle.kc_graph.proofs.NumberLemmas.{has_number-without}
+use Rattle.kc_graph.proofs.lemmas.Counts.{count_by-cons}
+use Rattle.kc_graph.proofs.lemmas.Numbers.{has_number-without}
 use Rattle.kc_dense.specs.declared.peeling.Suffix.{Suffix}
 use Rattle.kc_dense.specs.Sets.{members_of, degree_within, edges_within, IsOnce}
 use Rattle.kc_dense.specs.Dense.{IsNext, IsPeeled, IsPeelingList, IsSuffix, IsDensestSuffix}
-use Rattle.kc_dense.specs.Remaining.{is_left, all_but, AreRemaining}
+use Rattle.kc_dense.specs.private.Remaining.{is_left, all_but, AreRemaining}
 use Rattle.kc_dense.proofs.SetLemmas.{has_first, has_other, once_without, length-without, all_below, has_number-all_below, once_all_below, length-all_below, all_from}
 use Rattle.kc_dense.proofs.DegreeLemmas.{edges_agree, edges_without}
 use Rattle.kc_dense.proofs.PeelingLemmas.{next_agree, peeling_length, as_dense_trans}

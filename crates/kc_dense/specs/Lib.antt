@@ -1,5 +1,4 @@
 pub mod Sets
 pub mod Dense
 pub mod Laws
-pub mod Tournaments
-pub mod Remaining
+pub mod private

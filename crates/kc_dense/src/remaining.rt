@@ -3,7 +3,7 @@ ghost use Rattle.kc_graph.specs.Shape.{IsGraph, neighbours_of};
 ghost use Rattle.kc_graph.specs.declared.limits.TheConstants.{MAX_VERTICES};
 ghost use Rattle.kc_dense.specs.Sets.{degree_within};
 ghost use Rattle.kc_dense.specs.Dense.{IsNext};
-ghost use Rattle.kc_dense.specs.Remaining.{is_left, all_but, AreRemaining, lowered};
+ghost use Rattle.kc_dense.specs.private.Remaining.{is_left, all_but, AreRemaining, lowered};
 
 use crate::tournament::Tournament;
 use kc_graph::Graph;

@@ -1,5 +1,5 @@
 ghost use Rattle.std.specs.Prelude.{◌≡◌, ◌+◌, ◌*◌, ◌^◌, ◌<◌, length, drop, set, min, slice_index, IfOk};
-ghost use Rattle.kc_dense.specs.Tournaments.{IsPlayed, IsFirstLeastWithin, IsFirstLeast};
+ghost use Rattle.kc_dense.specs.private.Tournaments.{IsPlayed, IsFirstLeastWithin, IsFirstLeast};
 
 use std::alloc::{AllocError, Global};
 use std::marker::Model;
@@ -23,7 +23,7 @@ pub struct Tournament {
 
 impl Model for Tournament {
     ghost use Rattle.std.specs.Prelude.{List, ℕ, take, drop};
-    ghost use Rattle.kc_dense.specs.Tournaments.{IsTree};
+    ghost use Rattle.kc_dense.specs.private.Tournaments.{IsTree};
 
     ghost Value = { List ℕ };
 

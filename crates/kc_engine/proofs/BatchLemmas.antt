@@ -9,15 +9,14 @@ use Rattle.kc_graph.specs.declared.cleaning.Cleaned.{Cleaned}
 use Rattle.kc_graph.specs.declared.limits.TheConstants.{MAX_EDGES, MAX_ITEMS}
 use Rattle.kc_graph.specs.Shape.{Pair, GraphShape, EdgesFrom, IsGraph, with_edges, without_edges}
 use Rattle.kc_graph.specs.CleaningLaws.{FitsGraph}
-use Rattle.kc_graph.proofs.ChangeLemmas.{vertices-with_edges, vertices-without_edges, length-with_edges, inside_from_ascending, is_graph-with_edges, is_graph-without_edges}
-use Rattle.kc_graph.proofs.CountingLemmas.{each_item_counts_once}
-use Rattle.kc_graph.proofs.CleaningLawLemmas.{cleaned_fits_graph}
+use Rattle.kc_graph.proofs.lemmas.Changes.{vertices-with_edges, vertices-without_edges, length-with_edges, inside_from_ascending, insertions_keep_graph, removals_keep_graph}
+use Rattle.kc_graph.proofs.lemmas.Cleaning.{each_item_counts_once, cleaned_fits_graph}
 use Rattle.kc_levels.specs.declared.profile.Profile.{Profile}
 use Rattle.kc_levels.specs.LevelList.{at_least, MeetsBoth, IsBelow, IsCapped, IsRaised, IsLowered}
 use Rattle.kc_levels.specs.Moved.{moved_count}
-use Rattle.kc_levels.proofs.RaisedLaw.{raised_is_one_list}
-use Rattle.kc_levels.proofs.LoweredLaw.{lowered_is_one_list}
-use Rattle.kc_levels.proofs.BothKept.{insertion_keeps_both, deletion_keeps_both}
+use Rattle.kc_levels.proofs.lemmas.Raising.{raised_is_one_list}
+use Rattle.kc_levels.proofs.lemmas.Lowering.{lowered_is_one_list}
+use Rattle.kc_levels.proofs.lemmas.Both.{insertion_keeps_both, deletion_keeps_both}
 use Rattle.kc_history.specs.declared.limits.TheConstants.{MAX_PHASE}
 use Rattle.kc_engine.specs.declared.faults.EngineFault.{EngineFault}
 use Rattle.kc_engine.specs.declared.faults.EngineFault.TheVariants.{EdgeLimit, PhaseLimit}
@@ -101,7 +100,7 @@ after_lowered p g [] x y k a = rw a k
 after_lowered p g (e ∷ es) x y k a =
     let lowered : IsLowered p (without_edges g (e ∷ es)) x y = a in
     record {
-      graph = is_graph-without_edges g (e ∷ es) k.graph;
+      graph = removals_keep_graph g (e ∷ es) k.graph;
       both = deletion_keeps_both p g (e ∷ es) x y k.graph k.both lowered;
       capped = capped_under p g.vertices (without_edges g (e ∷ es)).vertices x y (vertices-without_edges g (e ∷ es)) k.capped lowered.lowerable.under;
     }
@@ -113,7 +112,7 @@ after_raised p g (e ∷ es) x y k up a =
     let inside = inside_from_ascending g.vertices 0 0 (e ∷ es) up in
     let raised : IsRaised p (with_edges g (e ∷ es)) x y = a in
     record {
-      graph = is_graph-with_edges g (e ∷ es) k.graph inside;
+      graph = insertions_keep_graph g (e ∷ es) k.graph inside;
       both = insertion_keeps_both p g (e ∷ es) x y k.graph inside k.both raised;
       capped = raised.raisable.capped;
     }
@@ -130,7 +129,7 @@ pub one_raised : (p : Profile) (g : GraphShape) (es : List Pair) (x : List ℕ) 
 one_raised p g [] x k up = (x, (refl, λ z a. a))
 one_raised p g (e ∷ es) x k up =
     let same = vertices-with_edges g (e ∷ es) in
-    raised_is_one_list p (with_edges g (e ∷ es)) x (is_graph-with_edges g (e ∷ es) k.graph (inside_from_ascending g.vertices 0 0 (e ∷ es) up))
+    raised_is_one_list p (with_edges g (e ∷ es)) x (insertions_keep_graph g (e ∷ es) k.graph (inside_from_ascending g.vertices 0 0 (e ∷ es) up))
     (k.both.sized ∙ sym same) (rw same k.capped)
 
 pub ascend_later : (g : GraphShape) (c : Cleaned) → FitsGraph g c → EdgesFrom (without_edges g c.removed).vertices 0 0 c.added

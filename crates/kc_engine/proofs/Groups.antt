@@ -7,10 +7,10 @@ use Rattle.kc_store.specs.declared.roles.Loan.{Loan}
 use Rattle.kc_store.specs.declared.roles.WriterState.{WriterState}
 use Rattle.kc_store.specs.Plans.{group_at}
 use Rattle.kc_store.specs.States.{AllMovesIn, MayPublish, with_entry_if, with_published}
-use Rattle.kc_store.specs.Showing.{HasShownGroup}
-use Rattle.kc_store.proofs.Forms.{there}
-use Rattle.kc_store.proofs.Shows.{all_moves}
-use Rattle.kc_engine.specs.Lending.{HasMarkedGroup, HasClearedGroup}
+use Rattle.kc_store.specs.private.Showing.{HasShownGroup}
+use Rattle.std.proofs.lemmas.Option.{slice_get-get_or}
+use Rattle.kc_store.proofs.lemmas.Shows.{all_moves}
+use Rattle.kc_engine.specs.private.Lending.{HasMarkedGroup, HasClearedGroup}
 
 pub may_publish : (g count : ℕ) (old new : WriterState) → HasMarkedGroup g count old new → count ≡ length (group_at old.plan g).moves → g < length old.plan.groups → g ≡ old.published → MayPublish new g
 may_publish g count old new h size inside next =
@@ -23,7 +23,7 @@ may_publish g count old new h size inside next =
 
 pub group_shown : (g count : ℕ) (old mid last new : WriterState) → HasMarkedGroup g count old mid → last ≡ with_published mid → HasClearedGroup g count last new → count ≡ length (group_at old.plan g).moves → g < length old.plan.groups → g ≡ old.published → HasShownGroup g old new
 group_shown g count old mid last new marked is cleared size inside next =
-    let group : slice_get old.plan.groups old.published ≡ Some (group_at old.plan g) = ap (slice_get old.plan.groups) (sym next) ∙ there old.plan.groups g old.plan.quiet inside in
+    let group : slice_get old.plan.groups old.published ≡ Some (group_at old.plan g) = ap (slice_get old.plan.groups) (sym next) ∙ slice_get-get_or old.plan.groups g old.plan.quiet inside in
     let after : last ≡ with_published (record old { noted = mid.noted; marked = mid.marked; cleared = mid.cleared; loans = mid.loans; lent = mid.lent }) = is ∙ ap with_published marked.same in
     let published : last ≡ record old { noted = mid.noted; marked = mid.marked; cleared = mid.cleared; loans = mid.loans; lent = mid.lent; history = old.history ++ group_at old.plan g ∷ []; published = old.published + 1 } =
     after ∙ (λ i. record old { noted = mid.noted; marked = mid.marked; cleared = mid.cleared; loans = mid.loans; lent = mid.lent; history = with_entry_if (group i) old.history; published = old.published + 1 }) in

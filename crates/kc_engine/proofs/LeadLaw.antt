@@ -5,7 +5,7 @@ use Rattle.kc_graph.specs.Changes.{AllPresent, AllAbsent}
 use Rattle.kc_levels.specs.declared.profile.Profile.{Profile}
 use Rattle.kc_groups.specs.declared.plans.PhasePlan.{PhasePlan}
 use Rattle.kc_groups.specs.Phases.{LeadsTo, LeadOn}
-use Rattle.kc_groups.proofs.PhaseLaw.{phases_lead}
+use Rattle.kc_groups.proofs.lemmas.Phases.{phases_lead}
 use Rattle.kc_engine.specs.Batches.{phases_for, AreLoweredIn, AreRaisedIn, IsOnePhase, ArePhaseOf, graph_after_batch}
 use Rattle.kc_engine.specs.Laws.{PhasesLeadOneByOne}
 use Rattle.kc_engine.proofs.BatchLemmas.{fits, ascend_later}

@@ -1,9 +1,10 @@
-pub mod BatchLemmas
-pub mod RelinkLemmas
-pub mod MoveLemmas
-pub mod PhaseLaw
-pub mod LeadLaw
-pub mod ShowLaw
-pub mod Loans
-pub mod Groups
-pub mod PhaseSteps
+pub mod lemmas
+mod BatchLemmas
+mod RelinkLemmas
+mod MoveLemmas
+mod PhaseLaw
+mod LeadLaw
+mod ShowLaw
+mod Loans
+mod Groups
+mod PhaseSteps

@@ -12,7 +12,7 @@ use Rattle.kc_store.specs.declared.roles.WriterState.{WriterState}
 use Rattle.kc_store.specs.declared.roles.MarkerState.{MarkerState}
 use Rattle.kc_store.specs.Seats.{MarkerShape}
 use Rattle.kc_store.specs.States.{loan_of, with_loan, without_loan, with_returned, marker_for, AreNotLent}
-use Rattle.kc_engine.specs.Lending.{IsHeld, IsLentBy, AreLent, MayMark, MayClear, HasMarkedRange, HasClearedRange, AreMarked, AreCleared, all_returned, HasMarkedGroup, HasClearedGroup}
+use Rattle.kc_engine.specs.private.Lending.{IsHeld, IsLentBy, AreLent, MayMark, MayClear, HasMarkedRange, HasClearedRange, AreMarked, AreCleared, all_returned, HasMarkedGroup, HasClearedGroup}
 
 cases_of : {A : Type 0} → (x y : A) (xs : List A) → Contains (x ∷ xs) y → (x ≡ y) ⊎ Contains xs y
 cases_of x y xs on = go on.0 on.1 on.2

@@ -2,11 +2,11 @@
 use Rattle.std.proofs.Common.{ℕ, ◌≤◌, ◌<◌, ◌≡◌, List, length, ap, sym, ◌∙◌, arith, subst}
 use Rattle.std.specs.Prelude.{All}
 use Rattle.kc_graph.specs.Shape.{Pair, EdgesFrom}
-use Rattle.kc_graph.proofs.ChangeLemmas.{inside_from_ascending}
-use Rattle.kc_graph.proofs.CountLemmas.{count_below-le}
+use Rattle.kc_graph.proofs.lemmas.Changes.{inside_from_ascending}
+use Rattle.kc_graph.proofs.lemmas.Counts.{count_below-le}
 use Rattle.kc_levels.specs.declared.moves.Move.{Move}
 use Rattle.kc_levels.specs.Moved.{is_moved, moved_count, moves_between}
-use Rattle.kc_levels.proofs.MovesBetween.{length-moves_between, moves_own}
+use Rattle.kc_levels.proofs.lemmas.Moves.{length-moves_between, moves_own}
 
 -- the ends of the edges are vertices
 pub edges_inside : (n k : ℕ) (es : List Pair) → n ≡ k → EdgesFrom n 0 0 es → All (λ (e : Pair). e.1 < k) es

@@ -7,20 +7,21 @@ use Rattle.std.proofs.lemmas.List.Elements.{All-cons, All-nil, All-append}
 use Rattle.kc_graph.specs.declared.cleaning.Cleaned.{Cleaned}
 use Rattle.kc_graph.specs.Shape.{Pair, GraphShape, EdgesFrom, IsGraph, with_edges, without_edges}
 use Rattle.kc_graph.specs.Changes.{AllPresent}
-use Rattle.kc_graph.proofs.ChangeLemmas.{vertices-with_edges, vertices-without_edges}
+use Rattle.kc_graph.proofs.lemmas.Changes.{vertices-with_edges, vertices-without_edges}
 use Rattle.kc_levels.specs.declared.profile.Profile.{Profile}
 use Rattle.kc_levels.specs.Moved.{moved_count}
 use Rattle.kc_history.specs.declared.entries.Entry.{Entry}
 use Rattle.kc_history.specs.Points as points
-use Rattle.kc_history.proofs.PointLemmas as history
+use Rattle.kc_history.proofs.lemmas.Points.{graph_after-append, levels_after-append, entries_lead_on}
 use Rattle.kc_groups.specs.declared.plans.PhasePlan.{PhasePlan}
 use Rattle.kc_groups.specs.Entries.{entries_of, entries_in, AreEntries}
 use Rattle.kc_groups.specs.WellFormed.{IsWellFormed}
-use Rattle.kc_groups.proofs.PlanLaw.{plan_is_one, plan_is_well_formed}
-use Rattle.kc_groups.proofs.LeadLaw.{entries_lead_over}
+use Rattle.kc_groups.proofs.lemmas.Plans.{plan_is_one, plan_is_well_formed}
+use Rattle.kc_groups.proofs.lemmas.Phases.{entries_lead_over}
 use Rattle.kc_engine.specs.declared.plans.BatchPlan.{BatchPlan}
 use Rattle.kc_engine.specs.States.{State, IsSound}
-use Rattle.kc_engine.specs.Batches.{IsCleaning, phases_for, AreLoweredIn, AreRaisedIn, graph_after_batch, AreLevelsAfter, IsAfterBatch, IsOnePhase, ArePhaseOf, ArePhases, IsPlanOf, IsAfterPhases}
+use Rattle.kc_engine.specs.Batches.{IsCleaning, phases_for, AreLoweredIn, AreRaisedIn, graph_after_batch, AreLevelsAfter, IsAfterBatch, IsOnePhase, ArePhaseOf, ArePhases, IsAfterPhases}
+use Rattle.kc_engine.specs.private.Batches.{IsPlanOf}
 use Rattle.kc_engine.specs.Laws.{PhasesAreOne, PhasesAreNumberedOn, PhasesAreWellFormed, PhasesLeadOver, PhasesLeadOn}
 use Rattle.kc_engine.proofs.BatchLemmas.{fits, IsAt, at_state, after_lowered, at_after, one_lowered, ascend_later, batch_has_one_state, vertices_after}
 use Rattle.kc_engine.proofs.RelinkLemmas.{deletion_is_phase, insertion_is_phase}
@@ -245,8 +246,8 @@ led_both : (g h k : GraphShape) (x y z : List ℕ) (ps qs plans : List PhasePlan
 led_both g h k x y z ps qs plans all a b =
     let one : entries_in plans ≡ entries_in ps ++ entries_in qs = ap (λ (t : List PhasePlan). entries_in t) all ∙ entries_in-append ps qs in
     record {
-      graph = ap (λ (es : List Entry). points.graph_after g es) one ∙ history.graph_after-append g (entries_in ps) (entries_in qs) ∙ ap (λ (t : GraphShape). points.graph_after t (entries_in qs)) a.graph ∙ b.graph;
-      levels = ap (λ (es : List Entry). points.levels_after x es) one ∙ history.levels_after-append x (entries_in ps) (entries_in qs) ∙ ap (λ (t : List ℕ). points.levels_after t (entries_in qs)) a.levels ∙ b.levels;
+      graph = ap (λ (es : List Entry). points.graph_after g es) one ∙ graph_after-append g (entries_in ps) (entries_in qs) ∙ ap (λ (t : GraphShape). points.graph_after t (entries_in qs)) a.graph ∙ b.graph;
+      levels = ap (λ (es : List Entry). points.levels_after x es) one ∙ levels_after-append x (entries_in ps) (entries_in qs) ∙ ap (λ (t : List ℕ). points.levels_after t (entries_in qs)) a.levels ∙ b.levels;
     }
 
 led_over : (limit : ℕ) (s t : State) (c : Cleaned) (plans : List PhasePlan) → IsSound limit s → IsCleaning s.graph c → IsAfterPhases s c t plans → IsLed s.graph t.graph s.levels t.levels plans
@@ -271,6 +272,6 @@ pub phases_lead_on : PhasesLeadOn
 phases_lead_on limit n past s t c plans sound cleaning a is =
     let led = led_over limit s t c plans sound cleaning a in
     record {
-      graph = history.entries_lead_on.graph n past (entries_in plans) ∙ ap (λ (h : GraphShape). points.graph_after h (entries_in plans)) is.graph ∙ led.graph;
-      levels = history.entries_lead_on.levels n past (entries_in plans) ∙ ap (λ (x : List ℕ). points.levels_after x (entries_in plans)) is.levels ∙ led.levels;
+      graph = entries_lead_on.graph n past (entries_in plans) ∙ ap (λ (h : GraphShape). points.graph_after h (entries_in plans)) is.graph ∙ led.graph;
+      levels = entries_lead_on.levels n past (entries_in plans) ∙ ap (λ (x : List ℕ). points.levels_after x (entries_in plans)) is.levels ∙ led.levels;
     }

@@ -7,8 +7,9 @@ use Rattle.kc_groups.specs.Entries.{entries_of, entries_in}
 use Rattle.kc_groups.specs.WellFormed.{IsWellFormed}
 use Rattle.kc_store.specs.declared.roles.WriterState.{WriterState}
 use Rattle.kc_store.specs.States.{MayBegin}
-use Rattle.kc_store.specs.Showing.{HasShown, IsIdle}
-use Rattle.kc_store.proofs.Shows.{idle_shown}
+use Rattle.kc_store.specs.private.Showing.{HasShown}
+use Rattle.kc_store.specs.Showing.{IsIdle}
+use Rattle.kc_store.proofs.lemmas.Shows.{idle_shown}
 use Rattle.kc_engine.specs.Showing.{IsNext, GoOn, AreShown}
 
 -- the first of the phases are shown, and the rest goes on from there

@@ -5,10 +5,10 @@ use Rattle.std.proofs.lemmas.Bool.Decides.{nat_tests}
 use Rattle.std.proofs.lemmas.List.Elements.{All-cons, All-nil}
 use Rattle.kc_graph.specs.Shape.{GraphShape, Pair, EdgesFrom, IsGraph, same_edge, has_edge, with_edges, without_edges}
 use Rattle.kc_graph.specs.Changes.{AllPresent}
-use Rattle.kc_graph.proofs.EdgeLemmas.{same_graph}
-use Rattle.kc_graph.proofs.ChangeLemmas.{vertices-with_edges, vertices-without_edges, has_edge-with_edges, has_edge-without_edges, is_graph-with_edges, is_graph-without_edges, inside_from_ascending}
+use Rattle.kc_graph.proofs.lemmas.Edges.{graph_is_its_edges}
+use Rattle.kc_graph.proofs.lemmas.Changes.{vertices-with_edges, vertices-without_edges, has_edge-with_edges, has_edge-without_edges, insertions_keep_graph, removals_keep_graph, inside_from_ascending}
 use Rattle.kc_groups.specs.Laws.{IsPhase}
-use Rattle.kc_groups.proofs.EdgesLaw.{present_in}
+use Rattle.kc_groups.proofs.lemmas.Phases.{present_in}
 
 own_edge : (e : Pair) (es : List Pair) → has_edge e (e ∷ es) ≡ true
 own_edge e es = grind (arith, nat_tests)
@@ -35,7 +35,7 @@ pub linked_again : (g : GraphShape) (es : List Pair) → IsGraph g → EdgesFrom
 linked_again g es graph up present =
     let same = vertices-without_edges g es in
     let inside : All (λ e. (e.0 < e.1) × (e.1 < (without_edges g es).vertices)) es = rw same (inside_from_ascending g.vertices 0 0 es up) in
-    same_graph (with_edges (without_edges g es) es) g (is_graph-with_edges (without_edges g es) es (is_graph-without_edges g es graph) inside) graph
+    graph_is_its_edges (with_edges (without_edges g es) es) g (insertions_keep_graph (without_edges g es) es (removals_keep_graph g es graph) inside) graph
     (vertices-with_edges (without_edges g es) es ∙ same)
     (
     λ e.
@@ -52,7 +52,7 @@ pub insertion_is_phase : (g : GraphShape) (es : List Pair) (x y : List ℕ) → 
 insertion_is_phase g es x y graph before after up =
     let same = vertices-with_edges g es in
     record {
-      graph = is_graph-with_edges g es graph (inside_from_ascending g.vertices 0 0 es up);
+      graph = insertions_keep_graph g es graph (inside_from_ascending g.vertices 0 0 es up);
       before = before ∙ sym same;
       after = after ∙ sym same;
       ascending = rw same up;

@@ -2,19 +2,18 @@
 use Rattle.std.proofs.Common.{ℕ, suc, ◌+◌, ◌≡◌, Bool, true, false, List, [], ◌∷◌, ◌++◌, length, get_or, refl, ap, sym, ◌∙◌, arith, append_assoc, append-nil, subst}
 use Rattle.kc_graph.specs.declared.cleaning.Cleaned.{Cleaned}
 use Rattle.kc_graph.specs.Shape.{Pair, GraphShape}
-use Rattle.kc_graph.proofs.ChangeLemmas.{vertices-without_edges}
+use Rattle.kc_graph.proofs.lemmas.Changes.{vertices-without_edges}
 use Rattle.kc_levels.specs.declared.moves.Move.{Move}
 use Rattle.kc_history.specs.declared.entries.Entry.{Entry}
 use Rattle.kc_history.specs.Points as points
-use Rattle.kc_history.proofs.PointLemmas as history
+use Rattle.kc_history.proofs.lemmas.Points.{entries_lead_on}
 use Rattle.kc_groups.specs.declared.plans.PhasePlan.{PhasePlan}
 use Rattle.kc_groups.specs.Entries.{entries_of, entries_in, AreEntries}
 use Rattle.kc_groups.specs.Laws.{IsOwnMove}
 use Rattle.kc_groups.specs.WellFormed.{IsWellFormed}
 use Rattle.std.specs.Prelude.{Err}
 use Rattle.std.proofs.lemmas.Bool.{false≢true}
-use Rattle.kc_groups.proofs.PlanLaw.{plan_is_well_formed}
-use Rattle.kc_groups.proofs.MovesLaw.{moves_are_in_their_groups}
+use Rattle.kc_groups.proofs.lemmas.Plans.{plan_is_well_formed, moves_are_in_their_groups}
 use Rattle.kc_store.specs.declared.roles.WriterState.{WriterState}
 use Rattle.kc_levels.specs.declared.profile.Profile.{Profile}
 use Rattle.kc_store.specs.States as store
@@ -63,7 +62,7 @@ go_on limit w s t c plans sound cleaning a abreast =
     let here = vertices-without_edges s.graph c.removed in
     let led = led_out s.profile (s.phases + 1) c.removed s.levels between s.graph a.phases.leaving sound.graph k.both.sized (middle.both.sized ∙ here) f.removed_ascend f.removed_present a.after.levels.lowered a.phases.deletion in
     let past : points.levels_at n (w.history ++ entries_in a.phases.leaving) (length (w.history ++ entries_in a.phases.leaving)) ≡ between =
-    history.entries_lead_on.levels n w.history (entries_in a.phases.leaving) ∙ (ap (λ (x : List ℕ). points.levels_after x (entries_in a.phases.leaving)) abreast.history.levels ∙ led.levels) in
+    entries_lead_on.levels n w.history (entries_in a.phases.leaving) ∙ (ap (λ (x : List ℕ). points.levels_after x (entries_in a.phases.leaving)) abreast.history.levels ∙ led.levels) in
     let counted = phase_count_is (s.phases + 1) false c.removed s.levels between s.graph a.phases.leaving a.phases.deletion in
     let number : s.phases + phases_for c.removed + 1 ≡ s.phases + length a.phases.leaving + 1 = omega (arith, counted) in
     let first = phase_goes_on n s.phases w.history false c.removed s.levels between s.graph a.phases.leaving a.phases.deletion refl abreast.history.levels in

@@ -11,7 +11,6 @@ use Rattle.kc_levels.specs.Moved.{moved_count}
 use Rattle.kc_history.specs.declared.limits.TheConstants.{MAX_PHASE}
 use Rattle.kc_groups.specs.declared.plans.PhasePlan.{PhasePlan}
 use Rattle.kc_groups.specs.Entries.{AreEntries}
-use Rattle.kc_engine.specs.declared.plans.BatchPlan.{BatchPlan}
 use Rattle.kc_engine.specs.declared.faults.EngineFault.{EngineFault}
 use Rattle.kc_engine.specs.declared.faults.EngineFault.TheVariants.{EdgeLimit, PhaseLimit}
 use Rattle.kc_engine.specs.States.{State}
@@ -100,12 +99,6 @@ pub record ArePhases (before : ℕ) (g : GraphShape) (c : Cleaned) (x between y 
   pub all : plans ≡ leaving ++ coming
   pub deletion : ArePhaseOf (before + 1) false c.removed x between g leaving
   pub insertion : ArePhaseOf (before + phases_for c.removed + 1) true c.added between y (graph_after_batch g c) coming
-
--- the plan of the batch, after which the levels are y: its phases, and how many moves there are in them
-pub record IsPlanOf (p : Profile) (before : ℕ) (g : GraphShape) (c : Cleaned) (x y : List ℕ) (plan : BatchPlan) : Type 0 where
-  pub levels : AreLevelsAfter p g c x y
-  pub phases : ArePhases before g c x levels.between y plan.phases
-  pub count : plan.moves ≡ moves_through g.vertices x levels.between y
 
 -- t is the state s after this batch, which isn't refused, and plans are its phases
 pub record IsAfterPhases (s : State) (c : Cleaned) (t : State) (plans : List PhasePlan) : Type 0 where

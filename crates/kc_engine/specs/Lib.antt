@@ -3,5 +3,5 @@ pub mod Batches
 pub mod Readiness
 pub mod Planning
 pub mod Laws
-pub mod Lending
 pub mod Showing
+pub mod private

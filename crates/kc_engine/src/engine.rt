@@ -8,16 +8,16 @@ ghost use Rattle.kc_engine.specs.Showing.{AreShown, Continues};
 ghost use Rattle.kc_store.specs.Showing.{IsIdle};
 
 use crate::faults::EngineFault;
-use crate::phases::{phase_count, run_phases};
+use crate::phases::{PhaseContext, phase_count, run_phases};
 use crate::plans::BatchPlan;
 use crate::shape::Shape;
-use crate::showing::{MarkerPlaces, show_phases};
+use crate::showing::{Crew, MarkerPlaces, show_phases};
 use crate::work::PhaseWork;
 use kc_adj::LevelAdj;
 use kc_graph::{Cleaned, Graph, MAX_EDGES, MAX_VERTICES};
 use kc_history::MAX_PHASE;
 use kc_levels::{Levels, Thresholds};
-use kc_rounds::Gate;
+use kc_rounds::{Gate, Rounds};
 use kc_store::{Store, Writer};
 use std::alloc::{AllocError, Global};
 use std::marker::Model;
@@ -154,18 +154,15 @@ impl Engine {
         }
         // Until both phases are done.
         self.halted = true;
-        let plan = run_phases(
-            rt,
+        let context = PhaseContext {
+            rounds: Rounds::new(rt, alloc, gate, self.workers),
             alloc,
-            gate,
-            self.workers,
-            &self.thresholds,
-            &mut self.adj,
-            &mut self.work,
-            self.phases,
-            cleaned,
-        )
-        .map_err(EngineFault::Memory)?;
+            th: &self.thresholds,
+        };
+        let before = self.phases;
+        let plan = run_phases(&context, &mut self.adj, &mut self.work, before, cleaned).map_err(
+            EngineFault::Memory,
+        )?;
         self.phases += phase_count(cleaned);
         self.halted = false;
         self.waits = true;
@@ -207,7 +204,7 @@ impl Engine {
         let n = self.adj.graph().vertices();
         let phases = plan.phases.as_slice();
         let places = &mut self.places;
-        show_phases(rt, gate, store, writer, phases, places, n);
+        show_phases(&Crew { rt, gate }, store, writer, phases, places, n);
         self.waits = false;
     }
 

@@ -1,19 +1,21 @@
 // The phases of a batch: first some edges leave, then some come in.
 ghost use Rattle.std.specs.Prelude.{◌≡◌, ℕ, ◌+◌, ◌-◌, ◌<◌, ◌≤◌, OnOk, IfOk, false, true, All, length};
-ghost use Rattle.kc_graph.specs.Shape.{IsGraph, EdgesFrom, with_edges, without_edges};
+ghost use Rattle.kc_graph.specs.Shape.{EdgesFrom, with_edges, without_edges};
 ghost use Rattle.kc_graph.specs.Changes.{AllAbsent, AllPresent};
 ghost use Rattle.kc_graph.specs.CleaningLaws.{FitsGraph};
 ghost use Rattle.kc_levels.specs.LevelList.{MeetsUpper, MeetsLower, MeetsBoth, IsCapped};
 ghost use Rattle.kc_levels.specs.Moved.{moved_count};
 ghost use Rattle.kc_groups.specs.WellFormed.{IsWellFormed};
-ghost use Rattle.kc_engine.specs.Batches.{phases_for, phases_of, AreLoweredIn, AreRaisedIn, ArePhaseOf, IsPlanOf, graph_after_batch};
+ghost use Rattle.kc_engine.specs.Batches.{phases_for, phases_of, AreLoweredIn, AreRaisedIn, ArePhaseOf, graph_after_batch};
+ghost use Rattle.kc_engine.specs.private.Batches.{IsPlanOf};
+ghost use Rattle.kc_engine.specs.private.Blanks.{IsBlankFor};
 ghost use Rattle.kc_engine.specs.Readiness.{AreReady};
 
 use crate::plans::BatchPlan;
 use crate::work::PhaseWork;
 use kc_adj::{LevelAdj, Steps};
 use kc_delete::delete_phase;
-use kc_graph::{Cleaned, Edges, MAX_EDGES, MAX_VERTICES};
+use kc_graph::{Cleaned, Edges, MAX_EDGES};
 use kc_groups::plan_moves;
 use kc_history::MAX_PHASE;
 use kc_insert::insert_phase;
@@ -23,6 +25,14 @@ use std::alloc::{AllocError, Global};
 use std::marker::Brand;
 use std::sync::ledger::{Blank, Ledger};
 use std::thread::Threads;
+
+// What stays the same through the phases of a batch: who makes their rounds, where memory comes from, and the thresholds.
+#[derive(Drop)]
+pub(crate) struct PhaseContext<'a, R, G> {
+    pub(crate) rounds: Rounds<'a, R, G>,
+    pub(crate) alloc: Global,
+    pub(crate) th: &'a Thresholds,
+}
 
 // How many phases it takes to let these edges leave, or come in: 0 or 1.
 fn phases_for(edges: &Edges) -> u32
@@ -43,40 +53,38 @@ pub(crate) fn phase_count(cleaned: &Cleaned) -> u32
 // Lets edges leave, in phase `phase` if there are any, and gives its plan. `work` is ready before and afterwards. The counter of
 // the phase's steps is made from the blank ledger.
 fn deletion_phase<R: Threads + Sync, G: Gate + Sync, L: Ledger>(
-    rounds: &Rounds<R, G>,
-    alloc: Global,
+    context: &PhaseContext<'_, R, G>,
     blank: Blank,
-    th: &Thresholds,
     adj: &mut LevelAdj,
     work: &mut PhaseWork,
     phase: u32,
     removed: &Edges,
 ) -> Result<BatchPlan, AllocError>
-    requires name { blank.name ≡ L.name }
-    requires parts { blank.parts ≡ L.parts }
-    requires some_part { 0 < L.parts }
-    requires scale { th.now.vertices ≡ adj.old.graph.vertices }
-    requires ready { AreReady th.now.profile adj.old work.old }
-    requires capped { IsCapped th.now.profile adj.old.graph.vertices adj.old.levels }
-    requires lower { (v : ℕ) → v < adj.old.graph.vertices → MeetsLower th.now.profile adj.old.graph adj.old.levels v }
-    requires graph { IsGraph adj.old.graph }
-    requires small { adj.old.graph.vertices ≤ MAX_VERTICES }
-    requires sized { length adj.old.levels ≡ adj.old.graph.vertices }
+    requires blank { IsBlankFor L.name L.parts blank.name blank.parts }
+    requires scale { context.now.th.now.vertices ≡ adj.old.graph.vertices }
+    requires ready { AreReady context.now.th.now.profile adj.old work.old }
+    requires capped { IsCapped context.now.th.now.profile adj.old.graph.vertices adj.old.levels }
+    requires lower { (v : ℕ) → v < adj.old.graph.vertices → MeetsLower context.now.th.now.profile adj.old.graph adj.old.levels v }
     requires ascending { EdgesFrom adj.old.graph.vertices 0 0 removed.now }
     requires present { AllPresent adj.old.graph removed.now }
     ensures graph { OnOk result (adj.new.graph ≡ without_edges adj.old.graph removed.now) }
-    ensures lowered { OnOk result (AreLoweredIn th.now.profile adj.old.graph removed.now adj.old.levels adj.new.levels) }
+    ensures lowered { OnOk result (AreLoweredIn context.now.th.now.profile adj.old.graph removed.now adj.old.levels adj.new.levels) }
     ensures phases { IfOk result (λ plan. ArePhaseOf phase false removed.now adj.old.levels adj.new.levels adj.old.graph plan.phases) }
-    ensures ready { OnOk result (AreReady th.now.profile adj.new work.new) }
+    ensures ready { OnOk result (AreReady context.now.th.now.profile adj.new work.new) }
     ensures moves { IfOk result (λ plan. plan.moves ≡ moved_count adj.old.graph.vertices adj.old.levels adj.new.levels) }
 {
     if removed.is_empty() {
-        return Ok(BatchPlan::empty(alloc));
+        return Ok(BatchPlan::empty(context.alloc));
     }
+    // Their contracts say that the edges of the graph ascend, how many vertices there are at most, and that each has a level.
+    let _n = adj.graph().vertices();
+    let _levels = adj.levels();
+    let alloc = context.alloc;
+    let th = context.th;
     let edges = removed.as_slice();
     let mut steps = Steps::<L>::new(blank);
     let deletion = &mut work.deletion;
-    let moves = delete_phase(rounds, alloc, th, adj, deletion, edges, &mut steps)?;
+    let moves = delete_phase(&context.rounds, alloc, th, adj, deletion, edges, &mut steps)?;
     work.insertion.follow(adj, edges, &moves);
     let groups = &mut work.groups;
     let plan = plan_moves(alloc, phase, false, edges, &moves, adj.graph(), groups)?;
@@ -86,41 +94,47 @@ fn deletion_phase<R: Threads + Sync, G: Gate + Sync, L: Ledger>(
 // Lets edges come in, in phase `phase` if there are any, and gives its plan. `work` is ready before and afterwards. The counter of
 // the phase's steps is made from the blank ledger.
 fn insertion_phase<R: Threads + Sync, G: Gate + Sync, L: Ledger>(
-    rounds: &Rounds<R, G>,
-    alloc: Global,
+    context: &PhaseContext<'_, R, G>,
     blank: Blank,
-    th: &Thresholds,
     adj: &mut LevelAdj,
     work: &mut PhaseWork,
     phase: u32,
     added: &Edges,
 ) -> Result<BatchPlan, AllocError>
-    requires name { blank.name ≡ L.name }
-    requires parts { blank.parts ≡ L.parts }
-    requires some_part { 0 < L.parts }
-    requires scale { th.now.vertices ≡ adj.old.graph.vertices }
-    requires ready { AreReady th.now.profile adj.old work.old }
-    requires capped { IsCapped th.now.profile adj.old.graph.vertices adj.old.levels }
-    requires upper { (v : ℕ) → v < adj.old.graph.vertices → MeetsUpper th.now.profile adj.old.graph adj.old.levels v }
-    requires graph { IsGraph adj.old.graph }
-    requires small { adj.old.graph.vertices ≤ MAX_VERTICES }
-    requires sized { length adj.old.levels ≡ adj.old.graph.vertices }
+    requires blank { IsBlankFor L.name L.parts blank.name blank.parts }
+    requires scale { context.now.th.now.vertices ≡ adj.old.graph.vertices }
+    requires ready { AreReady context.now.th.now.profile adj.old work.old }
+    requires capped { IsCapped context.now.th.now.profile adj.old.graph.vertices adj.old.levels }
+    requires upper { (v : ℕ) → v < adj.old.graph.vertices → MeetsUpper context.now.th.now.profile adj.old.graph adj.old.levels v }
     requires ascending { EdgesFrom adj.old.graph.vertices 0 0 added.now }
     requires absent { AllAbsent adj.old.graph added.now }
     requires room { length adj.old.graph.edges + length added.now ≤ MAX_EDGES }
     ensures graph { OnOk result (adj.new.graph ≡ with_edges adj.old.graph added.now) }
-    ensures raised { OnOk result (AreRaisedIn th.now.profile adj.old.graph added.now adj.old.levels adj.new.levels) }
+    ensures raised { OnOk result (AreRaisedIn context.now.th.now.profile adj.old.graph added.now adj.old.levels adj.new.levels) }
     ensures phases { IfOk result (λ plan. ArePhaseOf phase true added.now adj.old.levels adj.new.levels adj.new.graph plan.phases) }
-    ensures ready { OnOk result (AreReady th.now.profile adj.new work.new) }
+    ensures ready { OnOk result (AreReady context.now.th.now.profile adj.new work.new) }
     ensures moves { IfOk result (λ plan. plan.moves ≡ moved_count adj.old.graph.vertices adj.old.levels adj.new.levels) }
 {
     if added.is_empty() {
-        return Ok(BatchPlan::empty(alloc));
+        return Ok(BatchPlan::empty(context.alloc));
     }
+    // As in a phase of deletions.
+    let _n = adj.graph().vertices();
+    let _levels = adj.levels();
+    let alloc = context.alloc;
+    let th = context.th;
     let edges = added.as_slice();
     let mut steps = Steps::<L>::new(blank);
     let insertion = &mut work.insertion;
-    let moves = insert_phase(rounds, alloc, th, adj, insertion, edges, &mut steps)?;
+    let moves = insert_phase(
+        &context.rounds,
+        alloc,
+        th,
+        adj,
+        insertion,
+        edges,
+        &mut steps,
+    )?;
     work.deletion.follow(&moves);
     let groups = &mut work.groups;
     let plan = plan_moves(alloc, phase, true, edges, &moves, adj.graph(), groups)?;
@@ -130,37 +144,29 @@ fn insertion_phase<R: Threads + Sync, G: Gate + Sync, L: Ledger>(
 // Lets the edges leave that the batch removes, and then those come in that it adds, each in a phase of their own if there are
 // any, and gives the plan of both. There were `before` phases. After memory ran out graph, levels and `work` are unspecified.
 pub(crate) fn run_phases<R: Threads + Sync, G: Gate + Sync>(
-    rt: &R,
-    alloc: Global,
-    gate: &G,
-    workers: u32,
-    th: &Thresholds,
+    context: &PhaseContext<'_, R, G>,
     adj: &mut LevelAdj,
     work: &mut PhaseWork,
     before: u32,
     cleaned: &Cleaned,
 ) -> Result<BatchPlan, AllocError>
-    requires few_workers { (1 ≤ workers) × (workers ≤ 64) }
-    requires scale { th.now.vertices ≡ adj.old.graph.vertices }
-    requires ready { AreReady th.now.profile adj.old work.old }
-    requires capped { IsCapped th.now.profile adj.old.graph.vertices adj.old.levels }
-    requires both { MeetsBoth th.now.profile adj.old.graph adj.old.levels }
+    requires scale { context.now.th.now.vertices ≡ adj.old.graph.vertices }
+    requires ready { AreReady context.now.th.now.profile adj.old work.old }
+    requires capped { IsCapped context.now.th.now.profile adj.old.graph.vertices adj.old.levels }
+    requires both { MeetsBoth context.now.th.now.profile adj.old.graph adj.old.levels }
     requires few_phases { before ≤ MAX_PHASE }
     requires fits { FitsGraph adj.old.graph cleaned.now }
     requires room { length adj.old.graph.edges - length cleaned.now.removed + length cleaned.now.added ≤ MAX_EDGES }
     ensures graph { OnOk result (adj.new.graph ≡ graph_after_batch adj.old.graph cleaned.now) }
-    ensures ready { OnOk result (AreReady th.now.profile adj.new work.new) }
-    ensures plan { IfOk result (λ plan. IsPlanOf th.now.profile before adj.old.graph cleaned.now adj.old.levels adj.new.levels plan) }
+    ensures ready { OnOk result (AreReady context.now.th.now.profile adj.new work.new) }
+    ensures plan { IfOk result (λ plan. IsPlanOf context.now.th.now.profile before adj.old.graph cleaned.now adj.old.levels adj.new.levels plan) }
     ensures well_formed { IfOk result (λ plan. All (IsWellFormed adj.old.graph.vertices) plan.phases) }
 {
     // Its contract says that the edges of the graph ascend, and how many vertices there are at most.
     let _n = adj.graph().vertices();
-    let rounds = Rounds::new(rt, alloc, gate, workers);
     let fallen = deletion_phase::<R, G, Brand>(
-        &rounds,
-        alloc,
+        context,
         Blank::new(1),
-        th,
         adj,
         work,
         before + 1,
@@ -168,10 +174,8 @@ pub(crate) fn run_phases<R: Threads + Sync, G: Gate + Sync>(
     )?;
     let so_far = before + phases_for(&cleaned.removed);
     let risen = insertion_phase::<R, G, Brand>(
-        &rounds,
-        alloc,
+        context,
         Blank::new(1),
-        th,
         adj,
         work,
         so_far + 1,

@@ -2,14 +2,16 @@
 //
 // `show_phases` begins each phase of a batch. It cuts the moves of a group into ranges, one for each worker, marks the ranges side
 // by side, publishes the group, and clears the ranges side by side. The ranges are lent to markers that stand in `MarkerPlaces`,
-// so that no call takes memory. `specs/Lending` says what becomes of the markers.
+// so that no call takes memory. `specs/private/Lending` says what becomes of the markers.
 
-mod group;
+mod crew;
 mod lending;
 mod phases;
 mod places;
+mod planned;
 mod side_by_side;
 mod sizes;
 
+pub(crate) use crew::Crew;
 pub(crate) use phases::show_phases;
 pub(crate) use places::MarkerPlaces;

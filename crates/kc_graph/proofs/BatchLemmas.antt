@@ -10,7 +10,8 @@ use Rattle.kc_graph.specs.declared.items.Item.TheVariants.{Insert, Delete, Isola
 use Rattle.kc_graph.specs.declared.keys.Key.{Key}
 use Rattle.kc_graph.specs.Shape.{Pair, EdgesFrom, same_edge, has_edge, insert_edge}
 use Rattle.kc_graph.specs.Cleaning.{IsInside, is_loop, proper_items, pair_of, touches, is_touched, deciding_item, is_insertion, inserted_pairs, is_repeat, is_idle, count_with_later}
-use Rattle.kc_graph.specs.Keys.{is_pairless, pair_items, key_at, keys_from, edge_of, same_pair, removes, adds}
+use Rattle.kc_graph.specs.private.Keys.{is_pairless, pair_items, key_at, keys_from, same_pair}
+use Rattle.kc_graph.specs.Keys.{edge_of, removes, adds}
 use Rattle.kc_graph.proofs.CountLemmas.{count_by-cons}
 use Rattle.kc_graph.proofs.EdgeLemmas.{not_before_first, has_edge-insert_edge, edges_from_insert}
 use Rattle.kc_graph.proofs.EdgeListLemmas.{edge_is}

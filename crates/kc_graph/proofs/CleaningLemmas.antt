@@ -1,10 +1,11 @@
 -- What a walk over the sorted keys of a batch finds out is what the batch comes to.
-use Rattle.std.proofs.Common.{ℕ, ◌+◌, ◌≤◌, ◌<◌, ◌≡◌, Bool, true, false, ◌||◌, ◌&&◌, cond, List, [], ◌∷◌, ◌++◌, length, refl, ap, sym, ◌∙◌, arith, map, append_assoc, get_or, zero-add}
+use Rattle.std.proofs.Common.{ℕ, ◌+◌, ◌^◌, ◌≤◌, ◌<◌, ◌≡◌, Bool, true, false, ◌||◌, ◌&&◌, cond, List, [], ◌∷◌, ◌++◌, length, refl, ap, sym, ◌∙◌, arith, map, append_assoc, get_or, zero-add}
 use Rattle.std.proofs.lemmas.List.{append-nil}
 use Rattle.std.proofs.lemmas.List.Elements.{All-head, All-tail, All-same}
 use Rattle.std.proofs.lemmas.List.Sorted.{All-permutation, length_permutation}
 use Rattle.std.specs.List.{list_any}
-use Rattle.std.specs.List.Sorted.{IsPermutation, IsSorted}
+use Rattle.std.specs.Ordering.{nat_cmp}
+use Rattle.std.specs.List.Sorted.{IsPermutation, IsSortedByKey}
 use Rattle.std.specs.Prelude.{All, not, count_by, filter, Option, Some, None}
 use Rattle.kc_graph.specs.declared.items.Item.{Item}
 use Rattle.kc_graph.specs.declared.items.Item.TheVariants.{Insert, Delete, Isolate}
@@ -12,12 +13,13 @@ use Rattle.kc_graph.specs.declared.keys.Key.{Key}
 use Rattle.kc_graph.specs.declared.cleaning.Cleaned.{Cleaned}
 use Rattle.kc_graph.specs.Shape.{GraphShape, Pair, EdgesFrom, IsGraph, same_edge, has_edge}
 use Rattle.kc_graph.specs.Cleaning.{IsInside, is_loop, proper_items, is_repeat, is_idle, count_with_later, deciding_item, takes_out, is_insertion, removed_edges, inserted_pairs, added_edges, cleaned}
-use Rattle.kc_graph.specs.Keys.{is_pairless, is_isolation, pair_items, keys_from, key_cmp, edge_of, same_pair, is_last_of_pair, removes, adds, decided, repeated}
+use Rattle.kc_graph.specs.private.Keys.{is_pairless, is_isolation, pair_items, keys_from, rank, same_pair, is_last_of_pair, repeated}
+use Rattle.kc_graph.specs.Keys.{edge_of, removes, adds, decided}
 use Rattle.kc_graph.proofs.CountLemmas.{count_by-cons}
 use Rattle.kc_graph.proofs.EdgeLemmas.{not_before_first, same_edges}
 use Rattle.kc_graph.proofs.EdgeListLemmas.{has_edge-filter, edges_from_filter}
 use Rattle.kc_graph.proofs.DecidingLemmas.{deciding_keys, PlacesRise, deciding_keys_found, deciding_keys_counted}
-use Rattle.kc_graph.proofs.KeyLemmas.{Ascend, ascend_from_sorted, apart_permuted, places_rise_sorted, is_last-sorted, edges_from_deciding, has_edge-edges_of, keys_apart, places_rise_in_batch, keys_inside, length-keys_from}
+use Rattle.kc_graph.proofs.KeyLemmas.{Ascend, IsSmall, keys_from_below, ascend_from_sorted, apart_permuted, places_rise_sorted, is_last-sorted, edges_from_deciding, has_edge-edges_of, keys_apart, places_rise_in_batch, keys_inside, length-keys_from}
 use Rattle.kc_graph.proofs.BatchLemmas.{asks, inserted_if_decided, edges_from_inserted, keys_decide, keys_repeat, keys_idle}
 
 -- a walk
@@ -174,10 +176,15 @@ same_cleaned c d removed added loops repeats idle =
     ∙ ap (λ (x : ℕ). record c { removed = d.removed; added = d.added; loops = d.loops; repeats = x }) repeats
     ∙ ap (λ (x : ℕ). record d { idle = x }) idle
 
+small_keys : (n : ℕ) (items : List Item) (ks : List Key) → All (IsInside n) items → IsPermutation (keys_from 0 items) ks → n ≤ 2 ^ 32 → length items ≤ 2 ^ 32 → All IsSmall ks
+small_keys n items ks inside same low few =
+    All-permutation IsSmall (keys_from 0 items) ks same
+    (λ k d lt. (omega (arith, (keys_inside n 0 items inside k d lt).1), omega (arith, keys_from_below 0 items k d lt)))
+
 -- a walk over the sorted keys of a batch without isolations finds out what it comes to
-pub walked_is_cleaned : (g : GraphShape) (items : List Item) (ks : List Key) (loops : ℕ) → list_any is_isolation items ≡ false → IsGraph g → All (IsInside g.vertices) items → IsPermutation (keys_from 0 items) ks → IsSorted key_cmp ks → loops + length ks ≡ length items → walked g.edges ks (record { removed = []; added = []; loops = loops; repeats = 0; idle = 0 }) ≡ cleaned g items
-walked_is_cleaned g items ks loops none graph inside same up rest =
-    let s = sorts g.vertices items ks inside same (ascend_from_sorted ks up) in
+pub walked_is_cleaned : (g : GraphShape) (items : List Item) (ks : List Key) (loops : ℕ) → list_any is_isolation items ≡ false → IsGraph g → All (IsInside g.vertices) items → IsPermutation (keys_from 0 items) ks → IsSortedByKey rank nat_cmp ks → g.vertices ≤ 2 ^ 32 → length items ≤ 2 ^ 32 → loops + length ks ≡ length items → walked g.edges ks (record { removed = []; added = []; loops = loops; repeats = 0; idle = 0 }) ≡ cleaned g items
+walked_is_cleaned g items ks loops none graph inside same up low few rest =
+    let s = sorts g.vertices items ks inside same (ascend_from_sorted ks (small_keys g.vertices items ks inside same low few) up) in
     let start : Cleaned = record { removed = []; added = []; loops = loops; repeats = 0; idle = 0 } in
     let w = walks g.edges ks start s.ascend in
     let idles : Key → Bool = λ k. not (removes g.edges k || adds g.edges k) in

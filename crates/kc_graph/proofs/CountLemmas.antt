@@ -4,7 +4,8 @@ use Rattle.std.proofs.lemmas.Bool.Decides.{nat_tests}
 use Rattle.std.proofs.lemmas.Bool.{cases_lt, cases_eq}
 use Rattle.std.proofs.lemmas.List.Sums.{sum_by-cons}
 use Rattle.std.specs.Prelude.{count_by}
-use Rattle.kc_graph.specs.Numbers.{RisesFrom, AllBelow, has_number, put, without, count_below}
+use Rattle.kc_graph.specs.Numbers.{RisesFrom, AllBelow, has_number, count_below}
+use Rattle.kc_graph.specs.private.Numbers.{put, without}
 use Rattle.kc_graph.proofs.NumberLemmas.{has_number_below, without_absent}
 
 pub count_by-cons : {X : Type 0} (p : X → Bool) (x : X) (xs : List X) → count_by p (x ∷ xs) ≡ cond (p x) 1 0 + count_by p xs

@@ -8,7 +8,7 @@ use Rattle.std.specs.List.{list_any}
 use Rattle.std.specs.List.Sorted.{IsPermutation}
 use Rattle.std.specs.Prelude.{All, not, count_by}
 use Rattle.kc_graph.specs.declared.keys.Key.{Key}
-use Rattle.kc_graph.specs.Keys.{same_pair}
+use Rattle.kc_graph.specs.private.Keys.{same_pair}
 use Rattle.kc_graph.proofs.CountLemmas.{count_by-cons}
 
 -- tests that agree at each element of a list

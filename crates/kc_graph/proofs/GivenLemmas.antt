@@ -7,8 +7,9 @@ use Rattle.std.specs.Prelude.{All, not}
 use Rattle.kc_graph.specs.Numbers.{RisesFrom, has_number}
 use Rattle.kc_graph.specs.Shape.{GraphShape, Pair, EdgesFrom, same_edge, has_edge, joined, insert_edge, remove_edge, with_edges, without_edges}
 use Rattle.kc_graph.specs.Changes.{CanAdd, CanRemove, AllAbsent}
-use Rattle.kc_graph.specs.KeptRows.{edges_of, rows_joined, rows_parted, IsKept}
-use Rattle.kc_graph.specs.Halves.{AreGiven, AreGivenSome, AreTaken}
+use Rattle.kc_graph.specs.KeptRows.{edges_of, IsKept}
+use Rattle.kc_graph.specs.private.KeptRows.{rows_joined, rows_parted}
+use Rattle.kc_graph.specs.private.Halves.{AreGiven, AreGivenSome, AreTaken}
 use Rattle.kc_graph.proofs.NumberLemmas.{same_rising}
 use Rattle.kc_graph.proofs.EdgeLemmas.{has_edge_turned, joined_inside}
 use Rattle.kc_graph.proofs.EdgeListLemmas.{edge_is}

@@ -6,10 +6,12 @@ use Rattle.std.proofs.lemmas.List.{length-set, get_or-set_same, get_or-set_other
 use Rattle.std.proofs.lemmas.List.Sorted.{list_any-IsPermutation}
 use Rattle.std.specs.List.{list_any}
 use Rattle.std.specs.List.Sorted.{IsPermutation}
-use Rattle.std.specs.Prelude.{filter, not, Result, Ok, Err, OnErr}
+use Rattle.std.specs.Prelude.{filter, not, Result, Ok, Err, OnErr, OnOk}
 use Rattle.kc_graph.specs.Numbers.{RisesFrom, has_number}
 use Rattle.kc_graph.specs.Shape.{Pair, same_edge, has_edge, joined}
-use Rattle.kc_graph.specs.Halves.{has_second, AreOf, AreGiven, AreGivenSome, AreTaken}
+use Rattle.kc_graph.specs.private.Numbers.{put}
+use Rattle.kc_graph.specs.private.Halves.{has_second, AreOf, AreGiven, AreGivenSome, AreTaken}
+use Rattle.kc_graph.proofs.NumberLemmas.{has_number-put}
 
 pub has_edge-append : (e : Pair) (es fs : List Pair) → has_edge e (es ++ fs) ≡ has_edge e es || has_edge e fs
 has_edge-append e [] fs = refl
@@ -255,3 +257,16 @@ taken old rows rest halves s none = record {
 pub on_err : {A E : Type 0} (r : Result A E) (P : Type 0) → P → OnErr r P
 on_err (Ok x) P p = tt
 on_err (Err e) P p = p
+
+pub on_ok : {A E : Type 0} (r : Result A E) (P Q : Type 0) → (P → Q) → OnOk r P → OnOk r Q
+on_ok (Ok x) P Q then p = then p
+on_ok (Err e) P Q then p = tt
+
+-- a single half comes into a row
+pub given_one : (row new : List ℕ) (hs : List Pair) (h d : Pair) (w : ℕ) → 1 ≤ length hs → length hs < 2 → h ≡ get_or hs 0 d → w ≡ h.1 → new ≡ put w row → (x : ℕ) → has_number x new ≡ has_number x row || has_second x hs
+given_one row new [] h d w some few is w_is new_is x = absurd (omega (arith, some))
+given_one row new (g ∷ []) h d w some few is w_is new_is x =
+    let same : w ≡ g.1 = w_is ∙ ap (λ (p : Pair). p.1) is in
+    let put_is : has_number x new ≡ eqb w x || has_number x row = ap (has_number x) new_is ∙ has_number-put x w row in
+    grind (arith, nat_tests, same, put_is)
+given_one row new (g ∷ f ∷ fs) h d w some few is w_is new_is x = absurd (omega (arith, few))

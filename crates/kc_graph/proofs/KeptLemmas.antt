@@ -3,9 +3,11 @@ use Rattle.std.proofs.Common.{ℕ, ◌+◌, ◌-◌, ◌≤◌, ◌<◌, ◌≡�
 use Rattle.std.proofs.lemmas.List.{length-set, length-replicate, get_or-set_same, get_or-set_other, get_or-replicate, set-set, set-get_or}
 use Rattle.std.proofs.lemmas.Bool.{cases_eq}
 use Rattle.kc_graph.specs.declared.limits.TheConstants.{MAX_VERTICES, MAX_EDGES}
-use Rattle.kc_graph.specs.Numbers.{has_number, put, without}
+use Rattle.kc_graph.specs.Numbers.{has_number}
+use Rattle.kc_graph.specs.private.Numbers.{put, without}
 use Rattle.kc_graph.specs.Shape.{Pair, neighbours_of, has_edge, insert_edge, remove_edge}
-use Rattle.kc_graph.specs.KeptRows.{edges_of, rows_joined, rows_parted, IsKept}
+use Rattle.kc_graph.specs.KeptRows.{edges_of, IsKept}
+use Rattle.kc_graph.specs.private.KeptRows.{rows_joined, rows_parted}
 use Rattle.kc_graph.proofs.NumberLemmas.{without-put}
 use Rattle.kc_graph.proofs.EdgeLemmas.{not_before_first, edges_from_insert, edges_from_remove, length-insert_edge, length-remove_edge, joined_in_order}
 use Rattle.kc_graph.proofs.NeighbourLemmas.{has_number-neighbours_of, neighbours_of_insert_low, neighbours_of_insert_high, neighbours_of_insert_other, neighbours_of_remove_low, neighbours_of_remove_high, neighbours_of_remove_other}

@@ -18,9 +18,10 @@ use Rattle.kc_graph.specs.declared.touched.Touched.{Touched}
 use Rattle.kc_graph.specs.declared.later.Later.{Later}
 use Rattle.kc_graph.specs.Shape.{GraphShape, Pair, IsNotBefore, EdgesFrom, IsGraph, same_edge, has_edge, neighbours_of}
 use Rattle.kc_graph.specs.Cleaning.{IsInside, is_loop, proper_items, pair_of, holds, touches, is_touched, deciding_item, takes_out, is_insertion, removed_edges, inserted_pairs, added_edges, is_repeat, isolates_some, is_idle, count_with_later, cleaned}
-use Rattle.kc_graph.specs.EdgeLists.{pair_cmp}
-use Rattle.kc_graph.specs.Keys.{is_pairless, key_at, key_of, edge_of, removes, adds, decided, repeated}
-use Rattle.kc_graph.specs.Later.{is_noted, is_free_at, isolated, untouched_at, IsOnce, Settles, ComesTo}
+use Rattle.kc_graph.specs.private.EdgeLists.{pair_cmp}
+use Rattle.kc_graph.specs.private.Keys.{is_pairless, key_at, key_of, repeated}
+use Rattle.kc_graph.specs.Keys.{edge_of, removes, adds, decided}
+use Rattle.kc_graph.specs.private.Later.{is_noted, is_free_at, isolated, untouched_at, IsOnce, Settles, ComesTo}
 use Rattle.kc_graph.proofs.CountLemmas.{count_by-cons}
 use Rattle.kc_graph.proofs.EdgeLemmas.{not_before_first, has_edge_before, edge_inside, same_edges}
 use Rattle.kc_graph.proofs.EdgeListLemmas.{edge_is, has_edge-filter, edges_from_filter}

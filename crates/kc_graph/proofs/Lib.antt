@@ -1,19 +1,20 @@
-pub mod NumberLemmas
-pub mod SearchLemmas
-pub mod CountLemmas
-pub mod EdgeLemmas
-pub mod NeighbourLemmas
-pub mod ChangeLemmas
-pub mod RowLemmas
-pub mod KeptLemmas
-pub mod EdgeListLemmas
-pub mod DecidingLemmas
-pub mod KeyLemmas
-pub mod BatchLemmas
-pub mod CleaningLemmas
-pub mod LaterLemmas
-pub mod CountingLemmas
-pub mod CleaningLawLemmas
-pub mod MergeLemmas
-pub mod HalfLemmas
-pub mod GivenLemmas
+pub mod lemmas
+mod NumberLemmas
+mod SearchLemmas
+mod CountLemmas
+mod EdgeLemmas
+mod NeighbourLemmas
+mod ChangeLemmas
+mod RowLemmas
+mod KeptLemmas
+mod EdgeListLemmas
+mod DecidingLemmas
+mod KeyLemmas
+mod BatchLemmas
+mod CleaningLemmas
+mod LaterLemmas
+mod CountingLemmas
+mod CleaningLawLemmas
+mod MergeLemmas
+mod HalfLemmas
+mod GivenLemmas

@@ -2,12 +2,14 @@
 use Rattle.std.proofs.Common.{ℕ, suc, zero, ◌+◌, ◌-◌, ◌≤◌, ◌<◌, ◌≡◌, ◌≢◌, inl, inr, Bool, true, false, ◌||◌, cond, eqb, List, [], ◌∷◌, ◌++◌, length, get_or, set, take, drop, refl, ap, sym, ◌∙◌, arith, subst}
 use Rattle.std.proofs.lemmas.Bool.{cases_eq, cases_lt}
 use Rattle.std.proofs.lemmas.Bool.Decides.{nat_tests}
-use Rattle.std.proofs.lemmas.List.{length-set, get_or-set_other, drop-set, take_more, take_more_set, ext_get_or, length-take-le, get_or-take, take_all, drop_all, append-nil}
+use Rattle.std.proofs.lemmas.List.{length-set, get_or-set_other, drop-set, take_more, take_more_set, ext_get_or, length-take-le, length-drop, get_or-take, get_or-drop, take_all, drop_all, append-nil, append_assoc}
+use Rattle.std.proofs.Math.Seq.{paste}
+use Rattle.std.proofs.lemmas.List.Edits.{length-paste, take-paste}
 use Rattle.std.proofs.lemmas.List.Elements.{filter_more}
 use Rattle.std.specs.Prelude.{filter, not}
 use Rattle.kc_graph.specs.Numbers.{RisesFrom, has_number}
 use Rattle.kc_graph.specs.Shape.{Pair}
-use Rattle.kc_graph.specs.Halves.{has_second, SecondsRise}
+use Rattle.kc_graph.specs.private.Halves.{has_second, SecondsRise}
 use Rattle.kc_graph.proofs.NumberLemmas.{rises_weaker, rises_at_least, has_number-append, has_number-push}
 
 pub rises_strictly : (low : ℕ) (xs : List ℕ) (i j : ℕ) → RisesFrom low xs → i < j → j < length xs → get_or xs i 0 < get_or xs j 0
@@ -269,3 +271,79 @@ module _ (row : List ℕ) (hs : List Pair) (items : List ℕ) (i j kept : ℕ) (
         same = λ m le lt. s.same m (omega arith) lt;
         under = under_next;
       }
+
+-- several numbers that stay, one after another
+module _ (row : List ℕ) (hs : List Pair) (items : List ℕ) (i j kept : ℕ) (up : RisesFrom 0 row) (vp : SecondsRise hs) (s : IsKeeping row hs items i j kept) where
+  -- what is left rises
+  pub keeping_rises : (a b : ℕ) → i ≤ a → a < b → b < length items → get_or items a 0 < get_or items b 0
+  keeping_rises a b le lt h =
+      let fits : b < length row = omega (arith, h, s.sized) in
+      let order : get_or row a 0 < get_or row b 0 = rises_strictly 0 row a b up lt fits in
+      omega (arith, order, s.same a le (omega arith), s.same b (omega arith) fits)
+
+  absent : (k : ℕ) → i ≤ k → k < length row → (j < length hs → get_or row k 0 < (get_or hs j (0, 0)).1) → has_second (get_or row k 0) hs ≡ false
+  absent k le lt below = second_none (get_or row k 0) hs (λ m h. elim (cases_lt m j) [
+    | inl early ↦ let b : (get_or hs m (0, 0)).1 < get_or row k 0 = s.under m k early le lt in omega arith
+    | inr late ↦
+        let a : get_or row k 0 < (get_or hs j (0, 0)).1 = below (omega arith) in
+        elim (cases_eq m j) [
+          | inl e ↦ rw e (omega arith)
+          | inr ne ↦ let b : (get_or hs j (0, 0)).1 < (get_or hs m (0, 0)).1 = seconds_rise hs vp j m (omega arith) h in omega arith
+        ]
+  ])
+
+  run_stays : (n : ℕ) → i + n ≤ length row → ((k : ℕ) → i ≤ k → k < i + n → has_second (get_or row k 0) hs ≡ false) → filter (λ x. not (has_second x hs)) (take (i + n) row) ≡ filter (λ x. not (has_second x hs)) (take i row) ++ take n (drop i items)
+  run_stays zero fits none =
+      let e : i + 0 ≡ i = omega arith in
+      ap (λ k. filter (λ x. not (has_second x hs)) (take k row)) e ∙ sym (append-nil (filter (λ x. not (has_second x hs)) (take i row)))
+  run_stays (suc n) fits none =
+      let next : i + suc n ≡ (i + n) + 1 = omega arith in
+      let one : suc n ≡ n + 1 = omega arith in
+      let here : get_or (drop i items) n 0 ≡ get_or row (i + n) 0 = get_or-drop i items n 0 ∙ s.same (i + n) (omega arith) (omega arith) in
+      let long : n < length (drop i items) = rw length-drop (omega (arith, s.sized)) in
+      ap (λ k. filter (λ x. not (has_second x hs)) (take k row)) next
+      ∙ filter_more (λ x. not (has_second x hs)) row (i + n) 0 (omega arith)
+      ∙ ap (λ b. filter (λ x. not (has_second x hs)) (take (i + n) row) ++ cond (not b) (get_or row (i + n) 0 ∷ []) []) (none (i + n) (omega arith) (omega arith))
+      ∙ ap (λ (xs : List ℕ). xs ++ get_or row (i + n) 0 ∷ []) (run_stays n (omega arith) (λ k le lt. none k le (omega arith)))
+      ∙ append_assoc (filter (λ x. not (has_second x hs)) (take i row)) (take n (drop i items)) (get_or row (i + n) 0 ∷ [])
+      ∙ ap (λ (xs : List ℕ). filter (λ x. not (has_second x hs)) (take i row) ++ xs) (ap (λ y. take n (drop i items) ++ y ∷ []) (sym here) ∙ sym (take_more (drop i items) n 0 long) ∙ ap (λ k. take k (drop i items)) (sym one))
+
+  pub keeping_run : (place : ℕ) (after : List ℕ) → i ≤ place → place ≤ length row → ((k : ℕ) → i ≤ k → k < place → j < length hs → get_or row k 0 < (get_or hs j (0, 0)).1) → after ≡ paste items kept (drop i items) (place - i) → ((m : ℕ) → kept + (place - i) ≤ m → get_or after m 0 ≡ get_or items m 0) → IsKeeping row hs after place j (kept + (place - i))
+  keeping_run place after le fits below is same = record {
+    sized = ap (λ (xs : List ℕ). length xs) is ∙ length-paste items kept (drop i items) (place - i) (omega (arith, s.front, s.sized)) (rw length-drop (omega (arith, s.sized))) ∙ s.sized;
+    front = omega (arith, s.front);
+    looked = fits;
+    passed = s.passed;
+    filtered =
+        ap (take (kept + (place - i))) is
+        ∙ take-paste items kept (drop i items) (place - i) (omega (arith, s.front, s.sized)) (rw length-drop (omega (arith, s.sized)))
+        ∙ ap (λ (xs : List ℕ). xs ++ take (place - i) (drop i items)) s.filtered
+        ∙ sym (run_stays (place - i) (omega arith) (λ k ge lt. absent k ge (omega arith) (below k ge (omega arith))))
+        ∙ ap (λ k. filter (λ x. not (has_second x hs)) (take k row)) whole;
+    same = λ m ge lt. same m (omega (arith, s.front)) ∙ s.same m (omega arith) lt;
+    under = λ m k h ge lt. s.under m k h (omega arith) lt;
+  }
+    where
+      whole : i + (place - i) ≡ place
+      whole = omega arith
+
+  -- the second number at place j is below what is left
+  pub keeping_past : j < length hs → (i < length row → (get_or hs j (0, 0)).1 < get_or row i 0) → IsKeeping row hs items i (j + 1) kept
+  keeping_past lt above = record {
+    sized = s.sized;
+    front = s.front;
+    looked = s.looked;
+    passed = omega arith;
+    filtered = s.filtered;
+    same = s.same;
+    under = λ m k h le fits. elim (cases_lt m j) [
+      | inl early ↦ s.under m k early le fits
+      | inr late ↦
+          let e : m ≡ j = omega arith in
+          let a : (get_or hs j (0, 0)).1 < get_or row i 0 = above (omega arith) in
+          rw e (elim (cases_eq i k) [
+            | inl same_k ↦ rw (sym same_k) a
+            | inr ne ↦ let b : get_or row i 0 < get_or row k 0 = rises_strictly 0 row i k up (omega arith) fits in omega arith
+          ])
+    ];
+  }

@@ -2,7 +2,8 @@
 use Rattle.std.proofs.Common.{ℕ, suc, ◌+◌, ◌≤◌, ◌<◌, ◌≡◌, ◌≢◌, Bool, true, false, ◌&&◌, List, [], ◌∷◌, length, refl, ap, sym, ◌∙◌, arith}
 use Rattle.std.proofs.lemmas.Bool.Decides.{nat_tests}
 use Rattle.std.specs.Prelude.{max, count_by}
-use Rattle.kc_graph.specs.Numbers.{RisesFrom, AllBelow, has_number, put, without, count_below}
+use Rattle.kc_graph.specs.Numbers.{RisesFrom, AllBelow, has_number, count_below}
+use Rattle.kc_graph.specs.private.Numbers.{put, without}
 use Rattle.kc_graph.specs.Shape.{Pair, EdgesFrom, neighbours_of, joined, insert_edge, remove_edge}
 use Rattle.kc_graph.proofs.NumberLemmas.{rises_from_put, below_from_put, length-put, length-rising}
 use Rattle.kc_graph.proofs.CountLemmas.{count_below_agree, count_by-rising}

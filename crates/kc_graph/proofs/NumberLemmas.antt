@@ -5,7 +5,8 @@ use Rattle.std.proofs.lemmas.Bool.Decides.{nat_tests}
 use Rattle.std.proofs.lemmas.List.{get_or_default}
 use Rattle.std.specs.Prelude.{All, IsTrue, not, ◌↔◌}
 use Rattle.std.specs.List.Sorted.{IsStrictlyIncreasing}
-use Rattle.kc_graph.specs.Numbers.{RisesFrom, AllBelow, has_number, put, without}
+use Rattle.kc_graph.specs.Numbers.{RisesFrom, AllBelow, has_number}
+use Rattle.kc_graph.specs.private.Numbers.{put, without}
 
 -- RisesFrom
 

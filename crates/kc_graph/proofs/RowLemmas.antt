@@ -3,7 +3,7 @@ use Rattle.std.proofs.Common.{ℕ, suc, zero, ◌+◌, ◌≤◌, ◌<◌, ◌�
 use Rattle.std.proofs.lemmas.Bool.Decides.{nat_tests}
 use Rattle.std.proofs.lemmas.List.Elements.{filter-append}
 use Rattle.std.specs.Prelude.{not}
-use Rattle.kc_graph.specs.Numbers.{put, without}
+use Rattle.kc_graph.specs.private.Numbers.{put, without}
 use Rattle.kc_graph.specs.Shape.{Pair, same_edge, insert_edge, remove_edge}
 use Rattle.kc_graph.specs.KeptRows.{edges_at, edges_of}
 

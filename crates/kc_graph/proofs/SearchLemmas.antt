@@ -6,7 +6,8 @@ use Rattle.std.specs.Prelude.{All, Result, Ok, Err, is_ok}
 use Rattle.std.specs.Ordering.{nat_cmp}
 use Rattle.std.specs.List.Sorted.{IsBinarySearchResult}
 use Rattle.std.proofs.lemmas.List.Sorted.{searched}
-use Rattle.kc_graph.specs.Numbers.{RisesFrom, has_number, put, without, Found}
+use Rattle.kc_graph.specs.Numbers.{RisesFrom, has_number}
+use Rattle.kc_graph.specs.private.Numbers.{put, without, Found}
 use Rattle.kc_graph.proofs.NumberLemmas.{rises_at_least, rises_in_order, has_number_at, has_number_nowhere, has_number_below, rises_from_put, rises_without, without_absent, put_present, put_last}
 
 pub found : (xs : List ℕ) (x : ℕ) (r : Result ℕ ℕ) → RisesFrom 0 xs → IsBinarySearchResult (λ y. nat_cmp y x) xs r → Found xs x r

@@ -1,7 +1,5 @@
 -- Lists of edges.
 use Rattle.std.specs.Prelude.{List, [], ◌∷◌, Option, Some, None}
-use Rattle.std.specs.declared.cmp.Ordering.{Ordering}
-use Rattle.std.specs.Ordering.{ordering_then, nat_cmp}
 use Rattle.kc_graph.specs.Shape.{Pair}
 
 -- the last edge of a list
@@ -9,7 +7,3 @@ abbrev pub last_edge : List Pair → Option Pair
 last_edge [] = None
 last_edge (e ∷ []) = Some e
 last_edge (e ∷ f ∷ es) = last_edge (f ∷ es)
-
--- the order of pairs, by the first and then the second vertex
-abbrev pub pair_cmp : Pair → Pair → Ordering
-pair_cmp e f = ordering_then (nat_cmp e.0 f.0) (nat_cmp e.1 f.1)

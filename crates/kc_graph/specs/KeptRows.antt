@@ -1,8 +1,7 @@
 -- What rows of neighbours stand for, and what the rows of a `Graph` keep.
-use Rattle.std.specs.Prelude.{ℕ, ◌≤◌, ◌<◌, ◌≡◌, nat_lt, cond, List, [], ◌∷◌, ◌++◌, length, get_or, set}
+use Rattle.std.specs.Prelude.{ℕ, ◌≤◌, ◌<◌, ◌≡◌, nat_lt, cond, List, [], ◌∷◌, ◌++◌, length, get_or}
 use Rattle.std.proofs.Common.{suc}
 use Rattle.kc_graph.specs.declared.limits.TheConstants.{MAX_VERTICES, MAX_EDGES}
-use Rattle.kc_graph.specs.Numbers.{put, without}
 use Rattle.kc_graph.specs.Shape.{Pair, EdgesFrom, neighbours_of}
 
 -- the numbers of a row above its vertex a, as edges from a
@@ -14,14 +13,6 @@ edges_at a (b ∷ bs) = cond (nat_lt a b) ((a, b) ∷ edges_at a bs) (edges_at a
 abbrev pub edges_of : ℕ → List (List ℕ) → List Pair
 edges_of a [] = []
 edges_of a (row ∷ rows) = edges_at a row ++ edges_of (suc a) rows
-
--- the rows after a and b came into each other's row
-abbrev pub rows_joined : List (List ℕ) → ℕ → ℕ → List (List ℕ)
-rows_joined rows a b = set (set rows a (put b (get_or rows a []))) b (put a (get_or rows b []))
-
--- the rows after a and b left each other's row
-abbrev pub rows_parted : List (List ℕ) → ℕ → ℕ → List (List ℕ)
-rows_parted rows a b = set (set rows a (without b (get_or rows a []))) b (without a (get_or rows b []))
 
 -- n rows that stand for `count` edges of a graph, each row its vertex's neighbours in that graph
 pub record IsKept (n : ℕ) (rows : List (List ℕ)) (count : ℕ) : Type 0 where

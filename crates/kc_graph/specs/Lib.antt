@@ -3,9 +3,8 @@ pub mod Shape
 pub mod Changes
 pub mod EdgeLists
 pub mod KeptRows
-pub mod Halves
 pub mod Cleaning
 pub mod Keys
-pub mod Later
 pub mod Laws
 pub mod CleaningLaws
+pub mod private

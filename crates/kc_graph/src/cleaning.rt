@@ -1,7 +1,8 @@
 ghost use Rattle.std.specs.Prelude.{◌≡◌, ◌<◌, ◌≤◌, [], false, length, All, IfOk, OnOk};
 ghost use Rattle.std.specs.List.{list_any};
 ghost use Rattle.kc_graph.specs.Cleaning.{IsInside, cleaned};
-ghost use Rattle.kc_graph.specs.Keys.{is_isolation, decided};
+ghost use Rattle.kc_graph.specs.private.Keys.{is_isolation};
+ghost use Rattle.kc_graph.specs.Keys.{decided};
 
 use crate::edge_lists::Edges;
 use crate::graphs::Graph;

@@ -1,6 +1,7 @@
 ghost use Rattle.std.specs.Prelude.{◌≡◌, ◌↔◌, [], ◌∷◌, ◌++◌, length, IsTrue, OnOk, OnErr};
 ghost use Rattle.std.specs.List.Sorted.{IsPermutation, IsSorted};
-ghost use Rattle.kc_graph.specs.EdgeLists.{pair_cmp, last_edge};
+ghost use Rattle.kc_graph.specs.private.EdgeLists.{pair_cmp};
+ghost use Rattle.kc_graph.specs.EdgeLists.{last_edge};
 
 use crate::edges::Edge;
 use rayon::slice::par_sort_unstable;

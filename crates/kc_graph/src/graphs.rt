@@ -181,8 +181,8 @@ impl Graph {
     ///
     /// Fails only if memory runs out, and the graph is then unchanged.
     ///
-    /// Costs a sort of one pair an edge and a merge, for which it takes memory, and for each vertex that loses neighbours one pass over those
-    /// that it had.
+    /// Costs a sort of one pair an edge and a merge, for which it takes memory, and for each vertex that loses neighbours at most one pass
+    /// over those that it had, or, where it loses few of many, a binary search for each and one move of those that stay.
     pub fn remove_all(&mut self, alloc: Global, edges: &[Edge]) -> Result<(), AllocError>
         requires ascending { EdgesFrom self.old.vertices 0 0 edges.now }
         requires present { AllPresent self.old edges.now }

@@ -1,8 +1,9 @@
 ghost use Rattle.std.specs.Prelude.{◌≡◌, ◌≢◌, ◌<◌, ◌≤◌, ◌||◌, [], ◌∷◌, ◌++◌, length, filter, map, cond, All, IfOk, OnOk};
 ghost use Rattle.kc_graph.specs.Shape.{IsGraph, same_edge, neighbours_of};
 ghost use Rattle.kc_graph.specs.Cleaning.{IsInside, holds, pair_of};
-ghost use Rattle.kc_graph.specs.Keys.{edge_of, decided, repeated};
-ghost use Rattle.kc_graph.specs.Later.{is_noted, isolated, untouched_at, ComesTo};
+ghost use Rattle.kc_graph.specs.Keys.{edge_of, decided};
+ghost use Rattle.kc_graph.specs.private.Keys.{repeated};
+ghost use Rattle.kc_graph.specs.private.Later.{is_noted, isolated, untouched_at, ComesTo};
 
 use crate::cleaning::Cleaned;
 use crate::edge_lists::Edges;

@@ -1,8 +1,8 @@
 ghost use Rattle.std.specs.Prelude.{◌≡◌, ℕ, ◌<◌, [], length, true, false, slice_index_or, OnOk, OnErr};
 ghost use Rattle.kc_graph.specs.Numbers.{has_number};
 ghost use Rattle.kc_graph.specs.Shape.{has_edge};
-ghost use Rattle.kc_graph.specs.KeptRows.{rows_joined, rows_parted};
-ghost use Rattle.kc_graph.specs.Halves.{AreGiven, AreGivenSome, AreTaken};
+ghost use Rattle.kc_graph.specs.private.KeptRows.{rows_joined, rows_parted};
+ghost use Rattle.kc_graph.specs.private.Halves.{AreGiven, AreGivenSome, AreTaken};
 
 use crate::halves::{Half, run_len};
 use crate::rows::Row;

@@ -1,8 +1,8 @@
-// Ascending numbers that come into an ascending list, or leave it, by one pass.
+// Ascending numbers that come into an ascending list, or leave it, by one pass, or where few leave a long list by a search for each.
 
-ghost use Rattle.std.specs.Prelude.{◌≡◌, ℕ, ◌+◌, ◌≤◌, ◌<◌, ◌++◌, ◌||◌, not, length, take, drop, filter, slice_index_or};
+ghost use Rattle.std.specs.Prelude.{◌≡◌, ℕ, ◌+◌, ◌≤◌, ◌<◌, ◌++◌, ◌||◌, not, length, take, drop, filter, slice_index, slice_index_or};
 ghost use Rattle.kc_graph.specs.Numbers.{has_number, RisesFrom};
-ghost use Rattle.kc_graph.specs.Halves.{has_second, SecondsRise};
+ghost use Rattle.kc_graph.specs.private.Halves.{has_second, SecondsRise};
 
 use crate::halves::Half;
 
@@ -64,8 +64,8 @@ fn first_from(outgoing: &[Half], j: usize, x: u32) -> usize
     j
 }
 
-/// Moves the numbers that stay to the front, in their order, and says how many they are.
-pub fn keep_others(items: &mut Vec<u32>, outgoing: &[Half]) -> usize
+// As `keep_others` says, number by number.
+fn keep_each(items: &mut Vec<u32>, outgoing: &[Half]) -> usize
     requires rises { RisesFrom 0 items.old.items }
     requires outgoing { SecondsRise outgoing.now }
     ensures within { result ≤ length items.new.items }
@@ -82,4 +82,67 @@ pub fn keep_others(items: &mut Vec<u32>, outgoing: &[Half]) -> usize
         }
     }
     kept
+}
+
+// The first place of an ascending list, from one place on, whose number isn't below x.
+fn place_from(items: &[u32], from: usize, x: u32) -> usize
+    requires inside { from ≤ length items.now }
+    requires rises { (j k : ℕ) → from ≤ j → j < k → k < length items.now → slice_index items.now j < slice_index items.now k }
+    ensures from { from ≤ result }
+    ensures within { result ≤ length items.now }
+    ensures below { (k : ℕ) → from ≤ k → k < result → slice_index items.now k < x }
+    ensures here { result < length items.now → x ≤ slice_index items.now result }
+{
+    let mut low = from;
+    let mut high = items.len();
+    while low < high {
+        let middle = low + (high - low) / 2;
+        if items[middle] < x {
+            low = middle + 1;
+        } else {
+            high = middle;
+        }
+    }
+    low
+}
+
+// As `keep_others` says, by a search for each number that leaves, and a move of those between two of them at once.
+fn keep_runs(items: &mut Vec<u32>, outgoing: &[Half]) -> usize
+    requires rises { RisesFrom 0 items.old.items }
+    requires outgoing { SecondsRise outgoing.now }
+    ensures within { result ≤ length items.new.items }
+    ensures kept { take result items.new.items ≡ filter (λ x. not (has_second x outgoing.now)) items.old.items }
+{
+    let mut kept = 0;
+    let mut from = 0;
+    for j in 0..outgoing.len() {
+        let x = outgoing[j].other();
+        let place = place_from(items, from, x);
+        items.copy_within(from..place, kept);
+        kept += place - from;
+        from = place;
+        if from < items.len() && items[from] == x {
+            from += 1;
+        }
+    }
+    let end = items.len();
+    items.copy_within(from..end, kept);
+    kept + (end - from)
+}
+
+// From so many numbers a number that leaves on, a search is less than a look at each of them.
+const LEAST_RUN: usize = 16;
+
+/// Moves the numbers that stay to the front, in their order, and says how many they are.
+pub fn keep_others(items: &mut Vec<u32>, outgoing: &[Half]) -> usize
+    requires rises { RisesFrom 0 items.old.items }
+    requires outgoing { SecondsRise outgoing.now }
+    ensures within { result ≤ length items.new.items }
+    ensures kept { take result items.new.items ≡ filter (λ x. not (has_second x outgoing.now)) items.old.items }
+{
+    if outgoing.len() <= items.len() / LEAST_RUN {
+        keep_runs(items, outgoing)
+    } else {
+        keep_each(items, outgoing)
+    }
 }

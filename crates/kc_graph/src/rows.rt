@@ -1,6 +1,7 @@
 ghost use Rattle.std.specs.Prelude.{◌≡◌, ℕ, ◌<◌, ◌↔◌, ◌||◌, not, true, [], List, IsTrue, OnOk, OnErr, All, filter};
-ghost use Rattle.kc_graph.specs.Numbers.{has_number, put, without, RisesFrom, Found};
-ghost use Rattle.kc_graph.specs.Halves.{has_second, SecondsRise};
+ghost use Rattle.kc_graph.specs.Numbers.{has_number, RisesFrom};
+ghost use Rattle.kc_graph.specs.private.Numbers.{put, without, Found};
+ghost use Rattle.kc_graph.specs.private.Halves.{has_second, SecondsRise};
 
 use crate::halves::Half;
 use crate::merging::{close, keep_others, merge_back};
@@ -75,6 +76,7 @@ impl Row {
     /// search and no move.
     pub fn insert(&mut self, x: u32) -> Result<(), AllocError>
         ensures ok { OnOk result (self.new ≡ put x self.old) }
+        ensures rises { RisesFrom 0 self.new }
         ensures err { OnErr result (self.new ≡ self.old) }
     {
         if ends_below(&self.items, x) {
@@ -92,16 +94,30 @@ impl Row {
 
     /// Takes x out; a row without x stays as it is.
     pub fn remove(&mut self, x: u32)
-        ensures { self.new ≡ without x self.old }
+        ensures value { self.new ≡ without x self.old }
+        ensures rises { RisesFrom 0 self.new }
     {
         if let Ok(place) = place_of(&self.items, x) {
             let _ = self.items.remove(place);
         }
     }
 
-    /// Puts the other ends of the halves at their places, by one pass from the greatest down; those that the row has stay as they
-    /// are. After a refusal the row is as before.
+    /// Puts the other ends of the halves at their places, a single one as `insert` does, and several by one pass from the greatest
+    /// down; those that the row has stay as they are. After a refusal the row is as before.
     pub fn insert_all(&mut self, incoming: &[Half]) -> Result<(), AllocError>
+        requires { SecondsRise incoming.now }
+        ensures ok { OnOk result ((x : ℕ) → has_number x self.new ≡ has_number x self.old || has_second x incoming.now) }
+        ensures rises { RisesFrom 0 self.new }
+        ensures err { OnErr result (self.new ≡ self.old) }
+    {
+        match incoming {
+            [one] => self.insert(one.other()),
+            _ => self.merge_in(incoming),
+        }
+    }
+
+    // As `insert_all` says, by one pass from the greatest down.
+    fn merge_in(&mut self, incoming: &[Half]) -> Result<(), AllocError>
         requires { SecondsRise incoming.now }
         ensures ok { OnOk result ((x : ℕ) → has_number x self.new ≡ has_number x self.old || has_second x incoming.now) }
         ensures rises { RisesFrom 0 self.new }
@@ -114,8 +130,21 @@ impl Row {
         Ok(())
     }
 
-    /// Takes the other ends of the halves out, by one pass.
+    /// Takes the other ends of the halves out, a single one as `remove` does, several by one pass, and few of a long row by a search for
+    /// each.
     pub fn remove_all(&mut self, outgoing: &[Half])
+        requires { SecondsRise outgoing.now }
+        ensures value { self.new ≡ filter (λ x. not (has_second x outgoing.now)) self.old }
+        ensures rises { RisesFrom 0 self.new }
+    {
+        match outgoing {
+            [one] => self.remove(one.other()),
+            _ => self.keep_others(outgoing),
+        }
+    }
+
+    // As `remove_all` says, in place and in order.
+    fn keep_others(&mut self, outgoing: &[Half])
         requires { SecondsRise outgoing.now }
         ensures value { self.new ≡ filter (λ x. not (has_second x outgoing.now)) self.old }
         ensures rises { RisesFrom 0 self.new }

@@ -1,6 +1,6 @@
 ghost use Rattle.std.specs.Prelude.{◌≡◌, ◌||◌, false, true, [], IfOk, OnOk};
 ghost use Rattle.kc_graph.specs.Cleaning.{holds};
-ghost use Rattle.kc_graph.specs.Later.{is_noted};
+ghost use Rattle.kc_graph.specs.private.Later.{is_noted};
 ghost use Rattle.kc_graph.specs.Shape.{same_edge};
 
 use crate::edges::Edge;

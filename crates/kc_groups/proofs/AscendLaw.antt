@@ -4,7 +4,7 @@ use Rattle.std.specs.List.{All}
 use Rattle.std.proofs.lemmas.List.Elements.{All-map, All-cons}
 use Rattle.kc_graph.specs.Numbers.{RisesFrom}
 use Rattle.kc_graph.specs.Shape.{GraphShape, Pair, EdgesFrom}
-use Rattle.kc_graph.proofs.EdgeListLemmas.{edges_from_filter}
+use Rattle.kc_graph.proofs.lemmas.Edges.{edges_from_filter}
 use Rattle.kc_history.specs.declared.entries.Entry.{Entry}
 use Rattle.kc_groups.specs.declared.plans.PhasePlan.{PhasePlan}
 use Rattle.kc_groups.specs.Entries.{labels_below, group_entry, quiet_entry, ends_at, is_quiet, AreEntries}

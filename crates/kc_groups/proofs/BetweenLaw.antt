@@ -5,9 +5,8 @@ use Rattle.std.proofs.lemmas.Bool.Decides.{nat_tests}
 use Rattle.std.proofs.lemmas.List.{get_or_past, take-map}
 use Rattle.kc_graph.specs.Numbers.{AllBelow, has_number}
 use Rattle.kc_graph.specs.Shape.{GraphShape, Pair, IsGraph, has_edge, joined, with_edges, without_edges}
-use Rattle.kc_graph.proofs.ChangeLemmas.{vertices-without_edges, has_edge-with_edges, has_edge-without_edges, is_graph-without_edges, inside_from_ascending}
-use Rattle.kc_graph.proofs.EdgeLemmas.{joined_inside}
-use Rattle.kc_graph.proofs.EdgeListLemmas.{has_edge-filter}
+use Rattle.kc_graph.proofs.lemmas.Changes.{vertices-without_edges, has_edge-with_edges, has_edge-without_edges, removals_keep_graph, inside_from_ascending}
+use Rattle.kc_graph.proofs.lemmas.Edges.{joined_inside, has_edge-filter}
 use Rattle.kc_levels.specs.LevelList.{IsBelow}
 use Rattle.kc_levels.specs.Between.{IsBetween}
 use Rattle.kc_levels.specs.Moved.{is_moved}
@@ -15,7 +14,7 @@ use Rattle.kc_history.specs.declared.entries.Entry.{Entry}
 use Rattle.kc_history.specs.Points.{graph_after, levels_after}
 use Rattle.kc_groups.specs.declared.plans.PhasePlan.{PhasePlan}
 use Rattle.kc_groups.specs.Links.{AreLabels}
-use Rattle.kc_groups.specs.Labels.{AreJoined, AreRooted}
+use Rattle.kc_groups.specs.private.Labels.{AreJoined, AreRooted}
 use Rattle.kc_groups.specs.Entries.{labels_below, group_entry, quiet_entry, ends_at, is_quiet, entries_of, AreEntries}
 use Rattle.kc_groups.specs.Laws.{IsPhase, PointsLieBetween}
 use Rattle.kc_groups.proofs.LabelLaw.{labels_joined}
@@ -234,7 +233,7 @@ module _ (phase : ℕ) (edges : List Pair) (x y labels : List ℕ) (g : GraphSha
           | inr none ↦ led.edges e ∙ ap (λ b. not b && has_edge e g.edges) none ∙ and_second (not (has_edge e edges)) (has_edge e g.edges) (sym (left e) ∙ has)
         ] in
         record {
-          lower = is_graph-without_edges g edges is.graph;
+          lower = removals_keep_graph g edges is.graph;
           upper = is.graph;
           middle = led.graph;
           same_lower = vertices-without_edges g edges ∙ sym led.vertices;
@@ -287,7 +286,7 @@ insertion_first edges x y g before is graph same new low = record {
 
 deletion_first : (edges : List Pair) (x y : List ℕ) (g : GraphShape) → IsPhase edges x y g → IsBelow g.vertices y x → IsBetween (without_edges g edges) g g y x x
 deletion_first edges x y g is low = record {
-  lower = is_graph-without_edges g edges is.graph;
+  lower = removals_keep_graph g edges is.graph;
   upper = is.graph;
   middle = is.graph;
   same_lower = vertices-without_edges g edges;

@@ -9,9 +9,9 @@ use Rattle.kc_graph.specs.Shape.{Pair}
 use Rattle.kc_levels.specs.Moved.{is_moved, move_of, pushed_if, moved_below, moves_between}
 use Rattle.kc_levels.specs.declared.moves.Move.{Move}
 use Rattle.kc_history.specs.declared.entries.Entry.{Entry}
-use Rattle.kc_groups.specs.Labels.{AreRooted}
+use Rattle.kc_groups.specs.private.Labels.{AreRooted}
 use Rattle.kc_groups.specs.Entries.{labels_below, moves_below, group_entry, ends_at}
-use Rattle.kc_groups.specs.Dealing.{empty_entry, with_moves, with_edges, ArePlaces, AreDealt, IsPlacedEdge, edge_place, is_unplaced}
+use Rattle.kc_groups.specs.private.Dealing.{empty_entry, with_moves, with_edges, ArePlaces, AreDealt, IsPlacedEdge, edge_place, is_unplaced}
 use Rattle.kc_groups.proofs.EndLemmas.{IsAt, IsJoined, ends_yes, ends_no}
 
 -- Places

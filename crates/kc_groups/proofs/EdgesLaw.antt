@@ -7,13 +7,13 @@ use Rattle.std.proofs.lemmas.List.Elements.{All-head, All-tail}
 use Rattle.kc_graph.specs.Numbers.{RisesFrom, AllBelow, has_number}
 use Rattle.kc_graph.specs.Shape.{GraphShape, Pair, has_edge, same_edge}
 use Rattle.kc_graph.specs.Changes.{AllPresent}
-use Rattle.kc_graph.proofs.CountLemmas.{count_by-cons}
-use Rattle.kc_graph.proofs.EdgeListLemmas.{has_edge-filter, edge_is}
+use Rattle.kc_graph.proofs.lemmas.Counts.{count_by-cons}
+use Rattle.kc_graph.proofs.lemmas.Edges.{has_edge-filter, edge_is}
 use Rattle.kc_levels.specs.Moved.{is_moved}
 use Rattle.kc_history.specs.declared.entries.Entry.{Entry}
 use Rattle.kc_groups.specs.Entries.{labels_below, group_entry, quiet_entry, ends_at, is_quiet}
 use Rattle.kc_groups.specs.Laws.{EdgesAreDealtOnce}
-use Rattle.kc_groups.specs.Labels.{AreRooted}
+use Rattle.kc_groups.specs.private.Labels.{AreRooted}
 use Rattle.kc_groups.proofs.LabelLaw.{labels_joined}
 use Rattle.kc_groups.proofs.ListLemmas.{labels_rise, has_label}
 use Rattle.kc_groups.proofs.EndLemmas.{IsJoined, edge_label, edge_joined, rooted, is_at, ends_yes, ends_no, label_root, label_none}

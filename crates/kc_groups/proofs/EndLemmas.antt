@@ -2,10 +2,10 @@
 use Rattle.std.proofs.Common.{ℕ, ◌≤◌, ◌<◌, ◌≡◌, ◌≢◌, ◌⊎◌, inl, inr, Bool, true, false, cond, ◌&&◌, not, List, get_or, refl, ◌∙◌, arith}
 use Rattle.std.proofs.lemmas.Bool.Decides.{nat_tests}
 use Rattle.kc_graph.specs.Shape.{GraphShape, Pair, IsGraph, has_edge}
-use Rattle.kc_graph.proofs.EdgeLemmas.{edge_inside, joined_in_order}
+use Rattle.kc_graph.proofs.lemmas.Edges.{edge_inside, joined_in_order}
 use Rattle.kc_levels.specs.Moved.{is_moved}
 use Rattle.kc_groups.specs.Links.{AreLabels}
-use Rattle.kc_groups.specs.Labels.{AreJoined, AreRooted}
+use Rattle.kc_groups.specs.private.Labels.{AreJoined, AreRooted}
 use Rattle.kc_groups.specs.Entries.{ends_at, is_quiet}
 
 -- the ends of an edge have one label where both move

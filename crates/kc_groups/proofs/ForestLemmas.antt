@@ -3,7 +3,7 @@ use Rattle.std.proofs.Common.{ℕ, ◌≤◌, ◌<◌, ◌≡◌, ◌≢◌, ◌
 use Rattle.std.proofs.lemmas.Bool.{cases_eq, cases_lt, true≢false}
 use Rattle.std.proofs.lemmas.Bool.Decides.{nat_tests}
 use Rattle.std.proofs.lemmas.List.{length-set, length-map, get_or-map, get_or-set_same, get_or-set_other}
-use Rattle.kc_groups.specs.Forest.{IsForest, merged, AreGathered}
+use Rattle.kc_groups.specs.private.Forest.{IsForest, merged, AreGathered}
 
 -- a place that isn't a root points to where its parent does
 pub forest_up : (parents roots : List ℕ) (i : ℕ) → IsForest parents roots → i < length parents → IsForest (set parents i (get_or parents (get_or parents i 0) 0)) roots

@@ -5,14 +5,14 @@ use Rattle.std.proofs.lemmas.Bool.Decides.{nat_tests}
 use Rattle.std.proofs.lemmas.Grind.{same_number_lists}
 use Rattle.kc_graph.specs.Numbers.{RisesFrom, AllBelow, has_number}
 use Rattle.kc_graph.specs.Shape.{GraphShape, Pair, IsGraph, joined, has_edge, with_edges}
-use Rattle.kc_graph.proofs.NumberLemmas.{all_from_below, has_number_at, has_number_index, rises_in_order}
-use Rattle.kc_graph.proofs.NeighbourLemmas.{has_number-neighbours_of}
-use Rattle.kc_graph.proofs.EdgeLemmas.{joined_comm}
-use Rattle.kc_graph.proofs.ChangeLemmas.{vertices-with_edges, has_edge-with_edges}
+use Rattle.kc_graph.proofs.lemmas.Numbers.{all_from_below, has_number_at, has_number_index, rises_in_order}
+use Rattle.kc_graph.proofs.lemmas.Neighbours.{has_number-neighbours_of}
+use Rattle.kc_graph.proofs.lemmas.Edges.{joined_comm}
+use Rattle.kc_graph.proofs.lemmas.Changes.{vertices-with_edges, has_edge-with_edges}
 use Rattle.kc_groups.specs.Links.{Path, AreLabels}
-use Rattle.kc_groups.specs.Labels.{AreJoined}
-use Rattle.kc_groups.specs.Forest.{AreGathered}
-use Rattle.kc_groups.specs.Gathering.{in_rows, in_edges, AreLabelled}
+use Rattle.kc_groups.specs.private.Labels.{AreJoined}
+use Rattle.kc_groups.specs.private.Forest.{AreGathered}
+use Rattle.kc_groups.specs.private.Gathering.{in_rows, in_edges, AreLabelled}
 use Rattle.kc_groups.proofs.LabelLaw.{labels_exist, labels_joined}
 
 -- the links of the rows and of the phase's edges

@@ -6,10 +6,10 @@ use Rattle.std.proofs.lemmas.List.Sums.{sum_by-set}
 use Rattle.std.proofs.lemmas.Grind.{same_number_lists}
 use borrow.Author.Count.{below_more}
 use Rattle.kc_graph.specs.Shape.{GraphShape, IsGraph, joined}
-use Rattle.kc_graph.proofs.EdgeLemmas.{joined_comm, joined_inside}
+use Rattle.kc_graph.proofs.lemmas.Edges.{joined_comm, joined_inside}
 use Rattle.kc_levels.specs.Moved.{is_moved}
 use Rattle.kc_groups.specs.Links.{AreLinked, Path, IsLabel, AreLabels}
-use Rattle.kc_groups.specs.Labels.{IsMarked, AreJoined}
+use Rattle.kc_groups.specs.private.Labels.{IsMarked, AreJoined}
 use Rattle.kc_groups.specs.Laws.{LabelsAreOne}
 
 linked_back : (g : GraphShape) (moved : ℕ → Bool) (v w : ℕ) → AreLinked g moved v w → AreLinked g moved w v

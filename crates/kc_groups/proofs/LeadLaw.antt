@@ -9,11 +9,11 @@ use Rattle.std.proofs.lemmas.List.{get_or-set_other, length-set, get_or-map, len
 use Rattle.std.proofs.lemmas.List.Elements.{All-map, All-head, All-tail, All-filter}
 use Rattle.kc_graph.specs.Numbers.{has_number}
 use Rattle.kc_graph.specs.Shape.{GraphShape, Pair, IsGraph, has_edge, with_edges, without_edges}
-use Rattle.kc_graph.proofs.ChangeLemmas.{vertices-with_edges, vertices-without_edges, has_edge-with_edges, has_edge-without_edges, is_graph-with_edges, is_graph-without_edges, inside_from_ascending}
-use Rattle.kc_graph.proofs.EdgeLemmas.{same_graph}
-use Rattle.kc_graph.proofs.NumberLemmas.{has_number_at, has_number_nowhere}
+use Rattle.kc_graph.proofs.lemmas.Changes.{vertices-with_edges, vertices-without_edges, has_edge-with_edges, has_edge-without_edges, insertions_keep_graph, removals_keep_graph, inside_from_ascending}
+use Rattle.kc_graph.proofs.lemmas.Edges.{graph_is_its_edges}
+use Rattle.kc_graph.proofs.lemmas.Numbers.{has_number_at, has_number_nowhere}
 use Rattle.kc_levels.specs.Moved.{is_moved, move_of}
-use Rattle.kc_levels.proofs.Places.{changed}
+use Rattle.kc_levels.proofs.lemmas.Writes.{changed}
 use Rattle.kc_levels.specs.declared.moves.Move.{Move}
 use Rattle.kc_history.specs.declared.entries.Entry.{Entry}
 use Rattle.kc_history.specs.Points.{with_moves, with_entry, graph_after, levels_after}
@@ -136,7 +136,7 @@ added n h [] graph same all = record { graph = graph; vertices = same; edges = �
 added n h (t ∷ ts) graph same all =
     let next : with_entry h t ≡ with_edges h t.edges = ap (λ (b : Bool). cond b (with_edges h t.edges) (without_edges h t.edges)) all.0 in
     let inside : All (λ (e : Pair). (e.0 < e.1) × (e.1 < h.vertices)) t.edges = rw same all.1 in
-    let rest = added n (with_edges h t.edges) ts (is_graph-with_edges h t.edges graph inside) (vertices-with_edges h t.edges ∙ same) all.2 in
+    let rest = added n (with_edges h t.edges) ts (insertions_keep_graph h t.edges graph inside) (vertices-with_edges h t.edges ∙ same) all.2 in
     rw next
     (record {
       graph = rest.graph;
@@ -154,7 +154,7 @@ pub removed : (n : ℕ) (h : GraphShape) (ts : List Entry) → IsGraph h → h.v
 removed n h [] graph same all = record { graph = graph; vertices = same; edges = λ e. refl }
 removed n h (t ∷ ts) graph same all =
     let next : with_entry h t ≡ without_edges h t.edges = ap (λ (b : Bool). cond b (with_edges h t.edges) (without_edges h t.edges)) all.0 in
-    let rest = removed n (without_edges h t.edges) ts (is_graph-without_edges h t.edges graph) (vertices-without_edges h t.edges ∙ same) all.2 in
+    let rest = removed n (without_edges h t.edges) ts (removals_keep_graph h t.edges graph) (vertices-without_edges h t.edges ∙ same) all.2 in
     rw next
     (record {
       graph = rest.graph;
@@ -195,11 +195,11 @@ lead_graph phase add edges x y g before plan is a graph same = go add plan a
     go : (b : Bool) (p : PhasePlan) → AreEntries phase b edges x y g p → graph_after before (p.quiet ∷ p.groups) ≡ cond b (with_edges before edges) (without_edges before edges)
     go true p c =
         let led = added g.vertices before (p.quiet ∷ p.groups) graph same (toward true p c) in
-        same_graph (graph_after before (p.quiet ∷ p.groups)) (with_edges before edges) led.graph (is_graph-with_edges before edges graph here) (led.vertices ∙ sym (vertices-with_edges before edges ∙ same))
+        graph_is_its_edges (graph_after before (p.quiet ∷ p.groups)) (with_edges before edges) led.graph (insertions_keep_graph before edges graph here) (led.vertices ∙ sym (vertices-with_edges before edges ∙ same))
         (λ e. led.edges e ∙ ap (λ (t : Bool). t || has_edge e before.edges) (any true p e c) ∙ sym (has_edge-with_edges e before edges))
     go false p c =
         let led = removed g.vertices before (p.quiet ∷ p.groups) graph same (toward false p c) in
-        same_graph (graph_after before (p.quiet ∷ p.groups)) (without_edges before edges) led.graph (is_graph-without_edges before edges graph) (led.vertices ∙ sym (vertices-without_edges before edges ∙ same))
+        graph_is_its_edges (graph_after before (p.quiet ∷ p.groups)) (without_edges before edges) led.graph (removals_keep_graph before edges graph) (led.vertices ∙ sym (vertices-without_edges before edges ∙ same))
         (λ e. led.edges e ∙ ap (λ (t : Bool). not t && has_edge e before.edges) (any false p e c) ∙ sym (has_edge-without_edges e before edges))
 
 pub entries_lead_over : EntriesLeadOver

@@ -1,18 +1,19 @@
-pub mod ForestLemmas
-pub mod MovedLemmas
-pub mod EndLemmas
-pub mod DealingLemmas
-pub mod WorkLemmas
-pub mod LinkLemmas
-pub mod GroupLemmas
-pub mod LabelLaw
-pub mod ListLemmas
-pub mod PlanLaw
-pub mod MovesLaw
-pub mod EdgesLaw
-pub mod PlanLemmas
-pub mod LeadLaw
-pub mod BetweenLaw
-pub mod AscendLaw
-pub mod SizeLaw
-pub mod PhaseLaw
+pub mod lemmas
+mod ForestLemmas
+mod MovedLemmas
+mod EndLemmas
+mod DealingLemmas
+mod WorkLemmas
+mod LinkLemmas
+mod GroupLemmas
+mod LabelLaw
+mod ListLemmas
+mod PlanLaw
+mod MovesLaw
+mod EdgesLaw
+mod PlanLemmas
+mod LeadLaw
+mod BetweenLaw
+mod AscendLaw
+mod SizeLaw
+mod PhaseLaw

@@ -5,9 +5,9 @@ use Rattle.std.proofs.lemmas.Bool.{cases_eq, cases_lt, cases_Bool}
 use Rattle.std.proofs.lemmas.Bool.Decides.{nat_tests}
 use Rattle.kc_graph.specs.Numbers.{has_number}
 use Rattle.kc_graph.specs.Shape.{GraphShape, Pair, neighbours_of, has_edge, same_edge}
-use Rattle.kc_graph.proofs.NumberLemmas.{has_number-push, has_number_index}
-use Rattle.kc_groups.specs.Forest.{IsForest, merged, AreGathered}
-use Rattle.kc_groups.specs.Gathering.{AreNumbered, is_near, in_rows, in_edges}
+use Rattle.kc_graph.proofs.lemmas.Numbers.{has_number-push, has_number_index}
+use Rattle.kc_groups.specs.private.Forest.{IsForest, merged, AreGathered}
+use Rattle.kc_groups.specs.private.Gathering.{AreNumbered, is_near, in_rows, in_edges}
 use Rattle.kc_groups.proofs.ForestLemmas.{gathered_same, gathered_more}
 use Rattle.kc_groups.proofs.ListLemmas.{rises_apart}
 

@@ -6,10 +6,10 @@ use Rattle.std.proofs.lemmas.Bool.Decides.{nat_tests}
 use Rattle.std.proofs.lemmas.List.{map_push}
 use Rattle.std.proofs.lemmas.List.Elements.{Contains-push, Contains-append_left}
 use Rattle.kc_graph.specs.Numbers.{RisesFrom, AllBelow, has_number}
-use Rattle.kc_graph.proofs.NumberLemmas.{rises_at_least, has_number-push}
+use Rattle.kc_graph.proofs.lemmas.Numbers.{rises_at_least, has_number-push}
 use Rattle.kc_levels.specs.declared.moves.Move.{Move}
 use Rattle.kc_levels.specs.Moved.{pushed_if, move_of}
-use Rattle.kc_levels.proofs.MovesBetween.{rises_push, below_push, below_next, all_pushed}
+use Rattle.kc_levels.proofs.lemmas.Moves.{rises_push, below_push, below_next, all_pushed}
 use Rattle.kc_groups.specs.Entries.{labels_below, moves_below}
 
 pub labels_rise : (labels : List ℕ) (k : ℕ) → RisesFrom 0 (labels_below labels k) × AllBelow k (labels_below labels k)

@@ -6,11 +6,12 @@ use Rattle.std.proofs.lemmas.Bool.Decides.{nat_tests, Decides-eqb}
 use Rattle.std.proofs.lemmas.Slice.Eq.{slice_eq-Decides}
 use Rattle.std.proofs.lemmas.List.{get_or-take, get_or-drop, length_push, get_or_push, get_or_append_left, get_or_past, get_or_default}
 use Rattle.kc_levels.specs.Moved.{is_moved, pushed_if, moved_below}
-use Rattle.kc_levels.proofs.MovesBetween.{moved_all, moved_below_is}
+use Rattle.kc_levels.proofs.lemmas.Moves.{moved_all, moved_below_is}
 use Rattle.kc_graph.specs.Numbers.{has_number}
-use Rattle.kc_graph.proofs.NumberLemmas.{has_number_index, all_from_below}
+use Rattle.kc_graph.proofs.lemmas.Numbers.{has_number_index, all_from_below}
 use Rattle.kc_levels.specs.declared.moves.Move.{Move}
-use Rattle.kc_groups.specs.Gathering.{vertices, is_mover, AreInOrder}
+use Rattle.kc_groups.specs.Gathering.{vertices, AreInOrder}
+use Rattle.kc_groups.specs.private.Gathering.{is_mover}
 use Rattle.kc_groups.proofs.WorkLemmas.{no_move, vertex_at, many}
 
 -- nothing is listed over vertices that stay

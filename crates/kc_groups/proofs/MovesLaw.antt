@@ -4,7 +4,7 @@ use Rattle.std.specs.List.{All, Contains}
 use Rattle.std.proofs.lemmas.List.{length-map, get_or-map}
 use Rattle.std.proofs.lemmas.List.Elements.{All-map}
 use Rattle.kc_graph.specs.Shape.{GraphShape, Pair, IsGraph}
-use Rattle.kc_graph.proofs.NumberLemmas.{has_number_index}
+use Rattle.kc_graph.proofs.lemmas.Numbers.{has_number_index}
 use Rattle.kc_levels.specs.Moved.{is_moved, move_of}
 use Rattle.kc_history.specs.declared.entries.Entry.{Entry}
 use Rattle.kc_groups.specs.declared.plans.PhasePlan.{PhasePlan}

@@ -5,10 +5,10 @@ use Rattle.std.proofs.lemmas.Bool.Decides.{nat_tests}
 use Rattle.std.proofs.lemmas.List.Elements.{All-cons, All-nil}
 use Rattle.kc_graph.specs.Shape.{GraphShape, Pair, EdgesFrom, IsGraph, same_edge, has_edge, with_edges, without_edges}
 use Rattle.kc_graph.specs.Changes.{AllPresent}
-use Rattle.kc_graph.proofs.ChangeLemmas.{vertices-with_edges, vertices-without_edges, has_edge-with_edges, is_graph-with_edges, is_graph-without_edges, inside_from_ascending}
+use Rattle.kc_graph.proofs.lemmas.Changes.{vertices-with_edges, vertices-without_edges, has_edge-with_edges, insertions_keep_graph, removals_keep_graph, inside_from_ascending}
 use Rattle.kc_levels.specs.declared.profile.Profile.{Profile}
 use Rattle.kc_history.specs.Points.{graph_after, levels_after}
-use Rattle.kc_history.proofs.PointLemmas.{graph_after-append, levels_after-append}
+use Rattle.kc_history.proofs.lemmas.Points.{graph_after-append, levels_after-append}
 use Rattle.kc_groups.specs.declared.plans.PhasePlan.{PhasePlan}
 use Rattle.kc_groups.specs.Entries.{entries_of, entries_in}
 use Rattle.kc_groups.specs.Phases.{AreChangeable, graph_after_phase, graph_with_all, AreLevelsAfterPhase, LeadsTo, LeadOn}
@@ -39,12 +39,12 @@ pub record AreKept (g h : GraphShape) (y : List ℕ) : Type 0 where
 
 kept_as : (p : Profile) (add : Bool) (g h : GraphShape) (x y : List ℕ) (es : List Pair) → IsGraph g → EdgesFrom g.vertices 0 0 es → h ≡ graph_after_phase add g es → AreLevelsAfterPhase p add g es x y → AreKept g h y
 kept_as p true g h x y es graph up is moved = rw is (record {
-  graph = is_graph-with_edges g es graph (inside_from_ascending g.vertices 0 0 es up);
+  graph = insertions_keep_graph g es graph (inside_from_ascending g.vertices 0 0 es up);
   vertices = vertices-with_edges g es;
   sized = moved.raisable.sized;
 })
 kept_as p false g h x y es graph up is moved = rw is (record {
-  graph = is_graph-without_edges g es graph;
+  graph = removals_keep_graph g es graph;
   vertices = vertices-without_edges g es;
   sized = moved.lowerable.sized;
 })
@@ -56,7 +56,7 @@ phase_as : (add : Bool) (g h : GraphShape) (x y : List ℕ) (es : List Pair) →
 phase_as true g h x y es graph sized up ready k =
     let same = vertices-with_edges g es in
     record {
-      graph = is_graph-with_edges g es graph (inside_from_ascending g.vertices 0 0 es up);
+      graph = insertions_keep_graph g es graph (inside_from_ascending g.vertices 0 0 es up);
       before = sized ∙ sym same;
       after = k.sized ∙ k.vertices ∙ sym same;
       ascending = rw same up;

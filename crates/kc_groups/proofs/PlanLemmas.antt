@@ -8,19 +8,20 @@ use Rattle.std.proofs.lemmas.List.{length-map, get_or-map, get_or_past}
 use Rattle.kc_graph.specs.Numbers.{has_number}
 use Rattle.kc_graph.specs.Shape.{GraphShape, Pair, IsGraph, EdgesFrom, has_edge, with_edge, with_edges}
 use Rattle.kc_graph.specs.Changes.{AllPresent}
-use Rattle.kc_graph.proofs.EdgeLemmas.{insert_edge_present}
-use Rattle.kc_graph.proofs.NumberLemmas.{has_number_at, all_from_below}
-use Rattle.kc_graph.proofs.ChangeLemmas.{vertices-with_edges, has_edge-with_edges, is_graph-with_edges, inside_from_ascending}
+use Rattle.kc_graph.proofs.lemmas.Edges.{insert_edge_present}
+use Rattle.kc_graph.proofs.lemmas.Numbers.{has_number_at, all_from_below}
+use Rattle.kc_graph.proofs.lemmas.Changes.{vertices-with_edges, has_edge-with_edges, insertions_keep_graph, inside_from_ascending}
 use Rattle.kc_levels.specs.declared.moves.Move.{Move}
 use Rattle.kc_levels.specs.Moved.{is_moved, moved_below, moves_between}
-use Rattle.kc_levels.proofs.MovesBetween.{vertices_between, moved_rise, has_number-moved_below}
+use Rattle.kc_levels.proofs.lemmas.Moves.{vertices_between, moved_rise, has_number-moved_below}
 use Rattle.kc_history.specs.declared.entries.Entry.{Entry}
 use Rattle.kc_groups.specs.Links.{AreLabels}
-use Rattle.kc_groups.specs.Labels.{AreJoined, AreRooted}
+use Rattle.kc_groups.specs.private.Labels.{AreJoined, AreRooted}
 use Rattle.kc_groups.specs.Entries.{labels_below, moves_below, group_entry, AreEntries}
-use Rattle.kc_groups.specs.Forest.{IsForest, AreGathered}
-use Rattle.kc_groups.specs.Gathering.{vertices, is_mover, in_rows, in_edges, AreInOrder, AreMovesOf, AreLabelled, HaveNone}
-use Rattle.kc_groups.specs.Dealing.{empty_entry, with_moves, with_edges as dealt_edges, ArePlaces, AreDealt, IsPlacedEdge, is_unplaced}
+use Rattle.kc_groups.specs.private.Forest.{IsForest, AreGathered}
+use Rattle.kc_groups.specs.Gathering.{vertices, AreInOrder, AreMovesOf}
+use Rattle.kc_groups.specs.private.Gathering.{is_mover, in_rows, in_edges, AreLabelled, HaveNone}
+use Rattle.kc_groups.specs.private.Dealing.{empty_entry, with_moves, with_edges as dealt_edges, ArePlaces, AreDealt, IsPlacedEdge, is_unplaced}
 use Rattle.kc_groups.proofs.LabelLaw.{labels_joined}
 use Rattle.kc_groups.proofs.WorkLemmas.{many}
 use Rattle.kc_groups.proofs.GroupLemmas.{all_links, labels_are}
@@ -71,7 +72,7 @@ has_edge_at (e ∷ es) (suc k) d h = let rest = has_edge_at es k d (omega (arith
 
 module _ (g : GraphShape) (edges : List Pair) (ms : List Move) (graph : IsGraph g) (order : AreInOrder g.vertices ms) (up : EdgesFrom g.vertices 0 0 edges) (parents labels : List ℕ) where
   all_graph : IsGraph (with_edges g edges)
-  all_graph = is_graph-with_edges g edges graph (inside_from_ascending g.vertices 0 0 edges up)
+  all_graph = insertions_keep_graph g edges graph (inside_from_ascending g.vertices 0 0 edges up)
 
   -- the labels of all moves
   pub labels_here : AreGathered (length ms) (λ i j. in_rows g (vertices ms) (length ms) i j || in_edges edges (vertices ms) i j) parents → ((roots : List ℕ) → IsForest parents roots → AreLabelled g.vertices (vertices ms) roots labels) → AreLabels (with_edges g edges) (is_mover ms) labels

@@ -4,9 +4,10 @@ use Rattle.std.proofs.lemmas.Bool.{cases_eq, cases_Bool, true≢false}
 use Rattle.std.proofs.lemmas.List.{length-map, length-replicate, get_or-map, get_or-set_same, get_or-set_other, get_or-replicate}
 use Rattle.std.proofs.lemmas.Grind.{same_number_lists}
 use Rattle.kc_graph.specs.Numbers.{RisesFrom, AllBelow, has_number}
-use Rattle.kc_graph.proofs.NumberLemmas.{all_from_below, has_number_at, has_number_index}
+use Rattle.kc_graph.proofs.lemmas.Numbers.{all_from_below, has_number_at, has_number_index}
 use Rattle.kc_levels.specs.declared.moves.Move.{Move}
-use Rattle.kc_groups.specs.Gathering.{vertices, clean, HaveNone}
+use Rattle.kc_groups.specs.Gathering.{vertices, clean}
+use Rattle.kc_groups.specs.private.Gathering.{HaveNone}
 use Rattle.kc_groups.proofs.ListLemmas.{rises_apart}
 
 -- what a read past the end of a list of moves gives

@@ -1,10 +1,8 @@
 pub mod Links
-pub mod Labels
-pub mod Forest
 pub mod Gathering
 pub mod Entries
-pub mod Dealing
 pub mod Phases
 pub mod WellFormed
 pub mod Laws
 pub mod Sizes
+pub mod private

@@ -1,9 +1,10 @@
 // The moves and edges of a phase, dealt to the entries of their labels.
 ghost use Rattle.std.specs.Prelude.{◌≡◌, ℕ, ◌<◌, ◌≤◌, [], OnOk, All, map, filter, length, slice_index};
-ghost use Rattle.kc_groups.specs.Labels.{AreRooted};
-ghost use Rattle.kc_groups.specs.Gathering.{AreInOrder, is_mover};
+ghost use Rattle.kc_groups.specs.private.Labels.{AreRooted};
+ghost use Rattle.kc_groups.specs.Gathering.{AreInOrder};
+ghost use Rattle.kc_groups.specs.private.Gathering.{is_mover};
 ghost use Rattle.kc_groups.specs.Entries.{labels_below};
-ghost use Rattle.kc_groups.specs.Dealing.{empty_entry, with_moves, with_edges, ArePlaces, AreDealt, IsPlacedEdge, edge_place, is_unplaced};
+ghost use Rattle.kc_groups.specs.private.Dealing.{empty_entry, with_moves, with_edges, ArePlaces, AreDealt, IsPlacedEdge, edge_place, is_unplaced};
 
 use kc_graph::{Edge, Edges, MAX_VERTICES};
 use kc_history::{Entry, Move};

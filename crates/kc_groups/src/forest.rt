@@ -1,6 +1,6 @@
 // A forest over the places of a list: each place points to one that is no greater, and a root to itself.
 ghost use Rattle.std.specs.Prelude.{◌≡◌, ℕ, List, ◌<◌, length, slice_index};
-ghost use Rattle.kc_groups.specs.Forest.{IsForest, merged};
+ghost use Rattle.kc_groups.specs.private.Forest.{IsForest, merged};
 
 // The root of a place. What is passed on the way points further up afterwards.
 fn find(parents: &mut Vec<u32>, place: u32) -> u32

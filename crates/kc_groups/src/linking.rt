@@ -1,8 +1,9 @@
 // The moves of a phase, gathered into a tree for each group.
 ghost use Rattle.std.specs.Prelude.{◌≡◌, ℕ, Bool, ◌+◌, ◌<◌, ◌≤◌, ◌||◌, IfOk, false, true, length, slice_index};
 ghost use Rattle.kc_graph.specs.Shape.{EdgesFrom};
-ghost use Rattle.kc_groups.specs.Forest.{AreGathered};
-ghost use Rattle.kc_groups.specs.Gathering.{vertices, AreNumbered, in_rows, in_edges};
+ghost use Rattle.kc_groups.specs.private.Forest.{AreGathered};
+ghost use Rattle.kc_groups.specs.Gathering.{vertices};
+ghost use Rattle.kc_groups.specs.private.Gathering.{AreNumbered, in_rows, in_edges};
 
 use crate::forest::join;
 use kc_graph::{Edge, Graph, MAX_VERTICES};

@@ -1,7 +1,8 @@
 // What a plan works with: a number for each vertex.
 ghost use Rattle.std.specs.Prelude.{◌≡◌, ◌≤◌, ℕ, List, ◌<◌, IfOk, length};
-ghost use Rattle.kc_groups.specs.Forest.{IsForest};
-ghost use Rattle.kc_groups.specs.Gathering.{vertices, clean, AreInOrder, AreNumbered, AreLabelled, HaveNone};
+ghost use Rattle.kc_groups.specs.private.Forest.{IsForest};
+ghost use Rattle.kc_groups.specs.Gathering.{vertices, clean, AreInOrder};
+ghost use Rattle.kc_groups.specs.private.Gathering.{AreNumbered, AreLabelled, HaveNone};
 
 use kc_graph::MAX_VERTICES;
 use kc_history::Move;

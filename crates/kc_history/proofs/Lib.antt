@@ -1,2 +1,3 @@
-pub mod PointLemmas
-pub mod ReplyLemmas
+pub mod lemmas
+mod PointLemmas
+mod ReplyLemmas

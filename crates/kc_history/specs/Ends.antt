@@ -1,7 +1,6 @@
 -- What the end of a history is for one vertex, and for one label. Over the whole graph `Points` says it.
-use Rattle.std.specs.Prelude.{ℕ, ◌+◌, Bool, false, List, [], ◌∷◌, Option, Some, None, nat_eq, if◌then◌else◌}
+use Rattle.std.specs.Prelude.{ℕ, List, [], ◌∷◌, Option, Some, None, nat_eq, if◌then◌else◌}
 use Rattle.kc_levels.specs.declared.moves.Move.{Move}
-use Rattle.kc_history.specs.declared.entries.Entry.{Entry}
 
 -- the first, if there is one, and else the second
 abbrev pub or_else : Option Move → Option Move → Option Move
@@ -12,33 +11,3 @@ or_else None other = other
 abbrev pub last_move : ℕ → List Move → Option Move
 last_move v [] = None
 last_move v (m ∷ ms) = or_else (last_move v ms) (if nat_eq m.vertex v then Some m else None)
-
--- the level of a vertex after its last move, where it was on `before`
-abbrev pub level_after : ℕ → Option Move → ℕ
-level_after before None = before
-level_after before (Some m) = m.new
-
--- the level of a vertex at the end of a history, where it was on `before`
-abbrev pub level_of : ℕ → List Entry → ℕ → ℕ
-level_of before [] v = before
-level_of before (e ∷ es) v = level_of (level_after before (last_move v e.moves)) es v
-
--- whether an entry's label is g
-abbrev pub is_label : ℕ → Option ℕ → Bool
-is_label g None = false
-is_label g (Some h) = nat_eq g h
-
--- the phase of the last entry with the label g, or `before` where there is none
-abbrev pub stamp_of : ℕ → List Entry → ℕ → ℕ
-stamp_of before [] g = before
-stamp_of before (e ∷ es) g = stamp_of (if is_label g e.label then e.phase else before) es g
-
--- 1 for an entry without a label, which begins a phase
-abbrev pub begins_phase : Option ℕ → ℕ
-begins_phase None = 1
-begins_phase (Some g) = 0
-
--- how many phases a history has: the number of its entries without a label
-abbrev pub phases_in : List Entry → ℕ
-phases_in [] = 0
-phases_in (e ∷ es) = begins_phase e.label + phases_in es

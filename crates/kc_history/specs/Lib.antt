@@ -2,3 +2,4 @@ pub mod Points
 pub mod Ends
 pub mod Replies
 pub mod Laws
+pub mod private

@@ -8,9 +8,9 @@ use Rattle.std.proofs.lemmas.List.{length-set, get_or-set_same, get_or-set_other
 use Rattle.std.proofs.lemmas.List.Sums.{count_by-le-length}
 use Rattle.kc_graph.specs.Numbers.{has_number}
 use Rattle.kc_graph.specs.Shape.{GraphShape, Pair, IsGraph, neighbours_of, has_edge}
-use Rattle.kc_graph.proofs.NeighbourLemmas.{fewer_neighbours, neighbours_rise, neighbours_both, neighbour_below}
-use Rattle.kc_insert.specs.Meetings.{AreApart}
-use Rattle.kc_insert.specs.Counting.{is_next, sees_arrived, AreSeen, MeetOn, AreWaiting, StillWait, AreNoted}
+use Rattle.kc_graph.proofs.lemmas.Neighbours.{fewer_neighbours, neighbours_rise, neighbours_both, neighbour_below}
+use Rattle.kc_insert.specs.private.Meetings.{AreApart}
+use Rattle.kc_insert.specs.private.Counting.{is_next, sees_arrived, AreSeen, MeetOn, AreWaiting, StillWait, AreNoted}
 use Rattle.kc_insert.proofs.Buckets.{placed, pushed_is, still_there, now_there, all_inside}
 use Rattle.kc_insert.proofs.Flips.{count_agree, count_less}
 

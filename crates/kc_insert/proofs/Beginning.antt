@@ -8,12 +8,12 @@ use Rattle.std.proofs.lemmas.List.{length-set, get_or-set_same, get_or-set_other
 use Rattle.std.proofs.lemmas.List.Sums.{count_by-le-length}
 use Rattle.kc_graph.specs.Numbers.{has_number, RisesFrom}
 use Rattle.kc_graph.specs.Shape.{GraphShape, Pair, IsGraph, neighbours_of, has_edge}
-use Rattle.kc_graph.proofs.NumberLemmas.{has_number_below, has_number_at}
-use Rattle.kc_graph.proofs.NeighbourLemmas.{fewer_neighbours, neighbour_below, neighbours_rise, neighbours_both}
+use Rattle.kc_graph.proofs.lemmas.Numbers.{has_number_below, has_number_at}
+use Rattle.kc_graph.proofs.lemmas.Neighbours.{fewer_neighbours, neighbour_below, neighbours_rise, neighbours_both}
 use Rattle.kc_levels.specs.LevelList.{at_least}
 use Rattle.kc_levels.specs.Following.{AreDistinct}
-use Rattle.kc_insert.specs.Meetings.{AreApart, IsMeeting, AreMeetings}
-use Rattle.kc_insert.specs.Counting.{is_next, sees_unlisted, degrees, stood_above, AreSeen, AreWaiting, StillWait, AreNoted, HasBegun, HaveBegun, meetings_on}
+use Rattle.kc_insert.specs.private.Meetings.{AreApart, IsMeeting, AreMeetings}
+use Rattle.kc_insert.specs.private.Counting.{is_next, sees_unlisted, degrees, stood_above, AreSeen, AreWaiting, StillWait, AreNoted, HasBegun, HaveBegun, meetings_on}
 use Rattle.kc_insert.proofs.Flips.{count_agree, count_less}
 use Rattle.kc_insert.proofs.Buckets.{has_number-filter}
 use Rattle.kc_insert.proofs.Starting.{rises_filter, passes_at}

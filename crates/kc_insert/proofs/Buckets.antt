@@ -5,9 +5,9 @@ use Rattle.std.proofs.lemmas.Bool.{cases_eq, cases_Bool, true≢false}
 use Rattle.std.proofs.lemmas.Bool.Decides.{nat_tests}
 use Rattle.std.proofs.lemmas.List.{get_or-set_same, get_or-set_other}
 use Rattle.kc_graph.specs.Numbers.{has_number}
-use Rattle.kc_graph.proofs.NumberLemmas.{has_number-append, has_number-push}
-use Rattle.kc_adj.proofs.Marks.{empty_list}
-use Rattle.kc_insert.specs.Counting.{AreWaiting}
+use Rattle.kc_graph.proofs.lemmas.Numbers.{has_number-append, has_number-push}
+use Rattle.kc_adj.proofs.lemmas.Lists.{empty_list}
+use Rattle.kc_insert.specs.private.Counting.{AreWaiting}
 
 -- what holds of a new bucket at its level, and of the old bucket at each other level, holds at every level
 pub placed : (queue : List (List ℕ)) (a k : ℕ) (new : List ℕ) → a < length queue → (P : List ℕ → Type 0) → (k ≡ a → P new) → (k ≢ a → P (get_or queue k [])) → P (get_or (set queue a new) k [])

@@ -5,12 +5,12 @@ use Rattle.std.proofs.lemmas.Bool.Decides.{nat_tests}
 use Rattle.std.proofs.lemmas.List.{length-set, get_or-set_same, get_or-set_other}
 use Rattle.kc_graph.specs.Numbers.{has_number}
 use Rattle.kc_graph.specs.Shape.{GraphShape, neighbours_of}
-use Rattle.kc_graph.proofs.NumberLemmas.{has_number-append}
+use Rattle.kc_graph.proofs.lemmas.Numbers.{has_number-append}
 use Rattle.kc_insert.specs.Effort.{effort}
-use Rattle.kc_insert.specs.Round.{is_over}
+use Rattle.kc_insert.specs.private.Round.{is_over}
 use Rattle.kc_levels.specs.Following.{AreDistinct}
-use Rattle.kc_insert.specs.Counting.{degrees, steps_on}
-use Rattle.kc_insert.specs.Sweeping.{all_at}
+use Rattle.kc_insert.specs.private.Counting.{degrees, steps_on}
+use Rattle.kc_insert.specs.private.Sweeping.{all_at}
 use Rattle.kc_insert.proofs.Buckets.{has_number-filter}
 
 pub effort_none : (g : GraphShape) (x : List ℕ) (n : ℕ) → effort g x x n ≡ 0

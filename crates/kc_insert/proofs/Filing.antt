@@ -8,10 +8,10 @@ use Rattle.kc_graph.specs.Shape.{GraphShape, Pair}
 use Rattle.kc_levels.specs.declared.profile.Profile.{Profile}
 use Rattle.kc_levels.specs.Thresholds.{high, group_of, top_level}
 use Rattle.kc_levels.specs.LevelList.{at_least, MeetsUpper}
-use Rattle.kc_levels.specs.Following.{IsCopied}
-use Rattle.kc_levels.proofs.Copied.{copied_first, copied_one, copied_next}
+use Rattle.kc_levels.specs.private.Following.{IsCopied}
+use Rattle.kc_levels.proofs.lemmas.Writes.{copied_first, copied_one, copied_next}
 use Rattle.kc_adj.specs.LeveledGraph.{IsCounted}
-use Rattle.kc_insert.specs.BucketQueue.{IsQueued, IsFiling}
+use Rattle.kc_insert.specs.private.BucketQueue.{IsQueued, IsFiling}
 use Rattle.kc_insert.proofs.Buckets.{waiting_none, waiting_more, still_there, now_there, has_last}
 
 -- nobody is looked at yet

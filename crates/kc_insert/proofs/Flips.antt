@@ -4,8 +4,8 @@ use Rattle.std.specs.Prelude.{count_by}
 use Rattle.std.proofs.lemmas.Bool.{cases_eq, true≢false}
 use Rattle.std.proofs.lemmas.Bool.Decides.{nat_tests}
 use Rattle.kc_graph.specs.Numbers.{has_number, RisesFrom}
-use Rattle.kc_graph.proofs.NumberLemmas.{has_number_below}
-use Rattle.kc_graph.proofs.CountLemmas.{count_by-cons}
+use Rattle.kc_graph.proofs.lemmas.Numbers.{has_number_below}
+use Rattle.kc_graph.proofs.lemmas.Counts.{count_by-cons}
 
 -- two tests that agree on the numbers of a list count the same
 pub count_agree : (p q : ℕ → Bool) (xs : List ℕ) → ((x : ℕ) → has_number x xs ≡ true → p x ≡ q x) → count_by p xs ≡ count_by q xs

@@ -6,10 +6,10 @@ use Rattle.std.proofs.lemmas.Bool.Decides.{nat_tests}
 use Rattle.std.proofs.Math.Seq.{drop-cons}
 use Rattle.std.proofs.lemmas.List.{drop_all, length-set, get_or_read}
 use Rattle.kc_graph.specs.Shape.{GraphShape, Pair, IsGraph, neighbours_of, has_edge}
-use Rattle.kc_graph.proofs.NeighbourLemmas.{neighbours_rise, neighbour_below}
-use Rattle.kc_levels.proofs.Places.{changed}
-use Rattle.kc_insert.specs.Meetings.{AreApart, IsMeeting}
-use Rattle.kc_insert.specs.Counting.{goes_on, sees_met, AreSeen, MeetOn}
+use Rattle.kc_graph.proofs.lemmas.Neighbours.{neighbours_rise, neighbour_below}
+use Rattle.kc_levels.proofs.lemmas.Writes.{changed}
+use Rattle.kc_insert.specs.private.Meetings.{AreApart, IsMeeting}
+use Rattle.kc_insert.specs.private.Counting.{goes_on, sees_met, AreSeen, MeetOn}
 use Rattle.kc_insert.proofs.Flips.{count_agree, count_less}
 
 -- the meeting of v and w is the next of the list

@@ -1,15 +1,15 @@
-pub mod Buckets
-pub mod Filing
-pub mod Flips
-pub mod Lifting
-pub mod Efforts
-pub mod Stepping
-pub mod Leaving
-pub mod Parting
-pub mod Arriving
-pub mod Starting
-pub mod Beginning
-pub mod Sweeps
-pub mod Followed
-pub mod Ready
-pub mod Together
+mod Buckets
+mod Filing
+mod Flips
+mod Lifting
+mod Efforts
+mod Stepping
+mod Leaving
+mod Parting
+mod Arriving
+mod Starting
+mod Beginning
+mod Sweeps
+mod Followed
+mod Ready
+mod Together

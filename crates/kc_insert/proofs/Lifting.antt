@@ -7,12 +7,12 @@ use Rattle.std.proofs.lemmas.Grind.{same_number_lists}
 use Rattle.std.proofs.Math.Seq.{drop-cons}
 use Rattle.kc_graph.specs.Numbers.{has_number}
 use Rattle.kc_graph.specs.Shape.{GraphShape, neighbours_of}
-use Rattle.kc_graph.proofs.NumberLemmas.{has_number_at, has_number_index, has_number-push}
+use Rattle.kc_graph.proofs.lemmas.Numbers.{has_number_at, has_number_index, has_number-push}
 use Rattle.kc_levels.specs.LevelList.{IsBelow}
 use Rattle.kc_adj.specs.LeveledGraph.{LeveledGraph}
 use Rattle.kc_levels.specs.Following.{AreDistinct}
-use Rattle.kc_insert.specs.Counting.{degrees}
-use Rattle.kc_insert.specs.Sweeping.{all_at}
+use Rattle.kc_insert.specs.private.Counting.{degrees}
+use Rattle.kc_insert.specs.private.Sweeping.{all_at}
 use Rattle.kc_insert.proofs.Buckets.{pushed_is, has_last}
 
 pub length-all_at : (y vs : List ℕ) (k : ℕ) → length (all_at y vs k) ≡ length y

@@ -1,18 +1,19 @@
 -- How the counts follow where one of the list stays behind, neighbour by neighbour.
 use Rattle.std.proofs.Common.{ℕ, suc, ◌+◌, ◌-◌, ◌*◌, ◌≤◌, ◌<◌, ◌≡◌, ◌≢◌, ◌⊎◌, inl, inr, Bool, true, false, cond, eqb, ltb, ◌&&◌, List, [], ◌∷◌, length, get_or, set, drop, add-one, refl, ap, sym, ◌∙◌, arith}
-use Rattle.std.specs.Prelude.{count_by}
+use Rattle.std.specs.Prelude.{count_by, filter}
 use Rattle.std.proofs.lemmas.Bool.{cases_eq, cases_Bool, true≢false}
 use Rattle.std.proofs.lemmas.Bool.Decides.{nat_tests}
 use Rattle.std.proofs.Math.Seq.{drop-cons}
 use Rattle.std.proofs.lemmas.List.{drop_all, length-set, get_or_read, get_or-set_same, get_or-set_other}
 use Rattle.kc_graph.specs.Numbers.{has_number, RisesFrom}
 use Rattle.kc_graph.specs.Shape.{GraphShape, IsGraph, neighbours_of}
-use Rattle.kc_graph.proofs.NumberLemmas.{has_number_below, has_number_at}
-use Rattle.kc_graph.proofs.NeighbourLemmas.{neighbours_rise, neighbours_both, neighbour_below}
-use Rattle.kc_levels.proofs.Places.{changed}
+use Rattle.kc_graph.proofs.lemmas.Numbers.{has_number_below, has_number_at}
+use Rattle.kc_graph.proofs.lemmas.Neighbours.{neighbours_rise, neighbours_both, neighbour_below}
+use Rattle.kc_levels.proofs.lemmas.Writes.{changed}
 use Rattle.kc_levels.specs.Following.{AreDistinct}
 use Rattle.kc_adj.specs.LeveledGraph.{LeveledGraph}
-use Rattle.kc_insert.specs.Counting.{AreSeen, AreLess, goes_on, sees_listed, steps_on, settled_at}
+use Rattle.kc_insert.specs.private.Counting.{AreSeen, AreLess, goes_on, stays_on, sees_listed, steps_on, settled_at}
+use Rattle.kc_insert.proofs.Buckets.{has_number-filter}
 use Rattle.kc_insert.proofs.Flips.{count_agree, count_less}
 
 one_of : (a b : Bool) → a ≡ true → b ≡ true → ◌≡◌ {A = ℕ} (cond (a && b) 1 0) 1
@@ -299,3 +300,40 @@ settled_at-there x z l (v ∷ vs) u inside there stays = elim (cases_Bool (has_n
         | inl same ↦ same ∙ ap (λ t. get_or (set x v l) t 0) e ∙ get_or-set_same x v l 0 (inside v (grind (arith, nat_tests)))
       ])
 ]
+
+-- of a list those alone count who stay on the level l
+module _ (z : List ℕ) (l : ℕ) where
+  keeps : (v : ℕ) (vs : List ℕ) → eqb (get_or z v 0) l ≡ true → filter (stays_on z l) (v ∷ vs) ≡ v ∷ filter (stays_on z l) vs
+  keeps v vs on = grind (arith, nat_tests, on)
+
+  drops : (v : ℕ) (vs : List ℕ) → eqb (get_or z v 0) l ≡ false → filter (stays_on z l) (v ∷ vs) ≡ filter (stays_on z l) vs
+  drops v vs off = grind (arith, nat_tests, off)
+
+  pub steps_stay : (g : GraphShape) (vs : List ℕ) → steps_on g z l (filter (stays_on z l) vs) ≡ steps_on g z l vs
+  steps_stay g [] = refl
+  steps_stay g (v ∷ vs) = elim (cases_Bool (eqb (get_or z v 0) l)) [
+    | inl on ↦ rw (keeps v vs on) (ap (λ k. cond (eqb (get_or z v 0) l) (2 * length (neighbours_of v g.edges) + 1) 0 + k) (steps_stay g vs))
+    | inr off ↦
+        let none : cond (eqb (get_or z v 0) l) (2 * length (neighbours_of v g.edges) + 1) 0 ≡ 0 = ap (λ t. cond t (2 * length (neighbours_of v g.edges) + 1) 0) off in
+        rw (drops v vs off) (omega (arith, none, steps_stay g vs))
+  ]
+
+  pub settled_stay : (x vs : List ℕ) → settled_at x z l (filter (stays_on z l) vs) ≡ settled_at x z l vs
+  settled_stay x [] = refl
+  settled_stay x (v ∷ vs) = elim (cases_Bool (eqb (get_or z v 0) l)) [
+    | inl on ↦ ap (settled_at x z l) (keeps v vs on) ∙ ap (λ t. settled_at (cond t (set x v l) x) z l (filter (stays_on z l) vs)) on ∙ settled_stay (set x v l) vs ∙ sym (ap (λ t. settled_at (cond t (set x v l) x) z l vs) on)
+    | inr off ↦ ap (settled_at x z l) (drops v vs off) ∙ settled_stay x vs ∙ sym (ap (λ t. settled_at (cond t (set x v l) x) z l vs) off)
+  ]
+
+  pub seen_stay : (g : GraphShape) (asked : ℕ → Bool) (vs before counts : List ℕ) → AreSeen g asked (sees_listed z l vs) before counts → AreSeen g asked (sees_listed z l (filter (stays_on z l) vs)) before counts
+  seen_stay g asked vs before counts s = record {
+    sized = s.sized;
+    seen = λ v h is. s.seen v h is ∙ count_agree (sees_listed z l vs v) (sees_listed z l (filter (stays_on z l) vs) v) (neighbours_of v g.edges) (λ u near. agree v u);
+    others = s.others;
+  }
+    where
+      agree : (v u : ℕ) → sees_listed z l vs v u ≡ sees_listed z l (filter (stays_on z l) vs) v u
+      agree v u = elim (cases_eq (get_or z u 0) l) [
+        | inl on ↦ grind (arith, nat_tests, on, has_number-filter u (stays_on z l) vs)
+        | inr off ↦ grind (arith, nat_tests, off)
+      ]

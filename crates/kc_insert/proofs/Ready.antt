@@ -3,12 +3,12 @@ use Rattle.std.proofs.Common.{ℕ, ◌+◌, ◌≡◌, ◌≢◌, false, List, [
 use Rattle.std.specs.List.{All}
 use Rattle.kc_graph.specs.Numbers.{has_number}
 use Rattle.kc_graph.specs.Shape.{GraphShape, Pair, neighbours_of, without_edges}
-use Rattle.kc_graph.proofs.ChangeLemmas.{vertices-without_edges}
+use Rattle.kc_graph.proofs.lemmas.Changes.{vertices-without_edges}
 use Rattle.kc_levels.specs.declared.profile.Profile.{Profile}
 use Rattle.kc_levels.specs.declared.moves.Move.{Move}
 use Rattle.kc_levels.specs.Thresholds.{top_level}
 use Rattle.kc_levels.specs.Moved.{moves_between}
-use Rattle.kc_levels.specs.Following.{IsCopied}
+use Rattle.kc_levels.specs.private.Following.{IsCopied}
 use Rattle.kc_adj.specs.LeveledGraph.{LeveledGraph, IsCounted}
 use Rattle.kc_insert.specs.Working.{Working, IsReady}
 use Rattle.kc_insert.proofs.Followed.{counted_followed}

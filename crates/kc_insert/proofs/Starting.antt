@@ -9,7 +9,7 @@ use Rattle.std.proofs.lemmas.List.Folds.{length-flat_map-take}
 use Rattle.std.proofs.lemmas.Bool.{cases_Bool}
 use Rattle.std.proofs.lemmas.Bool.Decides.{nat_tests}
 use Rattle.kc_graph.specs.Numbers.{has_number, RisesFrom}
-use Rattle.kc_graph.proofs.NumberLemmas.{rises_weaker, has_number_at}
+use Rattle.kc_graph.proofs.lemmas.Numbers.{rises_weaker, has_number_at}
 use Rattle.kc_insert.proofs.Buckets.{has_number-filter}
 
 pub rises_filter : (p : ℕ → Bool) (low : ℕ) (ws : List ℕ) → RisesFrom low ws → RisesFrom low (filter p ws)

@@ -6,21 +6,21 @@ use Rattle.std.proofs.lemmas.Bool.Decides.{nat_tests}
 use Rattle.std.proofs.lemmas.List.{length-set, get_or-set_same, get_or-set_other, get_or_past, get_or_default, length-append}
 use Rattle.kc_graph.specs.Numbers.{has_number}
 use Rattle.kc_graph.specs.Shape.{GraphShape, Pair, IsGraph, neighbours_of, has_edge}
-use Rattle.kc_graph.proofs.NeighbourLemmas.{neighbours_both}
-use Rattle.kc_graph.proofs.NumberLemmas.{has_number-append, has_number_at}
+use Rattle.kc_graph.proofs.lemmas.Neighbours.{neighbours_both}
+use Rattle.kc_graph.proofs.lemmas.Numbers.{has_number-append, has_number_at}
 use Rattle.kc_levels.specs.declared.profile.Profile.{Profile}
 use Rattle.kc_levels.specs.Thresholds.{high, group_of, top_level}
 use Rattle.kc_levels.specs.LevelList.{at_least, MeetsUpper}
 use Rattle.kc_levels.specs.Moved.{is_moved}
-use Rattle.kc_levels.proofs.AtLeast.{below_everywhere}
-use Rattle.kc_levels.proofs.Raising.{raising_many}
+use Rattle.kc_levels.proofs.lemmas.AtLeast.{below_everywhere}
+use Rattle.kc_levels.proofs.lemmas.Raising.{raising_many}
 use Rattle.kc_adj.specs.LeveledGraph.{IsCounted}
 use Rattle.kc_insert.specs.Effort.{effort}
-use Rattle.kc_insert.specs.Round.{is_over}
+use Rattle.kc_insert.specs.private.Round.{is_over}
 use Rattle.kc_levels.specs.Following.{AreDistinct}
-use Rattle.kc_insert.specs.Meetings.{IsMeeting, AreApart, AreMeetings}
-use Rattle.kc_insert.specs.Counting.{goes_on, is_next, AreSeen, sees_met, sees_listed, sees_arrived, sees_unlisted, HaveBegun, MeetOn, AreWaiting, StillWait, AreNoted, degrees, steps_on, settled_at}
-use Rattle.kc_insert.specs.Sweeping.{all_at, IsFound, IsSweeping, HaveCome}
+use Rattle.kc_insert.specs.private.Meetings.{IsMeeting, AreApart, AreMeetings}
+use Rattle.kc_insert.specs.private.Counting.{goes_on, is_next, AreSeen, sees_met, sees_listed, sees_arrived, sees_unlisted, HaveBegun, MeetOn, AreWaiting, StillWait, AreNoted, degrees, steps_on, settled_at}
+use Rattle.kc_insert.specs.private.Sweeping.{all_at, IsFound, IsSweeping, HaveCome}
 use Rattle.kc_insert.proofs.Flips.{count_agree}
 use Rattle.kc_insert.proofs.Buckets.{has_number-filter}
 use Rattle.kc_insert.proofs.Efforts.{effort_up, degrees-append, distinct_append, distinct_filter, fee_parts}

@@ -8,13 +8,13 @@ use Rattle.kc_graph.specs.Shape.{GraphShape, Pair, IsGraph, has_edge}
 use Rattle.kc_levels.specs.declared.profile.Profile.{Profile}
 use Rattle.kc_levels.specs.Thresholds.{top_level}
 use Rattle.kc_levels.specs.LevelList.{IsCapped, IsRaised}
-use Rattle.kc_levels.proofs.AtLeast.{below_everywhere}
-use Rattle.kc_levels.proofs.Raising.{raising_first, raising_done, top_meets_upper}
+use Rattle.kc_levels.proofs.lemmas.AtLeast.{below_everywhere}
+use Rattle.kc_levels.proofs.lemmas.Raising.{raising_first, raising_done, top_meets_upper}
 use Rattle.kc_adj.specs.LeveledGraph.{IsCounted}
-use Rattle.kc_insert.specs.BucketQueue.{IsQueued}
-use Rattle.kc_insert.specs.Meetings.{AreApart}
-use Rattle.kc_insert.specs.Sweeping.{IsSweeping, HaveCome}
-use Rattle.kc_adj.proofs.Marks.{empty_list}
+use Rattle.kc_insert.specs.private.BucketQueue.{IsQueued}
+use Rattle.kc_insert.specs.private.Meetings.{AreApart}
+use Rattle.kc_insert.specs.private.Sweeping.{IsSweeping, HaveCome}
+use Rattle.kc_adj.proofs.lemmas.Lists.{empty_list}
 use Rattle.kc_insert.proofs.Efforts.{effort_none}
 
 pub sweeping_first : (p : Profile) (n : ℕ) (g : GraphShape) (x y counts rising risen : List ℕ) (queue : List (List ℕ)) (meetings : List (List Pair)) → n ≡ g.vertices → length x ≡ g.vertices → IsCapped p g.vertices x → IsQueued p g x queue → y ≡ x → IsCounted g x 0 counts → rising ≡ [] → risen ≡ [] → meetings ≡ replicate (top_level p n + 1) [] → IsSweeping p g x 0 y counts rising risen queue meetings

@@ -7,15 +7,16 @@ use Rattle.std.proofs.lemmas.Bool.Decides.{nat_tests}
 use Rattle.std.proofs.lemmas.Grind.{same_number_lists}
 use Rattle.kc_graph.specs.Numbers.{has_number}
 use Rattle.kc_graph.specs.Shape.{GraphShape, Pair, IsGraph, neighbours_of, has_edge}
-use Rattle.kc_graph.proofs.NeighbourLemmas.{neighbours_both}
+use Rattle.kc_graph.proofs.lemmas.Neighbours.{neighbours_both}
 use Rattle.kc_levels.specs.declared.profile.Profile.{Profile}
 use Rattle.kc_levels.specs.Thresholds.{high, group_of, top_level}
-use Rattle.kc_levels.specs.LevelList.{at_least, IsRaising}
-use Rattle.kc_levels.proofs.AtLeast.{below_everywhere}
-use Rattle.kc_levels.proofs.Raising.{raising_many}
+use Rattle.kc_levels.specs.LevelList.{at_least}
+use Rattle.kc_levels.specs.private.LevelList.{IsRaising}
+use Rattle.kc_levels.proofs.lemmas.AtLeast.{below_everywhere}
+use Rattle.kc_levels.proofs.lemmas.Raising.{raising_many}
 use Rattle.kc_insert.specs.Effort.{effort}
-use Rattle.kc_insert.specs.Sweeping.{all_at, IsSweeping, HaveCome}
-use Rattle.kc_insert.specs.Together.{IsFree}
+use Rattle.kc_insert.specs.private.Sweeping.{all_at, IsSweeping, HaveCome}
+use Rattle.kc_insert.specs.private.Together.{IsFree}
 use Rattle.kc_insert.proofs.Flips.{count_agree}
 use Rattle.kc_insert.proofs.Lifting.{length-all_at, all_at_here, all_at_other}
 

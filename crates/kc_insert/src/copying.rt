@@ -3,7 +3,7 @@
 ghost use Rattle.std.specs.Prelude.{◌≡◌, ◌<◌, ◌≢◌, All, false, length};
 ghost use Rattle.kc_graph.specs.Numbers.{has_number};
 ghost use Rattle.kc_graph.specs.Shape.{neighbours_of};
-ghost use Rattle.kc_levels.specs.Following.{IsCopied};
+ghost use Rattle.kc_levels.specs.private.Following.{IsCopied};
 
 use kc_graph::{Edge, Graph};
 use kc_levels::Move;

@@ -4,18 +4,18 @@
 // `Counting` of the definitions says who counts whom. What it calls x are the levels in `adj`, where a riser stands on its old
 // level until it stays on a new one; what it calls z are those in `levels`, after the step.
 
-ghost use Rattle.std.specs.Prelude.{◌≡◌, ◌+◌, ◌<◌, ◌≤◌, ◌++◌, ◌∷◌, ◌==◌, ◌^◌, ◌||◌, Bool, ℕ, [], OnOk, cond, drop, false, true, length, slice_index, slice_index_or, slice_set, take};
+ghost use Rattle.std.specs.Prelude.{◌≡◌, ◌+◌, ◌<◌, ◌≤◌, ◌++◌, ◌∷◌, ◌==◌, ◌^◌, ◌||◌, Bool, ℕ, [], IfOk, OnOk, cond, drop, false, filter, true, length, slice_index, slice_index_or, slice_set, take};
 ghost use Rattle.kc_graph.specs.Numbers.{has_number};
 ghost use Rattle.kc_graph.specs.Shape.{IsGraph, neighbours_of, has_edge};
 ghost use Rattle.kc_levels.specs.Following.{AreDistinct};
-ghost use Rattle.kc_insert.specs.Meetings.{AreApart, AreMeetings};
-ghost use Rattle.kc_insert.specs.Counting.{goes_on, is_next, AreSeen, sees_met, sees_listed, sees_arrived, sees_unlisted, steps_on, settled_at, degrees, stood_above, MeetOn, AreWaiting, StillWait, AreNoted, AreLess, HasBegun, HaveBegun, meetings_on};
+ghost use Rattle.kc_insert.specs.private.Meetings.{AreApart, AreMeetings};
+ghost use Rattle.kc_insert.specs.private.Counting.{goes_on, is_next, stays_on, AreSeen, sees_met, sees_listed, sees_arrived, sees_unlisted, steps_on, settled_at, degrees, stood_above, MeetOn, AreWaiting, StillWait, AreNoted, AreLess, HasBegun, HaveBegun, meetings_on};
 
 use crate::meetings::Meeting;
 use kc_adj::{LevelAdj, LevelLists, Steps};
 use kc_levels::Levels;
 use kc_rounds::{Gate, RoundGather, Rounds};
-use std::alloc::AllocError;
+use std::alloc::{AllocError, Global};
 use std::sync::ledger::Ledger;
 use std::thread::Threads;
 
@@ -106,8 +106,27 @@ fn riser_in_turn(adj: &LevelAdj, levels: &Levels, level: u16, risers: &[u32], pl
     risers[place]
 }
 
-/// Of those who had come to the level, who stays on it is counted no more by those who go on, and is put on the level in the graph.
-pub fn part<L: Ledger>(
+// Of the risers those who stay on the level, in order.
+fn who_stay(
+    alloc: Global,
+    levels: &Levels,
+    level: u16,
+    risers: &[u32],
+) -> Result<Vec<u32>, AllocError>
+    requires inside { (v : ℕ) → has_number v risers.now ≡ true → v < length levels.now }
+    ensures { IfOk result (λ stay. stay.items ≡ filter (stays_on levels.now level) risers.now) }
+{
+    let mut stay = Vec::new(alloc);
+    for v in risers {
+        if levels.get(*v) == level {
+            stay.push(*v)?;
+        }
+    }
+    Ok(stay)
+}
+
+// As `part` says, where each of the list is looked at whether it stays.
+fn part_each<L: Ledger>(
     adj: &mut LevelAdj,
     levels: &Levels,
     counts: &mut Vec<u32>,
@@ -135,6 +154,34 @@ pub fn part<L: Ledger>(
             adj.lift(v, level, steps);
         }
     }
+}
+
+/// Of those who had come to the level, who stays on it is counted no more by those who go on, and is put on the level in the graph.
+///
+/// One pass over all of them, and two over the neighbours of each who stays. Fails only if memory runs out.
+pub fn part<L: Ledger>(
+    alloc: Global,
+    adj: &mut LevelAdj,
+    levels: &Levels,
+    counts: &mut Vec<u32>,
+    level: u16,
+    risers: &[u32],
+    steps: &mut Steps<L>,
+) -> Result<(), AllocError>
+    requires small { level < 65535 }
+    requires graph { IsGraph adj.old.graph }
+    requires sized { length levels.now ≡ adj.old.graph.vertices }
+    requires vertices { (v : ℕ) → has_number v risers.now ≡ true → v < adj.old.graph.vertices }
+    requires below { (v : ℕ) → has_number v risers.now ≡ true → slice_index adj.old.levels v ≤ level }
+    requires distinct { AreDistinct risers.now }
+    requires listed { AreSeen adj.old.graph (goes_on adj.old.levels levels.now level) (sees_listed levels.now level risers.now) counts.old.items counts.old.items }
+    ensures seen { OnOk result (AreSeen adj.old.graph (goes_on adj.old.levels levels.now level) (sees_listed levels.now level []) counts.old.items counts.new.items) }
+    ensures settled { OnOk result (adj.new ≡ record adj.old { levels = settled_at adj.old.levels levels.now level risers.now }) }
+    ensures cost { OnOk result (steps.new ≡ steps.old + steps_on adj.old.graph levels.now level risers.now) }
+{
+    let stay = who_stay(alloc, levels, level, risers)?;
+    part_each(adj, levels, counts, level, &stay, steps);
+    Ok(())
 }
 
 // w counts one more, and waits on its level where it now has one more than `most`.
@@ -207,7 +254,7 @@ struct Beginning<'a> {
 impl RoundGather for Beginning<'_> {
     ghost use Rattle.std.specs.Prelude.{◌≡◌, ◌+◌, ◌<◌, length};
     ghost use Rattle.kc_levels.specs.LevelList.{at_least};
-    ghost use Rattle.kc_insert.specs.Counting.{stood_above};
+    ghost use Rattle.kc_insert.specs.private.Counting.{stood_above};
 
     ghost number = { λ what v. at_least what.adj.now.graph what.levels.now v (what.level + 1) };
 

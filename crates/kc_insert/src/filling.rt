@@ -3,8 +3,8 @@ ghost use Rattle.kc_graph.specs.Shape.{EdgesFrom, with_edges};
 ghost use Rattle.kc_graph.specs.Changes.{AllAbsent, CanAdd};
 ghost use Rattle.kc_levels.specs.Thresholds.{top_level};
 ghost use Rattle.kc_levels.specs.LevelList.{IsCapped};
-ghost use Rattle.kc_levels.specs.Following.{IsCopied};
-ghost use Rattle.kc_insert.specs.BucketQueue.{IsFiling};
+ghost use Rattle.kc_levels.specs.private.Following.{IsCopied};
+ghost use Rattle.kc_insert.specs.private.BucketQueue.{IsFiling};
 
 use kc_adj::{LevelAdj, LevelLists, Steps};
 use kc_graph::{Edge, MAX_EDGES};

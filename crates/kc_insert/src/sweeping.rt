@@ -10,13 +10,13 @@ ghost use Rattle.kc_levels.specs.Thresholds.{group_of, top_level};
 ghost use Rattle.kc_levels.specs.LevelList.{IsBelow, IsCapped, IsRaised};
 ghost use Rattle.kc_levels.specs.Moved.{is_moved};
 ghost use Rattle.kc_adj.specs.LeveledGraph.{IsCounted};
-ghost use Rattle.kc_insert.specs.BucketQueue.{IsQueued};
+ghost use Rattle.kc_insert.specs.private.BucketQueue.{IsQueued};
 ghost use Rattle.kc_levels.specs.Following.{AreDistinct};
-ghost use Rattle.kc_insert.specs.Counting.{degrees};
+ghost use Rattle.kc_insert.specs.private.Counting.{degrees};
 ghost use Rattle.kc_insert.specs.Effort.{effort};
-ghost use Rattle.kc_insert.specs.Round.{is_over};
-ghost use Rattle.kc_insert.specs.Sweeping.{all_at, IsSweeping, HaveCome};
-ghost use Rattle.kc_insert.specs.Together.{IsFree};
+ghost use Rattle.kc_insert.specs.private.Round.{is_over};
+ghost use Rattle.kc_insert.specs.private.Sweeping.{all_at, IsSweeping, HaveCome};
+ghost use Rattle.kc_insert.specs.private.Together.{IsFree};
 
 use crate::counting::{begin, come_up, leave_behind, part};
 use crate::meetings::Meeting;
@@ -55,9 +55,9 @@ struct Over<'a> {
 
 impl RoundTest for Over<'_> {
     ghost use Rattle.std.specs.Prelude.{◌<◌, length};
-    ghost use Rattle.kc_insert.specs.Counting.{degrees};
+    ghost use Rattle.kc_insert.specs.private.Counting.{degrees};
     ghost use Rattle.kc_insert.specs.Effort.{effort};
-    ghost use Rattle.kc_insert.specs.Round.{is_over};
+    ghost use Rattle.kc_insert.specs.private.Round.{is_over};
 
     ghost keeps = { λ test v. is_over test.counts.now.items test.most v };
 
@@ -240,13 +240,14 @@ fn raise_level<R: Threads + Sync, G: Gate + Sync, L: Ledger>(
     let met = sweep.meetings.take_all(alloc, level);
     leave_behind(adj, &sweep.levels, &mut sweep.counts, level, &met);
     part(
+        alloc,
         adj,
         &sweep.levels,
         &mut sweep.counts,
         level,
         &sweep.rising,
         steps,
-    );
+    )?;
     come_up(
         adj,
         &sweep.levels,

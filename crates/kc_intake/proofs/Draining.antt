@@ -13,7 +13,7 @@ use Rattle.kc_intake.specs.declared.roles.Role.TheVariants.{Spent, Submits, Drai
 use Rattle.kc_intake.specs.Updates.{updates_of, numbered, all_updates, AreNumbered}
 use Rattle.kc_intake.specs.Views.{drained_of}
 use Rattle.kc_intake.specs.Rule.{PassHolds, IsKept}
-use Rattle.kc_intake.specs.Steps.{with_begun, with_added, begins, adds, drain_learns}
+use Rattle.kc_intake.specs.private.Steps.{with_begun, with_added, begins, adds, drain_learns}
 use Rattle.kc_intake.proofs.Lists.{of_append, of_own, first_numbered, drained_begun, drained_added}
 use Rattle.kc_intake.proofs.Passes.{views_set}
 use Rattle.kc_intake.proofs.Sending.{told}

@@ -15,7 +15,7 @@ use Rattle.kc_intake.specs.declared.roles.Role.TheVariants.{Spent, Submits, Drai
 use Rattle.kc_intake.specs.Updates.{updates_of, all_updates}
 use Rattle.kc_intake.specs.Views.{submitted_of, drained_of}
 use Rattle.kc_intake.specs.Rule.{PassHolds, IsKept}
-use Rattle.kc_intake.specs.Steps.{first_role, with_client, client_of, took_in}
+use Rattle.kc_intake.specs.private.Steps.{first_role, with_client, client_of, took_in}
 use Rattle.kc_intake.proofs.Lists.{changed, changed_here, changed_else}
 use Rattle.kc_intake.proofs.Passes.{views_set, same_pass}
 

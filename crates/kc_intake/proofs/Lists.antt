@@ -7,7 +7,7 @@ use Rattle.std.proofs.lemmas.List.Concat.{flat_map-append}
 use Rattle.kc_graph.specs.declared.items.Item.{Item}
 use Rattle.kc_intake.specs.declared.updates.Update.{Update}
 use Rattle.kc_intake.specs.Updates.{updates_of, numbered, all_updates}
-use Rattle.kc_intake.specs.Steps.{with_last}
+use Rattle.kc_intake.specs.private.Steps.{with_last}
 
 -- f, but x at k
 abbrev pub changed : {A : Type 0} → (ℕ → A) → ℕ → A → ℕ → A

@@ -13,7 +13,7 @@ use Rattle.kc_intake.specs.Updates.{updates_of, numbered, all_updates}
 use Rattle.kc_intake.specs.Views.{submitted_of}
 use Rattle.kc_intake.specs.Rule.{PassHolds, IsKept}
 use Rattle.kc_intake.specs.Causes.{IsTold}
-use Rattle.kc_intake.specs.Steps.{with_sent, sends}
+use Rattle.kc_intake.specs.private.Steps.{with_sent, sends}
 use Rattle.kc_intake.proofs.Lists.{changed, changed_here, changed_else, of_more, of_same}
 use Rattle.kc_intake.proofs.Passes.{views_set, same_pass}
 

@@ -13,7 +13,7 @@ use Rattle.kc_intake.specs.declared.roles.Drained.{Drained}
 use Rattle.kc_intake.specs.declared.roles.Role.{Role}
 use Rattle.kc_intake.specs.declared.roles.Role.TheVariants.{Submits, Drains}
 use Rattle.kc_intake.specs.Causes.{HeldAtStep}
-use Rattle.kc_intake.specs.Steps.{with_client, client_of, with_last, with_added, adds, at_drainer, took_in, drain_learns}
+use Rattle.kc_intake.specs.private.Steps.{with_client, client_of, with_last, with_added, adds, at_drainer, took_in, drain_learns}
 use Rattle.kc_intake.specs.Updates.{updates_of, updates_in, all_updates, AreNumbered}
 use Rattle.kc_intake.specs.Views.{IntakeShape, ClientShape, DrainerShape, intake_of, submitted_of, drained_of, client_shape, drainer_shape, IsClient, IsDrainer, AreAllDrained, submitted, new_client}
 use Rattle.kc_intake.proofs.Lists.{of_append, last_added}

@@ -2,4 +2,4 @@ pub mod Updates
 pub mod Views
 pub mod Rule
 pub mod Causes
-pub mod Steps
+pub mod private

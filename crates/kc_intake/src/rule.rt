@@ -12,7 +12,7 @@ pub(crate) struct Rule;
 
 impl Protocol<Update, Role> for Rule {
     ghost use Rattle.kc_intake.specs.Rule.{IsKept};
-    ghost use Rattle.kc_intake.specs.Steps.{first_role};
+    ghost use Rattle.kc_intake.specs.private.Steps.{first_role};
 
     ghost holds = { IsKept };
 
@@ -23,7 +23,7 @@ impl Protocol<Update, Role> for Rule {
 pub(crate) struct NewClient;
 
 impl Split<Role> for NewClient {
-    ghost use Rattle.kc_intake.specs.Steps.{with_client, client_of};
+    ghost use Rattle.kc_intake.specs.private.Steps.{with_client, client_of};
 
     ghost left = { with_client };
 
@@ -34,7 +34,7 @@ impl Split<Role> for NewClient {
 pub(crate) struct Sends;
 
 impl Outcome<Update, Role> for Sends {
-    ghost use Rattle.kc_intake.specs.Steps.{sends};
+    ghost use Rattle.kc_intake.specs.private.Steps.{sends};
 
     ghost then = { sends };
 }
@@ -49,13 +49,13 @@ impl Lesson<Update, Role> for Sends {
 pub(crate) struct Begins;
 
 impl Outcome<Update, Role> for Begins {
-    ghost use Rattle.kc_intake.specs.Steps.{begins};
+    ghost use Rattle.kc_intake.specs.private.Steps.{begins};
 
     ghost then = { begins };
 }
 
 impl Lesson<Update, Role> for Begins {
-    ghost use Rattle.kc_intake.specs.Steps.{drain_learns};
+    ghost use Rattle.kc_intake.specs.private.Steps.{drain_learns};
 
     ghost fact = { drain_learns };
 }
@@ -64,13 +64,13 @@ impl Lesson<Update, Role> for Begins {
 pub(crate) struct Adds;
 
 impl Outcome<Update, Role> for Adds {
-    ghost use Rattle.kc_intake.specs.Steps.{adds};
+    ghost use Rattle.kc_intake.specs.private.Steps.{adds};
 
     ghost then = { adds };
 }
 
 impl Lesson<Update, Role> for Adds {
-    ghost use Rattle.kc_intake.specs.Steps.{drain_learns};
+    ghost use Rattle.kc_intake.specs.private.Steps.{drain_learns};
 
     ghost fact = { drain_learns };
 }
@@ -79,7 +79,7 @@ impl Lesson<Update, Role> for Adds {
 pub(crate) struct TakesIn;
 
 impl Join<Role> for TakesIn {
-    ghost use Rattle.kc_intake.specs.Steps.{took_in};
+    ghost use Rattle.kc_intake.specs.private.Steps.{took_in};
     ghost use Rattle.kc_intake.specs.declared.roles.Role.TheVariants.{Spent};
 
     ghost both = { took_in };
@@ -91,7 +91,7 @@ impl Join<Role> for TakesIn {
 pub(crate) struct Compares;
 
 impl Lesson<Update, Role> for Compares {
-    ghost use Rattle.kc_intake.specs.Steps.{drain_learns};
+    ghost use Rattle.kc_intake.specs.private.Steps.{drain_learns};
 
     ghost fact = { drain_learns };
 }

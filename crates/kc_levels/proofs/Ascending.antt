@@ -10,10 +10,11 @@ use Rattle.std.proofs.lemmas.List.Sums.{sum_by-cons}
 use Rattle.std.proofs.lemmas.List.Sorted.{sum_by-IsPermutation}
 use Rattle.std.proofs.lemmas.Grind.{same_number_lists}
 use Rattle.kc_graph.specs.Numbers.{RisesFrom, has_number}
-use Rattle.kc_graph.proofs.NumberLemmas.{has_number_index, has_number-push}
+use Rattle.kc_graph.proofs.lemmas.Numbers.{has_number_index, has_number-push}
 use Rattle.kc_levels.specs.declared.moves.Move.{Move}
 use Rattle.kc_levels.specs.Moved.{is_moved, moved_below, move_of, moves_between}
-use Rattle.kc_levels.specs.Following.{AreDistinct, IsCopied}
+use Rattle.kc_levels.specs.Following.{AreDistinct}
+use Rattle.kc_levels.specs.private.Following.{IsCopied}
 use Rattle.kc_levels.proofs.MovesBetween.{has_number-moved_below, moved_below_is, moves_own}
 use Rattle.kc_levels.proofs.Copied.{copied_first, copied_one, copied_next}
 

@@ -7,8 +7,8 @@ use Rattle.std.proofs.lemmas.List.{get_or-set_same, get_or-set_other, get_or_pas
 use Rattle.std.proofs.lemmas.List.Sums.{sum_by-cons, count_by-le-length}
 use Rattle.kc_graph.specs.Numbers.{has_number, RisesFrom}
 use Rattle.kc_graph.specs.Shape.{GraphShape, IsGraph, neighbours_of}
-use Rattle.kc_graph.proofs.NeighbourLemmas.{fewer_neighbours, neighbours_rise, neighbours_both}
-use Rattle.kc_graph.proofs.NumberLemmas.{has_number_below}
+use Rattle.kc_graph.proofs.lemmas.Neighbours.{fewer_neighbours, neighbours_rise, neighbours_both}
+use Rattle.kc_graph.proofs.lemmas.Numbers.{has_number_below}
 use Rattle.kc_levels.specs.LevelList.{at_least, IsBelow}
 
 count_by-cons : (test : ℕ → Bool) (w : ℕ) (ws : List ℕ) → count_by test (w ∷ ws) ≡ cond (test w) 1 0 + count_by test ws

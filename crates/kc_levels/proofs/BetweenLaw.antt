@@ -4,8 +4,8 @@ use Rattle.std.specs.Prelude.{nat_le}
 use Rattle.std.proofs.lemmas.Bool.{cases_Bool, leb-true, le-leb, and_parts, and_from}
 use Rattle.kc_graph.specs.Numbers.{count_below}
 use Rattle.kc_graph.specs.Shape.{GraphShape, IsGraph, joined}
-use Rattle.kc_graph.proofs.NeighbourLemmas.{count_by-neighbours_of}
-use Rattle.kc_graph.proofs.CountLemmas.{count_below_agree, count_below-mono}
+use Rattle.kc_graph.proofs.lemmas.Neighbours.{count_by-neighbours_of}
+use Rattle.kc_graph.proofs.lemmas.Counts.{count_below_agree, count_below-mono}
 use Rattle.kc_levels.specs.declared.profile.Profile.{Profile}
 use Rattle.kc_levels.specs.Thresholds.{low, high, group_of}
 use Rattle.kc_levels.specs.LevelList.{at_least, MeetsUpper, MeetsLower, IsHeld}

@@ -6,9 +6,9 @@ use Rattle.std.proofs.lemmas.Bool.Decides.{nat_tests}
 use Rattle.std.proofs.lemmas.List.{length-set, get_or-set_same}
 use Rattle.kc_graph.specs.Numbers.{count_below}
 use Rattle.kc_graph.specs.Shape.{GraphShape, Pair, IsGraph, neighbours_of, has_edge, joined, with_edges, without_edges}
-use Rattle.kc_graph.proofs.CountLemmas.{count_below-mono}
-use Rattle.kc_graph.proofs.NeighbourLemmas.{count_by-neighbours_of}
-use Rattle.kc_graph.proofs.ChangeLemmas.{vertices-with_edges, vertices-without_edges, has_edge-with_edges, has_edge-without_edges, is_graph-with_edges, is_graph-without_edges}
+use Rattle.kc_graph.proofs.lemmas.Counts.{count_below-mono}
+use Rattle.kc_graph.proofs.lemmas.Neighbours.{count_by-neighbours_of}
+use Rattle.kc_graph.proofs.lemmas.Changes.{vertices-with_edges, vertices-without_edges, has_edge-with_edges, has_edge-without_edges, insertions_keep_graph, removals_keep_graph}
 use Rattle.kc_levels.specs.declared.profile.Profile.{Profile}
 use Rattle.kc_levels.specs.Thresholds.{low, high, group_of, top_level}
 use Rattle.kc_levels.specs.LevelList.{at_least, IsBelow, IsHeld, MeetsUpper, MeetsBoth, IsRaisable, IsRaised, IsLowerable, IsLowered}
@@ -122,14 +122,14 @@ module _ (p : Profile) (g h : GraphShape) (x y : List ℕ) where
 pub insertion_keeps_both : InsertionKeepsBoth
 insertion_keeps_both p g added x y graph order both r = raising_keeps p (with_edges g added) g x y (record {
   small = graph;
-  large = is_graph-with_edges g added graph order;
+  large = insertions_keep_graph g added graph order;
   same = sym (vertices-with_edges g added);
   edges = λ e there. has_edge-with_edges e g added ∙ grind (arith, nat_tests, there);
 }) both r
 
 pub deletion_keeps_both : DeletionKeepsBoth
 deletion_keeps_both p g removed x y graph both r = lowering_keeps p (without_edges g removed) g x y (record {
-  small = is_graph-without_edges g removed graph;
+  small = removals_keep_graph g removed graph;
   large = graph;
   same = vertices-without_edges g removed;
   edges = λ e there. let still = sym (has_edge-without_edges e g removed) ∙ there in grind (arith, nat_tests, still);

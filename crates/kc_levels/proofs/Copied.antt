@@ -4,7 +4,7 @@ use Rattle.std.specs.List.{All}
 use Rattle.std.proofs.lemmas.Bool.{cases_eq}
 use Rattle.std.proofs.lemmas.List.{length-set, get_or-set_same, get_or-set_other, take_more, take_all}
 use Rattle.std.proofs.lemmas.List.Elements.{All-push}
-use Rattle.kc_levels.specs.Following.{IsCopied}
+use Rattle.kc_levels.specs.private.Following.{IsCopied}
 
 module _ (from old : List ℕ) where
   -- nothing was copied yet

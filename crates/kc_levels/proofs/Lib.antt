@@ -1,18 +1,19 @@
-pub mod ProfileFacts
-pub mod Least
-pub mod Sequences
-pub mod Groups
-pub mod TableLemmas
-pub mod Places
-pub mod AtLeast
-pub mod Raising
-pub mod RaisedLaw
-pub mod Lowering
-pub mod LoweredLaw
-pub mod BothKept
-pub mod BetweenLaw
-pub mod FitLaws
-pub mod SweepLaw
-pub mod MovesBetween
-pub mod Copied
-pub mod Ascending
+pub mod lemmas
+mod ProfileFacts
+mod Least
+mod Sequences
+mod Groups
+mod TableLemmas
+mod Places
+mod AtLeast
+mod Raising
+mod RaisedLaw
+mod Lowering
+mod LoweredLaw
+mod BothKept
+mod BetweenLaw
+mod FitLaws
+mod SweepLaw
+mod MovesBetween
+mod Copied
+mod Ascending

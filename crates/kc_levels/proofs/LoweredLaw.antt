@@ -7,7 +7,8 @@ use Rattle.std.proofs.lemmas.List.Sums.{sum_by-set}
 use borrow.Author.Count.{below_more}
 use Rattle.kc_graph.specs.Shape.{GraphShape}
 use Rattle.kc_levels.specs.declared.profile.Profile.{Profile}
-use Rattle.kc_levels.specs.LevelList.{IsBelow, IsHeld, MeetsLower, IsDesired, IsLowering, IsLowered}
+use Rattle.kc_levels.specs.LevelList.{IsBelow, IsHeld, MeetsLower, IsDesired, IsLowered}
+use Rattle.kc_levels.specs.private.LevelList.{IsLowering}
 use Rattle.kc_levels.specs.Laws.{LoweredIsOneList, ZerosAreLowerable, GreaterIsLowerable, greater}
 use Rattle.kc_levels.proofs.Lowering.{held_mono, held_or_not, lowering_first, lowering_more, lowering_done, lowered_same}
 

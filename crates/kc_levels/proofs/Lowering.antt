@@ -6,7 +6,8 @@ use Rattle.std.proofs.lemmas.Grind.{same_number_lists}
 use Rattle.kc_graph.specs.Shape.{GraphShape}
 use Rattle.kc_levels.specs.declared.profile.Profile.{Profile}
 use Rattle.kc_levels.specs.Thresholds.{low, group_of}
-use Rattle.kc_levels.specs.LevelList.{at_least, IsBelow, IsHeld, MeetsLower, IsDesired, IsLowerable, IsLowered, IsLowering}
+use Rattle.kc_levels.specs.LevelList.{at_least, IsBelow, IsHeld, MeetsLower, IsDesired, IsLowerable, IsLowered}
+use Rattle.kc_levels.specs.private.LevelList.{IsLowering}
 use Rattle.kc_levels.proofs.Sequences.{low-mono}
 use Rattle.kc_levels.proofs.Groups.{group_of-mono}
 use Rattle.kc_levels.proofs.Places.{changed}

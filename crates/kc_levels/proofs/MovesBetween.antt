@@ -6,7 +6,7 @@ use Rattle.std.proofs.lemmas.Bool.Decides.{nat_tests}
 use Rattle.std.proofs.lemmas.List.{length-map, length_push}
 use Rattle.std.proofs.lemmas.List.Elements.{All-push, All-map}
 use Rattle.kc_graph.specs.Numbers.{RisesFrom, AllBelow, has_number, count_below}
-use Rattle.kc_graph.proofs.NumberLemmas.{has_number-push, has_number_below}
+use Rattle.kc_graph.proofs.lemmas.Numbers.{has_number-push, has_number_below}
 use Rattle.kc_levels.specs.declared.moves.Move.{Move}
 use Rattle.kc_levels.specs.Moved.{is_moved, moved_count, pushed_if, moved_below, move_of, moves_between}
 

@@ -7,7 +7,8 @@ use borrow.Author.Count.{below_more}
 use Rattle.kc_graph.specs.Shape.{GraphShape, IsGraph}
 use Rattle.kc_levels.specs.declared.profile.Profile.{Profile}
 use Rattle.kc_levels.specs.Thresholds.{high, group_of, top_level}
-use Rattle.kc_levels.specs.LevelList.{at_least, MeetsUpper, IsBelow, IsRaising, IsRaised}
+use Rattle.kc_levels.specs.LevelList.{at_least, MeetsUpper, IsBelow, IsRaised}
+use Rattle.kc_levels.specs.private.LevelList.{IsRaising}
 use Rattle.kc_levels.specs.Laws.{RaisedIsOneList, TopIsRaisable, LesserIsRaisable, lesser}
 use Rattle.kc_levels.proofs.AtLeast.{at_least-mono}
 use Rattle.kc_levels.proofs.Raising.{room, raising_first, raising_more, raising_done, raised_same, room_falls, top_meets_upper}

@@ -9,7 +9,8 @@ use Rattle.kc_graph.specs.Numbers.{has_number}
 use Rattle.kc_graph.specs.Shape.{GraphShape, IsGraph, neighbours_of}
 use Rattle.kc_levels.specs.declared.profile.Profile.{Profile}
 use Rattle.kc_levels.specs.Thresholds.{high, top_level, group_of, last_group}
-use Rattle.kc_levels.specs.LevelList.{at_least, MeetsUpper, IsCapped, IsRaisable, IsRaised, IsRaising}
+use Rattle.kc_levels.specs.LevelList.{at_least, MeetsUpper, IsCapped, IsRaisable, IsRaised}
+use Rattle.kc_levels.specs.private.LevelList.{IsRaising}
 use Rattle.kc_levels.proofs.Groups.{group_of-top, high-last_group}
 use Rattle.kc_levels.proofs.Places.{changed}
 use Rattle.kc_levels.proofs.AtLeast.{at_least-mono, at_least-few, at_least-kept}

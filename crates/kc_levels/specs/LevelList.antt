@@ -66,16 +66,3 @@ pub record IsLowerable (p : Profile) (g : GraphShape) (x y : List ℕ) : Type 0 
 pub record IsLowered (p : Profile) (g : GraphShape) (x y : List ℕ) : Type 0 where
   pub lowerable : IsLowerable p g x y
   pub greatest : (z : List ℕ) → IsLowerable p g x z → IsBelow g.vertices z y
-
--- what raising by any rounds keeps: y lies between x and every list that is raisable from x
-pub record IsRaising (p : Profile) (g : GraphShape) (x y : List ℕ) : Type 0 where
-  pub sized : length y ≡ g.vertices
-  pub from : IsBelow g.vertices x y
-  pub capped : IsCapped p g.vertices y
-  pub least : (z : List ℕ) → IsRaisable p g x z → IsBelow g.vertices y z
-
--- what lowering by any rounds keeps: y lies between every list that is lowerable from x and x
-pub record IsLowering (p : Profile) (g : GraphShape) (x y : List ℕ) : Type 0 where
-  pub sized : length y ≡ g.vertices
-  pub under : IsBelow g.vertices y x
-  pub greatest : (z : List ℕ) → IsLowerable p g x z → IsBelow g.vertices z y

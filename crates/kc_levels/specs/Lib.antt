@@ -6,3 +6,4 @@ pub mod Following
 pub mod Laws
 pub mod Between
 pub mod Sweep
+pub mod private

@@ -1,16 +1,16 @@
 -- The lists of out-neighbours have together as many members as the graph has edges.
-use Rattle.std.proofs.Common.{ℕ, suc, zero, ◌+◌, ◌≤◌, ◌<◌, ◌≡◌, ◌≢◌, inl, inr, Bool, true, false, cond, ltb, eqb, ◌&&◌, List, [], ◌∷◌, length, get_or, map, refl, ap, sym, ◌∙◌, arith, add-one}
-use Rattle.std.specs.Prelude.{not, filter, sum_by}
+use Rattle.std.proofs.Common.{ℕ, suc, zero, ◌+◌, ◌≤◌, ◌≡◌, ◌≢◌, inl, inr, cond, ltb, eqb, List, [], ◌∷◌, length, map, refl, ap, sym, ◌∙◌, arith, add-one}
+use Rattle.std.specs.Prelude.{filter, sum_by}
 use Rattle.std.specs.List.{range_with_len}
 use Rattle.std.proofs.lemmas.Bool.{cases_eq, cases_lt, cases_Bool, eq-eqb, ne_eqb, lt-ltb}
 use Rattle.std.proofs.lemmas.Bool.Decides.{nat_tests}
 use Rattle.std.proofs.lemmas.List.FromFn.{sum_by-map-range_with_len_more}
 use Rattle.kc_graph.specs.Shape.{GraphShape, Pair, EdgesFrom, IsGraph, neighbours_of}
-use Rattle.kc_orient.specs.Shape.{above, out_neighbours, orientation}
+use Rattle.kc_orient.specs.Shape.{above, out_neighbours}
 use Rattle.kc_orient.specs.Laws.{EachEdgeOnce}
 use Rattle.kc_orient.proofs.Upward.{above_one_way, out_joined, edge_once}
-use Rattle.kc_graph.proofs.NeighbourLemmas.{neighbours_rise}
-use Rattle.kc_graph.proofs.MergeLemmas.{rises_filter}
+use Rattle.kc_graph.proofs.lemmas.Neighbours.{neighbours_rise}
+use Rattle.kc_graph.proofs.lemmas.Numbers.{rises_filter}
 
 -- how many out-neighbours the vertices below k have
 unfoldable pub arcs : List Pair → List ℕ → ℕ → ℕ

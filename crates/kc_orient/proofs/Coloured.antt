@@ -1,13 +1,13 @@
 -- Colouring one vertex after another, from the greatest level down and on one level from the greatest vertex down.
-use Rattle.std.proofs.Common.{ℕ, suc, zero, ◌+◌, ◌≤◌, ◌<◌, ◌≡◌, ◌≢◌, ◌⊎◌, inl, inr, true, false, List, [], ◌∷◌, length, get_or, set, replicate, refl, ap, sym, ◌∙◌, arith, subst}
+use Rattle.std.proofs.Common.{ℕ, suc, ◌+◌, ◌≤◌, ◌<◌, ◌≡◌, ◌≢◌, inl, inr, true, List, [], length, get_or, set, replicate, refl, ap, sym, ◌∙◌, arith}
 use Rattle.std.proofs.lemmas.Bool.{cases_eq, cases_lt, true≢false}
 use Rattle.std.proofs.lemmas.List.{get_or-set_same, get_or-set_other, get_or-replicate, get_or_past}
 use Rattle.std.proofs.Math.ListN.{length-set, length-replicate}
 use Rattle.kc_graph.specs.Numbers.{has_number}
 use Rattle.kc_orient.specs.Shape.{above, OrientationShape, IsOriented}
 use Rattle.kc_orient.specs.Colouring.{IsLeastFree, IsColouring}
-use Rattle.kc_orient.specs.Marks.{IsMarked}
-use Rattle.kc_orient.specs.Descent.{IsNext, AreLinked, IsPassed, IsColouredTo}
+use Rattle.kc_orient.specs.private.Marks.{IsMarked}
+use Rattle.kc_orient.specs.private.Descent.{IsNext, AreLinked, IsPassed, IsColouredTo}
 use Rattle.kc_orient.proofs.Upward.{above_is, above_itself}
 use Rattle.kc_orient.proofs.Colourings.{least_free_same}
 

@@ -1,12 +1,12 @@
 -- Colourings: there is at most one, it is proper, and its colours are few.
-use Rattle.std.proofs.Common.{ℕ, suc, zero, ◌+◌, ◌*◌, ◌-◌, ◌≤◌, ◌<◌, ◌≡◌, ◌≢◌, ◌⊎◌, inl, inr, Bool, true, false, List, [], ◌∷◌, length, get_or, refl, ap, sym, ◌∙◌, arith, subst}
+use Rattle.std.proofs.Common.{ℕ, suc, zero, ◌+◌, ◌≤◌, ◌<◌, ◌≡◌, inl, inr, true, List, [], ◌∷◌, length, get_or, refl, sym, ◌∙◌, arith}
 use Rattle.std.proofs.lemmas.Bool.{cases_lt, cases_Bool}
 use Rattle.std.proofs.lemmas.List.{get_or_past}
 use Rattle.std.proofs.lemmas.Grind.{same_number_lists}
 use Rattle.kc_graph.specs.Numbers.{has_number}
-use Rattle.kc_graph.specs.Shape.{GraphShape, IsGraph, joined}
-use Rattle.kc_graph.proofs.EdgeLemmas.{joined_comm, joined_inside}
-use Rattle.kc_orient.specs.Shape.{above, out_neighbours, orientation}
+use Rattle.kc_graph.specs.Shape.{GraphShape, joined}
+use Rattle.kc_graph.proofs.lemmas.Edges.{joined_comm, joined_inside}
+use Rattle.kc_orient.specs.Shape.{above, orientation}
 use Rattle.kc_orient.specs.Colouring.{IsLeastFree, IsColouring}
 use Rattle.kc_orient.specs.Laws.{ColouringIsProper, ColoursAreFew}
 use Rattle.kc_orient.proofs.Upward.{above_is, above_one_way, apart, has_number-out, outs_at, outs_sized, outs_above}

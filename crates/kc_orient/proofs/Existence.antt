@@ -1,16 +1,15 @@
 -- Each orientation has a colouring.
-use Rattle.std.proofs.Common.{ℕ, suc, zero, ◌+◌, ◌≤◌, ◌<◌, ◌≡◌, ◌≢◌, inl, inr, Bool, true, false, eqb, ◌||◌, List, [], ◌∷◌, length, get_or, map, refl, ap, sym, ◌∙◌, arith}
+use Rattle.std.proofs.Common.{ℕ, suc, zero, ◌+◌, ◌≤◌, ◌<◌, ◌≡◌, inl, inr, Bool, true, false, eqb, ◌||◌, List, [], ◌∷◌, length, get_or, map, refl, ap, sym, ◌∙◌, arith}
 use Rattle.std.specs.Prelude.{not}
 use Rattle.std.specs.List.{range_with_len}
-use Rattle.std.proofs.lemmas.Bool.{cases_eq, cases_lt, cases_Bool, true≢false, eq-eqb}
+use Rattle.std.proofs.lemmas.Bool.{cases_eq, cases_Bool, true≢false, eq-eqb}
 use Rattle.std.proofs.lemmas.Bool.Decides.{nat_tests}
 use Rattle.std.proofs.lemmas.List.FromFn.{get_or-map-range_with_len, length-map-range_with_len}
 use Rattle.kc_graph.specs.Numbers.{has_number}
-use Rattle.kc_graph.specs.Shape.{GraphShape, IsGraph}
 use Rattle.kc_levels.specs.Thresholds.{least}
-use Rattle.kc_levels.proofs.Least.{least-le, least-passes}
+use Rattle.kc_levels.proofs.lemmas.Least.{least-le, least-passes}
 use Rattle.kc_orient.specs.Shape.{orientation}
-use Rattle.kc_orient.specs.Colouring.{IsLeastFree, IsColouring}
+use Rattle.kc_orient.specs.Colouring.{IsColouring}
 use Rattle.kc_orient.specs.Laws.{ColouringIsOne}
 use Rattle.kc_orient.proofs.Upward.{above_is, LeadUpward, leads_upward}
 use Rattle.kc_orient.proofs.Colourings.{bounded, colourings_are_one}

@@ -1,15 +1,15 @@
 -- Filling the lists of out-neighbours, one vertex after another.
-use Rattle.std.proofs.Common.{ℕ, suc, zero, ◌+◌, ◌-◌, ◌≤◌, ◌<◌, ◌≡◌, inl, inr, List, [], ◌∷◌, ◌++◌, length, get_or, map, refl, ap, sym, ◌∙◌, arith, subst, take, drop, length-append}
+use Rattle.std.proofs.Common.{ℕ, suc, ◌+◌, ◌≤◌, ◌<◌, ◌≡◌, inl, inr, List, [], ◌∷◌, ◌++◌, length, get_or, map, refl, ap, sym, ◌∙◌, arith, subst, drop, length-append}
 use Rattle.std.specs.List.{range_with_len, slice_range}
 use Rattle.std.proofs.lemmas.Bool.{cases_eq}
-use Rattle.std.proofs.lemmas.List.{length_push, get_or_push, take-append-le, drop-append-le, take_all, drop_at, take_at}
+use Rattle.std.proofs.lemmas.List.{length_push, get_or_push, take-append-le, take_all, drop_at}
 use Rattle.std.proofs.lemmas.List.FromFn.{get_or-map-range_with_len, length-map-range_with_len}
 use Rattle.std.proofs.lemmas.Slice.{between_is}
 use Rattle.std.proofs.Math.ListN.{get_or-append}
 use Rattle.std.proofs.lemmas.List.{ext_get_or}
 use Rattle.kc_graph.specs.declared.limits.TheConstants.{MAX_VERTICES}
 use Rattle.kc_graph.specs.Shape.{GraphShape, IsGraph}
-use Rattle.kc_orient.specs.Shape.{out_neighbours, OrientationShape, orientation, IsOriented}
+use Rattle.kc_orient.specs.Shape.{out_neighbours, orientation, IsOriented}
 use Rattle.kc_orient.specs.Layout.{list_at, shape_of, IsKept}
 use Rattle.kc_orient.proofs.Upward.{is_oriented}
 use Rattle.kc_orient.proofs.Arcs.{arcs}

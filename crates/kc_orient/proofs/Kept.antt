@@ -1,11 +1,11 @@
 -- What an orientation keeps, read from its lists.
-use Rattle.std.proofs.Common.{ℕ, suc, zero, ◌+◌, ◌≤◌, ◌<◌, ◌≡◌, inl, inr, List, [], length, get_or, map, sym, ◌∙◌, ap, arith, subst, true, false}
-use Rattle.std.specs.List.{range_with_len}
+use Rattle.std.proofs.Common.{ℕ, ◌<◌, ◌≡◌, inl, inr, List, [], length, get_or, sym, ◌∙◌, arith, false}
 use Rattle.std.proofs.lemmas.Bool.{cases_Bool, true≢false}
 use Rattle.std.proofs.lemmas.List.FromFn.{get_or-map-range_with_len}
-use Rattle.kc_graph.specs.Numbers.{has_number, RisesFrom, AllBelow, put}
-use Rattle.kc_graph.proofs.NumberLemmas.{length-rising, rises_from_put, below_from_put, length-put}
-use Rattle.kc_orient.specs.Shape.{above, OrientationShape, IsOriented}
+use Rattle.kc_graph.specs.Numbers.{has_number}
+use Rattle.kc_graph.specs.private.Numbers.{put}
+use Rattle.kc_graph.proofs.lemmas.Numbers.{length-rising, rises_from_put, below_from_put, length-put}
+use Rattle.kc_orient.specs.Shape.{OrientationShape, IsOriented}
 use Rattle.kc_orient.specs.Layout.{list_at, shape_of}
 use Rattle.kc_orient.proofs.Upward.{above_itself}
 

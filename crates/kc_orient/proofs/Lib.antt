@@ -1,10 +1,11 @@
-pub mod Upward
-pub mod Arcs
-pub mod Pigeons
-pub mod Colourings
-pub mod Filling
-pub mod Marking
-pub mod Descents
-pub mod Coloured
-pub mod Kept
-pub mod Existence
+pub mod lemmas
+mod Upward
+mod Arcs
+mod Pigeons
+mod Colourings
+mod Filling
+mod Marking
+mod Descents
+mod Coloured
+mod Kept
+mod Existence

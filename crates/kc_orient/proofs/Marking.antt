@@ -1,13 +1,13 @@
 -- Marking the colours of a list of vertices, and the least colour that is not marked.
-use Rattle.std.proofs.Common.{ℕ, suc, zero, ◌+◌, ◌≤◌, ◌<◌, ◌≡◌, ◌≢◌, ◌⊎◌, inl, inr, Bool, true, false, List, [], ◌∷◌, ◌++◌, length, get_or, take, set, refl, ap, sym, ◌∙◌, arith, add-one}
+use Rattle.std.proofs.Common.{ℕ, suc, ◌≤◌, ◌<◌, ◌≡◌, ◌≢◌, inl, inr, true, List, [], ◌∷◌, ◌++◌, length, get_or, take, set, refl, ap, sym, ◌∙◌, arith, add-one}
 use Rattle.std.proofs.lemmas.Bool.{cases_eq, true≢false}
 use Rattle.std.proofs.lemmas.Bool.Decides.{nat_tests}
 use Rattle.std.proofs.lemmas.List.{get_or-set_same, get_or-set_other, take_more, take_all}
 use Rattle.std.proofs.Math.ListN.{length-set}
 use Rattle.kc_graph.specs.Numbers.{has_number}
-use Rattle.kc_graph.proofs.NumberLemmas.{has_number-push, has_number_at}
+use Rattle.kc_graph.proofs.lemmas.Numbers.{has_number-push, has_number_at}
 use Rattle.kc_orient.specs.Colouring.{IsLeastFree}
-use Rattle.kc_orient.specs.Marks.{IsMarked}
+use Rattle.kc_orient.specs.private.Marks.{IsMarked}
 use Rattle.kc_orient.proofs.Pigeons.{pigeons}
 
 -- the colours of the first i vertices are marked by the stamp, and the others as before

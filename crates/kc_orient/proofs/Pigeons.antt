@@ -1,10 +1,10 @@
 -- A list whose members have different things has at least as many members.
-use Rattle.std.proofs.Common.{ℕ, suc, zero, ◌+◌, ◌≤◌, ◌<◌, ◌≡◌, ◌≢◌, inl, inr, Bool, true, false, eqb, ◌&&◌, List, [], ◌∷◌, length, refl, ap, sym, ◌∙◌, arith}
-use Rattle.std.specs.Prelude.{not}
+use Rattle.std.proofs.Common.{ℕ, suc, zero, ◌+◌, ◌≤◌, ◌<◌, ◌≡◌, ◌≢◌, inl, inr, true, List, [], ◌∷◌, length, refl, ap, sym, ◌∙◌, arith}
 use Rattle.std.proofs.lemmas.Bool.{cases_eq, true≢false, eq-eqb, ne_eqb}
 use Rattle.std.proofs.lemmas.Bool.Decides.{nat_tests}
-use Rattle.kc_graph.specs.Numbers.{has_number, without}
-use Rattle.kc_graph.proofs.NumberLemmas.{has_number-without}
+use Rattle.kc_graph.specs.Numbers.{has_number}
+use Rattle.kc_graph.specs.private.Numbers.{without}
+use Rattle.kc_graph.proofs.lemmas.Numbers.{has_number-without}
 
 length-without-le : (a : ℕ) (ws : List ℕ) → length (without a ws) ≤ length ws
 length-without-le a [] = omega arith

@@ -1,7 +1,6 @@
 -- The order of the vertices, and lists of out-neighbours.
-use Rattle.std.proofs.Common.{ℕ, suc, zero, ◌+◌, ◌*◌, ◌≤◌, ◌<◌, ◌≡◌, ◌≢◌, ◌⊎◌, inl, inr, Bool, true, false, cond, ltb, leb, eqb, ◌&&◌, ◌||◌, List, [], ◌∷◌, length, get_or, map, refl, ap, sym, ◌∙◌, arith, subst}
+use Rattle.std.proofs.Common.{ℕ, ◌≤◌, ◌<◌, ◌≡◌, ◌≢◌, ◌⊎◌, inl, inr, Bool, true, false, ltb, leb, eqb, ◌&&◌, ◌||◌, List, [], ◌∷◌, length, get_or, refl, ap, sym, ◌∙◌, arith, subst}
 use Rattle.std.specs.Prelude.{not, filter}
-use Rattle.std.specs.List.{range_with_len}
 use Rattle.std.proofs.lemmas.Bool.{cases_eq, cases_lt, cases_Bool, true≢false}
 use Rattle.std.proofs.lemmas.Bool.Decides.{nat_tests}
 use Rattle.std.proofs.lemmas.List.{get_or_past}
@@ -10,16 +9,16 @@ use Rattle.std.proofs.lemmas.List.Sums.{length-filter}
 use Rattle.kc_graph.specs.declared.limits.TheConstants.{MAX_VERTICES}
 use Rattle.kc_graph.specs.Numbers.{has_number, RisesFrom, AllBelow}
 use Rattle.kc_graph.specs.Shape.{GraphShape, IsGraph, neighbours_of, joined}
-use Rattle.kc_graph.proofs.EdgeLemmas.{joined_comm, joined_itself}
-use Rattle.kc_graph.proofs.NeighbourLemmas.{has_number-neighbours_of, neighbours_rise, neighbours_below, neighbour_below}
-use Rattle.kc_graph.proofs.MergeLemmas.{rises_filter}
+use Rattle.kc_graph.proofs.lemmas.Edges.{joined_comm, joined_itself}
+use Rattle.kc_graph.proofs.lemmas.Neighbours.{has_number-neighbours_of, neighbours_rise, neighbours_below, neighbour_below}
+use Rattle.kc_graph.proofs.lemmas.Numbers.{rises_filter}
 use Rattle.kc_levels.specs.declared.profile.Profile.{Profile}
 use Rattle.kc_levels.specs.declared.profile.Profile.TheVariants.{Two}
 use Rattle.kc_levels.specs.Thresholds.{high, group_of}
 use Rattle.kc_levels.specs.LevelList.{at_least, MeetsUpper}
-use Rattle.kc_levels.proofs.AtLeast.{count_by-mono}
-use Rattle.kc_levels.proofs.Sequences.{high-est, high-est-two}
-use Rattle.kc_orient.specs.Shape.{above, out_neighbours, OrientationShape, orientation, IsOriented}
+use Rattle.kc_levels.proofs.lemmas.AtLeast.{count_by-mono}
+use Rattle.kc_levels.proofs.lemmas.Thresholds.{high-est, high-est-two}
+use Rattle.kc_orient.specs.Shape.{above, out_neighbours, orientation, IsOriented}
 use Rattle.kc_orient.specs.Laws.{AboveIsAnOrder, IsWalk, NoCycle, OutNeighboursAreFew}
 
 -- the order

@@ -1,5 +1,5 @@
 -- Laws of orientations and colourings, each the contract of a function of `laws`.
-use Rattle.std.specs.Prelude.{ℕ, ◌+◌, ◌*◌, ◌≡◌, ◌≢◌, ◌≤◌, ◌<◌, Bool, true, false, not, List, [], ◌∷◌, length, get_or, sum_by}
+use Rattle.std.specs.Prelude.{ℕ, ◌*◌, ◌≡◌, ◌≢◌, ◌≤◌, ◌<◌, true, false, not, List, [], ◌∷◌, length, get_or, sum_by}
 use Rattle.kc_graph.specs.Numbers.{has_number, RisesFrom}
 use Rattle.kc_graph.specs.Shape.{GraphShape, IsGraph, joined}
 use Rattle.kc_levels.specs.declared.profile.Profile.{Profile}

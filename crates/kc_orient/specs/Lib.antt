@@ -2,5 +2,4 @@ pub mod Shape
 pub mod Colouring
 pub mod Laws
 pub mod Layout
-pub mod Descent
-pub mod Marks
+pub mod private

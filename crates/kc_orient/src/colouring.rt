@@ -1,8 +1,8 @@
 ghost use Rattle.std.specs.Prelude.{◌≡◌, ◌≢◌, ℕ, ◌+◌, ◌<◌, ◌≤◌, [], All, IfOk, length, slice_index, slice_index_or};
 ghost use Rattle.kc_graph.specs.declared.limits.TheConstants.{MAX_VERTICES};
 ghost use Rattle.kc_orient.specs.Colouring.{IsLeastFree, IsColouring};
-ghost use Rattle.kc_orient.specs.Descent.{AreLinked, IsColouredTo, IsNext};
-ghost use Rattle.kc_orient.specs.Marks.{IsMarked};
+ghost use Rattle.kc_orient.specs.private.Descent.{AreLinked, IsColouredTo, IsNext};
+ghost use Rattle.kc_orient.specs.private.Marks.{IsMarked};
 ghost use Rattle.kc_orient.specs.Shape.{IsOriented};
 
 use crate::descent::{Descent, descend};

@@ -1,3 +1,4 @@
-pub mod LineLemmas
-pub mod ReaderLemmas
-pub mod TextLemmas
+pub mod lemmas
+mod LineLemmas
+mod ReaderLemmas
+mod TextLemmas

@@ -5,7 +5,7 @@ use Rattle.kc_text.specs.declared.buf.SendFault.{SendFault}
 use Rattle.kc_text.specs.declared.reason.Reason.{Reason}
 use Rattle.kc_text.specs.Reasons.{reason_word}
 use Rattle.kc_text.specs.Writing.{Sends, Appends}
-use Rattle.kc_text.proofs.Known.{appends_send}
+use Rattle.kc_text.proofs.lemmas.Writing.{appends_send}
 use Rattle.kc_graph.specs.declared.cleaning.Cleaned.{Cleaned}
 use Rattle.kc_levels.specs.declared.thresholds.Estimate.{Estimate}
 use Rattle.kc_report.specs.Lines.{vertices_line, header_refused_line, batch_line, refused_line, vertex_line, coreness_line}

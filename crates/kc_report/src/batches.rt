@@ -5,11 +5,10 @@ ghost use Rattle.kc_report.specs.Buffer.{IsCleared};
 ghost use Rattle.kc_groups.specs.WellFormed.{IsWellFormed};
 ghost use Rattle.kc_report.specs.Lines.{batch_line, batch_text, refused_line};
 
-use crate::fill::fill_named;
 use crate::phases::write_phases;
 use kc_graph::Cleaned;
 use kc_groups::PhasePlan;
-use kc_text::{LineBuf, Reason, SendFault, Sink};
+use kc_text::{LineBuf, Reason, SendFault, Sink, fill_named};
 use std::alloc::{AllocError, Global};
 
 // The number of a batch and what its cleaning counted.

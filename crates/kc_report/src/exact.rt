@@ -3,10 +3,9 @@ ghost use Rattle.kc_text.specs.Writing.{Appends, WriteCause};
 ghost use Rattle.kc_report.specs.Buffer.{IsCleared};
 ghost use Rattle.kc_report.specs.Lines.{exact_magic_line, exact_head_text, coreness_line};
 
-use crate::fill::fill_named;
-use crate::head::write_vertices;
+use crate::head::write_vertex_count;
 use kc_levels::Estimate;
-use kc_text::{LineBuf, SendFault, Sink};
+use kc_text::{LineBuf, SendFault, Sink, fill_named};
 use std::alloc::{AllocError, Global};
 
 // Writes the first line.
@@ -43,7 +42,7 @@ pub fn write_exact_head<K: Sink>(
     ensures cause { WriteCause (K.faults sink.old) (K.faults sink.new) result }
 {
     write_exact_magic(alloc, buf, sink)?;
-    write_vertices(alloc, buf, sink, n)
+    write_vertex_count(alloc, buf, sink, n)
 }
 
 fn fill_coreness(

@@ -3,8 +3,7 @@ ghost use Rattle.kc_text.specs.Writing.{Appends, WriteCause};
 ghost use Rattle.kc_report.specs.Buffer.{IsCleared};
 ghost use Rattle.kc_report.specs.Lines.{magic_line, vertices_line, head_text, header_refused_line, end_line};
 
-use crate::fill::fill_named;
-use kc_text::{LineBuf, SendFault, Sink};
+use kc_text::{LineBuf, SendFault, Sink, fill_named};
 use std::alloc::{AllocError, Global};
 
 // Writes the first line.
@@ -20,8 +19,10 @@ fn write_magic<K: Sink>(alloc: Global, buf: &mut LineBuf, sink: &mut K) -> Resul
     }
 }
 
-// Writes the second line, which a run and an exact text have alike.
-pub fn write_vertices<K: Sink>(
+/// Writes the line that tells the number of vertices (`vertices_line`), which several texts have alike; any number is written.
+///
+/// After `WriteFault`, which only a failed write gives, and after `Memory` the sink took a prefix of the line.
+pub fn write_vertex_count<K: Sink>(
     alloc: Global,
     buf: &mut LineBuf,
     sink: &mut K,
@@ -54,7 +55,7 @@ pub fn write_head<K: Sink>(
     ensures cause { WriteCause (K.faults sink.old) (K.faults sink.new) result }
 {
     write_magic(alloc, buf, sink)?;
-    write_vertices(alloc, buf, sink, n)
+    write_vertex_count(alloc, buf, sink, n)
 }
 
 fn fill_header_refused(alloc: Global, buf: &mut LineBuf, line: u32) -> Result<(), AllocError>

@@ -11,7 +11,6 @@
 
 mod batches;
 mod exact;
-mod fill;
 mod head;
 mod notes;
 mod phases;
@@ -22,7 +21,7 @@ mod vertices;
 
 pub use batches::{write_batch, write_refused};
 pub use exact::{write_coreness, write_exact_head};
-pub use head::{write_end, write_head, write_header_refused};
+pub use head::{write_end, write_head, write_header_refused, write_vertex_count};
 pub use notes::write_note;
 pub use readers::write_reader;
 pub use vertices::write_vertex;

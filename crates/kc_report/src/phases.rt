@@ -6,10 +6,9 @@ ghost use Rattle.kc_groups.specs.WellFormed.{IsWellFormed};
 ghost use Rattle.kc_report.specs.Buffer.{IsCleared};
 ghost use Rattle.kc_report.specs.Lines.{direction_word, member_word, phase_line, group_line, phase_text};
 
-use crate::fill::fill_named;
 use kc_groups::PhasePlan;
 use kc_history::{Entry, Move};
-use kc_text::{LineBuf, SendFault, Sink};
+use kc_text::{LineBuf, SendFault, Sink, fill_named};
 use std::alloc::{AllocError, Global};
 
 // The words of a phase between its number and that of its quiet edges, with their blanks.

@@ -5,9 +5,8 @@ ghost use Rattle.kc_text.specs.Writing.{Appends, WriteCause};
 ghost use Rattle.kc_report.specs.Buffer.{IsCleared};
 ghost use Rattle.kc_report.specs.Lines.{reply_word, reader_line};
 
-use crate::fill::fill_named;
 use kc_history::Reply;
-use kc_text::{LineBuf, SendFault, Sink};
+use kc_text::{LineBuf, SendFault, Sink, fill_named};
 use std::alloc::{AllocError, Global};
 
 // Appends for each reply a blank, its vertex and its level.

@@ -3,9 +3,8 @@ ghost use Rattle.kc_text.specs.Writing.{Appends, WriteCause};
 ghost use Rattle.kc_report.specs.Buffer.{IsCleared};
 ghost use Rattle.kc_report.specs.Lines.{vertex_line};
 
-use crate::fill::fill_named;
 use kc_levels::Estimate;
-use kc_text::{LineBuf, SendFault, Sink};
+use kc_text::{LineBuf, SendFault, Sink, fill_named};
 use std::alloc::{AllocError, Global};
 
 // What a vertex line says of the level.

@@ -6,7 +6,7 @@ use Rattle.std.proofs.lemmas.List.Elements.{All-nil, All-cons}
 use Rattle.kc_history.specs.declared.entries.Entry.{Entry}
 use Rattle.kc_history.specs.declared.replies.Reply.{Reply}
 use Rattle.kc_history.specs.Replies.{AreExplained, vertices_of}
-use Rattle.kc_history.proofs.ReplyLemmas.{earlier_explains}
+use Rattle.kc_history.proofs.lemmas.Replies.{earlier_explains}
 use Rattle.kc_batch.specs.declared.ask.Ask.{Ask}
 use Rattle.kc_store.specs.declared.roles.WriterState.{WriterState}
 use Rattle.kc_store.specs.Seats.{StoreShape}

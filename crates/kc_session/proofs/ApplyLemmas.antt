@@ -10,7 +10,7 @@ use Rattle.kc_engine.specs.States.{IsSound}
 use Rattle.kc_engine.specs.Batches.{IsAfterPhases}
 use Rattle.kc_engine.specs.Planning.{EngineView, IsPlanned}
 use Rattle.kc_session.specs.declared.audience.Audience.{Audience}
-use Rattle.kc_session.specs.Audiences.{IsAbreast, LeadOver}
+use Rattle.kc_session.specs.private.Audiences.{IsAbreast, LeadOver}
 use Rattle.kc_session.specs.States.{IsOpen}
 
 -- items of a batch for an engine that takes batches

@@ -6,7 +6,7 @@ use mathlib.Core.List.{IsPrefix}
 use Rattle.kc_history.specs.declared.entries.Entry.{Entry}
 use Rattle.kc_history.specs.declared.replies.Reply.{Reply}
 use Rattle.kc_history.specs.Replies.{AreExplained, vertices_of, zeros}
-use Rattle.kc_history.proofs.ReplyLemmas.{longer_explains, end_explains_more, start_explains_zeros}
+use Rattle.kc_history.proofs.lemmas.Replies.{longer_explains, end_explains_more, start_explains_zeros}
 use Rattle.kc_batch.specs.declared.ask.Ask.{Ask}
 use Rattle.kc_store.specs.Seats.{PassShape}
 use Rattle.kc_store.specs.States.{last_level}

@@ -1,5 +1,5 @@
 -- An audience of readers, by their writer.
-use Rattle.std.proofs.Common.{◌≡◌, refl, sym, ap, ◌∙◌, subst}
+use Rattle.std.proofs.Common.{◌≡◌, sym, ap, ◌∙◌, subst}
 use Rattle.std.specs.Prelude.{Some, None}
 use Rattle.std.proofs.lemmas.Option.{same_Some}
 use Rattle.kc_store.specs.Seats.{StoreShape, WriterShape}
@@ -7,7 +7,7 @@ use Rattle.kc_engine.specs.States.{State}
 use Rattle.kc_engine.specs.Showing as showing
 use Rattle.kc_session.specs.declared.audience.Audience.{Audience}
 use Rattle.kc_session.specs.declared.audience.Audience.TheVariants.{Readers, Nobody}
-use Rattle.kc_session.specs.Audiences.{store_of, writer_of, shown_to, IsAbreast}
+use Rattle.kc_session.specs.private.Audiences.{store_of, writer_of, shown_to, IsAbreast}
 
 -- where there is a store, there is its writer
 pub store_has_writer : (a : Audience) (store : StoreShape) → store_of a ≡ Some store → writer_of a ≡ None → ⊥
@@ -26,8 +26,3 @@ writer_is_abreast (Readers place w) store writer s e f h =
     let there : place.now ≡ store = same_Some _ _ e in
     (ap (λ (x : WriterShape). x.table) (sym same) ∙ (h.0 ∙ ap (λ (x : StoreShape). x.table) there), subst (λ (x : WriterShape). showing.IsAbreast x.state s) same h.1)
 writer_is_abreast Nobody store writer s e f h = absurd cc
-
--- where there is no store, nothing is shown
-pub nobody_is_shown : (a : Audience) → store_of a ≡ None → shown_to a ≡ None
-nobody_is_shown (Readers place w) e = absurd cc
-nobody_is_shown Nobody e = refl

@@ -9,8 +9,7 @@ use Rattle.kc_graph.specs.declared.items.Item.{Item}
 use Rattle.kc_graph.specs.declared.limits.TheConstants.{MAX_EDGES, MAX_ITEMS}
 use Rattle.kc_graph.specs.Shape.{Pair, GraphShape, IsGraph}
 use Rattle.kc_graph.specs.Cleaning.{IsInside, cleaned}
-use Rattle.kc_graph.proofs.CountingLemmas.{each_item_counts_once}
-use Rattle.kc_graph.proofs.CleaningLawLemmas.{cleaned_fits_graph}
+use Rattle.kc_graph.proofs.lemmas.Cleaning.{each_item_counts_once, cleaned_fits_graph}
 use Rattle.kc_text.specs.declared.reason.Reason.{Reason}
 use Rattle.kc_text.specs.Writing.{IsPrefix}
 use Rattle.kc_batch.specs.declared.batch.Batch.{Batch}
@@ -19,22 +18,22 @@ use Rattle.kc_batch.specs.declared.batch.Next.TheVariants.{Items, Refused}
 use Rattle.kc_batch.specs.HeaderShape.{HeaderShape}
 use Rattle.kc_batch.specs.BatchInputs.{rules_of}
 use Rattle.kc_batch.specs.Batches.{IsNext}
-use Rattle.kc_text.proofs.Known.{prefix_none}
+use Rattle.kc_text.proofs.lemmas.Writing.{prefix_none}
 use Rattle.kc_history.specs.declared.entries.Entry.{Entry}
 use Rattle.kc_groups.specs.declared.plans.PhasePlan.{PhasePlan}
 use Rattle.kc_groups.specs.Entries.{is_quiet, entries_in}
 use Rattle.kc_groups.specs.WellFormed.{IsWellFormed}
 use Rattle.kc_engine.specs.States.{State, IsSound}
 use Rattle.kc_engine.specs.Batches.{phases_for, graph_after_batch, ArePhaseOf, IsAfterPhases}
-use Rattle.kc_engine.proofs.PhaseLaw.{phases_are_well_formed}
+use Rattle.kc_engine.proofs.lemmas.Phases.{phases_are_well_formed}
 use Rattle.kc_session.specs.declared.report.Report.{Report}
 use Rattle.kc_session.specs.Reports.{accepted_text, refused_text}
 use Rattle.kc_session.specs.States.{stay, refusal_of, reason_of}
 use Rattle.kc_session.specs.declared.counts.Counts.{Counts}
 use Rattle.kc_session.specs.Counts.{capped, groups_of, moves_of}
-use Rattle.kc_session.specs.Audiences.{longer}
-use Rattle.kc_session.specs.Running.{RanStep, WroteSome}
-use Rattle.kc_session.specs.Outcomes.{IsRefusedFor}
+use Rattle.kc_session.specs.private.Audiences.{longer}
+use Rattle.kc_session.specs.private.Running.{RanStep, WroteSome}
+use Rattle.kc_session.specs.private.Outcomes.{IsRefusedFor}
 use Rattle.kc_session.specs.RunText.{step_text}
 use Rattle.kc_session.proofs.Longer.{longer_none}
 use Rattle.kc_session.proofs.Steps.{some_step}

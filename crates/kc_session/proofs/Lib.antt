@@ -1,20 +1,21 @@
-pub mod AgentLists
-pub mod AskingLemmas
-pub mod AudienceLemmas
-pub mod Longer
-pub mod Lists
-pub mod PassLemmas
-pub mod ReaderTexts
-pub mod Tails
-pub mod Steps
-pub mod BatchSteps
-pub mod CountLemmas
-pub mod ApplyLemmas
-pub mod Runs
-pub mod Settles
-pub mod Causes
-pub mod SessionTexts
-pub mod LastLines
-pub mod SumLemmas
-pub mod LoadLemmas
-pub mod LoadReads
+pub mod lemmas
+mod AgentLists
+mod AskingLemmas
+mod AudienceLemmas
+mod Longer
+mod Lists
+mod PassLemmas
+mod ReaderTexts
+mod Tails
+mod Steps
+mod BatchSteps
+mod CountLemmas
+mod ApplyLemmas
+mod Runs
+mod Settles
+mod Causes
+mod SessionTexts
+mod LastLines
+mod SumLemmas
+mod LoadLemmas
+mod LoadReads

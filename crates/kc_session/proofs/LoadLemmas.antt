@@ -5,12 +5,13 @@ use Rattle.std.specs.List.{flat_map, join_with_byte}
 use Rattle.std.proofs.lemmas.List.{flat_map_more, length-take, length-drop, take-append-le, take-append-drop, drop_all, take_all}
 use Rattle.std.proofs.Math.Seq.{take-append-add}
 use borrow.Rule.Slice.PartMut.{put_mid, post_of}
-use Rattle.kc_report.proofs.TextLemmas.{joined}
+use Rattle.kc_report.proofs.lemmas.Lines.{joined}
 use Rattle.kc_text.specs.Printing.{printed_line, printed}
 use Rattle.kc_session.specs.declared.generator.Place.TheVariants.{Format, Vertices, FirstAsk, SecondAsk, Batch, Items}
 use Rattle.kc_session.specs.declared.generator.Generator.{Generator}
 use Rattle.kc_session.specs.Generated.{first_numbers, ask_words, drawn_item, after_item, drawn_items, after_items, drawn_batches}
-use Rattle.kc_session.specs.Generating.{words_left, Makes, MakesIf}
+use Rattle.kc_session.specs.Generating.{words_left}
+use Rattle.kc_session.specs.private.Generating.{Makes, MakesIf}
 
 -- one more number was put together
 pub number_added : (k : ℕ) (old line more : List ℕ) → line ≡ old ++ flat_map (λ (w : ℕ). 32 ∷ decimal w) (first_numbers k) → more ≡ (line ++ codes " ") ++ decimal k

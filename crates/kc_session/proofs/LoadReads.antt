@@ -13,7 +13,7 @@ use Rattle.kc_text.specs.declared.line.Line.{Line}
 use Rattle.kc_text.specs.declared.line.Body.TheVariants.{Text, End}
 use Rattle.kc_text.specs.Words.{words, is_skip}
 use Rattle.kc_text.specs.Printing.{is_word, is_line, printed_line, printed, lines_of_words}
-use Rattle.kc_text.proofs.PrintedText.{words_back, numbers_back, lines_back}
+use Rattle.kc_text.proofs.lemmas.Printing.{words_are_read_back, numbers_are_read_back, lines_are_read_back}
 use Rattle.kc_batch.specs.declared.token.Token.{Token}
 use Rattle.kc_graph.specs.declared.limits.TheConstants.{MAX_ITEMS}
 use Rattle.kc_graph.specs.declared.items.Item as graph
@@ -26,12 +26,12 @@ use Rattle.kc_batch.specs.declared.token.Kind.TheVariants.{BatchStart, Item, Bat
 use Rattle.kc_levels.specs.declared.profile.Profile.TheVariants.{One}
 use Rattle.kc_text.specs.Numbers.{number_of, value_from}
 use Rattle.kc_batch.specs.declared.ask.Ask.{Ask}
-use Rattle.kc_report.proofs.TextLemmas.{joined}
+use Rattle.kc_report.proofs.lemmas.Lines.{joined}
 use Rattle.kc_batch.specs.declared.batch.Next.{Next}
 use Rattle.kc_batch.specs.BatchInputs.{WithBatches, behind_header, input_of}
 use Rattle.kc_batch.specs.Headers.{HeaderText, Accepted, profile_in, vertices_in, ask_in, numbers_of, header_of}
 use Rattle.kc_batch.specs.HeaderLaw.{IsBeginning, IsAskLine}
-use Rattle.kc_batch.proofs.HeaderEnds.{first_other_line_ends}
+use Rattle.kc_batch.proofs.lemmas.Inputs.{first_other_line_ends}
 use Rattle.kc_session.specs.LoadInputs.{item_drawn, items_drawn, load_batches, load_ask, load_header, LoadsAreRead}
 use Rattle.kc_batch.specs.Kept.{kept}
 use Rattle.kc_batch.specs.Tokens.{kind_of_words, tokens}
@@ -65,7 +65,7 @@ are_kept : (n : ℕ) (ls : List (List (List ℕ))) (rest : List Line) → AreSai
 unfolding AreSaid lines_of_words
 are_kept n [] rest k = refl
 are_kept n (ws ∷ ls) rest k =
-    let w : words (join_with_byte 32 ws) ≡ ws = words_back ws k.0.words_are in
+    let w : words (join_with_byte 32 ws) ≡ ws = words_are_read_back ws k.0.words_are in
     rw (w, k.0.stays, are_kept (n + 1) ls rest k.1) refl
 
 -- what they say
@@ -77,12 +77,12 @@ are_tokens : (n : ℕ) (ls : List (List (List ℕ))) (rest : List Line) → AreS
 unfolding AreSaid lines_of_words token_lines
 are_tokens n [] rest k = refl
 are_tokens n (ws ∷ ls) rest k =
-    let w : words (join_with_byte 32 ws) ≡ ws = words_back ws k.0.words_are in
+    let w : words (join_with_byte 32 ws) ≡ ws = words_are_read_back ws k.0.words_are in
     rw (w, are_tokens (n + 1) ls rest k.1) refl
 
 -- an item
 small : (w : ℕ) → w < 2 ^ 32 → is_word (decimal w) ≡ true
-small w h = numbers_back.word w h
+small w h = numbers_are_read_back.word w h
 
 drawn_small : (s n : ℕ) → 1 ≤ n → n ≤ 16777216 → drawn s % n < 2 ^ 32
 drawn_small s n h k = omega arith
@@ -92,8 +92,8 @@ two_numbers sign u v w e k hu hv = record {
   words_are = and_from _ _ w (and_from _ _ (small u hu) (and_from _ _ (small v hv) refl));
   stays = k;
   short =
-      let a = numbers_back.short u hu in
-      let b = numbers_back.short v hv in
+      let a = numbers_are_read_back.short u hu in
+      let b = numbers_are_read_back.short v hv in
       let c = length-append sign (32 ∷ (decimal u ++ 32 ∷ decimal v)) in
       let d = length-append (decimal u) (32 ∷ decimal v) in
       omega (arith, a, b, c, d);
@@ -143,7 +143,7 @@ unfolding first_numbers
 first_short zero h = omega arith
 first_short (suc k) h =
     let a = first_short k (omega arith) in
-    let b = numbers_back.short k (omega arith) in
+    let b = numbers_are_read_back.short k (omega arith) in
     let c = ap (λ (t : List ℕ). length t) (flat_map-append (λ (x : ℕ). 32 ∷ decimal x) (first_numbers k) (k ∷ [])) in
     let d = length-append (flat_map (λ (x : ℕ). 32 ∷ decimal x) (first_numbers k)) (flat_map (λ (x : ℕ). 32 ∷ decimal x) (k ∷ [])) in
     let e = length-append (32 ∷ decimal k) [] in
@@ -173,7 +173,7 @@ vertices_said : (n : ℕ) → n ≤ 16777216 → IsSaid (codes "vertices" ∷ de
 vertices_said n h = record {
   words_are = and_from _ _ (small n (omega arith)) refl;
   stays = refl;
-  short = let a = numbers_back.short n (omega arith) in omega (arith, a);
+  short = let a = numbers_are_read_back.short n (omega arith) in omega (arith, a);
 }
 
 load_said : (seed n batches items : ℕ) → 1 ≤ n → n ≤ 16777216 → AreSaid (load_words seed n batches items)
@@ -191,8 +191,8 @@ printed_one ws ls = length-append (printed_line ws) (printed ls) ∙ ap (λ (m :
 
 numbers_short : (sign : List ℕ) (u v : ℕ) → length sign ≡ 1 → u < 2 ^ 32 → v < 2 ^ 32 → length (join_with_byte 32 (sign ∷ decimal u ∷ decimal v ∷ [])) ≤ 23
 numbers_short sign u v e hu hv =
-    let a = numbers_back.short u hu in
-    let b = numbers_back.short v hv in
+    let a = numbers_are_read_back.short u hu in
+    let b = numbers_are_read_back.short v hv in
     let c = length-append sign (32 ∷ (decimal u ++ 32 ∷ decimal v)) in
     let d = length-append (decimal u) (32 ∷ decimal v) in
     omega (arith, a, b, c, d)
@@ -252,7 +252,7 @@ numbers_said n [] h k = refl
 numbers_said n (x ∷ xs) h k =
     let p = and_parts (nat_lt x n) (list_all (λ v. nat_lt v n) xs) k in
     let small_x = less x n p.0 in
-    let here : number_of (decimal x) ≡ Some x = numbers_back.value x (omega (arith, small_x)) in
+    let here : number_of (decimal x) ≡ Some x = numbers_are_read_back.value x (omega (arith, small_x)) in
     let rest : numbers_of (map decimal xs) ≡ Some xs = numbers_said n xs h p.1 in
     rw (here, rest) refl
 
@@ -264,18 +264,18 @@ first_below (suc k) n h = list_all-append (λ v. nat_lt v n) (first_numbers k) (
 is_beginning : (n : ℕ) → 1 ≤ n → n ≤ 16777216 → IsBeginning One n (record { number = 1; body = Text (join_with_byte 32 (codes "kcore" ∷ codes "1" ∷ [])) }) (record { number = 2; body = Text (join_with_byte 32 (codes "vertices" ∷ decimal n ∷ [])) })
 unfolding profile_in vertices_in
 is_beginning n h k =
-    let w : words (join_with_byte 32 (codes "kcore" ∷ codes "1" ∷ [])) ≡ codes "kcore" ∷ codes "1" ∷ [] = words_back (codes "kcore" ∷ codes "1" ∷ []) format_said.words_are in
-    let v : words (join_with_byte 32 (codes "vertices" ∷ decimal n ∷ [])) ≡ codes "vertices" ∷ decimal n ∷ [] = words_back (codes "vertices" ∷ decimal n ∷ []) (vertices_said n k).words_are in
+    let w : words (join_with_byte 32 (codes "kcore" ∷ codes "1" ∷ [])) ≡ codes "kcore" ∷ codes "1" ∷ [] = words_are_read_back (codes "kcore" ∷ codes "1" ∷ []) format_said.words_are in
+    let v : words (join_with_byte 32 (codes "vertices" ∷ decimal n ∷ [])) ≡ codes "vertices" ∷ decimal n ∷ [] = words_are_read_back (codes "vertices" ∷ decimal n ∷ []) (vertices_said n k).words_are in
     record {
       profile = rw w refl;
-      vertices = rw (v, numbers_back.value n (omega arith), within 1 n h, within n 16777216 k) refl;
+      vertices = rw (v, numbers_are_read_back.value n (omega arith), within 1 n h, within n 16777216 k) refl;
     }
 
 is_ask_line : (number n : ℕ) → 1 ≤ n → n ≤ 16777216 → IsAskLine n (record { number = number; body = Text (join_with_byte 32 (ask_words n)) }, load_ask n)
 unfolding ask_in
 is_ask_line number n h k =
     let vertices = first_numbers (min n 16) in
-    let w : words (join_with_byte 32 (ask_words n)) ≡ ask_words n = words_back (ask_words n) (ask_said n).words_are in
+    let w : words (join_with_byte 32 (ask_words n)) ≡ ask_words n = words_are_read_back (ask_words n) (ask_said n).words_are in
     let inside : list_all (λ v. nat_lt v n) vertices ≡ true = first_below (min n 16) n (omega arith) in
     let said : numbers_of (map decimal vertices) ≡ Some vertices = numbers_said n vertices (omega arith) inside in
     let count : length vertices ≡ min n 16 = first_length (min n 16) in
@@ -297,8 +297,8 @@ end_kind = refl
 
 signed_kind : (leaves : Bool) (u v : ℕ) → u < 2 ^ 32 → v < 2 ^ 32 → kind_of_words ((if leaves then codes "-" else codes "+") ∷ decimal u ∷ decimal v ∷ []) ≡ Item (if leaves then Delete u v else Insert u v)
 unfolding kind_of_words
-signed_kind true u v h k = rw (numbers_back.value u h, numbers_back.value v k) refl
-signed_kind false u v h k = rw (numbers_back.value u h, numbers_back.value v k) refl
+signed_kind true u v h k = rw (numbers_are_read_back.value u h, numbers_are_read_back.value v k) refl
+signed_kind false u v h k = rw (numbers_are_read_back.value u h, numbers_are_read_back.value v k) refl
 
 item_kind : (n s : ℕ) → 1 ≤ n → n ≤ 16777216 → kind_of_words (drawn_item n s) ≡ Item (item_drawn n (next_state s) (next_state (next_state s)) (next_state (next_state (next_state s))))
 item_kind n s h k =
@@ -353,7 +353,7 @@ header_read : (n items s count : ℕ) (tail : List Line) → 1 ≤ n → n ≤ 1
     → header_of (lines_of_words 1 (head_words n ++ drawn_batches n items s (suc count)) ++ tail) ≡ Accepted (load_header n) (lines_of_words 5 (drawn_batches n items s (suc count)) ++ tail)
 unfolding lines_of_words drawn_batches
 header_read n items s count tail h k =
-    let w : words (join_with_byte 32 (codes "batch" ∷ [])) ≡ codes "batch" ∷ [] = words_back (codes "batch" ∷ []) batch_said.words_are in
+    let w : words (join_with_byte 32 (codes "batch" ∷ [])) ≡ codes "batch" ∷ [] = words_are_read_back (codes "batch" ∷ []) batch_said.words_are in
     let first : Line × Ask = (record { number = 3; body = Text (join_with_byte 32 (ask_words n)) }, load_ask n) in
     let second : Line × Ask = (record { number = 4; body = Text (join_with_byte 32 (ask_words n)) }, load_ask n) in
     first_other_line_ends.accepted One n _ _ _ (first ∷ second ∷ []) _
@@ -377,7 +377,7 @@ unfolding generated
 load_is_read line_limit input_limit seed n items count long large l =
     let ls = load_words seed n (suc count) items in
     let said = load_said seed n (suc count) items l.some_vertices l.few_vertices in
-    let cut = lines_back.whole line_limit input_limit ls (are_lines line_limit ls (omega arith) said) (omega (arith, load_length seed n (suc count) items l.some_vertices l.few_vertices l.few_batches l.few_in_all)) in
+    let cut = lines_are_read_back.whole line_limit input_limit ls (are_lines line_limit ls (omega arith) said) (omega (arith, load_length seed n (suc count) items l.some_vertices l.few_vertices l.few_batches l.few_in_all)) in
     let last = 1 + length ls in
     ap (λ (t : List Line). behind_header MAX_ITEMS (header_of (kept t))) cut
     ∙ ap (λ (t : List Line). behind_header MAX_ITEMS (header_of t)) (are_kept 1 ls (record { number = last; body = End } ∷ []) said)

@@ -2,7 +2,7 @@
 use Rattle.std.proofs.Common.{◌≡◌, List, [], ◌++◌, refl, sym, ap, append_assoc, append-nil}
 use Rattle.std.specs.Prelude.{Option, Some, None}
 use Rattle.kc_history.specs.declared.entries.Entry.{Entry}
-use Rattle.kc_session.specs.Audiences.{longer}
+use Rattle.kc_session.specs.private.Audiences.{longer}
 
 -- by no entries it stays the same
 pub longer_none : (h : Option (List Entry)) → h ≡ longer h []

@@ -9,14 +9,14 @@ use Rattle.std.proofs.lemmas.List.Sums.{sum_by_push}
 use Rattle.std.proofs.lemmas.List.Elements.{All-head, All-tail}
 use Rattle.kc_text.specs.declared.reason.Reason.TheVariants.{Header, LineLong, BadLine, BadVertex, TooMany, Truncated, InputLimit, EdgeLimit, PhaseLimit}
 use Rattle.kc_text.specs.Writing.{IsPrefix}
-use Rattle.kc_text.proofs.Known.{append_none, append_twice, prefix_none, prefix_longer, prefix_then}
+use Rattle.kc_text.proofs.lemmas.Writing.{append_none, append_twice, prefix_none, prefix_longer, prefix_then}
 use Rattle.kc_batch.specs.declared.token.Token.{Token}
 use Rattle.kc_batch.specs.declared.batch.Next.{Next}
 use Rattle.kc_batch.specs.declared.batch.Next.TheVariants.{Items, Refused, End}
 use Rattle.kc_batch.specs.HeaderShape.{HeaderShape}
 use Rattle.kc_batch.specs.BatchInputs.{rules_of}
 use Rattle.kc_batch.specs.Batches.{batches, behind_batch, IsNext, IsEnd, TakesBatch}
-use Rattle.kc_batch.proofs.BatchRanges.{batches_keep_ranges}
+use Rattle.kc_batch.proofs.lemmas.Inputs.{batches_keep_ranges}
 use Rattle.kc_graph.specs.declared.limits.TheConstants.{MAX_EDGES, MAX_ITEMS}
 use Rattle.kc_history.specs.declared.entries.Entry.{Entry}
 use Rattle.kc_groups.specs.Entries.{entries_in}
@@ -24,11 +24,13 @@ use Rattle.kc_engine.specs.States.{State, IsSound}
 use Rattle.kc_session.specs.declared.counts.Counts.{Counts}
 use Rattle.kc_session.specs.declared.report.Report.{Report}
 use Rattle.kc_session.specs.declared.fault.SessionFault.{SessionFault}
-use Rattle.kc_session.specs.Audiences.{longer}
-use Rattle.kc_session.specs.Counts.{capped, one_if, groups_of, moves_of, refused_in, all_groups, all_moves, counts_of, counted}
+use Rattle.kc_session.specs.private.Audiences.{longer}
+use Rattle.kc_session.specs.Counts.{capped, one_if, groups_of, moves_of, refused_in, all_groups, all_moves}
+use Rattle.kc_session.specs.private.Counts.{counts_of, counted}
 use Rattle.kc_session.specs.States.{Step, AreSteps, last_state, history_of, is_refused}
 use Rattle.kc_session.specs.RunText.{step_text, batch_lines}
-use Rattle.kc_session.specs.Running.{is_last_batch, RanStep, WroteSome, RunsStep, RanBatches, WroteSomeBatches, RunsBatches}
+use Rattle.kc_session.specs.private.Running.{is_last_batch, RanStep, WroteSome, RunsStep, RanBatches, RunsBatches}
+use Rattle.kc_session.specs.Running.{WroteSomeBatches}
 use Rattle.kc_session.proofs.CountLemmas.{capped_more, counts_same}
 use Rattle.kc_session.proofs.Longer.{longer_none, longer_twice}
 use Rattle.kc_session.proofs.Steps.{some_step, sound_step, profile_step, one_step}

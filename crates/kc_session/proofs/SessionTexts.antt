@@ -9,11 +9,11 @@ use Rattle.kc_graph.specs.declared.cleaning.Cleaned.{Cleaned}
 use Rattle.kc_graph.specs.declared.limits.TheConstants.{MAX_EDGES, MAX_ITEMS}
 use Rattle.kc_graph.specs.Cleaning.{cleaned}
 use Rattle.kc_text.specs.Writing.{IsPrefix}
-use Rattle.kc_text.proofs.Known.{append_twice, prefix_none, prefix_all, prefix_longer, prefix_then}
+use Rattle.kc_text.proofs.lemmas.Writing.{append_twice, prefix_none, prefix_all, prefix_longer, prefix_then}
 use Rattle.kc_history.specs.declared.entries.Entry.{Entry}
 use Rattle.kc_history.specs.declared.replies.Reply.{Reply}
 use Rattle.kc_history.specs.Replies.{AreExplained, zeros}
-use Rattle.kc_history.proofs.ReplyLemmas.{start_explains_zeros}
+use Rattle.kc_history.proofs.lemmas.Replies.{start_explains_zeros}
 use Rattle.kc_batch.specs.declared.ask.Ask.{Ask}
 use Rattle.kc_batch.specs.declared.token.Token.{Token}
 use Rattle.kc_batch.specs.declared.batch.Next.{Next}
@@ -22,26 +22,27 @@ use Rattle.kc_batch.specs.HeaderShape.{HeaderShape}
 use Rattle.kc_batch.specs.Headers.{IsAsk}
 use Rattle.kc_batch.specs.Batches.{batches, IsNext}
 use Rattle.kc_batch.specs.BatchInputs.{rules_of}
-use Rattle.kc_batch.proofs.BatchRanges.{batches_keep_ranges}
+use Rattle.kc_batch.proofs.lemmas.Inputs.{batches_keep_ranges}
 use Rattle.kc_groups.specs.Entries.{entries_in}
 use Rattle.kc_report.specs.Lines.{head_text}
 use Rattle.kc_engine.specs.declared.faults.EngineFault.{EngineFault}
 use Rattle.kc_engine.specs.States.{State, IsSound}
 use Rattle.kc_engine.specs.Batches.{IsCleaning}
 use Rattle.kc_engine.specs.Laws.{IsHistoryOf}
-use Rattle.kc_engine.proofs.PhaseLaw.{phases_lead_on}
+use Rattle.kc_engine.proofs.lemmas.Phases.{phases_lead_on}
 use Rattle.kc_session.specs.declared.counts.Counts.{Counts}
 use Rattle.kc_session.specs.declared.ended.Ended.{Ended}
 use Rattle.kc_session.specs.declared.fault.SessionFault.{SessionFault}
 use Rattle.kc_session.specs.declared.report.Report.TheVariants.{Lines}
 use Rattle.std.proofs.lemmas.Option.{same_Some}
 use Rattle.kc_session.specs.Agents.{AgentShape, questions}
-use Rattle.kc_session.specs.Audiences.{longer}
+use Rattle.kc_session.specs.private.Audiences.{longer}
 use Rattle.kc_session.specs.Asking.{Fit, HaveRun, AreClosed, agents_for}
-use Rattle.kc_session.specs.Counts.{counts_of}
+use Rattle.kc_session.specs.private.Counts.{counts_of}
 use Rattle.kc_session.specs.Ended.{IsEnded, replies_in, greatest}
 use Rattle.kc_session.specs.ReaderLines.{reader_lines}
-use Rattle.kc_session.specs.Running.{RunsBatches, RanBatches, WroteSomeBatches}
+use Rattle.kc_session.specs.private.Running.{RunsBatches, RanBatches}
+use Rattle.kc_session.specs.Running.{WroteSomeBatches}
 use Rattle.kc_session.specs.SessionText.{IsSession, rest_text, body_text, session_text, WroteSomeOfSession, WritesSession}
 use Rattle.kc_session.specs.States.{Step, stay, start, refusal_of, IsAfterCleaned, IsStep, AreSteps, last_state, history_of}
 use Rattle.kc_session.proofs.Steps.{sound_start, sound_step, cleaning}

@@ -3,20 +3,21 @@ use Rattle.std.proofs.Common.{ℕ, ◌≡◌, List, refl, ap, ◌∙◌, subst}
 use Rattle.std.specs.Prelude.{Option, Some, None, Ok, Err}
 use Rattle.std.specs.Option.{option_map}
 use Rattle.kc_graph.specs.declared.limits.TheConstants.{MAX_ITEMS}
-use Rattle.kc_text.proofs.Known.{prefix_none}
+use Rattle.kc_text.proofs.lemmas.Writing.{prefix_none}
 use Rattle.kc_batch.specs.declared.token.Token.{Token}
 use Rattle.kc_batch.specs.declared.batch.Next.{Next}
 use Rattle.kc_batch.specs.HeaderShape.{HeaderShape}
 use Rattle.kc_batch.specs.Batches.{batches}
 use Rattle.kc_batch.specs.BatchInputs.{rules_of}
-use Rattle.kc_batch.proofs.BatchRanges.{batches_keep_ranges}
+use Rattle.kc_batch.proofs.lemmas.Inputs.{batches_keep_ranges}
 use Rattle.kc_history.specs.declared.entries.Entry.{Entry}
 use Rattle.kc_engine.specs.States.{State}
 use Rattle.kc_session.specs.declared.counts.Counts.{Counts}
 use Rattle.kc_session.specs.declared.fault.SessionFault.{SessionFault}
 use Rattle.kc_session.specs.declared.report.Report.TheVariants.{Notes}
 use Rattle.kc_session.specs.declared.settling.Settled.{Settled}
-use Rattle.kc_session.specs.Running.{RunsBatches, WroteSomeBatches}
+use Rattle.kc_session.specs.private.Running.{RunsBatches}
+use Rattle.kc_session.specs.Running.{WroteSomeBatches}
 use Rattle.kc_session.specs.Settling.{Settles}
 use Rattle.kc_session.specs.States.{Step, start, AreSteps}
 use Rattle.kc_session.proofs.Steps.{sound_start}

@@ -15,8 +15,8 @@ use Rattle.kc_batch.specs.Batches.{IsNext, IsBatch}
 use Rattle.kc_engine.specs.declared.faults.EngineFault.{EngineFault}
 use Rattle.kc_engine.specs.States.{State, IsSound}
 use Rattle.kc_engine.specs.Batches.{IsCleaning}
-use Rattle.kc_engine.proofs.BatchLemmas.{start_is_sound, batch_has_one_state, batch_keeps_sound, vertices_after}
-use Rattle.kc_engine.proofs.PhaseLaw.{phases_are_one}
+use Rattle.kc_engine.proofs.lemmas.Batches.{start_is_sound, batch_has_one_state, batch_keeps_sound, vertices_after}
+use Rattle.kc_engine.proofs.lemmas.Phases.{phases_are_one}
 use Rattle.std.proofs.lemmas.List.Elements.{All-nil}
 use Rattle.kc_store.specs.declared.roles.WriterState.{WriterState}
 use Rattle.kc_store.specs.States.{opened, AllMovesIn}

@@ -5,7 +5,6 @@ use Rattle.kc_batch.specs.declared.batch.Next.{Next}
 use Rattle.kc_history.specs.declared.entries.Entry.{Entry}
 use Rattle.kc_groups.specs.declared.plans.PhasePlan.{PhasePlan}
 use Rattle.kc_engine.specs.States.{State}
-use Rattle.kc_session.specs.declared.counts.Counts.{Counts}
 use Rattle.kc_session.specs.States.{Step, is_refused}
 
 -- a count that stops at 4,294,967,295
@@ -40,11 +39,3 @@ all_groups steps = sum_by (λ (t : Step). groups_of t.phases) steps
 
 abbrev pub all_moves : List Step → ℕ
 all_moves steps = sum_by (λ (t : Step). moves_of t.phases) steps
-
--- the counts of batches that lead to these steps
-abbrev pub counts_of : State → List Next → List Step → Counts
-counts_of s batches steps = record { batches = length steps; refused = refused_in s batches steps; groups = capped (all_groups steps); moves = capped (all_moves steps) }
-
--- the counts after a batch that isn't the end
-abbrev pub counted : State → Next → Step → Counts → Counts
-counted s b t c = record { batches = c.batches + 1; refused = c.refused + one_if (is_refused s b); groups = capped (c.groups + groups_of t.phases); moves = capped (c.moves + moves_of t.phases) }

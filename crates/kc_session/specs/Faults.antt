@@ -23,10 +23,3 @@ FaultCause r0 r1 w0 w1 (Ok _) = (r1 ≡ r0) × (w1 ≡ w0)
 FaultCause r0 r1 w0 w1 (Err ReadFault) = Rose r0 r1 × (w1 ≡ w0)
 FaultCause r0 r1 w0 w1 (Err WriteFault) = (r1 ≡ r0) × Rose w0 w1
 FaultCause r0 r1 w0 w1 (Err (Memory _)) = (r1 ≡ r0) × (w1 ≡ w0)
-
--- the same where only a write or the memory can stop it
-abbrev pub StepCause : {T : Type 0} → ℕ → ℕ → Result T SessionFault → Type 0
-StepCause w0 w1 (Ok _) = w1 ≡ w0
-StepCause w0 w1 (Err ReadFault) = ⊥
-StepCause w0 w1 (Err WriteFault) = Rose w0 w1
-StepCause w0 w1 (Err (Memory _)) = w1 ≡ w0

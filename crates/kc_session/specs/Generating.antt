@@ -1,7 +1,6 @@
 -- A generator, and the lines that it has still to make.
-use Rattle.std.specs.Prelude.{ℕ, ◌≡◌, ◌++◌, ◌∷◌, List, [], Bool, true, false}
+use Rattle.std.specs.Prelude.{ℕ, ◌++◌, ◌∷◌, List, []}
 use Rattle.std.specs.Prelude.{decimal, codes}
-use Rattle.kc_text.specs.Printing.{printed_line}
 use Rattle.kc_session.specs.declared.generator.Place.{Place}
 use Rattle.kc_session.specs.declared.generator.Place.TheVariants.{Format, Vertices, FirstAsk, SecondAsk, Batch, Items}
 use Rattle.kc_session.specs.declared.generator.Generator.{Generator}
@@ -19,15 +18,3 @@ words_from (Items left) n items batches s = drawn_items n s left ++ (codes "end"
 -- the lines that a generator has still to make
 unfoldable pub words_left : Generator → List (List (List ℕ))
 words_left g = words_from g.place g.n g.items g.batches g.state
-
--- the generator old made this line, and became new
-pub record Makes (old new : Generator) (line : List ℕ) : Type 0 where
-  pub words : List (List ℕ)
-  pub first : words_left old ≡ words ∷ words_left new
-  pub line_is : line ≡ printed_line words
-  pub vertices : new.n ≡ old.n
-
--- it made one, if it says so; else there is none
-abbrev pub MakesIf : Generator → Generator → List ℕ → Bool → Type 0
-MakesIf old new line true = Makes old new line
-MakesIf old new line false = (words_left old ≡ []) × ((new ≡ old) × (line ≡ []))

@@ -1,10 +1,8 @@
 pub mod Agents
 pub mod Asking
-pub mod Audiences
 pub mod ReaderLines
 pub mod VertexLines
 pub mod States
-pub mod Outcomes
 pub mod Reports
 pub mod RunText
 pub mod Counts
@@ -17,3 +15,4 @@ pub mod Generated
 pub mod Generating
 pub mod LoadVectors
 pub mod LoadInputs
+pub mod private

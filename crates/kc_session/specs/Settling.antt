@@ -14,10 +14,11 @@ use Rattle.kc_session.specs.RunText.{batch_lines}
 use Rattle.kc_session.specs.Running.{WroteSomeBatches}
 use Rattle.kc_session.specs.States.{Step, start, AreSteps, last_state}
 
--- the engine is for the vertices of this header, by its profile: it hasn't halted, its levels are at most the top level, and both
--- invariants hold
+-- the engine is for the vertices of this header, by its profile: it hasn't halted, no plan waits to be shown, its levels are at most
+-- the top level, and both invariants hold
 pub record IsSettled (header : HeaderShape) (e : EngineView) : Type 0 where
   pub running : e.halted ≡ false
+  pub none_waits : e.waits ≡ false
   pub profile : e.state.profile ≡ header.profile
   pub vertices : e.state.graph.vertices ≡ header.n
   pub sound : IsSound MAX_EDGES e.state

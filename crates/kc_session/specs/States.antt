@@ -1,14 +1,13 @@
 -- Batches in turn: what the batches of an input lead to, one after another.
 use Rattle.std.specs.Prelude.{ℕ, ◌≡◌, Bool, true, false, List, [], ◌∷◌, ◌++◌, Option, Some, None, is_some}
 use Rattle.kc_graph.specs.declared.cleaning.Cleaned.{Cleaned}
-use Rattle.kc_graph.specs.declared.limits.TheConstants.{MAX_EDGES, MAX_ITEMS}
+use Rattle.kc_graph.specs.declared.limits.TheConstants.{MAX_EDGES}
 use Rattle.kc_graph.specs.Cleaning.{cleaned}
 use Rattle.kc_levels.specs.declared.profile.Profile.{Profile}
 use Rattle.kc_text.specs.declared.reason.Reason.{Reason}
 use Rattle.kc_text.specs.declared.reason.Reason.TheVariants as reason
 use Rattle.kc_batch.specs.declared.batch.Next.{Next}
 use Rattle.kc_batch.specs.declared.batch.Next.TheVariants.{Items, Refused, End}
-use Rattle.kc_batch.specs.Batches.{IsNext}
 use Rattle.kc_engine.specs.declared.faults.EngineFault.{EngineFault}
 use Rattle.kc_engine.specs.declared.faults.EngineFault.TheVariants.{EdgeLimit}
 use Rattle.kc_engine.specs.States.{State, IsSound}
@@ -76,10 +75,6 @@ abbrev pub is_refused : State → Next → Bool
 is_refused s (Items batch) = is_some (refusal_of s (cleaned s.graph batch.items))
 is_refused s (Refused line reason) = true
 is_refused s End = false
-
--- a batch for n vertices, whatever the profile
-abbrev pub IsBatchFor : ℕ → Next → Type 0
-IsBatchFor n next = (p : Profile) × IsNext (record { n = n; profile = p; item_limit = MAX_ITEMS }) next
 
 -- the engine takes batches: it hasn't halted, no plan waits to be shown, its edge limit is the program's, and its state is sound
 pub record IsOpen (e : EngineView) : Type 0 where

@@ -1,9 +1,9 @@
 //! What the batches of an input do, one after another, to the engine that takes them.
 ghost use Rattle.std.specs.Prelude.{◌≡◌, ◌≤◌, length, All, IfOk, OnOk};
 ghost use Rattle.kc_graph.specs.Cleaning.{IsInside, cleaned};
-ghost use Rattle.kc_session.specs.Audiences.{store_of, shown_to, IsAbreast};
+ghost use Rattle.kc_session.specs.private.Audiences.{store_of, shown_to, IsAbreast};
 ghost use Rattle.kc_session.specs.States.{start, IsOpen};
-ghost use Rattle.kc_session.specs.Outcomes.{Becomes};
+ghost use Rattle.kc_session.specs.private.Outcomes.{Becomes};
 
 use crate::audience::{Audience, show};
 use kc_engine::{BatchPlan, Engine, EngineFault, Shape};

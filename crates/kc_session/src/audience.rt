@@ -1,11 +1,12 @@
 //! Those to whom the phases of batches are shown: the readers of a store, or nobody.
 ghost use Rattle.std.specs.Prelude.{◌≡◌, true, false, None, Some};
 ghost use Rattle.kc_groups.specs.Entries.{entries_in};
-ghost use Rattle.kc_session.specs.Audiences.{store_of, writer_of, shown_to, IsAbreast, longer, LeadOver};
+ghost use Rattle.kc_session.specs.private.Audiences.{store_of, writer_of, shown_to, IsAbreast, longer, LeadOver};
 
 use kc_engine::{BatchPlan, Engine};
 use kc_rounds::Gate;
 use kc_store::{Store, Writer};
+use std::mem;
 use std::thread::Threads;
 
 /// Those to whom the phases of batches are shown.
@@ -52,4 +53,12 @@ impl<'a> Audience<'a> {
             Audience::Nobody => unreachable!(),
         }
     }
+}
+
+/// Ends the audience, and gives the writer of the store that was read.
+pub fn take_writer(audience: &mut Audience<'_>) -> Writer
+    requires { writer_of audience.old ≡ None → ⊥ }
+    ensures { writer_of audience.old ≡ Some result }
+{
+    mem::replace(audience, Audience::Nobody).into_writer()
 }

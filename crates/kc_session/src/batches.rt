@@ -1,76 +1,78 @@
 //! Batches in turn: each is read, applied, and told.
-ghost use Rattle.std.specs.Prelude.{◌≡◌, ◌≤◌, ◌<◌, ◌^◌, ◌+◌, ◌-◌, [], None, OnOk};
-ghost use Rattle.kc_text.specs.Reading.{budget};
+ghost use Rattle.std.specs.Prelude.{◌≡◌, ◌≤◌, ◌<◌, ◌^◌, ◌+◌, ◌-◌, OnOk};
 ghost use Rattle.kc_batch.specs.Batches.{batches_left, IsEnd};
-ghost use Rattle.kc_session.specs.Audiences.{store_of, shown_to, IsAbreast};
-ghost use Rattle.kc_session.specs.States.{IsOpen, IsBatchFor};
-ghost use Rattle.kc_session.specs.Faults.{FaultCause, StepCause};
-ghost use Rattle.kc_session.specs.Running.{is_last_batch, RunsBatches, RunsStep};
+ghost use Rattle.kc_session.specs.private.Audiences.{store_of, shown_to, IsAbreast};
+ghost use Rattle.kc_session.specs.States.{IsOpen};
+ghost use Rattle.kc_session.specs.private.States.{IsBatchFor};
+ghost use Rattle.kc_session.specs.Faults.{FaultCause};
+ghost use Rattle.kc_session.specs.private.Faults.{StepCause};
+ghost use Rattle.kc_session.specs.private.Running.{is_last_batch, RunsBatches, RunsStep};
 
 use crate::applying::{Outcome, apply};
-use crate::audience::Audience;
+use crate::context::SessionContext;
 use crate::counts::Counts;
 use crate::fault::SessionFault;
-use crate::report::Report;
+use crate::report::{Report, Reporter};
+use crate::watched::Watched;
 use kc_batch::{Next, next_batch};
-use kc_engine::Engine;
 use kc_graph::MAX_ITEMS;
-use kc_levels::Profile;
 use kc_rounds::Gate;
-use kc_text::{LineBuf, LineReader, Reason, Sink, Source};
-use std::alloc::Global;
+use kc_text::{LineReader, Reason, Sink, Source};
 use std::thread::Threads;
 
 // Applies the next batch, writes what is due of it and counts it.
 fn run_batch<R: Threads + Sync, K: Sink, G: Gate + Sync>(
-    rt: &R,
-    alloc: Global,
-    gate: &G,
-    audience: &mut Audience<'_>,
-    engine: &mut Engine,
-    buf: &mut LineBuf,
+    context: &SessionContext<'_, R, G>,
+    watched: &mut Watched<'_>,
     sink: &mut K,
-    report: Report,
+    reporter: &mut Reporter,
     counts: Counts,
     next: Next,
 ) -> Result<Counts, SessionFault>
-    requires abreast { IsAbreast audience.old engine.old.state }
-    requires open { IsOpen engine.old }
-    requires batch { IsBatchFor engine.old.state.graph.vertices next }
+    requires abreast { IsAbreast watched.old.audience watched.old.engine.state }
+    requires open { IsOpen watched.old.engine }
+    requires batch { IsBatchFor watched.old.engine.state.graph.vertices next }
     requires some { IsEnd next → ⊥ }
-    requires empty { buf.old ≡ [] }
     requires few { counts.batches < 2 ^ 32 - 1 }
     requires fewer { counts.refused ≤ counts.batches }
-    ensures step { RunsStep report next engine.old.state engine.new.state (K.taken sink.old) (K.taken sink.new) counts (shown_to audience.old) (shown_to audience.new) result }
-    ensures store { store_of audience.new ≡ store_of audience.old }
-    ensures abreast { OnOk result (IsAbreast audience.new engine.new.state) }
-    ensures open { OnOk result (IsOpen engine.new) }
-    ensures empty { OnOk result (buf.new ≡ []) }
+    ensures step { RunsStep reporter.old.report next watched.old.engine.state watched.new.engine.state (K.taken sink.old) (K.taken sink.new) counts (shown_to watched.old.audience) (shown_to watched.new.audience) result }
+    ensures report { reporter.new.report ≡ reporter.old.report }
+    ensures store { store_of watched.new.audience ≡ store_of watched.old.audience }
+    ensures abreast { OnOk result (IsAbreast watched.new.audience watched.new.engine.state) }
+    ensures open { OnOk result (IsOpen watched.new.engine) }
     ensures cause { StepCause (K.faults sink.old) (K.faults sink.new) result }
 {
+    let SessionContext {
+        rt,
+        alloc,
+        gate,
+        ..
+    } = context;
+    let alloc = *alloc;
+    let Watched { engine, audience } = watched;
     let _n = engine.graph().vertices();
     let number = counts.batches + 1;
     match next {
         Next::Items(batch) => match apply(
-            rt,
+            *rt,
             alloc,
-            gate,
+            *gate,
             audience,
             engine,
             batch.items.as_slice(),
         )? {
             Outcome::Accepted(cleaned, plan) => {
                 let phases = plan.phases.as_slice();
-                report.write_accepted(alloc, buf, sink, number, &cleaned, phases)?;
+                reporter.write_accepted(alloc, sink, number, &cleaned, phases)?;
                 Ok(counts.with_accepted(phases))
             }
             Outcome::Refused(reason) => {
-                report.write_refusal(alloc, buf, sink, number, batch.line, reason)?;
+                reporter.write_refusal(alloc, sink, number, batch.line, reason)?;
                 Ok(counts.with_refused())
             }
         },
         Next::Refused { line, reason } => {
-            report.write_refusal(alloc, buf, sink, number, line, reason)?;
+            reporter.write_refusal(alloc, sink, number, line, reason)?;
             Ok(counts.with_refused())
         }
         Next::End => Ok(counts),
@@ -90,36 +92,32 @@ fn is_last(next: &Next) -> bool
     )
 }
 
-/// Runs the batches of a graph of n vertices: each is read, applied, shown to the audience, and told, before the next one. Leaves the
-/// engine after them, and the audience abreast of it.
+/// Runs the batches of an input: each is read, applied, shown to the audience, and told, before the next one. Leaves the engine after
+/// them, and the audience abreast of it.
 pub fn run_batches<R: Threads + Sync, S: Source, K: Sink, G: Gate + Sync>(
-    rt: &R,
-    alloc: Global,
-    gate: &G,
-    n: u32,
-    profile: Profile,
-    audience: &mut Audience<'_>,
-    engine: &mut Engine,
-    buf: &mut LineBuf,
+    context: &SessionContext<'_, R, G>,
+    watched: &mut Watched<'_>,
     reader: &mut LineReader,
     src: &mut S,
     sink: &mut K,
     report: Report,
 ) -> Result<Counts, SessionFault>
-    requires abreast { IsAbreast audience.old engine.old.state }
-    requires open { IsOpen engine.old }
-    requires vertices { engine.old.state.graph.vertices ≡ n }
-    requires empty { buf.old ≡ [] }
-    requires budget { budget reader.old ≤ 2 ^ 30 + 1 }
-    ensures text { RunsBatches report engine.old.state engine.new.state (batches_left (record { n = n; profile = profile; item_limit = MAX_ITEMS }) reader.old (S.left src.old)) (K.taken sink.old) (K.taken sink.new) (shown_to audience.old) (shown_to audience.new) result }
-    ensures store { store_of audience.new ≡ store_of audience.old }
-    ensures abreast { OnOk result (IsAbreast audience.new engine.new.state) }
-    ensures open { OnOk result (IsOpen engine.new) }
-    ensures vertices { OnOk result (engine.new.state.graph.vertices ≡ n) }
-    ensures profile { OnOk result (engine.new.state.profile ≡ engine.old.state.profile) }
-    ensures empty { OnOk result (buf.new ≡ []) }
+    requires abreast { IsAbreast watched.old.audience watched.old.engine.state }
+    requires open { IsOpen watched.old.engine }
+    requires vertices { watched.old.engine.state.graph.vertices ≡ context.now.n }
+    ensures text { RunsBatches report watched.old.engine.state watched.new.engine.state (batches_left (record { n = context.now.n; profile = context.now.profile; item_limit = MAX_ITEMS }) reader.old (S.left src.old)) (K.taken sink.old) (K.taken sink.new) (shown_to watched.old.audience) (shown_to watched.new.audience) result }
+    ensures store { store_of watched.new.audience ≡ store_of watched.old.audience }
+    ensures abreast { OnOk result (IsAbreast watched.new.audience watched.new.engine.state) }
+    ensures open { OnOk result (IsOpen watched.new.engine) }
+    ensures vertices { OnOk result (watched.new.engine.state.graph.vertices ≡ context.now.n) }
+    ensures profile { OnOk result (watched.new.engine.state.profile ≡ watched.old.engine.state.profile) }
     ensures cause { FaultCause (S.faults src.old) (S.faults src.new) (K.faults sink.old) (K.faults sink.new) result }
 {
+    reader.has_budget();
+    let alloc = context.alloc;
+    let n = context.n;
+    let profile = context.profile;
+    let mut reporter = Reporter::new(alloc, report);
     let mut counts = Counts::none();
     loop {
         let next = next_batch(alloc, reader, src, n, profile, MAX_ITEMS)?;
@@ -127,52 +125,9 @@ pub fn run_batches<R: Threads + Sync, S: Source, K: Sink, G: Gate + Sync>(
             return Ok(counts);
         }
         let last = is_last(&next);
-        counts = run_batch(
-            rt, alloc, gate, audience, engine, buf, sink, report, counts, next,
-        )?;
+        counts = run_batch(context, watched, sink, &mut reporter, counts, next)?;
         if last {
             return Ok(counts);
         }
     }
-}
-
-/// Runs the batches of a graph of n vertices where nobody looks levels up: no phase is shown.
-pub fn run_unseen<R: Threads + Sync, S: Source, K: Sink, G: Gate + Sync>(
-    rt: &R,
-    alloc: Global,
-    gate: &G,
-    n: u32,
-    profile: Profile,
-    engine: &mut Engine,
-    buf: &mut LineBuf,
-    reader: &mut LineReader,
-    src: &mut S,
-    sink: &mut K,
-    report: Report,
-) -> Result<Counts, SessionFault>
-    requires open { IsOpen engine.old }
-    requires vertices { engine.old.state.graph.vertices ≡ n }
-    requires empty { buf.old ≡ [] }
-    requires budget { budget reader.old ≤ 2 ^ 30 + 1 }
-    ensures text { RunsBatches report engine.old.state engine.new.state (batches_left (record { n = n; profile = profile; item_limit = MAX_ITEMS }) reader.old (S.left src.old)) (K.taken sink.old) (K.taken sink.new) None None result }
-    ensures open { OnOk result (IsOpen engine.new) }
-    ensures vertices { OnOk result (engine.new.state.graph.vertices ≡ n) }
-    ensures profile { OnOk result (engine.new.state.profile ≡ engine.old.state.profile) }
-    ensures empty { OnOk result (buf.new ≡ []) }
-    ensures cause { FaultCause (S.faults src.old) (S.faults src.new) (K.faults sink.old) (K.faults sink.new) result }
-{
-    run_batches(
-        rt,
-        alloc,
-        gate,
-        n,
-        profile,
-        &mut Audience::Nobody,
-        engine,
-        buf,
-        reader,
-        src,
-        sink,
-        report,
-    )
 }

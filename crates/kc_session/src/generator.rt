@@ -113,7 +113,8 @@ fn fill_item(line: &mut ArrayVec<u8, LINE>, n: u32, a: u32, b: u32, c: u32)
 }
 
 impl Generator {
-    ghost use Rattle.kc_session.specs.Generating.{words_left, MakesIf};
+    ghost use Rattle.kc_session.specs.Generating.{words_left};
+    ghost use Rattle.kc_session.specs.private.Generating.{MakesIf};
     ghost use Rattle.kc_session.specs.declared.generator.Place.TheVariants.{Batch, Items};
 
     /// Makes a whole load.

@@ -14,6 +14,7 @@ mod agents;
 mod applying;
 mod audience;
 mod batches;
+mod context;
 mod counts;
 mod ended;
 mod fault;
@@ -26,6 +27,7 @@ mod report;
 mod session;
 mod settling;
 mod vertices;
+mod watched;
 
 pub use agent::Agent;
 pub use agents::{close_all, open_agents, run_agents};

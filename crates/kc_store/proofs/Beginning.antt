@@ -4,9 +4,10 @@ use Rattle.kc_words.specs.declared.marks.Mark.{Mark}
 use Rattle.kc_words.specs.Packed.{unpacked}
 use Rattle.kc_history.specs.declared.limits.TheConstants.{MAX_PHASE}
 use Rattle.kc_history.specs.declared.entries.Entry.{Entry}
-use Rattle.kc_history.specs.Ends.{last_move, level_of, is_label, stamp_of}
+use Rattle.kc_history.specs.Ends.{last_move}
+use Rattle.kc_history.specs.private.Ends.{level_of, is_label, stamp_of}
 use Rattle.kc_store.specs.declared.roles.Pending.{Pending}
-use Rattle.kc_store.specs.Rule.{AllWait, AllApart, IsUnpublished, Fits, Facts, Reaches, LookHolds, BelowHolds}
+use Rattle.kc_store.specs.private.Rule.{AllWait, AllApart, IsUnpublished, Fits, Facts, Reaches, LookHolds, BelowHolds}
 use Rattle.kc_store.proofs.Points.{stamp_snoc, level_stays, before_more, reaches_more}
 
 module _ (n : ℕ) (log : List Entry) (quiet : Entry) (groups : List Entry) (p : ℕ) (no_label : quiet.label ≡ None) (no_moves : quiet.moves ≡ []) where

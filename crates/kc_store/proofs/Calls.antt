@@ -7,17 +7,19 @@ use Rattle.kc_words.specs.Packed.{packed, unpacked}
 use Rattle.kc_graph.specs.declared.limits.TheConstants.{MAX_VERTICES}
 use Rattle.kc_history.specs.declared.limits.TheConstants.{MAX_PHASE}
 use Rattle.kc_history.specs.declared.entries.Entry.{Entry}
-use Rattle.kc_history.specs.Ends.{level_of}
+use Rattle.kc_history.specs.private.Ends.{level_of}
 use Rattle.kc_groups.specs.declared.plans.PhasePlan.{PhasePlan}
 use Rattle.kc_store.specs.declared.roles.WriterState.{WriterState}
 use Rattle.kc_store.specs.declared.roles.MarkerState.{MarkerState}
 use Rattle.kc_store.specs.declared.roles.Role.{Role}
 use Rattle.kc_store.specs.declared.roles.Role.TheVariants.{Writes, Marks, Reads, Looks, FoundBelow}
-use Rattle.kc_store.specs.Plans.{Move, IsMoveAt, IsFormed}
-use Rattle.kc_store.specs.Rule.{IsKept}
-use Rattle.kc_store.specs.Seats.{Sat, writer_of, marker_of, vertices_of, seen_of, made_of, IsWriter}
+use Rattle.kc_store.specs.Plans.{Move, IsFormed}
+use Rattle.kc_store.specs.private.Plans.{IsMoveAt}
+use Rattle.kc_store.specs.private.Rule.{IsKept}
+use Rattle.kc_store.specs.private.Seats.{Sat}
+use Rattle.kc_store.specs.Seats.{writer_of, marker_of, vertices_of, seen_of, made_of, IsWriter}
 use Rattle.kc_store.specs.States.{with_phase}
-use Rattle.kc_store.specs.Steps.{at_writer, at_marker, begins, notes, marks, clears, publishes, lent_notes, lent_marks, lent_clears, has_read, pending, HasSeen, first_load, second_load, third_load}
+use Rattle.kc_store.specs.private.Steps.{at_writer, at_marker, begins, notes, marks, clears, publishes, lent_notes, lent_marks, lent_clears, has_read, pending, HasSeen, first_load, second_load, third_load}
 use Rattle.kc_store.proofs.Forms.{CanBegin, CanPublish}
 use Rattle.kc_store.proofs.Seats.{pred_is, notes_allowed, marks_allowed, clears_allowed, lent_notes_allowed, lent_marks_allowed, lent_clears_allowed}
 use Rattle.kc_store.proofs.Phases.{begins_allowed, publishes_allowed}

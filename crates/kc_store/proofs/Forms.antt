@@ -6,12 +6,14 @@ use Rattle.std.specs.List.{slice_get}
 use Rattle.kc_graph.specs.Numbers.{RisesFrom, AllBelow}
 use Rattle.kc_history.specs.declared.limits.TheConstants.{MAX_PHASE}
 use Rattle.kc_history.specs.declared.entries.Entry.{Entry}
-use Rattle.kc_history.specs.Ends.{last_move, level_of}
+use Rattle.kc_history.specs.Ends.{last_move}
+use Rattle.kc_history.specs.private.Ends.{level_of}
 use Rattle.kc_groups.specs.declared.plans.PhasePlan.{PhasePlan}
 use Rattle.kc_groups.specs.WellFormed.{IsMove, IsGroupEntry, vertices_of, vertex_at, IsWellFormed}
 use Rattle.kc_store.specs.declared.roles.WriterState.{WriterState}
 use Rattle.kc_store.specs.declared.roles.Loan.{Loan}
-use Rattle.kc_store.specs.Plans.{Move, AreDistinct, IsGroupOf, IsBefore, IsFormed, IsMoveAt, group_at}
+use Rattle.kc_store.specs.Plans.{Move, AreDistinct, IsGroupOf, IsBefore, IsFormed, group_at}
+use Rattle.kc_store.specs.private.Plans.{IsMoveAt}
 use Rattle.kc_store.specs.Seats.{HasRange}
 use Rattle.kc_store.specs.States.{last_level, MayBegin, MayPublish}
 use Rattle.kc_store.proofs.Places.{move_found}

@@ -2,12 +2,12 @@
 use Rattle.std.proofs.Common.{◌≡◌, ℕ, zero, suc, ◌+◌, List, [], ◌∷◌, ◌++◌, take, length, Some, None, sym, refl, ap, ◌∙◌, subst, inr, ⊎_elim, arith, append_assoc, append-nil}
 use Rattle.std.specs.List.{slice_get}
 use Rattle.kc_history.specs.declared.entries.Entry.{Entry}
-use Rattle.kc_history.specs.Ends.{begins_phase, phases_in}
+use Rattle.kc_history.specs.private.Ends.{begins_phase, phases_in}
 use Rattle.kc_groups.specs.declared.plans.PhasePlan.{PhasePlan}
 use Rattle.kc_groups.specs.Entries.{entries_of, entries_in}
 use Rattle.kc_store.specs.Plans.{IsFormed}
 use Rattle.kc_store.specs.States.{empty_plan}
-use Rattle.kc_store.specs.Rule.{AllFormed, IsGrown}
+use Rattle.kc_store.specs.private.Rule.{AllFormed, IsGrown}
 
 phases_snoc : (es : List Entry) (e : Entry) → phases_in (es ++ e ∷ []) ≡ phases_in es + begins_phase e.label
 phases_snoc [] e = omega arith

@@ -16,10 +16,11 @@ use Rattle.kc_store.specs.declared.roles.Loan.{Loan}
 use Rattle.kc_store.specs.declared.roles.MarkerState.{MarkerState}
 use Rattle.kc_store.specs.declared.roles.Role.{Role}
 use Rattle.kc_store.specs.declared.roles.Role.TheVariants.{Spent, Writes, Marks, Reads, Looks, FoundBelow}
-use Rattle.kc_store.specs.Rule.{Fits, AllBegin, AreMarkedNoted, WriterHolds, MarkerHolds, SeatHolds, IsKept, AreOwnLoans, number_of}
-use Rattle.kc_store.specs.Seats.{Sat, writer_of, marker_of, vertices_of, seen_of, made_of}
+use Rattle.kc_store.specs.private.Rule.{Fits, AllBegin, AreMarkedNoted, WriterHolds, MarkerHolds, SeatHolds, IsKept, AreOwnLoans, number_of}
+use Rattle.kc_store.specs.private.Seats.{Sat}
+use Rattle.kc_store.specs.Seats.{writer_of, marker_of, vertices_of, seen_of, made_of}
 use Rattle.kc_store.specs.States.{opened, with_joined, with_loan, marker_for, without_loan, with_returned}
-use Rattle.kc_store.specs.Steps.{first_role, new_pass, took_in, told, lender, lent_to, got_back}
+use Rattle.kc_store.specs.private.Steps.{first_role, new_pass, took_in, told, lender, lent_to, got_back}
 use Rattle.kc_store.proofs.Points.{before_itself}
 use Rattle.kc_store.proofs.Phases.{none_in}
 use Rattle.kc_store.proofs.Seats.{seats_stay, own_set, reader_step}

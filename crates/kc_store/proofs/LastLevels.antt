@@ -6,7 +6,8 @@ use Rattle.std.proofs.Math.ListN.{length-set}
 use Rattle.std.proofs.Math.Seq.{take-length}
 use Rattle.kc_history.specs.declared.entries.Entry.{Entry}
 use Rattle.kc_history.specs.Points.{with_moves, levels_after, levels_at}
-use Rattle.kc_history.specs.Ends.{or_else, last_move, level_after, level_of}
+use Rattle.kc_history.specs.Ends.{or_else, last_move}
+use Rattle.kc_history.specs.private.Ends.{level_after, level_of}
 use Rattle.kc_store.specs.Plans.{Move}
 
 one_set : (x : List ℕ) (m : Move) (v : ℕ) → v < length x → get_or (set x m.vertex m.new) v 0 ≡ level_after (get_or x v 0) (if nat_eq m.vertex v then Some m else None)

@@ -1,3 +1,4 @@
+pub mod lemmas
 mod Limits
 mod Points
 mod Publishing
@@ -5,7 +6,7 @@ mod Beginning
 mod Storing
 mod Places
 mod LastLevels
-pub mod Forms
+mod Forms
 mod Seats
 mod Loads
 mod Growth
@@ -14,4 +15,4 @@ mod Joins
 mod Calls
 mod Views
 mod PassViews
-pub mod Shows
+mod Shows

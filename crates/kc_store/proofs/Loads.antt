@@ -7,11 +7,11 @@ use native.Mathlib.Decide.{ℕ_discrete, dec_le}
 use Rattle.atomic_table.specs.Table.{step, keeps, Allows}
 use Rattle.kc_words.specs.Packed.{unpacked}
 use Rattle.kc_history.specs.declared.entries.Entry.{Entry}
-use Rattle.kc_history.specs.Ends.{level_of, stamp_of}
+use Rattle.kc_history.specs.private.Ends.{level_of, stamp_of}
 use Rattle.kc_store.specs.declared.roles.Pending.{Pending}
 use Rattle.kc_store.specs.declared.roles.Role.TheVariants.{Reads, Looks, FoundBelow}
-use Rattle.kc_store.specs.Rule.{IsKept}
-use Rattle.kc_store.specs.Steps.{first_load, second_load, third_load}
+use Rattle.kc_store.specs.private.Rule.{IsKept}
+use Rattle.kc_store.specs.private.Steps.{first_load, second_load, third_load}
 use Rattle.kc_store.proofs.Points.{before_itself, before_both}
 use Rattle.kc_store.proofs.Seats.{reader_step, pred_is}
 

@@ -5,7 +5,8 @@ use Rattle.atomic_table.specs.declared.shared.Seat.{Seat}
 use Rattle.kc_history.specs.declared.entries.Entry.{Entry}
 use Rattle.kc_store.specs.declared.roles.Role.{Role}
 use Rattle.kc_store.specs.States.{last_level}
-use Rattle.kc_store.specs.Seats.{Sat, PassShape, pass_shape, seen_of, IsPass}
+use Rattle.kc_store.specs.private.Seats.{Sat}
+use Rattle.kc_store.specs.Seats.{PassShape, pass_shape, seen_of, IsPass}
 use Rattle.kc_store.proofs.LastLevels.{ends_at}
 use Rattle.kc_store.proofs.Calls.{HasRead}
 

@@ -8,17 +8,19 @@ use native.Mathlib.Decide.{ℕ_discrete}
 use Rattle.atomic_table.specs.Table.{step, keeps, Allows}
 use Rattle.kc_words.specs.Packed.{unpacked}
 use Rattle.kc_history.specs.declared.entries.Entry.{Entry}
-use Rattle.kc_history.specs.Ends.{last_move, level_of, stamp_of}
+use Rattle.kc_history.specs.Ends.{last_move}
+use Rattle.kc_history.specs.private.Ends.{level_of, stamp_of}
 use Rattle.kc_groups.specs.declared.plans.PhasePlan.{PhasePlan}
 use Rattle.kc_store.specs.declared.roles.Loan.{Loan}
 use Rattle.kc_store.specs.declared.roles.WriterState.{WriterState}
 use Rattle.kc_store.specs.declared.roles.Pending.{Pending}
 use Rattle.kc_store.specs.declared.roles.Role.{Role}
 use Rattle.kc_store.specs.declared.roles.Role.TheVariants.{Spent, Writes, Marks, Reads, Looks, FoundBelow}
-use Rattle.kc_store.specs.Plans.{Move, group_of, IsFormed}
+use Rattle.kc_store.specs.Plans.{Move, IsFormed}
+use Rattle.kc_store.specs.private.Plans.{group_of}
 use Rattle.kc_store.specs.States.{with_entry_if, with_phase}
-use Rattle.kc_store.specs.Rule.{Waits, AllWait, ApartFrom, Facts, LookHolds, BelowHolds, AllNoted, AllMarked, IsNoted, AllCleared, AllShown, IsSettled, WriterHolds, SeatHolds, IsKept, rest_of}
-use Rattle.kc_store.specs.Steps.{publishes, begins}
+use Rattle.kc_store.specs.private.Rule.{Waits, AllWait, ApartFrom, Facts, LookHolds, BelowHolds, AllNoted, AllMarked, IsNoted, AllCleared, AllShown, IsSettled, WriterHolds, SeatHolds, IsKept, rest_of}
+use Rattle.kc_store.specs.private.Steps.{publishes, begins}
 use Rattle.kc_store.proofs.Points.{before_more, waits_found, group_here, group_past, group_label, label_found, apart_found, level_moved, level_stays}
 use Rattle.kc_store.proofs.Publishing.{mark, publish, publish_look, publish_below, maybe_cases}
 use Rattle.kc_store.proofs.Beginning.{begin, begin_look, begin_below}

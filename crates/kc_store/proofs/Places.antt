@@ -3,11 +3,13 @@ use Rattle.std.proofs.Common.{◌≡◌, ℕ, zero, suc, ◌+◌, ◌-◌, ◌<�
 use Rattle.std.proofs.lemmas.Bool.Decides.{nat_tests}
 use Rattle.std.specs.List.{slice_get}
 use Rattle.kc_history.specs.declared.entries.Entry.{Entry}
-use Rattle.kc_history.specs.Ends.{or_else, last_move, is_label}
+use Rattle.kc_history.specs.Ends.{or_else, last_move}
+use Rattle.kc_history.specs.private.Ends.{is_label}
 use Rattle.kc_groups.specs.declared.plans.PhasePlan.{PhasePlan}
-use Rattle.kc_store.specs.Plans.{Move, group_of, AreDistinct, IsFormed, IsMoveAt}
+use Rattle.kc_store.specs.Plans.{Move, AreDistinct, IsFormed}
+use Rattle.kc_store.specs.private.Plans.{group_of, IsMoveAt}
 use Rattle.kc_store.specs.Seats.{HasRange}
-use Rattle.kc_store.specs.Rule.{Waits, AllWait, AreApart, ApartFrom, AllApart, IsSettled}
+use Rattle.kc_store.specs.private.Rule.{Waits, AllWait, AreApart, ApartFrom, AllApart, IsSettled}
 use Rattle.kc_store.proofs.Points.{group_here, label_found}
 use Rattle.kc_store.proofs.Publishing.{maybe_cases}
 

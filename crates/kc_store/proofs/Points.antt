@@ -3,9 +3,11 @@ use Rattle.std.proofs.Common.{◌≡◌, ◌≢◌, ℕ, ◌<◌, Bool, true, fa
 use Rattle.std.proofs.lemmas.Bool.Decides.{nat_tests}
 use mathlib.Core.List.{IsPrefix}
 use Rattle.kc_history.specs.declared.entries.Entry.{Entry}
-use Rattle.kc_history.specs.Ends.{last_move, level_after, level_of, is_label, stamp_of}
-use Rattle.kc_store.specs.Plans.{Move, group_of}
-use Rattle.kc_store.specs.Rule.{Waits, AllWait, AreApart, ApartFrom, Reaches}
+use Rattle.kc_history.specs.Ends.{last_move}
+use Rattle.kc_history.specs.private.Ends.{level_after, level_of, is_label, stamp_of}
+use Rattle.kc_store.specs.Plans.{Move}
+use Rattle.kc_store.specs.private.Plans.{group_of}
+use Rattle.kc_store.specs.private.Rule.{Waits, AllWait, AreApart, ApartFrom, Reaches}
 
 pub level_snoc : (d : ℕ) (log : List Entry) (e : Entry) (v : ℕ) → level_of d (log ++ e ∷ []) v ≡ level_after (level_of d log v) (last_move v e.moves)
 level_snoc d [] e v = refl

@@ -5,10 +5,12 @@ use native.Mathlib.Decide.{ℕ_discrete, dec_le}
 use Rattle.kc_words.specs.declared.marks.Mark.{Mark}
 use Rattle.kc_words.specs.Packed.{packed, unpacked}
 use Rattle.kc_history.specs.declared.entries.Entry.{Entry}
-use Rattle.kc_history.specs.Ends.{last_move, stamp_of}
+use Rattle.kc_history.specs.Ends.{last_move}
+use Rattle.kc_history.specs.private.Ends.{stamp_of}
 use Rattle.kc_store.specs.declared.roles.Pending.{Pending}
-use Rattle.kc_store.specs.Plans.{Move, group_of}
-use Rattle.kc_store.specs.Rule.{Waits, ApartFrom, IsUnpublished, Fits, Facts, Reaches, LookHolds, BelowHolds}
+use Rattle.kc_store.specs.Plans.{Move}
+use Rattle.kc_store.specs.private.Plans.{group_of}
+use Rattle.kc_store.specs.private.Rule.{Waits, ApartFrom, IsUnpublished, Fits, Facts, Reaches, LookHolds, BelowHolds}
 use Rattle.kc_store.proofs.Points.{stamp_same, stamp_other, level_moved, level_stays, group_here, group_past, before_more, before_itself, reaches_more, apart_found, wait_on}
 
 abbrev pub mark : ℕ → ℕ → ℕ → Mark

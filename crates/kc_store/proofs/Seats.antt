@@ -14,10 +14,11 @@ use Rattle.kc_store.specs.declared.roles.WriterState.{WriterState}
 use Rattle.kc_store.specs.declared.roles.MarkerState.{MarkerState}
 use Rattle.kc_store.specs.declared.roles.Role.{Role}
 use Rattle.kc_store.specs.declared.roles.Role.TheVariants.{Spent, Writes, Marks, Reads, Looks, FoundBelow}
-use Rattle.kc_store.specs.Plans.{Move, IsMoveAt, group_of}
+use Rattle.kc_store.specs.Plans.{Move}
+use Rattle.kc_store.specs.private.Plans.{IsMoveAt, group_of}
 use Rattle.kc_store.specs.States.{with_noted, with_mark, with_cleared, marker_noted, marker_mark, marker_cleared}
-use Rattle.kc_store.specs.Steps.{noted_at, notes, marks, clears, lent_notes, lent_marks, lent_clears}
-use Rattle.kc_store.specs.Rule.{AllBegin, AllNoted, IsSettled, IsNoted, IsSoundMark, IsSoundOld, AreMarkedNoted, WriterHolds, MarkerHolds, SeatHolds, IsKept, number_of, AreOwnLoans, rest_of}
+use Rattle.kc_store.specs.private.Steps.{noted_at, notes, marks, clears, lent_notes, lent_marks, lent_clears}
+use Rattle.kc_store.specs.private.Rule.{AllBegin, AllNoted, IsSettled, IsNoted, IsSoundMark, IsSoundOld, AreMarkedNoted, WriterHolds, MarkerHolds, SeatHolds, IsKept, number_of, AreOwnLoans, rest_of}
 use Rattle.kc_store.proofs.Points.{before_more, waits_found}
 use Rattle.kc_store.proofs.Storing.{sound_mark, sound_clear, mark_facts, mark_notes, mark_marks, mark_more, mark_clears, clear_more, mark_look, mark_below, note_facts, note_notes, note_more, note_marks, note_clears, note_look, note_below}
 use Rattle.kc_store.proofs.Places.{move_in_place, group_waits, free_done}

@@ -16,7 +16,8 @@ use Rattle.kc_store.specs.declared.roles.WriterState.{WriterState}
 use Rattle.kc_store.specs.declared.roles.MarkerState.{MarkerState}
 use Rattle.kc_store.specs.Plans.{Move, group_at}
 use Rattle.kc_store.specs.States.{AllMovesIn, MayBegin, MayPublish, loan_of, with_loan, without_loan, with_returned, marker_for, with_marked, with_cleared, with_entry_if, with_published, with_phase, marker_marked, marker_cleared}
-use Rattle.kc_store.specs.Showing.{HasMarked, HasMarkedLent, HasCleared, HasClearedLent, HasShownGroup, HasShown, AreCurrent, IsAt, IsIdle}
+use Rattle.kc_store.specs.private.Showing.{HasMarked, HasCleared, HasShownGroup, HasShown, IsAt}
+use Rattle.kc_store.specs.Showing.{HasMarkedLent, HasClearedLent, AreCurrent, IsIdle}
 use Rattle.kc_store.proofs.Forms.{there, got, got_map}
 use Rattle.kc_store.proofs.Growth.{take_more}
 

@@ -6,10 +6,12 @@ use native.Mathlib.Decide.{ℕ_discrete}
 use Rattle.kc_words.specs.declared.marks.Mark.{Mark}
 use Rattle.kc_words.specs.Packed.{packed, unpacked}
 use Rattle.kc_history.specs.declared.entries.Entry.{Entry}
-use Rattle.kc_history.specs.Ends.{last_move, level_of, is_label, stamp_of}
+use Rattle.kc_history.specs.Ends.{last_move}
+use Rattle.kc_history.specs.private.Ends.{level_of, is_label, stamp_of}
 use Rattle.kc_store.specs.declared.roles.Pending.{Pending}
-use Rattle.kc_store.specs.Plans.{Move, group_of}
-use Rattle.kc_store.specs.Rule.{AllApart, IsUnpublished, Fits, Facts, IsSoundMark, IsSoundOld, IsMarked, IsNoted, IsSettled, AllMarked, AllNoted, AllCleared, Reaches, LookHolds, BelowHolds}
+use Rattle.kc_store.specs.Plans.{Move}
+use Rattle.kc_store.specs.private.Plans.{group_of}
+use Rattle.kc_store.specs.private.Rule.{AllApart, IsUnpublished, Fits, Facts, IsSoundMark, IsSoundOld, IsMarked, IsNoted, IsSettled, AllMarked, AllNoted, AllCleared, Reaches, LookHolds, BelowHolds}
 use Rattle.kc_store.proofs.Limits.{vertex_fits, phase_fits}
 use Rattle.kc_store.proofs.Points.{group_label, label_found, waits_found, apart_found, before_itself}
 use Rattle.kc_store.proofs.Publishing.{mark, unpacks}

@@ -9,11 +9,13 @@ use Rattle.kc_groups.specs.declared.plans.PhasePlan.{PhasePlan}
 use Rattle.kc_store.specs.declared.roles.WriterState.{WriterState}
 use Rattle.kc_store.specs.declared.roles.MarkerState.{MarkerState}
 use Rattle.kc_store.specs.declared.roles.Role.{Role}
-use Rattle.kc_store.specs.Plans.{Move, IsMoveAt, IsFormed, group_at}
-use Rattle.kc_store.specs.Rule.{IsKept}
+use Rattle.kc_store.specs.Plans.{Move, IsFormed, group_at}
+use Rattle.kc_store.specs.private.Plans.{IsMoveAt}
+use Rattle.kc_store.specs.private.Rule.{IsKept}
 use Rattle.kc_store.specs.States.{with_noted, with_mark, with_marked, with_cleared, marker_noted, marker_mark, marker_marked, marker_cleared}
-use Rattle.kc_store.specs.Seats.{Sat, WriterShape, MarkerShape, writer_of, marker_of, writer_shape, marker_shape, IsWriter, IsMarker, HasRange}
-use Rattle.kc_store.specs.Steps.{at_writer, at_marker, marked_at, noted_at, writer_notes, marker_notes, marks, lent_marks}
+use Rattle.kc_store.specs.private.Seats.{Sat}
+use Rattle.kc_store.specs.Seats.{WriterShape, MarkerShape, writer_of, marker_of, writer_shape, marker_shape, IsWriter, IsMarker, HasRange}
+use Rattle.kc_store.specs.private.Steps.{at_writer, at_marker, marked_at, noted_at, writer_notes, marker_notes, marks, lent_marks}
 use Rattle.kc_store.proofs.Forms.{IsPlaced, placed, placed_lent}
 use Rattle.kc_store.proofs.Seats.{pred_is, noted_is}
 use Rattle.kc_store.proofs.Calls.{Writing, Marking, marks_from, lent_marks_from, after_writer, after_marker}

@@ -1,19 +1,14 @@
 -- A plan by the places of its groups and moves.
-use Rattle.std.specs.Prelude.{◌≡◌, ◌≢◌, ◌<◌, length, ℕ, Bool, List, [], ◌∷◌, Option, Some, None, get_or, if◌then◌else◌}
+use Rattle.std.specs.Prelude.{◌≡◌, ◌≢◌, ◌<◌, length, ℕ, Bool, List, [], ◌∷◌, Some, None, get_or}
 use Rattle.std.specs.List.{slice_get}
 use Rattle.kc_history.specs.declared.entries.Entry.{Entry}
 pub use Rattle.kc_levels.specs.declared.moves.Move.{Move}
-use Rattle.kc_history.specs.Ends.{last_move, is_label}
+use Rattle.kc_history.specs.Ends.{last_move}
 use Rattle.kc_groups.specs.declared.plans.PhasePlan.{PhasePlan}
 
 -- the group at place g of a plan
 abbrev pub group_at : PhasePlan → ℕ → Entry
 group_at plan g = get_or plan.groups g plan.quiet
-
--- the group with the label g, if there is one
-abbrev pub group_of : ℕ → List Entry → Option Entry
-group_of g [] = None
-group_of g (e ∷ es) = if is_label g e.label then Some e else group_of g es
 
 -- a list of moves in which no vertex has two
 abbrev pub AreDistinct : List Move → Type 0
@@ -48,8 +43,3 @@ pub record IsFormed (n phase : ℕ) (plan : PhasePlan) : Type 0 where
   pub no_moves : plan.quiet.moves ≡ []
   pub groups : (k : ℕ) (e : Entry) → slice_get plan.groups k ≡ Some e → IsGroupOf n phase plan.quiet.add e
   pub ascend : (k l : ℕ) (e f : Entry) → k < l → slice_get plan.groups k ≡ Some e → slice_get plan.groups l ≡ Some f → IsBefore e f
-
--- m is move i of the group at place g, which is e
-pub record IsMoveAt (plan : PhasePlan) (g i : ℕ) (e : Entry) (m : Move) : Type 0 where
-  pub group_is : slice_get plan.groups g ≡ Some e
-  pub move_is : slice_get e.moves i ≡ Some m

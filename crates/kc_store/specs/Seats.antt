@@ -1,7 +1,6 @@
 -- What contracts see of a store, a writer, a marker and a pass, and what their seats hold.
 use Rattle.std.specs.Prelude.{◌≡◌, ℕ, ◌+◌, ◌*◌, ◌≤◌, false, List, [], length, Some}
 use Rattle.std.specs.List.{slice_get}
-use Rattle.atomic_table.specs.Table.{Me}
 use Rattle.atomic_table.specs.Seated.{TableId}
 use Rattle.atomic_table.specs.declared.shared.Seat.{Seat}
 use Rattle.kc_history.specs.declared.limits.TheConstants.{MAX_PHASE}
@@ -35,10 +34,6 @@ pub record PassShape : Type 0 where
   pub table : TableId
   pub seen : List Entry
   pub made : ℕ
-
--- a seat's role, and the slots that it holds: the table has none
-abbrev pub Sat : Type 0
-Sat = Me ℕ Role
 
 abbrev pub writer_of : Role → WriterState
 writer_of (Writes s) = s

@@ -1,6 +1,6 @@
 //! Levels that any number of readers look up while a writer moves them, one group of vertices after another.
 //!
-//! A [`Store`] has the levels in an atomic table; its rule is in `specs/Rule`. The [`Writer`] begins a phase with its plan, marks the
+//! A [`Store`] has the levels in an atomic table; its rule is in `specs/private/Rule`. The [`Writer`] begins a phase with its plan, marks the
 //! moves of a group, and publishes the group by one store: from then on all of its vertices are on their new levels for every
 //! reader. A reader has a [`Pass`], and [`Store::read`] gives the level of a vertex at a point of the one history, without a lock and
 //! without ever starting again. The writer may lend ranges of moves to [`Marker`]s in other threads.

@@ -3,7 +3,7 @@ ghost use Rattle.std.specs.Prelude.{◌≡◌, ℕ, ◌^◌, ◌<◌, Some};
 ghost use Rattle.std.specs.List.{slice_get};
 ghost use Rattle.kc_history.specs.declared.entries.Entry.{Entry as EntryShape};
 ghost use Rattle.kc_store.specs.Plans.{Move as MoveShape};
-ghost use Rattle.kc_store.specs.Plans.{IsMoveAt};
+ghost use Rattle.kc_store.specs.private.Plans.{IsMoveAt};
 
 use kc_groups::PhasePlan;
 use kc_history::{Entry, Move};

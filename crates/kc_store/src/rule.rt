@@ -15,8 +15,8 @@ pub(crate) struct Size {
 }
 
 impl TableRule<u8, Role, Size> for Rule {
-    ghost use Rattle.kc_store.specs.Rule.{IsKept};
-    ghost use Rattle.kc_store.specs.Steps.{first_role};
+    ghost use Rattle.kc_store.specs.private.Rule.{IsKept};
+    ghost use Rattle.kc_store.specs.private.Steps.{first_role};
 
     ghost holds = { λ k. IsKept k.vertices };
 
@@ -42,7 +42,7 @@ pub(crate) struct Begins<J> {
 }
 
 impl<J: Planned> Play<u8, Role> for Begins<J> {
-    ghost use Rattle.kc_store.specs.Steps.{begins};
+    ghost use Rattle.kc_store.specs.private.Steps.{begins};
 
     ghost then = { begins J.plan };
 }
@@ -51,7 +51,7 @@ impl<J: Planned> Play<u8, Role> for Begins<J> {
 pub(crate) struct Notes;
 
 impl Play<u8, Role> for Notes {
-    ghost use Rattle.kc_store.specs.Steps.{notes};
+    ghost use Rattle.kc_store.specs.private.Steps.{notes};
 
     ghost then = { notes };
 }
@@ -60,7 +60,7 @@ impl Play<u8, Role> for Notes {
 pub(crate) struct Marks;
 
 impl Play<u8, Role> for Marks {
-    ghost use Rattle.kc_store.specs.Steps.{marks};
+    ghost use Rattle.kc_store.specs.private.Steps.{marks};
 
     ghost then = { marks };
 }
@@ -69,7 +69,7 @@ impl Play<u8, Role> for Marks {
 pub(crate) struct Clears;
 
 impl Play<u8, Role> for Clears {
-    ghost use Rattle.kc_store.specs.Steps.{clears};
+    ghost use Rattle.kc_store.specs.private.Steps.{clears};
 
     ghost then = { clears };
 }
@@ -78,7 +78,7 @@ impl Play<u8, Role> for Clears {
 pub(crate) struct Publishes;
 
 impl Play<u8, Role> for Publishes {
-    ghost use Rattle.kc_store.specs.Steps.{publishes};
+    ghost use Rattle.kc_store.specs.private.Steps.{publishes};
 
     ghost then = { publishes };
 }
@@ -87,7 +87,7 @@ impl Play<u8, Role> for Publishes {
 pub(crate) struct LentNotes;
 
 impl Play<u8, Role> for LentNotes {
-    ghost use Rattle.kc_store.specs.Steps.{lent_notes};
+    ghost use Rattle.kc_store.specs.private.Steps.{lent_notes};
 
     ghost then = { lent_notes };
 }
@@ -96,7 +96,7 @@ impl Play<u8, Role> for LentNotes {
 pub(crate) struct LentMarks;
 
 impl Play<u8, Role> for LentMarks {
-    ghost use Rattle.kc_store.specs.Steps.{lent_marks};
+    ghost use Rattle.kc_store.specs.private.Steps.{lent_marks};
 
     ghost then = { lent_marks };
 }
@@ -105,7 +105,7 @@ impl Play<u8, Role> for LentMarks {
 pub(crate) struct LentClears;
 
 impl Play<u8, Role> for LentClears {
-    ghost use Rattle.kc_store.specs.Steps.{lent_clears};
+    ghost use Rattle.kc_store.specs.private.Steps.{lent_clears};
 
     ghost then = { lent_clears };
 }
@@ -114,7 +114,7 @@ impl Play<u8, Role> for LentClears {
 pub(crate) struct FirstLoad;
 
 impl Play<u8, Role> for FirstLoad {
-    ghost use Rattle.kc_store.specs.Steps.{first_load};
+    ghost use Rattle.kc_store.specs.private.Steps.{first_load};
 
     ghost then = { first_load };
 }
@@ -123,7 +123,7 @@ impl Play<u8, Role> for FirstLoad {
 pub(crate) struct SecondLoad;
 
 impl Play<u8, Role> for SecondLoad {
-    ghost use Rattle.kc_store.specs.Steps.{second_load};
+    ghost use Rattle.kc_store.specs.private.Steps.{second_load};
 
     ghost then = { second_load };
 }
@@ -132,7 +132,7 @@ impl Play<u8, Role> for SecondLoad {
 pub(crate) struct ThirdLoad;
 
 impl Play<u8, Role> for ThirdLoad {
-    ghost use Rattle.kc_store.specs.Steps.{third_load};
+    ghost use Rattle.kc_store.specs.private.Steps.{third_load};
 
     ghost then = { third_load };
 }
@@ -141,7 +141,7 @@ impl Play<u8, Role> for ThirdLoad {
 pub(crate) struct NewPass;
 
 impl Split<Role> for NewPass {
-    ghost use Rattle.kc_store.specs.Steps.{new_pass};
+    ghost use Rattle.kc_store.specs.private.Steps.{new_pass};
 
     ghost left = { λ v. v };
 
@@ -152,7 +152,7 @@ impl Split<Role> for NewPass {
 pub(crate) struct TakesIn;
 
 impl Join<Role> for TakesIn {
-    ghost use Rattle.kc_store.specs.Steps.{took_in};
+    ghost use Rattle.kc_store.specs.private.Steps.{took_in};
     ghost use Rattle.kc_store.specs.declared.roles.Role.TheVariants.{Spent};
 
     ghost both = { took_in };
@@ -164,7 +164,7 @@ impl Join<Role> for TakesIn {
 pub(crate) struct Tells;
 
 impl Play<u8, Role> for Tells {
-    ghost use Rattle.kc_store.specs.Steps.{told};
+    ghost use Rattle.kc_store.specs.private.Steps.{told};
 
     ghost then = { told };
 }
@@ -194,7 +194,7 @@ pub(crate) struct Lends<J> {
 }
 
 impl<J: Ranged> Split<Role> for Lends<J> {
-    ghost use Rattle.kc_store.specs.Steps.{lender, lent_to};
+    ghost use Rattle.kc_store.specs.private.Steps.{lender, lent_to};
 
     ghost left = { lender J.group J.low J.high };
 
@@ -205,7 +205,7 @@ impl<J: Ranged> Split<Role> for Lends<J> {
 pub(crate) struct GetsBack;
 
 impl Join<Role> for GetsBack {
-    ghost use Rattle.kc_store.specs.Steps.{got_back};
+    ghost use Rattle.kc_store.specs.private.Steps.{got_back};
     ghost use Rattle.kc_store.specs.declared.roles.Role.TheVariants.{Spent};
 
     ghost both = { got_back };

@@ -1,7 +1,7 @@
 -- What a scanner gives and takes.
 use Rattle.std.proofs.Common.{ℕ, suc, ◌+◌, ◌-◌, ◌<◌, ◌≤◌, ◌≡◌, ◌==◌, List, [], ◌∷◌, ◌++◌, length, take, drop, arith, refl, sym, ap, ◌∙◌, subst, append_assoc, get_or, true, false, Bool, cond, nat_le, add-one, drop-cons, replicate, inl, inr}
 use Rattle.std.specs.Prelude.{Option, None, Some, if◌then◌else◌, ◌&&◌, ◌||◌, nat_lt, not, ◌*◌}
-use Rattle.std.proofs.lemmas.List.{length-append, length-take-le, take-append-drop, length-replicate, length-drop}
+use Rattle.std.proofs.lemmas.List.{length-append, length-take-le, take-append-drop, length-replicate, length-drop, get_or-take}
 use Rattle.std.proofs.lemmas.Bool.Decides.{nat_tests}
 use Rattle.std.proofs.lemmas.Bool.{cases_lt}
 use Rattle.kc_text.specs.declared.line.Line.{Line}
@@ -13,9 +13,10 @@ use Rattle.std.specs.Option.{option_map}
 use Rattle.std.specs.List.{list_any}
 use borrow.Author.Tests.{ltb-true}
 use Rattle.kc_text.specs.Following.{onto, behind, Takes, IsLast}
-use Rattle.kc_text.specs.Scanning.{Scan, scan_lines_left, scan_lines, is_scan_decided}
-use Rattle.kc_text.specs.ScannerState.{piece_of}
-use Rattle.kc_text.specs.ScannerSteps.{Gives, Absorbs}
+use Rattle.kc_text.specs.Scanning.{Scan, scan_lines, is_scan_decided, IsWhole, whole_line}
+use Rattle.kc_text.specs.private.Scanning.{scan_lines_left}
+use Rattle.kc_text.specs.private.ScannerState.{piece_of}
+use Rattle.kc_text.specs.private.ScannerSteps.{Gives, Absorbs}
 use Rattle.kc_text.proofs.Passing.{HasNoEnd, pass_over, line_closed, limit_met, over_same}
 use Rattle.kc_text.proofs.Ends.{FirstEnd}
 
@@ -141,6 +142,60 @@ gives_last limit n room piece ready ended body piece' h er ee e ep = record {
 -- nothing is kept of a line of which nothing is taken
 pub piece_none : (limit : ℕ) (part : List ℕ) → part ≡ [] → piece_of limit 0 part ≡ []
 piece_none limit part e = let none : List ℕ = [] in rw e (elim (nat_le 0 limit) as (λ b. cond b none none ≡ none) [ true ↦ refl | false ↦ refl ])
+
+short : (limit : ℕ) (piece : List ℕ) → length piece ≤ limit → body_of limit piece ≡ Text (without_cr piece)
+short limit piece h = grind (arith, nat_tests)
+
+-- a line that lies whole in what was read is given
+pub gives_whole : (limit n room : ℕ) (piece ready : List ℕ) (ended : Bool) (len room' : ℕ) (piece' ready' : List ℕ)
+    → IsWhole len (record { limit = limit; number = n; room = room; piece = piece; ready = ready; ended = ended }) → room' ≡ room - (len + 1) → piece' ≡ [] → ready' ≡ drop (len + 1) ready
+    → Gives (whole_line n len (record { limit = limit; number = n; room = room; piece = piece; ready = ready; ended = ended })) (record { limit = limit; number = n; room = room; piece = piece; ready = ready; ended = ended })
+    (record { limit = limit; number = n + 1; room = room'; piece = piece'; ready = ready'; ended = ended })
+gives_whole limit n room piece ready ended len room' piece' ready' h er ep ed =
+    let l = length-take-le len ready (omega (arith, h.within)) in
+    let first : FirstEnd ready (len + 1) len = record {
+      below = omega arith;
+      before = λ k lt. let k' : k < len = omega (arith, l) in rw (get_or-take len ready k 0 k') (h.before k k');
+      here = h.end;
+    } in
+    gives_line limit n room piece ready ended (len + 1) len _ room' piece' ready' (omega (arith, h.within)) (omega (arith, h.room)) first (rw h.fresh (sym (short limit (take len ready) (omega (arith, l, h.few))))) er ep ed
+
+-- nothing is kept of the line, where nothing was taken of it
+pub piece_fresh : (limit taken : ℕ) (part part' : List ℕ) → length (piece_of limit taken part) ≡ taken → piece_of limit taken part ≡ [] → part' ≡ [] → piece_of limit taken part' ≡ []
+piece_fresh limit taken part part' e fresh none =
+    let z : taken ≡ 0 = sym e ∙ ap length fresh in
+    rw z (piece_none limit part' none)
+
+no_items : (xs : List ℕ) → length xs ≡ 0 → xs ≡ []
+no_items [] h = refl
+no_items (x ∷ xs) h = absurd (omega (arith, h))
+
+-- where the first line feed stands, a line lies whole, if no byte of it was taken before
+pub whole_there : (limit n room taken : ℕ) (piece ready : List ℕ) (ended : Bool) (within len : ℕ) → length piece ≡ taken → taken ≡ 0 → within ≤ length ready → within ≤ room → within ≤ limit + 1
+    → FirstEnd ready within len → IsWhole len (record { limit = limit; number = n; room = room; piece = piece; ready = ready; ended = ended })
+whole_there limit n room taken piece ready ended within len e z w1 w2 w3 f =
+    let below = f.below in
+    record {
+      fresh = no_items piece (e ∙ z);
+      few = omega (arith, below);
+      room = omega (arith, below);
+      within = omega (arith, below);
+      end = f.here;
+      before = λ k lt. rw (get_or-take len ready k 0 lt) at (f.before k (omega (arith, lt, below, length-take-le len ready (omega (arith, below)))));
+    }
+
+-- no line lies whole where a byte of the next one was taken before
+pub whole_fresh : (taken : ℕ) (piece : List ℕ) → length piece ≡ taken → 0 < taken → piece ≡ [] → ⊥
+whole_fresh taken piece e h fresh = omega (arith, h, e, ap length fresh)
+
+-- nor where no line feed stands within the room and the limit of a line
+pub whole_ends : (limit n room : ℕ) (piece ready : List ℕ) (ended : Bool) (within len : ℕ) → (len < length ready → len < room → len ≤ limit → len < within) → within ≤ length ready
+    → HasNoEnd (take within ready) → IsWhole len (record { limit = limit; number = n; room = room; piece = piece; ready = ready; ended = ended }) → ⊥
+whole_ends limit n room piece ready ended within len w1 w2 f h =
+    let below : len < within = w1 h.within h.room h.few in
+    let none = rw (get_or-take within ready len 0 below) at (f len (omega (arith, below, length-take-le within ready w2))) in
+    let here = h.end in
+    grind (arith, nat_tests, none, here)
 
 -- a read moves bytes from the source to the reader
 pub filled : (limit n room : ℕ) (piece ready new : List ℕ) (ended : Bool) (old left : Option (List ℕ)) → ready ≡ [] → ended ≡ false → old ≡ prepend_known new left

@@ -7,8 +7,10 @@ use Rattle.kc_text.specs.declared.line.LastLine.{LastLine}
 use Rattle.kc_text.specs.declared.line.LastLine.TheVariants.{AtLimit, AtEnd}
 use Rattle.kc_text.specs.declared.line.Body.{Body}
 use Rattle.kc_text.specs.declared.line.Body.TheVariants.{Text, TooLong, Limit, End}
-use Rattle.kc_text.specs.Scanning.{Scan, scan_lines, scan_lines_left, is_scan_decided}
-use Rattle.kc_text.specs.Reading.{Reading, line_of_last, last_of, last_after, lines_of_rest, lines_left, is_decided, onto, IsLast}
+use Rattle.kc_text.specs.Scanning.{Scan, scan_lines, is_scan_decided}
+use Rattle.kc_text.specs.private.Scanning.{scan_lines_left}
+use Rattle.kc_text.specs.Reading.{Reading, line_of_last, lines_of_rest, lines_left, is_decided, onto, IsLast}
+use Rattle.kc_text.specs.private.Reading.{last_of, last_after}
 
 abbrev pub reading : Scan → Option LastLine → Option Line → Reading
 reading scan last held = record { scan = scan; last = last; held = held }

@@ -1,12 +1,13 @@
-pub mod Digits
-pub mod Ends
-pub mod Giving
-pub mod Holding
-pub mod Known
-pub mod Numbering
-pub mod Passing
-pub mod Pieces
-pub mod PrintedText
-pub mod Ranges
-pub mod Runs
-pub mod Wording
+pub mod lemmas
+mod Digits
+mod Ends
+mod Giving
+mod Holding
+mod Known
+mod Numbering
+mod Passing
+mod Pieces
+mod PrintedText
+mod Ranges
+mod Runs
+mod Wording

@@ -5,7 +5,8 @@ use Rattle.std.specs.List.{list_all, slice_range}
 use Rattle.std.proofs.lemmas.Bool.Decides.{nat_tests}
 use Rattle.std.proofs.lemmas.List.{length-take, length-drop}
 use Rattle.std.proofs.lemmas.List.Folds.{list_all-append}
-use Rattle.kc_text.specs.Numbers.{is_digit, value_from, number_of, DigitsAt, NumberAt}
+use Rattle.kc_text.specs.Numbers.{is_digit, value_from, number_of, NumberAt}
+use Rattle.kc_text.specs.private.Numbers.{DigitsAt}
 use Rattle.kc_text.specs.Words.{words, words_from, is_blank, closed}
 use Rattle.kc_text.proofs.Wording.{range_more, word_goes_on, word_stop, word_end, closed_some}
 

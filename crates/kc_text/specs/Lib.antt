@@ -8,8 +8,7 @@ pub mod Printing
 pub mod ReadBack
 pub mod Reading
 pub mod Reasons
-pub mod ScannerState
-pub mod ScannerSteps
 pub mod Scanning
 pub mod Words
 pub mod Writing
+pub mod private

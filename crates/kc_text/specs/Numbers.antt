@@ -1,7 +1,7 @@
 -- Numbers of a text.
-use Rattle.std.specs.Prelude.{ℕ, ◌≡◌, ◌≤◌, ◌+◌, ◌-◌, ◌*◌, ◌^◌, nat_le, nat_lt, Bool, true, ◌&&◌, List, [], ◌∷◌, length, drop, Option, Some, None, if◌then◌else◌}
-use Rattle.std.specs.List.{list_all, slice_range}
-use Rattle.kc_text.specs.Words.{words, words_from}
+use Rattle.std.specs.Prelude.{ℕ, ◌≡◌, ◌≤◌, ◌+◌, ◌-◌, ◌*◌, ◌^◌, nat_le, nat_lt, Bool, ◌&&◌, List, [], ◌∷◌, length, drop, Option, Some, None, if◌then◌else◌}
+use Rattle.std.specs.List.{list_all}
+use Rattle.kc_text.specs.Words.{words}
 
 -- an ASCII digit
 abbrev pub is_digit : ℕ → Bool
@@ -19,14 +19,6 @@ is_number bs = (nat_lt 0 (length bs) && nat_le (length bs) 10) && (list_all is_d
 -- the number that bytes say, if they say one
 abbrev pub number_of : List ℕ → Option ℕ
 number_of bs = if is_number bs then Some (value_from 0 bs) else None
-
--- the bytes from `start` to `end` are digits of this value
-pub record DigitsAt (line : List ℕ) (start value end : ℕ) : Type 0 where
-  pub after : start ≤ end
-  pub within : end ≤ length line
-  pub digits : list_all is_digit (slice_range line start end) ≡ true
-  pub value_is : value_from 0 (slice_range line start end) ≡ value
-  pub words_are : words (drop start line) ≡ words_from (slice_range line start end) (drop end line)
 
 -- the first word at or after `from` says this number, and the other words lie after its end
 pub record NumberAt (line : List ℕ) (from value end : ℕ) : Type 0 where

@@ -1,12 +1,11 @@
 -- What a line reader holds, and the lines that it has still to give.
-use Rattle.std.specs.Prelude.{ℕ, ◌+◌, Bool, ◌||◌, List, [], ◌∷◌, Option, Some, None, is_some}
+use Rattle.std.specs.Prelude.{ℕ, ◌+◌, ◌^◌, ◌≤◌, ◌≡◌, Bool, ◌||◌, List, [], ◌∷◌, Option, Some, None, is_some}
 use Rattle.std.specs.Option.{option_map}
 use Rattle.kc_text.specs.declared.line.Line.{Line}
 use Rattle.kc_text.specs.declared.line.LastLine.{LastLine}
 use Rattle.kc_text.specs.declared.line.LastLine.TheVariants.{AtLimit, AtEnd}
-use Rattle.kc_text.specs.declared.line.Body.{Body}
-use Rattle.kc_text.specs.declared.line.Body.TheVariants.{Text, TooLong, Limit, End}
-use Rattle.kc_text.specs.Scanning.{Scan, scan_lines, scan_budget, is_scan_decided}
+use Rattle.kc_text.specs.declared.line.Body.TheVariants.{Limit, End}
+use Rattle.kc_text.specs.Scanning.{Scan, scan_lines, scan_budget, is_scan_decided, IsWhole}
 pub use Rattle.kc_text.specs.Following.{behind, onto, IsLast, Takes}
 
 -- what a line reader holds
@@ -22,17 +21,6 @@ pub record Reading : Type 0 where
 abbrev pub line_of_last : LastLine → Line
 line_of_last (AtLimit n) = record { number = n; body = Limit }
 line_of_last (AtEnd n) = record { number = n; body = End }
-
--- the last line that stays once this line, put back before, is given
-abbrev pub last_of : ℕ → Body → Option LastLine → Option LastLine
-last_of n (Text _) before = before
-last_of n TooLong before = before
-last_of n Limit before = Some (AtLimit n)
-last_of n End before = Some (AtEnd n)
-
--- the same of a line
-abbrev pub last_after : Line → Option LastLine → Option LastLine
-last_after line before = last_of line.number line.body before
 
 -- the lines to come, where a last line stays
 abbrev pub last_on : Option LastLine → List Line → List Line
@@ -64,3 +52,14 @@ held_budget (Some _) = 1
 -- what lines can still be made of: the measure of a loop over lines
 abbrev pub budget : Reading → ℕ
 budget r = scan_budget r.scan + held_budget r.held
+
+-- no line was put back or stays, and the next line lies whole among the bytes that were read
+pub record HasWhole (len : ℕ) (r : Reading) : Type 0 where
+  pub held : r.held ≡ None
+  pub last : r.last ≡ None
+  pub scan : IsWhole len r.scan
+
+-- what is true of each reader: an input has at most 2^30 bytes, and one line may be held back
+pub record IsReading (r : Reading) : Type 0 where
+  pub scan : scan_budget r.scan ≤ 2 ^ 30
+  pub whole : budget r ≤ 2 ^ 30 + 1

@@ -1,6 +1,7 @@
 // Numbers of a text.
 ghost use Rattle.std.specs.Prelude.{◌≡◌, ◌<◌, ◌≤◌, length, drop, slice_index, true, IfSome, IfNone};
-ghost use Rattle.kc_text.specs.Numbers.{number_of, is_digit, DigitsAt, NumberAt, IsNoNumber};
+ghost use Rattle.kc_text.specs.Numbers.{number_of, is_digit, NumberAt, IsNoNumber};
+ghost use Rattle.kc_text.specs.private.Numbers.{DigitsAt};
 ghost use Rattle.kc_text.specs.Words.{words};
 
 use crate::word::{next_word, parts_words, pass_blanks};

@@ -1,5 +1,5 @@
 // A reader of lines that takes a line back.
-ghost use Rattle.std.specs.Prelude.{◌≡◌, ℕ, ◌≤◌, ◌+◌, ◌^◌, [], ◌∷◌, List, Option, None, true, false, IfOk, OnErr};
+ghost use Rattle.std.specs.Prelude.{◌≡◌, ℕ, ◌<◌, ◌≤◌, ◌+◌, ◌^◌, [], ◌∷◌, List, Option, None, true, false, IfOk, OnErr, IfSome, IfNone};
 ghost use Rattle.std.specs.Option.{option_map};
 ghost use Rattle.kc_text.specs.Causes.{ReadCause, OnReadFault};
 ghost use Rattle.kc_text.specs.Lines.{lines};
@@ -25,14 +25,17 @@ pub struct LineReader {
 }
 
 impl Model for LineReader {
-    ghost use Rattle.kc_text.specs.Reading.{Reading};
+    ghost use Rattle.kc_text.specs.Reading.{Reading, IsReading};
 
     ghost Value = { Reading };
 
     ghost view = { λ r. record { scan = r.scanner; last = r.last; held = r.held } };
+
+    ghost invariant = { λ r. IsReading (record { scan = r.scanner; last = r.last; held = r.held }) };
 }
 
-ghost use Rattle.kc_text.specs.Reading.{last_after, line_of_last};
+ghost use Rattle.kc_text.specs.private.Reading.{last_after};
+ghost use Rattle.kc_text.specs.Reading.{line_of_last};
 
 // The last line that stays once this line, put back before, is given.
 fn last_after(line: &Line, last: Option<LastLine>) -> Option<LastLine>
@@ -61,7 +64,8 @@ fn line_of_last(last: LastLine) -> Line
 }
 
 impl LineReader {
-    ghost use Rattle.kc_text.specs.Reading.{Reading, lines_of_rest, lines_left, onto, Takes, IsLast, budget, is_decided};
+    ghost use Rattle.kc_text.specs.Scanning.{whole_text, whole_line};
+    ghost use Rattle.kc_text.specs.Reading.{Reading, lines_of_rest, lines_left, onto, Takes, IsLast, budget, is_decided, HasWhole};
 
     /// A reader that stands before the first line. Lines of more than `line_limit` bytes are too
     /// long, and at most `input_limit` bytes are made into lines; each is at most 1,073,741,824.
@@ -123,6 +127,42 @@ impl LineReader {
                 Ok(line)
             }
         }
+    }
+
+    /// The text of the next line, and its length with a carriage return at its end, where the line lies whole in the
+    /// reader's own memory, isn't too long and is within the input's limit: nothing is read or copied for it. None
+    /// exactly where there is no such line; `next_line` gives the next line then. `pass_line` takes the line. Cost: the
+    /// bytes of the line, once.
+    #[inline(always)]
+    pub fn whole_line(&self) -> Option<(&[u8], usize)>
+        ensures whole { IfSome result (λ r. HasWhole r.1 self.now) }
+        ensures text { IfSome result (λ r. r.0.now ≡ whole_text r.1 self.now.scan) }
+        ensures none { IfNone result ((len : ℕ) → HasWhole len self.now → ⊥) }
+    {
+        if self.held.is_some() || self.last.is_some() {
+            return None;
+        }
+        self.scanner.whole_line()
+    }
+
+    /// Takes the line of which `whole_line` tells, by its length, and gives its number. Takes no memory, and reads
+    /// nothing.
+    #[inline(always)]
+    pub fn pass_line(&mut self, len: usize) -> u32
+        requires whole { HasWhole len self.old }
+        ensures line { (left : Option (List ℕ)) → lines_left self.old left ≡ option_map (onto (whole_line result len self.old.scan)) (lines_left self.new left) }
+        ensures takes { budget self.new < budget self.old }
+        ensures held { self.new.held ≡ None }
+    {
+        self.scanner.pass_line(len)
+    }
+
+    /// Does nothing but tell a proof that a reader's budget is bounded, as it is of each.
+    #[inline(always)]
+    pub fn has_budget(&self)
+        ensures budget { budget self.now ≤ 2 ^ 30 + 1 }
+    {
+        let _ = self.held.is_some();
     }
 
     /// Takes a line back, where none is held back: the next call of `next_line` gives it. Takes no

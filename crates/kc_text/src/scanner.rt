@@ -2,7 +2,7 @@
 ghost use Rattle.std.specs.Prelude.{◌≡◌, ℕ, ◌<◌, ◌≤◌, ◌+◌, ◌^◌, [], ◌∷◌, ◌++◌, List, length, Option, true, false, IfOk, OnOk, OnErr, IfSome, IfNone, IsSome};
 ghost use Rattle.kc_text.specs.Causes.{Rose, ReadCause, OnReadFault};
 ghost use Rattle.kc_text.specs.Lines.{body_of, without_cr, lines};
-ghost use Rattle.kc_text.specs.ScannerState.{piece_of};
+ghost use Rattle.kc_text.specs.private.ScannerState.{piece_of};
 
 use crate::window::Window;
 use crate::{Body, Bytes, Failed, Line, LineFault, Source};
@@ -41,7 +41,7 @@ impl Model for Scanner {
 
     ghost Value = { Scan };
 
-    ghost use Rattle.kc_text.specs.ScannerState.{scan_of, IsSound};
+    ghost use Rattle.kc_text.specs.private.ScannerState.{scan_of, IsSound};
 
     ghost view = { scan_of };
 
@@ -94,6 +94,18 @@ fn read_body(
     Ok(Body::Text(Bytes::from_vec(text)))
 }
 
+// The bytes without a carriage return at the end.
+#[inline(always)]
+fn strip_cr(bytes: &[u8]) -> &[u8]
+    ensures { result.now ≡ without_cr bytes.now }
+{
+    if let Some(b'\r') = bytes.last() {
+        &bytes[..bytes.len() - 1]
+    } else {
+        bytes
+    }
+}
+
 // Takes a carriage return off the end.
 fn drop_cr(text: &mut Vec<u8>)
     ensures { text.new.items ≡ without_cr text.old.items }
@@ -120,8 +132,9 @@ fn keep(part: &mut Vec<u8>, limit: u32, taken: u32, more: &[u8]) -> Result<(), A
 
 impl Scanner {
     ghost use Rattle.kc_text.specs.Following.{onto, Takes, IsLast};
-    ghost use Rattle.kc_text.specs.Scanning.{Scan, scan_lines, scan_lines_left, scan_budget, is_scan_decided};
-    ghost use Rattle.kc_text.specs.ScannerSteps.{work, Gives, Absorbs};
+    ghost use Rattle.kc_text.specs.Scanning.{Scan, scan_lines, scan_budget, is_scan_decided, IsWhole, whole_text, whole_line};
+    ghost use Rattle.kc_text.specs.private.Scanning.{scan_lines_left};
+    ghost use Rattle.kc_text.specs.private.ScannerSteps.{work, Gives, Absorbs};
     ghost use Rattle.std.specs.Option.{option_map};
 
     /// A scanner that stands before the first line.
@@ -217,6 +230,40 @@ impl Scanner {
         self.taken = 0;
         self.number += 1;
         Ok(Some(line))
+    }
+
+    /// The text of the next line, and its length with a carriage return, where the line lies whole among the bytes
+    /// that were read.
+    #[inline(always)]
+    pub fn whole_line(&self) -> Option<(&[u8], usize)>
+        ensures whole { IfSome result (λ r. IsWhole r.1 self.now) }
+        ensures text { IfSome result (λ r. r.0.now ≡ whole_text r.1 self.now) }
+        ensures none { IfNone result ((len : ℕ) → IsWhole len self.now → ⊥) }
+    {
+        if self.taken > 0 {
+            return None;
+        }
+        let ready = self.window.ready();
+        let room = self.room as usize;
+        let most = ready.len().min(room).min(self.limit as usize + 1);
+        let Some(at) = memchr(b'\n', &ready[..most]) else {
+            return None;
+        };
+        Some((strip_cr(&ready[..at]), at))
+    }
+
+    /// Takes the line of this length that lies whole among the bytes that were read, and gives its number.
+    #[inline(always)]
+    pub fn pass_line(&mut self, len: usize) -> u32
+        requires whole { IsWhole len self.old }
+        ensures gives { Gives (whole_line result len self.old) self.old self.new }
+    {
+        let number = self.number;
+        self.window.pass(len + 1);
+        self.part.clear();
+        self.number += 1;
+        self.room -= len as u32 + 1;
+        number
     }
 
     /// Keeps memory for a later line.

@@ -3,8 +3,8 @@ ghost use Rattle.std.specs.Prelude.{◌≡◌, ◌<◌, IfOk};
 
 use crate::{
     Body, Failed, Line, LineBuf, LineFault, LineReader, MemSink, MemSource, NullSink, Reason,
-    SendFault, Sink, Source, StdSink, StdSource, Words, is_skipped, next_number, next_word,
-    put_all, read_number,
+    SendFault, Sink, Source, StdSink, StdSource, Words, fill_named, is_skipped, next_number,
+    next_word, put_all, read_number,
 };
 use std::alloc::Global;
 use std::io;
@@ -47,14 +47,38 @@ fn tell<S: Source>(
     Ok(last)
 }
 
-// All that a reader with a line limit of 8 and an input limit of 20 gives, the last line twice.
-fn told(alloc: Global, input: &[u8], piece: u32, failing: &[u32]) -> Result<Vec<u8>, Fail>
+// The same of a line that lies whole in the reader's memory. Returns whether there was one.
+fn tell_whole(alloc: Global, reader: &mut LineReader, out: &mut Vec<u8>) -> Result<bool, Fail> {
+    let Some((text, len)) = reader.whole_line() else {
+        return Ok(false);
+    };
+    let text = Vec::from_slice(alloc, text)?;
+    let number = reader.pass_line(len);
+    out.push(b'0' + (number % 10) as u8)?;
+    out.push(b':')?;
+    out.extend_from_slice(&text)?;
+    out.push(b'\n')?;
+    Ok(true)
+}
+
+// All that a reader with a line limit of 8 and an input limit of 20 gives, the last line twice. Lines that lie whole in its memory are
+// passed there, if `whole`.
+fn told(
+    alloc: Global,
+    input: &[u8],
+    piece: u32,
+    failing: &[u32],
+    whole: bool,
+) -> Result<Vec<u8>, Fail>
     requires { 0 < piece }
 {
     let mut source = MemSource::new(alloc, input, piece, failing)?;
     let mut reader = LineReader::new(alloc, 8, 20)?;
     let mut out = Vec::new(alloc);
     for _ in 0..20 {
+        if whole && tell_whole(alloc, &mut reader, &mut out)? {
+            continue;
+        }
         if tell(alloc, &mut reader, &mut source, &mut out)? {
             tell(alloc, &mut reader, &mut source, &mut out)?;
             break;
@@ -77,8 +101,10 @@ fn lines_in_any_pieces(rt: HostRuntime) -> Result<(), Fail> {
     ];
     for (input, want) in rows {
         for piece in [1, 2, 7, 1000] {
-            let got = told(rt.alloc(), input, piece, &[])?;
-            assert_eq!(rt; got.as_slice(), want, "in pieces of {piece}");
+            for whole in [false, true] {
+                let got = told(rt.alloc(), input, piece, &[], whole)?;
+                assert_eq!(rt; got.as_slice(), want, "in pieces of {piece}");
+            }
         }
     }
     Ok(())
@@ -103,8 +129,10 @@ fn lines_over_faults(rt: HostRuntime) -> Result<(), Fail> {
     ];
     for (input, piece, failing, want) in rows {
         assert!(rt; piece > 0);
-        let got = told(rt.alloc(), input, piece, failing)?;
-        assert_eq!(rt; got.as_slice(), want, "in pieces of {piece}");
+        for whole in [false, true] {
+            let got = told(rt.alloc(), input, piece, failing, whole)?;
+            assert_eq!(rt; got.as_slice(), want, "in pieces of {piece}");
+        }
     }
     Ok(())
 }
@@ -314,8 +342,7 @@ fn sends_lines(rt: HostRuntime) -> Result<(), Fail> {
         let mut sink = MemSink::new(alloc, 1000, piece, failing)?;
         let mut line = LineBuf::new(alloc);
         let mut got = Vec::new(alloc);
-        line.text(alloc, b"v ")?;
-        line.number(alloc, 4294967295)?;
+        fill_named(alloc, &mut line, b"v ", 4294967295)?;
         for word in [b"w", b"x"] {
             match line.send(alloc, &mut sink) {
                 Ok(()) => got.push(b'o')?,

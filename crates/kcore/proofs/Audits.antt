@@ -7,7 +7,7 @@ use Rattle.kc_text.specs.declared.reason.Reason.{Reason}
 use Rattle.kc_text.specs.Lines.{lines}
 use Rattle.kc_text.specs.Reading.{Reading, lines_left}
 use Rattle.kc_text.specs.Writing.{IsPrefix}
-use Rattle.kc_text.proofs.Known.{prefix_none}
+use Rattle.kc_text.proofs.lemmas.Writing.{prefix_none}
 use Rattle.kc_audit.specs.declared.read.AuditFault.{AuditFault}
 use Rattle.kc_audit.specs.declared.read.AuditFault.TheVariants as fault
 use Rattle.kc_audit.specs.declared.run_text.RunText.{RunText}
@@ -16,10 +16,11 @@ use Rattle.kc_audit.specs.Documents.{Document, Accepted, Refused, document_of, d
 use Rattle.kc_audit.specs.Kept.{kept_left}
 use Rattle.kc_audit.specs.Reads.{IsAnswer, Answers}
 use Rattle.kc_audit.specs.Verdicts.{IsVerdict}
-use Rattle.kc_audit.proofs.SomeVerdict.{has_verdict}
+use Rattle.kc_audit.proofs.lemmas.Verdicts.{has_verdict}
 use Rattle.kc_session.specs.declared.fault.SessionFault.{SessionFault}
 use Rattle.kcore.specs.declared.limits.TheConstants.{RUN_LINE_LIMIT, INPUT_LIMIT}
-use Rattle.kcore.specs.AuditText.{verdict_line, is_unexplained, IsDocumentText, WritesAudit}
+use Rattle.kcore.specs.AuditText.{verdict_line, is_unexplained, IsDocumentText}
+use Rattle.kcore.specs.private.AuditText.{WritesAudit}
 use Rattle.kcore.specs.DocumentLines.{refused_document_line}
 
 -- each document has a text

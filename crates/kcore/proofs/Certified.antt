@@ -11,8 +11,7 @@ use Rattle.kc_cert.specs.declared.verdict.Verdict.TheVariants.{Certified}
 use Rattle.kc_cert.specs.Documents as document
 use Rattle.kc_cert.specs.Laws.{document_in}
 use Rattle.kc_cert.specs.Texts.{IsCertificate, certificate_text}
-use Rattle.kc_cert.proofs.ReadBack.{certificate_back}
-use Rattle.kc_cert.proofs.SomeVerdict.{verdict_is_certified}
+use Rattle.kc_cert.proofs.lemmas.Certificates.{certificate_is_read_back, verdict_is_certified}
 use Rattle.kc_engine.specs.States.{State, IsSound}
 use Rattle.kc_graph.specs.declared.limits.TheConstants.{MAX_EDGES}
 use Rattle.kc_session.specs.States.{start, last_state}
@@ -46,7 +45,7 @@ certifies (Accepted header rest) h = λ text refused long e.
     let fits : length (printed notes.lines) + length (certificate_text (certificate_of s)) ≤ INPUT_LIMIT = omega (arith, long, ap length whole, length-append (printed notes.lines) (certificate_text (certificate_of s))) in
     let cert = sound_certificate s z.0 (rw z.1 h.0.some) (rw z.1 h.0.small) in
     let read : document_in LINE_LIMIT INPUT_LIMIT text ≡ document.Accepted (certificate_of s) =
-    ap (λ (t : List ℕ). document_in LINE_LIMIT INPUT_LIMIT t) whole ∙ certificate_back (certificate_of s) LINE_LIMIT INPUT_LIMIT notes.lines cert (omega arith) notes.print notes.skip fits in
+    ap (λ (t : List ℕ). document_in LINE_LIMIT INPUT_LIMIT t) whole ∙ certificate_is_read_back (certificate_of s) LINE_LIMIT INPUT_LIMIT notes.lines cert (omega arith) notes.print notes.skip fits in
     record { read = read; checked = λ line x t. certified_line s _ line x z.0 read t }
 
 pub final_is_certified : FinalIsCertified

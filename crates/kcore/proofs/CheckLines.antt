@@ -1,12 +1,9 @@
 -- The line of `check` as it is put together, and as its definition has it.
-use Rattle.std.proofs.Common.{ℕ, ◌≡◌, List, [], ◌∷◌, ◌++◌, append_assoc, subst}
-use Rattle.std.specs.Prelude.{Option, Result, decimal, codes}
-use Rattle.kc_text.specs.declared.buf.SendFault.{SendFault}
+use Rattle.std.proofs.Common.{ℕ, ◌≡◌, List, [], ◌∷◌, ◌++◌, append_assoc}
+use Rattle.std.specs.Prelude.{decimal, codes}
 use Rattle.kc_text.specs.declared.reason.Reason.{Reason}
 use Rattle.kc_text.specs.Printing.{printed_line}
 use Rattle.kc_text.specs.Reasons.{reason_word}
-use Rattle.kc_text.specs.Writing.{Sends, Appends}
-use Rattle.kc_text.proofs.Known.{appends_send}
 use Rattle.kcore.specs.DocumentLines.{refused_document_line}
 
 pub certified_filled : (n m : ℕ) (old a b : List ℕ) → old ≡ [] → a ≡ (old ++ codes "certified vertices ") ++ decimal n → b ≡ (a ++ codes " edges ") ++ decimal m
@@ -21,7 +18,3 @@ lower_filled v old a z e = rw (e, z) (simp append_assoc)
 
 pub refused_filled : (line : ℕ) (reason : Reason) (old a b d : List ℕ) → old ≡ [] → a ≡ (old ++ codes "refused line ") ++ decimal line → b ≡ a ++ codes " " → d ≡ b ++ reason_word reason → d ++ 10 ∷ [] ≡ refused_document_line line reason
 refused_filled line reason old a b d z ea eb ed = rw (ed, eb, ea, z) (simp append_assoc)
-
--- a buffer that was sent as a line
-pub sent_as : {T : Type 0} → (before now : Option (List ℕ)) (buffer line : List ℕ) (result : Result T SendFault) → buffer ++ 10 ∷ [] ≡ line → Sends before now (buffer ++ 10 ∷ []) result → Appends before now line result
-sent_as before now buffer line result e s = subst (λ text. Appends before now text result) e (appends_send before now (buffer ++ 10 ∷ []) result s)

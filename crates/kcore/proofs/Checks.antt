@@ -7,7 +7,7 @@ use Rattle.kc_text.specs.declared.reason.Reason.{Reason}
 use Rattle.kc_text.specs.Lines.{lines}
 use Rattle.kc_text.specs.Reading.{Reading, lines_left}
 use Rattle.kc_text.specs.Writing.{IsPrefix}
-use Rattle.kc_text.proofs.Known.{prefix_none}
+use Rattle.kc_text.proofs.lemmas.Writing.{prefix_none}
 use Rattle.kc_cert.specs.declared.certificate.Certificate.{Certificate}
 use Rattle.kc_cert.specs.declared.read.CertFault.{CertFault}
 use Rattle.kc_cert.specs.declared.read.CertFault.TheVariants as fault
@@ -17,10 +17,11 @@ use Rattle.kc_cert.specs.Laws.{document_in}
 use Rattle.kc_cert.specs.Reads.{IsAnswer}
 use Rattle.kc_cert.specs.Tokens.{tokens_left}
 use Rattle.kc_cert.specs.Verdicts.{IsVerdict}
-use Rattle.kc_cert.proofs.SomeVerdict.{has_verdict}
+use Rattle.kc_cert.proofs.lemmas.Certificates.{has_verdict}
 use Rattle.kc_session.specs.declared.fault.SessionFault.{SessionFault}
 use Rattle.kcore.specs.declared.limits.TheConstants.{LINE_LIMIT, INPUT_LIMIT}
-use Rattle.kcore.specs.CheckText.{verdict_line, is_breach, IsDocumentText, WritesCheck}
+use Rattle.kcore.specs.CheckText.{verdict_line, is_breach, IsDocumentText}
+use Rattle.kcore.specs.private.CheckText.{WritesCheck}
 use Rattle.kcore.specs.DocumentLines.{refused_document_line}
 
 -- each document has a text

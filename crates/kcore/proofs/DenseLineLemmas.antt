@@ -1,11 +1,7 @@
 -- The lines of the text of `dense`, as they are put together.
 use Rattle.std.proofs.Common.{ℕ, ◌≡◌, List, [], ◌∷◌, ◌++◌, append_assoc}
 use Rattle.std.specs.Prelude.{decimal, codes}
-use Rattle.kc_report.specs.Lines.{vertices_line}
 use Rattle.kcore.specs.DenseLines.{size_line, member_line}
-
-pub vertices_filled : (n : ℕ) (buffer old : List ℕ) → old ≡ [] → buffer ≡ (old ++ codes "vertices ") ++ decimal n → buffer ++ 10 ∷ [] ≡ vertices_line n
-vertices_filled n buffer old e f = rw (f, e) (simp append_assoc)
 
 pub member_filled : (v : ℕ) (buffer old : List ℕ) → old ≡ [] → buffer ≡ (old ++ codes "member ") ++ decimal v → buffer ++ 10 ∷ [] ≡ member_line v
 member_filled v buffer old e f = rw (f, e) (simp append_assoc)

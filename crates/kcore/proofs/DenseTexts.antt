@@ -6,13 +6,12 @@ use Rattle.std.proofs.lemmas.Bool.{cases_lt}
 use Rattle.kc_text.specs.declared.buf.SendFault.{SendFault}
 use Rattle.kc_text.specs.Lines.{lines}
 use Rattle.kc_text.specs.Writing.{Appends}
-use Rattle.kc_text.proofs.Known.{prefix_none}
+use Rattle.kc_text.proofs.lemmas.Writing.{prefix_none}
 use Rattle.kc_graph.specs.declared.limits.TheConstants.{MAX_EDGES, MAX_ITEMS}
 use Rattle.kc_graph.specs.Shape.{GraphShape, IsGraph}
 use Rattle.kc_dense.specs.Sets.{members_of, edges_within}
 use Rattle.kc_dense.specs.Dense.{IsDensePart, IsHalfAsDenseAsAny}
-use Rattle.kc_dense.proofs.FactorLemmas.{dense_part_is_half_as_dense}
-use Rattle.kc_dense.proofs.PeelingLemmas.{each_has_dense_part, dense_part_is_one}
+use Rattle.kc_dense.proofs.lemmas.DenseParts.{dense_part_is_half_as_dense, each_has_dense_part, dense_part_is_one}
 use Rattle.kc_report.specs.Lines.{end_line}
 use Rattle.kc_batch.specs.Headers.{HeaderText, Accepted, Refused, header_of}
 use Rattle.kc_batch.specs.Kept.{kept}
@@ -21,7 +20,7 @@ use Rattle.kc_batch.specs.BatchInputs.{behind_header}
 use Rattle.kc_engine.specs.States.{State, IsSound}
 use Rattle.kcore.specs.declared.limits.TheConstants.{LINE_LIMIT, INPUT_LIMIT}
 use Rattle.kcore.specs.Inputs.{input_said}
-use Rattle.kcore.specs.Documents.{HasDocuments, WritesDocument}
+use Rattle.kcore.specs.private.Documents.{HasDocuments, WritesDocument}
 use Rattle.kcore.specs.DenseLines.{dense_head_text, size_line, member_line}
 use Rattle.kcore.specs.DenseText.{AreMembers, dense_text, IsDense, IsDenseText}
 use Rattle.kcore.specs.Laws.{HasOneText, HasHalfDensity}

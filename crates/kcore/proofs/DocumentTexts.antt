@@ -4,7 +4,7 @@ use Rattle.std.specs.Prelude.{Option, Some, None, Ok, Err}
 use Rattle.std.specs.Option.{option_map}
 use Rattle.kc_text.specs.declared.buf.SendFault.{SendFault}
 use Rattle.kc_text.specs.Lines.{lines}
-use Rattle.kc_text.proofs.Known.{append_twice, prefix_longer, prefix_then}
+use Rattle.kc_text.proofs.lemmas.Writing.{append_twice, prefix_longer, prefix_then}
 use Rattle.kc_graph.specs.declared.limits.TheConstants.{MAX_EDGES, MAX_ITEMS}
 use Rattle.kc_batch.specs.declared.token.Token.{Token}
 use Rattle.kc_batch.specs.declared.batch.Next.{Next}
@@ -14,7 +14,7 @@ use Rattle.kc_batch.specs.Kept.{kept}
 use Rattle.kc_batch.specs.Tokens.{tokens}
 use Rattle.kc_batch.specs.Batches.{batches}
 use Rattle.kc_batch.specs.BatchInputs.{rules_of, behind_header}
-use Rattle.kc_batch.proofs.BatchRanges.{batches_keep_ranges}
+use Rattle.kc_batch.proofs.lemmas.Inputs.{batches_keep_ranges}
 use Rattle.kc_engine.specs.States.{State, IsSound}
 use Rattle.kc_session.specs.declared.report.Report.TheVariants.{Notes}
 use Rattle.kc_session.specs.declared.fault.SessionFault.{SessionFault}
@@ -23,14 +23,14 @@ use Rattle.kc_session.specs.States.{Step, start, AreSteps, last_state}
 use Rattle.kc_session.specs.Counts.{refused_in}
 use Rattle.kc_session.specs.RunText.{batch_lines}
 use Rattle.kc_session.specs.Settling.{Settles}
-use Rattle.kc_session.proofs.Steps.{sound_start}
-use Rattle.kc_session.proofs.Runs.{sound_last, one_run}
-use Rattle.kc_session.proofs.Settles.{start_states}
+use Rattle.kc_session.proofs.lemmas.Runs.{sound_start, sound_last, one_run, start_states}
 use Rattle.kcore.specs.declared.limits.TheConstants.{LINE_LIMIT, INPUT_LIMIT}
-use Rattle.kcore.specs.InputTexts.{IsTextOf, HasTexts}
-use Rattle.kcore.specs.Documents.{EndsInDocument, WritesDocument, HasDocuments}
+use Rattle.kcore.specs.InputTexts.{IsTextOf}
+use Rattle.kcore.specs.private.InputTexts.{HasTexts}
+use Rattle.kcore.specs.Documents.{EndsInDocument}
+use Rattle.kcore.specs.private.Documents.{WritesDocument, HasDocuments}
 use Rattle.kcore.specs.Laws.{HasOneText}
-use Rattle.kcore.specs.Writing.{WritesAfter}
+use Rattle.kcore.specs.private.Writing.{WritesAfter}
 use Rattle.kcore.proofs.InputTexts.{some_text}
 
 -- the batches that these lines say after a header

@@ -4,7 +4,7 @@ use Rattle.std.specs.Prelude.{Option, Some, None, Result, Err}
 use Rattle.kc_text.specs.declared.buf.SendFault.{SendFault}
 use Rattle.kc_text.specs.Lines.{lines}
 use Rattle.kc_text.specs.Writing.{Appends}
-use Rattle.kc_text.proofs.Known.{prefix_none}
+use Rattle.kc_text.proofs.lemmas.Writing.{prefix_none}
 use Rattle.kc_graph.specs.declared.limits.TheConstants.{MAX_EDGES, MAX_ITEMS}
 use Rattle.kc_report.specs.Lines.{exact_head_text, end_line}
 use Rattle.kc_batch.specs.Headers.{HeaderText, Accepted, Refused, header_of}
@@ -14,13 +14,13 @@ use Rattle.kc_batch.specs.Batches.{batches}
 use Rattle.kc_batch.specs.BatchInputs.{rules_of, behind_header}
 use Rattle.kc_engine.specs.States.{State, IsSound}
 use Rattle.kc_session.specs.States.{start, last_state}
-use Rattle.kc_session.proofs.Runs.{profile_last}
+use Rattle.kc_session.proofs.lemmas.Runs.{profile_last}
 use Rattle.kcore.specs.declared.limits.TheConstants.{LINE_LIMIT, INPUT_LIMIT}
 use Rattle.kcore.specs.declared.command.Command.{Command}
 use Rattle.kcore.specs.declared.command.Command.TheVariants.{Run, Final, Orient, Exact, Check, Audit, Dense, Gen}
 use Rattle.kcore.specs.Corenesses.{AreCorenesses}
 use Rattle.kcore.specs.VertexLines.{vertex_lines}
-use Rattle.kcore.specs.Documents.{HasDocuments, WritesDocument}
+use Rattle.kcore.specs.private.Documents.{HasDocuments, WritesDocument}
 use Rattle.kcore.specs.ExactText.{exact_vertex_text, exact_text, IsExact, IsExactText}
 use Rattle.kcore.specs.Commands.{Holds}
 use Rattle.kcore.specs.Laws.{HasOneText, FitsExactly}

@@ -16,7 +16,7 @@ use Rattle.kc_batch.specs.Batches.{batches}
 use Rattle.kc_batch.specs.BatchInputs.{rules_of, behind_header}
 use Rattle.kc_batch.specs.Kept.{kept}
 use Rattle.kc_batch.specs.Tokens.{tokens}
-use Rattle.kc_batch.proofs.BatchRanges.{batches_keep_ranges}
+use Rattle.kc_batch.proofs.lemmas.Inputs.{batches_keep_ranges}
 use Rattle.kc_engine.specs.States.{State, IsSound}
 use Rattle.kc_report.specs.Lines.{magic_line, vertices_line, head_text}
 use Rattle.kc_session.specs.declared.report.Report.TheVariants.{Lines}
@@ -24,8 +24,7 @@ use Rattle.kc_session.specs.ReaderLines.{reader_lines}
 use Rattle.kc_session.specs.RunText.{batch_lines}
 use Rattle.kc_session.specs.States.{start, last_state, history_of}
 use Rattle.kc_session.specs.VertexLines.{tail_text}
-use Rattle.kc_session.proofs.Runs.{sound_last, profile_last}
-use Rattle.kc_session.proofs.Steps.{sound_start}
+use Rattle.kc_session.proofs.lemmas.Runs.{sound_last, profile_last, sound_start}
 use Rattle.kc_audit.specs.declared.run_text.RunText.{RunText}
 use Rattle.kc_audit.specs.declared.groups.GroupLine.{GroupLine}
 use Rattle.kc_audit.specs.declared.verdict.AuditVerdict.TheVariants as verdict
@@ -36,11 +35,8 @@ use Rattle.kc_audit.specs.Laws.{lines_of, IsQuietUnlessLabelled}
 use Rattle.kc_audit.specs.ReadBack.{BatchText, batch_kinds, reader_kinds, vertex_kinds, ReadersFit}
 use Rattle.kc_audit.specs.Runs as runs
 use Rattle.kc_audit.specs.Verdicts.{replies_of, IsExplained}
-use Rattle.kc_audit.proofs.LineLemmas.{lines_explain}
-use Rattle.kc_audit.proofs.PrintedForms.{lines_say_kinds}
-use Rattle.kc_audit.proofs.PrintedParts.{Prints, prints_line, prints_both, run_kinds_before, whole_run}
-use Rattle.kc_audit.proofs.ReplyLevels.{HaveLevels, batches_low}
-use Rattle.kc_audit.proofs.VerdictLemmas.{explained_passes}
+use Rattle.kc_audit.proofs.lemmas.Verdicts.{lines_explain, explained_passes}
+use Rattle.kc_audit.proofs.lemmas.Runs.{lines_say_kinds, Prints, prints_line, prints_both, run_kinds_before, whole_run, HaveLevels, batches_low}
 use Rattle.kcore.specs.declared.limits.TheConstants.{LINE_LIMIT, INPUT_LIMIT, RUN_LINE_LIMIT}
 use Rattle.kcore.specs.AuditLaw.{recorded, ExplainsAfter, RunIsExplained}
 use Rattle.kcore.specs.AuditText.{verdict_line, is_unexplained, IsDocumentText}

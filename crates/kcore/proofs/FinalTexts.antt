@@ -7,7 +7,7 @@ use Rattle.kc_graph.specs.Shape.{GraphShape}
 use Rattle.kc_levels.specs.declared.profile.Profile.{Profile}
 use Rattle.kc_cert.specs.Texts.{certificate_text}
 use Rattle.kc_engine.specs.States.{State}
-use Rattle.kcore.specs.Documents.{HasDocuments, WritesDocument}
+use Rattle.kcore.specs.private.Documents.{HasDocuments, WritesDocument}
 use Rattle.kcore.specs.FinalText.{certificate_of, IsFinal, IsFinalText}
 use Rattle.kcore.specs.Laws.{HasOneText}
 use Rattle.kcore.proofs.DocumentTexts.{has_one_text}

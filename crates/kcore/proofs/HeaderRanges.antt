@@ -13,7 +13,7 @@ use Rattle.kc_levels.specs.declared.profile.Profile.{Profile}
 use Rattle.kc_batch.specs.declared.ask.Ask.{Ask}
 use Rattle.kc_batch.specs.Headers.{HeaderText, Accepted, Refused, IsAsk, IsHeader, fits_ask, ask_with, ask_in, profile_in, vertex_count, vertices_in, is_ask, next_ask, on_ask, asks_from, on_vertices, after_profile, on_profile, header_of}
 use Rattle.kc_batch.specs.Kept.{text_of}
-use Rattle.kc_batch.proofs.Asking.{fits}
+use Rattle.kc_batch.proofs.lemmas.Inputs.{fits}
 use Rattle.kcore.proofs.LineNumbers.{IsNumbered}
 
 -- a header keeps its ranges, and the lines after it have numbers that can be printed

@@ -5,7 +5,7 @@ use Rattle.std.proofs.lemmas.List.Elements.{All-nil, All-cons, All-head, All-tai
 use Rattle.kc_text.specs.Lines.{lines}
 use Rattle.kc_graph.specs.declared.limits.TheConstants.{MAX_EDGES, MAX_ITEMS}
 use Rattle.kc_levels.specs.declared.profile.Profile.{Profile}
-use Rattle.kc_bound.proofs.PointLaw.{both_are_near}
+use Rattle.kc_bound.proofs.lemmas.Coreness.{both_are_near}
 use Rattle.kc_batch.specs.declared.batch.Next.{Next}
 use Rattle.kc_batch.specs.HeaderShape.{HeaderShape}
 use Rattle.kc_batch.specs.Headers.{HeaderText, Accepted, Refused, header_of}
@@ -13,10 +13,10 @@ use Rattle.kc_batch.specs.Kept.{kept}
 use Rattle.kc_batch.specs.Tokens.{tokens}
 use Rattle.kc_batch.specs.Batches.{batches, IsNext}
 use Rattle.kc_batch.specs.BatchInputs.{rules_of, behind_header}
-use Rattle.kc_batch.proofs.BatchRanges.{batches_keep_ranges}
+use Rattle.kc_batch.proofs.lemmas.Inputs.{batches_keep_ranges}
 use Rattle.kc_engine.specs.States.{State, IsSound}
 use Rattle.kc_session.specs.States.{Step, start, AreSteps}
-use Rattle.kc_session.proofs.Steps.{sound_start, sound_step, profile_step}
+use Rattle.kc_session.proofs.lemmas.Runs.{sound_start, sound_step, profile_step}
 use Rattle.kcore.specs.declared.limits.TheConstants.{LINE_LIMIT, INPUT_LIMIT}
 use Rattle.kcore.specs.Laws.{HoldsIn, HoldsThroughout, EachStateHolds}
 

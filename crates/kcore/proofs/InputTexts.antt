@@ -3,7 +3,7 @@ use Rattle.std.proofs.Common.{ℕ, ◌≡◌, Bool, true, List, refl, inl, inr}
 use Rattle.std.specs.Prelude.{Option, Some, None, Result, Ok, Err, ◌⊎◌}
 use Rattle.std.specs.Option.{option_map}
 use Rattle.kc_text.specs.Lines.{lines}
-use Rattle.kc_text.proofs.Known.{prefix_none}
+use Rattle.kc_text.proofs.lemmas.Writing.{prefix_none}
 use Rattle.kc_graph.specs.declared.limits.TheConstants.{MAX_ITEMS}
 use Rattle.kc_batch.specs.declared.batch.Next.{Next}
 use Rattle.kc_batch.specs.HeaderShape.{HeaderShape}
@@ -15,9 +15,10 @@ use Rattle.kc_report.specs.Lines.{header_refused_line}
 use Rattle.kc_session.specs.declared.fault.SessionFault.{SessionFault}
 use Rattle.kcore.specs.declared.limits.TheConstants.{LINE_LIMIT, INPUT_LIMIT}
 use Rattle.kcore.specs.Inputs.{input_said}
-use Rattle.kcore.specs.InputTexts.{IsTextOf, HasTexts}
-use Rattle.kcore.specs.Opening.{RefusesHeader, BeginsToRefuse}
-use Rattle.kcore.specs.Writing.{Writes, WritesAfter}
+use Rattle.kcore.specs.InputTexts.{IsTextOf}
+use Rattle.kcore.specs.private.InputTexts.{HasTexts}
+use Rattle.kcore.specs.private.Opening.{RefusesHeader, BeginsToRefuse}
+use Rattle.kcore.specs.private.Writing.{Writes, WritesAfter}
 
 -- each input has a text
 pub some_text : (IsText : HeaderShape → List Next → List ℕ → Bool → Type 0) → HasTexts IsText → (text : HeaderText) → (said : List ℕ) × ((refused : Bool) × IsTextOf IsText (behind_header MAX_ITEMS text) said refused)

@@ -1,31 +1,31 @@
-pub mod Points
-pub mod Holding
-pub mod Openings
-pub mod InputTexts
-pub mod Texts
-pub mod DocumentTexts
-pub mod Causes
-pub mod VertexLines
-pub mod SomeCorenesses
-pub mod ExactTexts
-pub mod DenseLineLemmas
-pub mod DenseTexts
-pub mod LoadTexts
-pub mod WordLists
-pub mod WaitingLemmas
-pub mod RisingLemmas
-pub mod OrientLineLemmas
-pub mod OrientTexts
-pub mod FinalTexts
-pub mod CheckLines
-pub mod Checks
-pub mod NoteLines
-pub mod LineNumbers
-pub mod HeaderRanges
-pub mod Certified
-pub mod PhaseGroups
-pub mod RunBatches
-pub mod RunReaders
-pub mod RunVertices
-pub mod Explained
-pub mod Audits
+mod Points
+mod Holding
+mod Openings
+mod InputTexts
+mod Texts
+mod DocumentTexts
+mod Causes
+mod VertexLines
+mod SomeCorenesses
+mod ExactTexts
+mod DenseLineLemmas
+mod DenseTexts
+mod LoadTexts
+mod WordLists
+mod WaitingLemmas
+mod RisingLemmas
+mod OrientLineLemmas
+mod OrientTexts
+mod FinalTexts
+mod CheckLines
+mod Checks
+mod NoteLines
+mod LineNumbers
+mod HeaderRanges
+mod Certified
+mod PhaseGroups
+mod RunBatches
+mod RunReaders
+mod RunVertices
+mod Explained
+mod Audits

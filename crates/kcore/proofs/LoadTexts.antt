@@ -18,7 +18,7 @@ use Rattle.kc_batch.specs.Kept.{kept}
 use Rattle.kc_batch.specs.Tokens.{tokens}
 use Rattle.kc_batch.specs.Batches.{batches}
 use Rattle.kc_batch.specs.BatchInputs.{rules_of, behind_header}
-use Rattle.kc_batch.proofs.BatchRanges.{batches_keep_ranges}
+use Rattle.kc_batch.proofs.lemmas.Inputs.{batches_keep_ranges}
 use Rattle.kc_session.specs.declared.ended.Ended.{Ended}
 use Rattle.kc_session.specs.declared.fault.SessionFault.{SessionFault}
 use Rattle.kc_session.specs.States.{Step, start, AreSteps, last_state}
@@ -27,12 +27,12 @@ use Rattle.kc_session.specs.Asking.{Fit}
 use Rattle.kc_session.specs.Counts.{capped, refused_in, all_groups, all_moves}
 use Rattle.kc_session.specs.Ended.{IsEnded, replies_in, greatest}
 use Rattle.kc_session.specs.SessionText.{session_text, WroteSession, WritesSession}
-use Rattle.kc_session.proofs.Steps.{sound_start}
-use Rattle.kc_session.proofs.Runs.{one_run}
+use Rattle.kc_session.proofs.lemmas.Runs.{sound_start, one_run}
 use Rattle.kcore.specs.declared.limits.TheConstants.{LINE_LIMIT, INPUT_LIMIT}
-use Rattle.kcore.specs.InputTexts.{IsTextOf, HasTexts}
+use Rattle.kcore.specs.InputTexts.{IsTextOf}
+use Rattle.kcore.specs.private.InputTexts.{HasTexts}
 use Rattle.kcore.specs.LoadText.{load_line, IsLoadOf, IsLoadText}
-use Rattle.kcore.specs.Writing.{WritesAfter}
+use Rattle.kcore.specs.private.Writing.{WritesAfter}
 use Rattle.kcore.specs.Laws.{HasOneText}
 use Rattle.kcore.proofs.InputTexts.{some_text}
 use Rattle.kcore.proofs.Texts as run

@@ -3,7 +3,7 @@ use Rattle.std.proofs.Common.{ℕ, ◌≡◌, refl}
 use Rattle.std.specs.Prelude.{Option, Some, None}
 use Rattle.std.specs.Option.{option_map}
 use Rattle.kc_batch.specs.BatchInputs.{BatchInput, HeaderRefused}
-use Rattle.kcore.specs.Opening.{IsSaid}
+use Rattle.kcore.specs.private.Opening.{IsSaid}
 
 pub is_refused : {X : Type 0} → (line : ℕ) (said : Option BatchInput) (there : Option X) → said ≡ option_map (λ _. HeaderRefused line) there → IsSaid said (HeaderRefused line)
 is_refused line said None e = rw e tt

@@ -2,7 +2,7 @@
 use Rattle.std.proofs.Common.{ℕ, ◌+◌, ◌<◌, ◌≡◌, List, [], ◌∷◌, ◌++◌, length, get_or, take, map, ap, ◌∙◌, append_assoc}
 use Rattle.std.specs.Prelude.{decimal, codes}
 use Rattle.std.specs.List.{join_with_byte, flat_map}
-use Rattle.kc_report.proofs.TextLemmas.{members_more, joined}
+use Rattle.kc_report.proofs.lemmas.Lines.{members_more, joined}
 use Rattle.kcore.specs.OrientLines.{oriented_line}
 
 -- one more vertex was put together

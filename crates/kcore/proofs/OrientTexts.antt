@@ -4,16 +4,15 @@ use Rattle.std.specs.Prelude.{Option, Result, Err}
 use Rattle.kc_text.specs.declared.buf.SendFault.{SendFault}
 use Rattle.kc_text.specs.Lines.{lines}
 use Rattle.kc_text.specs.Writing.{Appends}
-use Rattle.kc_text.proofs.Known.{prefix_none}
+use Rattle.kc_text.proofs.lemmas.Writing.{prefix_none}
 use Rattle.kc_graph.specs.declared.limits.TheConstants.{MAX_EDGES, MAX_ITEMS}
 use Rattle.kc_levels.specs.declared.profile.Profile.{Profile}
 use Rattle.kc_levels.specs.declared.profile.Profile.TheVariants.{Two}
 use Rattle.kc_levels.specs.LevelList.{MeetsUpper}
 use Rattle.kc_orient.specs.Shape.{orientation}
 use Rattle.kc_orient.specs.Colouring.{IsColouring}
-use Rattle.kc_orient.proofs.Upward.{out_neighbours_are_few, outs_at, outs_sized}
-use Rattle.kc_orient.proofs.Colourings.{colourings_are_one, colouring_is_proper, colours_are_few}
-use Rattle.kc_orient.proofs.Existence.{colouring_is_one}
+use Rattle.kc_orient.proofs.lemmas.Orientations.{out_neighbours_are_few, outs_at, outs_sized}
+use Rattle.kc_orient.proofs.lemmas.Colourings.{colourings_are_one, colouring_is_proper, colours_are_few, colouring_is_one}
 use Rattle.kc_report.specs.Lines.{end_line}
 use Rattle.kc_batch.specs.Headers.{HeaderText, Accepted, Refused, header_of}
 use Rattle.kc_batch.specs.Kept.{kept}
@@ -22,11 +21,11 @@ use Rattle.kc_batch.specs.Batches.{batches}
 use Rattle.kc_batch.specs.BatchInputs.{rules_of, behind_header}
 use Rattle.kc_engine.specs.States.{State, IsSound}
 use Rattle.kc_session.specs.States.{start, last_state}
-use Rattle.kc_session.proofs.Runs.{profile_last}
+use Rattle.kc_session.proofs.lemmas.Runs.{profile_last}
 use Rattle.kcore.specs.declared.limits.TheConstants.{LINE_LIMIT, INPUT_LIMIT}
 use Rattle.kcore.specs.Inputs.{input_said}
 use Rattle.kcore.specs.VertexLines.{vertex_lines}
-use Rattle.kcore.specs.Documents.{HasDocuments, WritesDocument}
+use Rattle.kcore.specs.private.Documents.{HasDocuments, WritesDocument}
 use Rattle.kcore.specs.OrientLines.{orient_head_text}
 use Rattle.kcore.specs.OrientText.{oriented_vertex_text, oriented_text, IsOrientedText, IsOrientText, IsSparse, OrientsSparsely}
 use Rattle.kcore.specs.Laws.{HasOneText}

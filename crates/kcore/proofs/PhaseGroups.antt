@@ -7,7 +7,7 @@ use Rattle.std.proofs.lemmas.List.{length-map, get_or-map}
 use Rattle.std.proofs.lemmas.List.Elements.{All-nil, All-cons, All-head, All-tail}
 use Rattle.kc_graph.specs.Numbers.{RisesFrom, has_number}
 use Rattle.kc_graph.specs.Shape.{GraphShape, Pair}
-use Rattle.kc_graph.proofs.NumberLemmas.{has_number_below, has_number_at}
+use Rattle.kc_graph.proofs.lemmas.Numbers.{has_number_below, has_number_at}
 use Rattle.kc_levels.specs.Moved.{is_moved, move_of}
 use Rattle.kc_levels.specs.declared.moves.Move.{Move}
 use Rattle.kc_history.specs.declared.entries.Entry.{Entry}
@@ -15,8 +15,7 @@ use Rattle.kc_history.specs.declared.replies.Reply.{Reply}
 use Rattle.kc_groups.specs.declared.plans.PhasePlan.{PhasePlan}
 use Rattle.kc_groups.specs.Links.{AreLabels}
 use Rattle.kc_groups.specs.Entries.{labels_below, moves_below, group_entry, AreEntries}
-use Rattle.kc_groups.proofs.ListLemmas.{labels_rise, labels_own, all_moves, moves_rise, has_move, vertices}
-use Rattle.kc_groups.proofs.PlanLaw.{moves_if_labelled}
+use Rattle.kc_groups.proofs.lemmas.Plans.{labels_rise, labels_own, all_moves, moves_rise, has_move, vertices, moves_if_labelled}
 use Rattle.kc_audit.specs.Documents.{rises_from, is_group}
 use Rattle.kc_audit.specs.Laws.{member_of, lines_of}
 use Rattle.kc_audit.specs.ReadBack.{GroupFits, GroupsFit}

@@ -12,8 +12,8 @@ use Rattle.kc_history.specs.declared.entries.Entry.{Entry}
 use Rattle.kc_groups.specs.declared.plans.PhasePlan.{PhasePlan}
 use Rattle.kc_groups.specs.Entries.{entries_of, entries_in}
 use Rattle.kc_groups.specs.Phases.{LeadOn}
-use Rattle.kc_groups.proofs.PhaseLaw.{phases_lead}
-use Rattle.kc_bound.proofs.PointLaw as near
+use Rattle.kc_groups.proofs.lemmas.Phases.{phases_lead}
+use Rattle.kc_bound.proofs.lemmas.Coreness.{each_point_is_near as phases_are_near}
 use Rattle.kc_batch.specs.declared.batch.Next.{Next}
 use Rattle.kc_batch.specs.declared.batch.Next.TheVariants.{Items, Refused, End}
 use Rattle.kc_batch.specs.HeaderShape.{HeaderShape}
@@ -23,17 +23,17 @@ use Rattle.kc_batch.specs.Kept.{kept}
 use Rattle.kc_batch.specs.Tokens.{tokens}
 use Rattle.kc_batch.specs.Batches.{batches, IsNext}
 use Rattle.kc_batch.specs.BatchInputs.{rules_of, behind_header}
-use Rattle.kc_batch.proofs.BatchRanges.{batches_keep_ranges}
+use Rattle.kc_batch.proofs.lemmas.Inputs.{batches_keep_ranges}
 use Rattle.kc_engine.specs.declared.faults.EngineFault.{EngineFault}
 use Rattle.kc_engine.specs.States.{State, IsSound}
 use Rattle.kc_engine.specs.Batches.{IsCleaning}
 use Rattle.kc_engine.specs.Laws.{IsHistoryOf}
-use Rattle.kc_engine.proofs.LeadLaw.{phases_lead_one_by_one}
+use Rattle.kc_engine.proofs.lemmas.Phases.{phases_lead_one_by_one}
 use Rattle.kcore.specs.declared.limits.TheConstants.{LINE_LIMIT, INPUT_LIMIT}
 use Rattle.kc_session.specs.States.{Step, start, stay, refusal_of, IsAfterCleaned, IsStep, AreSteps, last_state, history_of}
 use Rattle.kcore.specs.Points.{phases_in, AreNearAtEachPoint, ArePoints}
 use Rattle.kcore.specs.Laws.{HasPoints, StatesArePoints, IsNearThroughout, EachPointIsNear}
-use Rattle.kc_session.proofs.Steps.{sound_start, sound_step, profile_step}
+use Rattle.kc_session.proofs.lemmas.Runs.{sound_start, sound_step, profile_step}
 
 entries_in-append : (ps qs : List PhasePlan) → entries_in (ps ++ qs) ≡ entries_in ps ++ entries_in qs
 entries_in-append [] qs = refl
@@ -101,7 +101,7 @@ are_points header bs ts all a = record {
 pub are_near : (header : HeaderShape) (bs : List Next) (ts : List Step) → All (IsNext (rules_of header MAX_ITEMS)) bs → AreSteps (start header.profile header.n) bs ts → AreNearAtEachPoint header.profile header.n ts
 are_near header bs ts all a = λ k.
     let end = last_state (start header.profile header.n) ts in
-    rw (history_of_phases ts) (near.each_point_is_near.history header.profile header.n end.graph end.levels (phases_in ts) k (are_points header bs ts all a).phases)
+    rw (history_of_phases ts) (phases_are_near.history header.profile header.n end.graph end.levels (phases_in ts) k (are_points header bs ts all a).phases)
 
 points_behind : (text : HeaderText) → HasPoints (behind_header MAX_ITEMS text)
 points_behind (headers.Refused line) = tt

@@ -9,15 +9,15 @@ use Rattle.std.proofs.lemmas.List.Sums.{length-filter, count_by-le-length}
 use Rattle.std.proofs.Math.Nat.{mul-le-mul_right}
 use Rattle.kc_graph.specs.Numbers.{has_number, AllBelow}
 use Rattle.kc_graph.specs.Shape.{GraphShape, Pair, IsGraph, EdgesFrom, neighbours_of, with_edges}
-use Rattle.kc_graph.proofs.NeighbourLemmas.{neighbours_below, neighbours_both, fewer_neighbours}
-use Rattle.kc_graph.proofs.ChangeLemmas.{vertices-with_edges}
+use Rattle.kc_graph.proofs.lemmas.Neighbours.{neighbours_below, neighbours_both, fewer_neighbours}
+use Rattle.kc_graph.proofs.lemmas.Changes.{vertices-with_edges}
 use Rattle.kc_levels.specs.declared.profile.Profile.{Profile}
 use Rattle.kc_levels.specs.Thresholds.{high, group_of}
 use Rattle.kc_levels.specs.LevelList.{at_least, MeetsUpper, IsCapped, IsRaised}
-use Rattle.kc_levels.proofs.AtLeast.{at_least-set}
-use Rattle.kc_levels.proofs.Raising.{room, room_falls, raising_first, raising_more, raising_done, upper_kept}
-use Rattle.kcore.specs.Waiting.{queued, all_queued, ends_of}
-use Rattle.kcore.specs.Rising.{IsRising}
+use Rattle.kc_levels.proofs.lemmas.AtLeast.{at_least-set}
+use Rattle.kc_levels.proofs.lemmas.Raising.{room, room_falls, raising_first, raising_more, raising_done, upper_kept}
+use Rattle.kcore.specs.private.Waiting.{queued, all_queued, ends_of}
+use Rattle.kcore.specs.private.Rising.{IsRising}
 use Rattle.kcore.proofs.WaitingLemmas.{has_number-queued, has_number-all_queued, has_number-filter, length-queued, length-all_queued, neighbours_of-with_edges}
 
 -- where v rises by one level, the neighbours that are on its new level

@@ -8,15 +8,15 @@ use Rattle.kc_graph.specs.declared.cleaning.Cleaned.{Cleaned}
 use Rattle.kc_graph.specs.declared.limits.TheConstants.{MAX_VERTICES, MAX_EDGES, MAX_ITEMS}
 use Rattle.kc_graph.specs.Cleaning.{IsInside, cleaned}
 use Rattle.kc_graph.specs.Shape.{Pair, GraphShape, without_edges}
-use Rattle.kc_graph.proofs.ChangeLemmas.{vertices-without_edges}
-use Rattle.kc_graph.proofs.CountingLemmas.{each_item_counts_once}
+use Rattle.kc_graph.proofs.lemmas.Changes.{vertices-without_edges}
+use Rattle.kc_graph.proofs.lemmas.Cleaning.{each_item_counts_once}
 use Rattle.kc_text.specs.declared.reason.Reason.{Reason}
 use Rattle.kc_text.specs.declared.reason.Reason.TheVariants as reason
 use Rattle.kc_text.specs.Printing.{printed_line}
 use Rattle.kc_levels.specs.declared.moves.Move.{Move}
 use Rattle.kc_levels.specs.declared.profile.Profile.{Profile}
 use Rattle.kc_levels.specs.LevelList.{IsCapped}
-use Rattle.kc_levels.proofs.Groups.{top_level-small}
+use Rattle.kc_levels.proofs.lemmas.Thresholds.{top_level-small}
 use Rattle.kc_history.specs.declared.entries.Entry.{Entry}
 use Rattle.kc_history.specs.declared.limits.TheConstants.{MAX_PHASE}
 use Rattle.kc_groups.specs.declared.plans.PhasePlan.{PhasePlan}
@@ -32,15 +32,14 @@ use Rattle.kc_engine.specs.declared.faults.EngineFault.{EngineFault}
 use Rattle.kc_engine.specs.declared.faults.EngineFault.TheVariants as fault
 use Rattle.kc_engine.specs.States.{State, IsSound}
 use Rattle.kc_engine.specs.Batches.{phases_for, ArePhaseOf, IsAfterPhases, graph_after_batch}
-use Rattle.kc_engine.proofs.BatchLemmas.{at_state, after_lowered, vertices_after}
-use Rattle.kc_engine.proofs.PhaseLaw.{phases_are_numbered_on}
+use Rattle.kc_engine.proofs.lemmas.Batches.{at_state, after_lowered, vertices_after}
+use Rattle.kc_engine.proofs.lemmas.Phases.{phases_are_numbered_on}
 use Rattle.kc_report.specs.Lines.{direction_word, member_word, label_word, group_line, phase_line, phase_text, batch_line, refused_line}
 use Rattle.kc_session.specs.declared.report.Report.TheVariants.{Lines}
 use Rattle.kc_session.specs.Reports.{cleaned_text}
 use Rattle.kc_session.specs.RunText.{step_text, batch_lines}
 use Rattle.kc_session.specs.States.{Step, stay, refusal_of, reason_of, IsAfterCleaned, IsStep, AreSteps, history_of}
-use Rattle.kc_session.proofs.BatchSteps.{few_removed, few_added, few_quiet}
-use Rattle.kc_session.proofs.Steps.{sound_step}
+use Rattle.kc_session.proofs.lemmas.Runs.{few_removed, few_added, few_quiet, sound_step}
 use Rattle.kc_audit.specs.declared.groups.GroupLine.{GroupLine}
 use Rattle.kc_audit.specs.Kinds.{Kind}
 use Rattle.kc_audit.specs.Kinds as kind
@@ -48,8 +47,7 @@ use Rattle.kc_audit.specs.Laws.{member_of, line_before, lines_of, IsQuietUnlessL
 use Rattle.kc_audit.specs.Printed as printed
 use Rattle.kc_audit.specs.Printed.{IsSmall, IsRefusedReason}
 use Rattle.kc_audit.specs.ReadBack.{pair_word, PhaseText, BatchText, Took, Left, group_kinds, phase_kinds, batch_kinds, GroupsFit, PhasesFit, BatchesFit, last_phase, phase_groups, batch_groups}
-use Rattle.kc_audit.proofs.PrintedForms.{lines_say_kinds}
-use Rattle.kc_audit.proofs.PrintedParts.{Prints, prints_nothing, prints_line, prints_both, prints_as, group_words, group_says}
+use Rattle.kc_audit.proofs.lemmas.Runs.{lines_say_kinds, Prints, prints_nothing, prints_line, prints_both, prints_as, group_words, group_says}
 use Rattle.kcore.proofs.LineNumbers.{HasSmallLine}
 use Rattle.kcore.proofs.PhaseGroups.{HasLabel, plan_fits, plan_labelled}
 

@@ -17,8 +17,7 @@ use Rattle.kc_audit.specs.declared.groups.GroupLine.{GroupLine}
 use Rattle.kc_audit.specs.Kinds as kind
 use Rattle.kc_audit.specs.ReadBack.{pair_words, reader_kinds, ReaderFits, ReadersFit}
 use Rattle.kc_audit.specs.Runs.{are_below, history_of}
-use Rattle.kc_audit.proofs.PrintedParts.{Prints, prints_nothing, prints_line, prints_both, reader_says}
-use Rattle.kc_audit.proofs.ReplyLevels.{HaveLevels, reply_levels}
+use Rattle.kc_audit.proofs.lemmas.Runs.{Prints, prints_nothing, prints_line, prints_both, reader_says, HaveLevels, reply_levels}
 
 repeated_below : (n k : ℕ) (vs : List ℕ) → All (λ v. v < n) vs → All (λ v. v < n) (repeated k vs)
 repeated_below n zero vs h = All-nil (λ v. v < n)

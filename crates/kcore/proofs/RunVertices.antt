@@ -4,22 +4,19 @@ use Rattle.std.specs.Prelude.{nat_le, codes}
 use Rattle.std.proofs.lemmas.List.Sums.{count_by-le-length}
 use Rattle.kc_graph.specs.declared.limits.TheConstants.{MAX_VERTICES}
 use Rattle.kc_graph.specs.Shape.{GraphShape, IsGraph, neighbours_of}
-use Rattle.kc_graph.proofs.NeighbourLemmas.{fewer_neighbours}
+use Rattle.kc_graph.proofs.lemmas.Neighbours.{fewer_neighbours}
 use Rattle.kc_levels.specs.declared.profile.Profile.{Profile}
 use Rattle.kc_levels.specs.declared.profile.Profile.TheVariants.{One, Two}
 use Rattle.kc_levels.specs.Thresholds.{low, high, lo, est, lo_after, group_of}
 use Rattle.kc_levels.specs.LevelList.{at_least, IsCapped}
-use Rattle.kc_levels.proofs.Groups.{group_of-within, low-small, top_level-small}
-use Rattle.kc_levels.proofs.ProfileFacts.{high_over-near}
-use Rattle.kc_levels.proofs.Sequences.{low-step}
+use Rattle.kc_levels.proofs.lemmas.Thresholds.{group_of-within, low-small, top_level-small, high_over-near, low-step}
 use Rattle.kc_report.specs.Lines.{end_line}
 use Rattle.kc_session.specs.VertexLines.{vertex_text, vertex_lines, tail_text}
 use Rattle.kc_audit.specs.Kinds.{Kind}
 use Rattle.kc_audit.specs.Kinds as kind
 use Rattle.kc_audit.specs.Printed.{IsSmall}
 use Rattle.kc_audit.specs.ReadBack.{vertex_kinds}
-use Rattle.kc_audit.proofs.PrintedForms.{lines_say_kinds}
-use Rattle.kc_audit.proofs.PrintedParts.{Prints, prints_nothing, prints_line, prints_both, prints_as}
+use Rattle.kc_audit.proofs.lemmas.Runs.{lines_say_kinds, Prints, prints_nothing, prints_line, prints_both, prints_as}
 
 lo_after_low : (p : Profile) (l : ℕ) → lo_after p l ≤ l + 1
 lo_after_low One l = omega arith

@@ -6,8 +6,7 @@ use Rattle.std.proofs.Math.Seq.{get_or-append_seam}
 use Rattle.kc_graph.specs.Shape.{GraphShape, IsGraph}
 use Rattle.kc_bound.specs.Cores.{IsCoreness}
 use Rattle.std.proofs.lemmas.Grind.{same_number_lists}
-use Rattle.kc_bound.proofs.Existence.{each_has_coreness}
-use Rattle.kc_bound.proofs.LevelBounds.{coreness_is_one}
+use Rattle.kc_bound.proofs.lemmas.Coreness.{each_has_coreness, coreness_is_one}
 use Rattle.kcore.specs.Corenesses.{AreCorenesses}
 
 -- those of the vertices below k

@@ -9,7 +9,7 @@ use Rattle.kc_history.specs.declared.entries.Entry.{Entry}
 use Rattle.kc_history.specs.declared.replies.Reply.{Reply}
 use Rattle.kc_history.specs.Points.{graph_at, levels_at}
 use Rattle.kc_history.specs.Replies.{AreExplained, zeros}
-use Rattle.kc_history.proofs.ReplyLemmas.{start_explains_zeros}
+use Rattle.kc_history.proofs.lemmas.Replies.{start_explains_zeros}
 use Rattle.kc_batch.specs.declared.ask.Ask.{Ask}
 use Rattle.kc_batch.specs.declared.token.Token.{Token}
 use Rattle.kc_batch.specs.declared.batch.Next.{Next}
@@ -19,7 +19,7 @@ use Rattle.kc_batch.specs.Kept.{kept}
 use Rattle.kc_batch.specs.Tokens.{tokens}
 use Rattle.kc_batch.specs.Batches.{batches}
 use Rattle.kc_batch.specs.BatchInputs.{rules_of, behind_header}
-use Rattle.kc_batch.proofs.BatchRanges.{batches_keep_ranges}
+use Rattle.kc_batch.proofs.lemmas.Inputs.{batches_keep_ranges}
 use Rattle.kc_report.specs.Lines.{head_text}
 use Rattle.kc_session.specs.declared.fault.SessionFault.{SessionFault}
 use Rattle.kc_session.specs.declared.report.Report.TheVariants.{Lines}
@@ -31,13 +31,11 @@ use Rattle.kc_session.specs.RunText.{batch_lines}
 use Rattle.kc_session.specs.declared.ended.Ended.{Ended}
 use Rattle.kc_session.specs.VertexLines.{tail_text}
 use Rattle.kc_session.specs.SessionText.{IsSession, session_text, WritesSession}
-use Rattle.kc_session.proofs.Steps.{sound_start}
-use Rattle.kc_session.proofs.Runs.{one_run}
-use Rattle.kc_session.proofs.Settles.{start_states}
+use Rattle.kc_session.proofs.lemmas.Runs.{sound_start, one_run, start_states}
 use Rattle.kcore.specs.declared.limits.TheConstants.{LINE_LIMIT, INPUT_LIMIT}
 use Rattle.kcore.specs.RunText.{IsRun, IsRunOf}
-use Rattle.kcore.specs.InputTexts.{HasTexts}
-use Rattle.kcore.specs.Writing.{WritesAfter}
+use Rattle.kcore.specs.private.InputTexts.{HasTexts}
+use Rattle.kcore.specs.private.Writing.{WritesAfter}
 use Rattle.kcore.specs.Laws.{InputHasText, TakesReplies, RepliesHaveText, HasTextsAlike, TextsAreAlike}
 use Rattle.kcore.proofs.Points.{are_near}
 use Rattle.kcore.proofs.InputTexts.{some_text}

@@ -5,7 +5,7 @@ use Rattle.std.proofs.lemmas.List.{append-nil}
 use Rattle.std.specs.Io.KnownBytes.{append_known}
 use Rattle.std.specs.Prelude.{Option}
 use Rattle.kc_text.specs.Writing.{IsPrefix}
-use Rattle.kc_text.proofs.Known.{append_twice, prefix_longer, prefix_then}
+use Rattle.kc_text.proofs.lemmas.Writing.{append_twice, prefix_longer, prefix_then}
 use Rattle.kcore.specs.VertexLines.{vertex_lines}
 
 -- the lines of the vertices below n begin with those below v

@@ -7,9 +7,9 @@ use Rattle.std.proofs.lemmas.List.{append-nil, length-set, length_push, get_or-s
 use Rattle.std.proofs.lemmas.List.Elements.{All-push, All-tail, All-head, filter_more}
 use Rattle.kc_graph.specs.Numbers.{has_number}
 use Rattle.kc_graph.specs.Shape.{GraphShape, Pair, neighbours_of, with_edge, with_edges}
-use Rattle.kc_graph.proofs.NumberLemmas.{has_number-push}
-use Rattle.kc_graph.proofs.NeighbourLemmas.{neighbours_of_insert_other}
-use Rattle.kcore.specs.Waiting.{Queue, queued, all_queued, ends_of, IsOnce, IsFlagged}
+use Rattle.kc_graph.proofs.lemmas.Numbers.{has_number-push}
+use Rattle.kc_graph.proofs.lemmas.Neighbours.{neighbours_of_insert_other}
+use Rattle.kcore.specs.private.Waiting.{Queue, queued, all_queued, ends_of, IsOnce, IsFlagged}
 
 once-push : (x : ℕ) (xs : List ℕ) → IsOnce xs → has_number x xs ≡ false → IsOnce (xs ++ x ∷ [])
 once-push x [] once absent = (refl, tt)

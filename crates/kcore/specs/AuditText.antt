@@ -1,15 +1,13 @@
 -- The text of `audit`: what is written for a run text.
-use Rattle.std.specs.Prelude.{ℕ, ◌≡◌, Bool, true, false, List, [], ◌∷◌, decimal, codes, Option, Some, None, Result}
+use Rattle.std.specs.Prelude.{ℕ, ◌≡◌, Bool, true, false, List, [], ◌∷◌, decimal, codes}
 use Rattle.kc_audit.specs.declared.run_text.RunText.{RunText}
 use Rattle.kc_audit.specs.declared.verdict.AuditVerdict.{AuditVerdict}
 use Rattle.kc_audit.specs.declared.verdict.AuditVerdict.TheVariants.{Explained, Unexplained}
 use Rattle.kc_audit.specs.Documents.{Document, Accepted, Refused, document_in}
 use Rattle.kc_audit.specs.Verdicts.{IsVerdict}
 use Rattle.kc_text.specs.Printing.{printed_line}
-use Rattle.kc_session.specs.declared.fault.SessionFault.{SessionFault}
 use Rattle.kcore.specs.declared.limits.TheConstants.{RUN_LINE_LIMIT, INPUT_LIMIT}
 use Rattle.kcore.specs.DocumentLines.{refused_document_line}
-use Rattle.kcore.specs.Writing.{WritesText}
 
 -- the line of a verdict
 abbrev pub verdict_line : AuditVerdict → List ℕ
@@ -36,8 +34,3 @@ IsDocumentText (Refused line reason) text refused = (text ≡ refused_document_l
 -- a line may be as long as the whole input
 abbrev pub IsAuditText : List ℕ → List ℕ → Bool → Type 0
 IsAuditText bytes text refused = IsDocumentText (document_in RUN_LINE_LIMIT INPUT_LIMIT bytes) text refused
-
--- the text of a run text, where the bytes are told
-abbrev pub WritesAudit : Option (List ℕ) → Option (List ℕ) → Option (List ℕ) → Result Bool SessionFault → Type 0
-WritesAudit None before now result = Unit {0}
-WritesAudit (Some bytes) before now result = WritesText (IsAuditText bytes) before now result

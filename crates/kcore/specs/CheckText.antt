@@ -1,5 +1,5 @@
 -- The text of `check`: what is written for a certificate.
-use Rattle.std.specs.Prelude.{ℕ, ◌≡◌, Bool, true, false, List, [], ◌∷◌, length, decimal, codes, Option, Some, None, Result}
+use Rattle.std.specs.Prelude.{ℕ, ◌≡◌, Bool, true, false, List, [], ◌∷◌, length, decimal, codes}
 use Rattle.kc_cert.specs.declared.certificate.Certificate.{Certificate}
 use Rattle.kc_cert.specs.declared.verdict.Verdict.{Verdict}
 use Rattle.kc_cert.specs.declared.verdict.Verdict.TheVariants.{Certified, Upper, Lower}
@@ -7,10 +7,8 @@ use Rattle.kc_cert.specs.Documents.{Document, Accepted, Refused}
 use Rattle.kc_cert.specs.Laws.{document_in}
 use Rattle.kc_cert.specs.Verdicts.{IsVerdict}
 use Rattle.kc_text.specs.Printing.{printed_line}
-use Rattle.kc_session.specs.declared.fault.SessionFault.{SessionFault}
 use Rattle.kcore.specs.declared.limits.TheConstants.{LINE_LIMIT, INPUT_LIMIT}
 use Rattle.kcore.specs.DocumentLines.{refused_document_line}
-use Rattle.kcore.specs.Writing.{WritesText}
 
 -- the line of a verdict
 abbrev pub verdict_line : Certificate → Verdict → List ℕ
@@ -38,8 +36,3 @@ IsDocumentText (Refused line reason) text refused = (text ≡ refused_document_l
 
 abbrev pub IsCheckText : List ℕ → List ℕ → Bool → Type 0
 IsCheckText bytes text refused = IsDocumentText (document_in LINE_LIMIT INPUT_LIMIT bytes) text refused
-
--- the text of a certificate, where the bytes are told
-abbrev pub WritesCheck : Option (List ℕ) → Option (List ℕ) → Option (List ℕ) → Result Bool SessionFault → Type 0
-WritesCheck None before now result = Unit {0}
-WritesCheck (Some bytes) before now result = WritesText (IsCheckText bytes) before now result

@@ -1,10 +1,10 @@
 -- The command lines, and what each command writes for the bytes that it reads.
-use Rattle.std.specs.Prelude.{ℕ, ◌≡◌, ◌≤◌, ◌*◌, nat_le, Bool, true, false, ◌&&◌, List, [], ◌∷◌, Option, Some, None, if◌then◌else◌, codes, ◌⊎◌}
+use Rattle.std.specs.Prelude.{ℕ, ◌≡◌, ◌*◌, nat_le, Bool, true, false, ◌&&◌, List, [], ◌∷◌, Option, Some, None, if◌then◌else◌, codes, ◌⊎◌}
 use Rattle.std.specs.Str.{bytes_eq}
 use Rattle.kc_text.specs.Causes.{Rose, Outlet}
 use Rattle.kc_text.specs.Numbers.{number_of}
 use Rattle.kc_graph.specs.declared.limits.TheConstants.{MAX_VERTICES, MAX_ITEMS}
-use Rattle.kc_session.specs.Generated.{generated, IsLoad}
+use Rattle.kc_session.specs.Generated.{generated}
 use Rattle.kcore.specs.declared.command.Command.{Command}
 use Rattle.kcore.specs.declared.command.Command.TheVariants.{Run, Final, Orient, Exact, Check, Audit, Dense, Gen}
 use Rattle.kcore.specs.declared.status.Status.{Status}
@@ -63,18 +63,6 @@ command_of (w ∷ s ∷ n ∷ b ∷ m ∷ a ∷ []) =
     if bytes_eq w (codes "gen") then gen_with (number_of s) (number_of n) (number_of b) (number_of m) (few_workers (number_of a))
     else None
 command_of _ = None
-
--- the workers of a command are 1 to 64, and the numbers of a load are in their ranges
-abbrev pub FitsWorkers : Option Command → Type 0
-FitsWorkers (Some (Run workers)) = (1 ≤ workers) × (workers ≤ 64)
-FitsWorkers (Some (Final workers)) = (1 ≤ workers) × (workers ≤ 64)
-FitsWorkers (Some (Orient workers)) = (1 ≤ workers) × (workers ≤ 64)
-FitsWorkers (Some (Gen seed n batches items workers)) = ((1 ≤ workers) × (workers ≤ 64)) × IsLoad n batches items
-FitsWorkers (Some Exact) = Unit {0}
-FitsWorkers (Some Check) = Unit {0}
-FitsWorkers (Some Audit) = Unit {0}
-FitsWorkers (Some Dense) = Unit {0}
-FitsWorkers None = Unit {0}
 
 -- the text is the one that the command writes for these bytes, and `refused` says whether it refuses them, or a part of them;
 -- it doesn't depend on the number of workers

@@ -1,15 +1,12 @@
 -- Texts that end in a document of the graph and the levels after the batches of an input.
-use Rattle.std.specs.Prelude.{ℕ, ◌≡◌, nat_lt, Bool, List, ◌++◌, Option, Result}
-use Rattle.kc_graph.specs.declared.limits.TheConstants.{MAX_EDGES}
+use Rattle.std.specs.Prelude.{ℕ, ◌≡◌, nat_lt, Bool, List, ◌++◌}
 use Rattle.kc_batch.specs.declared.batch.Next.{Next}
 use Rattle.kc_batch.specs.HeaderShape.{HeaderShape}
-use Rattle.kc_engine.specs.States.{State, IsSound}
+use Rattle.kc_engine.specs.States.{State}
 use Rattle.kc_session.specs.declared.report.Report.TheVariants.{Notes}
 use Rattle.kc_session.specs.States.{start, Step, AreSteps, last_state}
 use Rattle.kc_session.specs.Counts.{refused_in}
 use Rattle.kc_session.specs.RunText.{batch_lines}
-use Rattle.kc_text.specs.declared.buf.SendFault.{SendFault}
-use Rattle.kc_text.specs.Writing.{Appends}
 
 -- a whole text of a header with these batches, and whether some of them are refused: a note of each that is, and then a document of
 -- the graph and the levels after the last; `IsDocument` says which documents a state has
@@ -20,13 +17,3 @@ pub record EndsInDocument (IsDocument : State → List ℕ → Type 0) (header :
   pub is_document : IsDocument (last_state (start header.profile header.n) steps) document
   pub text_is : text ≡ batch_lines Notes 1 (start header.profile header.n) batches steps ++ document
   pub refusal : nat_lt 0 (refused_in (start header.profile header.n) batches steps) ≡ refused
-
--- a document of a state was written, or with a fault a prefix of one
-pub record WritesDocument {T : Type 0} (IsDocument : State → List ℕ → Type 0) (s : State) (before now : Option (List ℕ)) (result : Result T SendFault) : Type 0 where
-  pub document : List ℕ
-  pub is_document : IsDocument s document
-  pub appends : Appends before now document result
-
--- each state has a document
-abbrev pub HasDocuments : (State → List ℕ → Type 0) → Type 0
-HasDocuments IsDocument = (s : State) → IsSound MAX_EDGES s → (document : List ℕ) × IsDocument s document

@@ -14,13 +14,10 @@ pub mod DenseLines
 pub mod DenseText
 pub mod LoadText
 pub mod Texts
-pub mod Opening
-pub mod Writing
 pub mod Commands
 pub mod Laws
-pub mod Waiting
-pub mod Rising
 pub mod OrientLines
 pub mod OrientText
 pub mod CertificateLaw
 pub mod AuditLaw
+pub mod private

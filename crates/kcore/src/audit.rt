@@ -2,13 +2,14 @@
 ghost use Rattle.std.specs.Prelude.{◌≡◌, ◌++◌, ◌∷◌, [], OnOk};
 ghost use Rattle.kc_text.specs.Writing.{Appends, WriteCause};
 ghost use Rattle.kc_session.specs.Faults.{FaultCause};
-ghost use Rattle.kcore.specs.AuditText.{verdict_line, is_unexplained, WritesAudit};
+ghost use Rattle.kcore.specs.AuditText.{verdict_line, is_unexplained};
+ghost use Rattle.kcore.specs.private.AuditText.{WritesAudit};
 
-use crate::document_lines::{fill_named, write_document_refused};
+use crate::document_lines::write_document_refused;
 use crate::limits::{INPUT_LIMIT, RUN_LINE_LIMIT};
 use kc_audit::{AuditFault, AuditVerdict, audit, read_run};
 use kc_session::SessionFault;
-use kc_text::{LineBuf, LineReader, SendFault, Sink, Source};
+use kc_text::{LineBuf, LineReader, SendFault, Sink, Source, fill_named};
 use std::alloc::{AllocError, Global};
 
 fn fill_verdict(alloc: Global, buf: &mut LineBuf, verdict: AuditVerdict) -> Result<(), AllocError>

@@ -2,14 +2,15 @@
 ghost use Rattle.std.specs.Prelude.{◌≡◌, ◌++◌, ◌∷◌, [], OnOk};
 ghost use Rattle.kc_text.specs.Writing.{Appends, WriteCause};
 ghost use Rattle.kc_session.specs.Faults.{FaultCause};
-ghost use Rattle.kcore.specs.CheckText.{verdict_line, is_breach, WritesCheck};
+ghost use Rattle.kcore.specs.CheckText.{verdict_line, is_breach};
+ghost use Rattle.kcore.specs.private.CheckText.{WritesCheck};
 
-use crate::document_lines::{fill_named, write_document_refused};
+use crate::document_lines::write_document_refused;
 use crate::limits::{INPUT_LIMIT, LINE_LIMIT};
 use kc_cert::{CertFault, Certificate, Verdict, read_certificate, verify};
 use kc_levels::Thresholds;
 use kc_session::SessionFault;
-use kc_text::{LineBuf, LineReader, SendFault, Sink, Source};
+use kc_text::{LineBuf, LineReader, SendFault, Sink, Source, fill_named};
 use std::alloc::{AllocError, Global};
 
 fn fill_verdict(

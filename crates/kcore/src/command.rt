@@ -1,7 +1,8 @@
 //! The commands of the program.
 ghost use Rattle.std.specs.Prelude.{◌≡◌, ◌≤◌, ◌∷◌, [], IfSome};
 ghost use Rattle.kc_text.specs.Numbers.{number_of};
-ghost use Rattle.kcore.specs.Commands.{few_workers, fits_load, gen_with, command_of, FitsWorkers};
+ghost use Rattle.kcore.specs.Commands.{few_workers, fits_load, gen_with, command_of};
+ghost use Rattle.kcore.specs.private.Commands.{FitsWorkers};
 
 use crate::word::is_word;
 use kc_graph::{MAX_ITEMS, MAX_VERTICES};

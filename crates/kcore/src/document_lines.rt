@@ -1,23 +1,10 @@
 //! Parts of the one line that `check` and `audit` write.
-ghost use Rattle.std.specs.Prelude.{◌≡◌, ◌++◌, ◌∷◌, [], OnOk, decimal};
+ghost use Rattle.std.specs.Prelude.{◌≡◌, ◌++◌, ◌∷◌, [], OnOk};
 ghost use Rattle.kc_text.specs.Writing.{Appends, WriteCause};
 ghost use Rattle.kcore.specs.DocumentLines.{refused_document_line};
 
-use kc_text::{LineBuf, Reason, SendFault, Sink};
+use kc_text::{LineBuf, Reason, SendFault, Sink, fill_named};
 use std::alloc::{AllocError, Global};
-
-/// Appends a name, with its blanks, and a number.
-pub fn fill_named(
-    alloc: Global,
-    buf: &mut LineBuf,
-    name: &[u8],
-    value: u32,
-) -> Result<(), AllocError>
-    ensures { OnOk result (buf.new ≡ (buf.old ++ name.now) ++ decimal value) }
-{
-    buf.text(alloc, name)?;
-    buf.number(alloc, value)
-}
 
 fn fill_refused(
     alloc: Global,

@@ -7,8 +7,9 @@ ghost use Rattle.kc_engine.specs.States.{State, IsSound};
 ghost use Rattle.kc_session.specs.Faults.{FaultCause};
 ghost use Rattle.kcore.specs.Inputs.{input_said};
 ghost use Rattle.kcore.specs.InputTexts.{IsTextOf};
-ghost use Rattle.kcore.specs.Documents.{EndsInDocument, HasDocuments, WritesDocument};
-ghost use Rattle.kcore.specs.Writing.{Writes};
+ghost use Rattle.kcore.specs.Documents.{EndsInDocument};
+ghost use Rattle.kcore.specs.private.Documents.{HasDocuments, WritesDocument};
+ghost use Rattle.kcore.specs.private.Writing.{Writes};
 
 use crate::inputs::open_input;
 use kc_engine::Engine;

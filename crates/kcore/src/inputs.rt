@@ -1,10 +1,8 @@
 //! The way into a batch input: its header.
-ghost use Rattle.std.specs.Prelude.{◌≡◌, ◌≤◌, ◌^◌, ◌+◌, IfOk, IfSome, Option};
 ghost use Rattle.std.specs.Option.{option_map};
-ghost use Rattle.kc_text.specs.Reading.{budget};
 ghost use Rattle.kc_session.specs.Faults.{FaultCause};
 ghost use Rattle.kcore.specs.Inputs.{input_said};
-ghost use Rattle.kcore.specs.Opening.{OpensInput};
+ghost use Rattle.kcore.specs.private.Opening.{OpensInput};
 
 use crate::limits::{INPUT_LIMIT, LINE_LIMIT};
 use kc_batch::{Header, HeaderFault};
@@ -21,7 +19,6 @@ pub fn open_input<S: Source, K: Sink>(
     sink: &mut K,
 ) -> Result<Option<(Header, LineReader)>, SessionFault>
     ensures text { OpensInput (option_map input_said (S.left src.old)) (S.left src.new) (K.taken sink.old) (K.taken sink.new) result }
-    ensures budget { IfOk result (λ there. IfSome there (λ p. budget p.1 ≤ 2 ^ 30 + 1)) }
     ensures cause { FaultCause (S.faults src.old) (S.faults src.new) (K.faults sink.old) (K.faults sink.new) result }
 {
     let mut reader = LineReader::new(alloc, LINE_LIMIT, INPUT_LIMIT)?;

@@ -1,9 +1,9 @@
 //! The command `gen`: what a generated load comes to.
 ghost use Rattle.std.specs.Prelude.{◌≡◌, ◌≤◌, Some};
-ghost use Rattle.kc_session.specs.Faults.{StepCause};
+ghost use Rattle.kc_session.specs.private.Faults.{StepCause};
 ghost use Rattle.kcore.specs.Inputs.{input_said};
 ghost use Rattle.kcore.specs.LoadText.{IsLoadText};
-ghost use Rattle.kcore.specs.Writing.{Writes};
+ghost use Rattle.kcore.specs.private.Writing.{Writes};
 
 use crate::inputs::open_input;
 use crate::load_line::write_load;

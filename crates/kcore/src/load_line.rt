@@ -1,19 +1,11 @@
 //! The line of the text of `gen`.
-ghost use Rattle.std.specs.Prelude.{◌≡◌, ◌++◌, ◌∷◌, [], OnOk, decimal};
+ghost use Rattle.std.specs.Prelude.{◌≡◌, ◌++◌, ◌∷◌, [], OnOk};
 ghost use Rattle.kc_text.specs.Writing.{Appends, WriteCause};
 ghost use Rattle.kcore.specs.LoadText.{load_line};
 
 use kc_session::Ended;
-use kc_text::{LineBuf, SendFault, Sink};
+use kc_text::{LineBuf, SendFault, Sink, fill_named};
 use std::alloc::{AllocError, Global};
-
-// Appends a name, with its blanks, and a number.
-fn fill_named(alloc: Global, buf: &mut LineBuf, name: &[u8], value: u32) -> Result<(), AllocError>
-    ensures { OnOk result (buf.new ≡ (buf.old ++ name.now) ++ decimal value) }
-{
-    buf.text(alloc, name)?;
-    buf.number(alloc, value)
-}
 
 fn fill_load(alloc: Global, buf: &mut LineBuf, ended: &Ended) -> Result<(), AllocError>
     requires { buf.old ≡ [] }

@@ -3,19 +3,11 @@ ghost use Rattle.std.specs.Prelude.{◌≡◌, [], ◌∷◌, ◌++◌, OnOk, de
 ghost use Rattle.std.specs.List.{flat_map};
 ghost use Rattle.kc_text.specs.Writing.{Appends, WriteCause};
 ghost use Rattle.kc_report.specs.Buffer.{IsCleared};
-ghost use Rattle.kc_report.specs.Lines.{vertices_line};
 ghost use Rattle.kcore.specs.OrientLines.{orient_magic_line, orient_head_text, oriented_line};
 
-use kc_text::{LineBuf, SendFault, Sink};
+use kc_report::write_vertex_count;
+use kc_text::{LineBuf, SendFault, Sink, fill_named};
 use std::alloc::{AllocError, Global};
-
-// Appends a name, with its blanks, and a number.
-fn fill_named(alloc: Global, buf: &mut LineBuf, name: &[u8], value: u32) -> Result<(), AllocError>
-    ensures { OnOk result (buf.new ≡ (buf.old ++ name.now) ++ decimal value) }
-{
-    buf.text(alloc, name)?;
-    buf.number(alloc, value)
-}
 
 // Writes the first line.
 fn write_magic<K: Sink>(alloc: Global, buf: &mut LineBuf, sink: &mut K) -> Result<(), SendFault>
@@ -25,24 +17,6 @@ fn write_magic<K: Sink>(alloc: Global, buf: &mut LineBuf, sink: &mut K) -> Resul
     ensures cause { WriteCause (K.faults sink.old) (K.faults sink.new) result }
 {
     match buf.text(alloc, b"kcore-orient 1") {
-        Ok(()) => buf.send(alloc, sink),
-        Err(fault) => Err(SendFault::Memory(fault)),
-    }
-}
-
-// Writes the second line.
-fn write_vertex_count<K: Sink>(
-    alloc: Global,
-    buf: &mut LineBuf,
-    sink: &mut K,
-    n: u32,
-) -> Result<(), SendFault>
-    requires { buf.old ≡ [] }
-    ensures text { Appends (K.taken sink.old) (K.taken sink.new) (vertices_line n) result }
-    ensures buffer { IsCleared buf.new result }
-    ensures cause { WriteCause (K.faults sink.old) (K.faults sink.new) result }
-{
-    match fill_named(alloc, buf, b"vertices ", n) {
         Ok(()) => buf.send(alloc, sink),
         Err(fault) => Err(SendFault::Memory(fault)),
     }

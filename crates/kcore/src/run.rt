@@ -4,7 +4,7 @@ ghost use Rattle.std.specs.Option.{option_map};
 ghost use Rattle.kc_session.specs.Faults.{FaultCause};
 ghost use Rattle.kcore.specs.Inputs.{input_said};
 ghost use Rattle.kcore.specs.RunText.{IsRunText};
-ghost use Rattle.kcore.specs.Writing.{Writes};
+ghost use Rattle.kcore.specs.private.Writing.{Writes};
 
 use crate::inputs::open_input;
 use kc_rounds::Gate;

@@ -1,7 +1,7 @@
 //! The top call: a command line, an input and an output.
 ghost use Rattle.std.specs.Prelude.{◌≡◌, ◌≢◌, ◌↔◌, None, Option};
 ghost use Rattle.kcore.specs.Commands.{command_of, Answers, Holds, HasCause, ReadsNothing};
-ghost use Rattle.kcore.specs.Writing.{status_of};
+ghost use Rattle.kcore.specs.private.Writing.{status_of};
 
 use crate::audit::audit_input;
 use crate::check::check_input;

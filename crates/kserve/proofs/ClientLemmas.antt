@@ -1,14 +1,12 @@
 -- Clients that were opened, submit, and are taken in.
-use Rattle.std.proofs.Common.{ℕ, zero, suc, ◌≡◌, ◌≤◌, ◌<◌, ◌+◌, List, [], ◌∷◌, ◌++◌, length, get_or, map, take, drop, refl, sym, ap, ◌∙◌, subst, arith, append_assoc}
+use Rattle.std.proofs.Common.{ℕ, ◌≡◌, ◌<◌, ◌+◌, List, [], ◌∷◌, ◌++◌, length, get_or, map, take, drop, refl, sym, ap, ◌∙◌, subst, arith, append_assoc}
 use Rattle.std.specs.Prelude.{All}
 use Rattle.std.specs.List.{range_with_len}
 use Rattle.std.proofs.lemmas.List.{take-append-le, take_all, take_more, length-append, append-nil, nil_from_length}
 use Rattle.std.proofs.lemmas.List.FromFn.{length-map-range_with_len, get_or-map-range_with_len}
-use Rattle.std.proofs.lemmas.List.Elements.{All-nil, All-push}
 use Rattle.kc_graph.specs.declared.items.Item.{Item}
-use Rattle.kc_intake.specs.declared.updates.Update.{Update}
 use Rattle.kc_intake.specs.Views.{IntakeShape, ClientShape, new_client}
-use Rattle.kserve.specs.Clients.{ended_client, AreNew, HaveEnded}
+use Rattle.kserve.specs.private.Clients.{ended_client, AreNew, HaveEnded}
 
 -- clients as they are opened
 pub opened : (intake : IntakeShape) (count : ℕ) (clients : List ClientShape) → clients ≡ map (new_client intake) (range_with_len 0 count) → AreNew intake count clients

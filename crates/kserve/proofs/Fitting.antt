@@ -1,7 +1,7 @@
 -- Drained batches that are what the clients submitted.
-use Rattle.std.proofs.Common.{ℕ, zero, suc, ◌≡◌, ◌≢◌, ◌≤◌, ◌<◌, ◌+◌, ◌==◌, Bool, true, false, cond, List, [], ◌∷◌, ◌++◌, length, get_or, map, filter, refl, sym, ap, ◌∙◌, subst, append_assoc, arith}
+use Rattle.std.proofs.Common.{ℕ, zero, suc, ◌≡◌, ◌≢◌, ◌≤◌, ◌<◌, ◌+◌, ◌==◌, Bool, true, false, cond, List, [], ◌∷◌, ◌++◌, length, get_or, map, refl, sym, ap, ◌∙◌, subst, arith}
 use Rattle.std.specs.Prelude.{All, ◌&&◌}
-use Rattle.std.specs.List.{list_all, sum_by}
+use Rattle.std.specs.List.{list_all}
 use Rattle.std.proofs.lemmas.Bool.Decides.{nat_tests}
 use Rattle.std.proofs.lemmas.List.{append-nil, length-append, length-map, nil_from_length}
 use Rattle.std.proofs.lemmas.List.Folds.{list_all-map}
@@ -13,11 +13,12 @@ use Rattle.kc_intake.specs.declared.updates.Update.{Update}
 use Rattle.kc_intake.specs.Updates.{updates_of, updates_in, numbered, all_updates}
 use Rattle.kc_intake.specs.Views.{IntakeShape, ClientShape, DrainerShape, submitted}
 use Rattle.kserve.specs.declared.limits.TheConstants.{CAPACITY}
-use Rattle.kserve.specs.Fitting.{is_due, are_due, items_of, Fit}
-use Rattle.kserve.specs.Clients.{ended_client, HaveEnded, AreTakenIn, AreDrained}
+use Rattle.kserve.specs.private.Fitting.{is_due, are_due}
+use Rattle.kserve.specs.Fitting.{items_of, Fit}
+use Rattle.kserve.specs.private.Clients.{ended_client, HaveEnded, AreTakenIn, AreDrained}
 use Rattle.kserve.specs.Inputs.{items_in}
-use Rattle.kserve.specs.Reading.{AreScripts}
-use Rattle.kserve.proofs.Counting.{total, total_same, all_clients, all_lists, each_as_many}
+use Rattle.kserve.specs.private.Reading.{AreScripts}
+use Rattle.kserve.proofs.Counting.{total_same, all_clients, all_lists, each_as_many}
 
 of_append : (c : ℕ) (us vs : List Update) → updates_of c (us ++ vs) ≡ updates_of c us ++ updates_of c vs
 of_append c us vs = filter-append (λ u. u.client == c) us vs

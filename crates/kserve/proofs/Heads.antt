@@ -1,6 +1,6 @@
 -- The first two lines of an input.
 use Rattle.std.proofs.Common.{ℕ, ◌≡◌, true, false, List, [], refl, sym, ◌∙◌}
-use Rattle.std.specs.Prelude.{Bool, Option, Some, None}
+use Rattle.std.specs.Prelude.{Some, None}
 use Rattle.kc_text.specs.declared.line.Line.{Line}
 use Rattle.kc_text.specs.declared.line.Body.{Body}
 use Rattle.kc_text.specs.declared.line.Body.TheVariants.{Text, TooLong, Limit, End}
@@ -10,7 +10,7 @@ use Rattle.kc_text.specs.Words.{words, words_from}
 use Rattle.kc_batch.specs.Kept.{text_of}
 use Rattle.kc_batch.specs.Headers.{vertices_in}
 use Rattle.kserve.specs.declared.head.Head.TheVariants as head
-use Rattle.kserve.specs.Inputs.{Refused, is_magic, head_of, after_head, after_magic, input_from}
+use Rattle.kserve.specs.Inputs.{Refused, is_magic, after_head, after_magic, input_from}
 
 no_magic : is_magic [] ≡ false
 unfolding is_magic

@@ -1,11 +1,12 @@
 -- The items of updates, one after another.
-use Rattle.std.proofs.Common.{ℕ, ◌≡◌, ◌<◌, ◌+◌, true, List, [], ◌∷◌, ◌++◌, length, get_or, take, map, sym, ap, ◌∙◌}
+use Rattle.std.proofs.Common.{ℕ, ◌≡◌, ◌<◌, ◌+◌, true, List, [], ◌∷◌, ◌++◌, length, get_or, take, sym, ap, ◌∙◌}
 use Rattle.std.specs.Prelude.{◌&&◌}
 use Rattle.std.proofs.lemmas.List.{take_more, map-append}
 use Rattle.std.proofs.lemmas.List.Folds.{list_all_more}
 use Rattle.kc_graph.specs.declared.items.Item.{Item}
 use Rattle.kc_intake.specs.declared.updates.Update.{Update}
-use Rattle.kserve.specs.Fitting.{is_due, are_due, items_of}
+use Rattle.kserve.specs.private.Fitting.{is_due, are_due}
+use Rattle.kserve.specs.Fitting.{items_of}
 
 pub items_more : (us : List Update) (i : ℕ) (d : Update) (old new : List Item) → i < length us → old ≡ items_of (take i us) → new ≡ old ++ (get_or us i d).item ∷ [] → new ≡ items_of (take (i + 1) us)
 items_more us i d old new lt e f =

@@ -1,7 +1,6 @@
 -- Batches one after another: there is room for each, and they lead from state to state.
-use Rattle.std.proofs.Common.{ℕ, ◌≡◌, ◌≤◌, ◌<◌, ◌+◌, ◌*◌, ◌-◌, Bool, true, false, List, [], ◌∷◌, ◌++◌, length, map, nat_lt, refl, sym, ap, ◌∙◌, subst, append_assoc, arith}
-use Rattle.std.specs.Prelude.{Option, Some, None, All, ◌&&◌, if◌then◌else◌}
-use Rattle.std.specs.List.{list_all, flat_map}
+use Rattle.std.proofs.Common.{ℕ, ◌≡◌, ◌≤◌, ◌+◌, ◌*◌, ◌-◌, true, List, [], ◌∷◌, ◌++◌, length, refl, sym, ap, ◌∙◌, subst, append_assoc, arith}
+use Rattle.std.specs.Prelude.{None, All, ◌&&◌}
 use Rattle.std.proofs.lemmas.Bool.Decides.{nat_tests}
 use Rattle.std.proofs.lemmas.List.{append-nil, length-append, length-map}
 use Rattle.std.proofs.lemmas.List.Concat.{flat_map-append}
@@ -13,16 +12,17 @@ use Rattle.kc_graph.specs.declared.items.Item.TheVariants.{Insert, Delete, Isola
 use Rattle.kc_graph.specs.declared.limits.TheConstants.{MAX_EDGES, MAX_ITEMS}
 use Rattle.kc_graph.specs.Shape.{Pair, GraphShape, IsGraph}
 use Rattle.kc_graph.specs.Cleaning.{IsInside, cleaned}
-use Rattle.kc_graph.proofs.CountingLemmas.{each_item_counts_once}
+use Rattle.kc_graph.proofs.lemmas.Cleaning.{each_item_counts_once}
 use Rattle.kc_history.specs.declared.limits.TheConstants.{MAX_PHASE}
 use Rattle.kc_engine.specs.States.{State, IsSound}
-use Rattle.kc_engine.specs.Batches.{IsCleaning, phases_for, phases_of, edges_after, phases_after, refusal_of, graph_after_batch, IsAfterBatch}
-use Rattle.kc_engine.proofs.BatchLemmas.{start_is_sound, batch_has_one_state, batch_keeps_sound, vertices_after, edges_behind, fits}
+use Rattle.kc_engine.specs.Batches.{IsCleaning, phases_for, phases_of, edges_after, phases_after, refusal_of, IsAfterBatch}
+use Rattle.kc_engine.proofs.lemmas.Batches.{batch_has_one_state, batch_keeps_sound, vertices_after, edges_behind, fits}
 use Rattle.kc_intake.specs.declared.updates.Update.{Update}
 use Rattle.kc_intake.specs.Updates.{all_updates}
-use Rattle.kserve.specs.Batches.{start, LeadTo}
-use Rattle.kserve.specs.Fitting.{is_due, are_due, items_of}
-use Rattle.kserve.specs.Engines.{HasRoom}
+use Rattle.kserve.specs.Batches.{LeadTo}
+use Rattle.kserve.specs.private.Fitting.{is_due, are_due}
+use Rattle.kserve.specs.Fitting.{items_of}
+use Rattle.kserve.specs.private.Engines.{HasRoom}
 use Rattle.kserve.specs.Lines.{batch_text, batch_lines}
 use Rattle.kserve.proofs.Fitting.{both_true}
 

@@ -1,13 +1,13 @@
-pub mod ClientLemmas
-pub mod Counting
-pub mod Fitting
-pub mod Heads
-pub mod ItemLemmas
-pub mod Leads
-pub mod LineLemmas
-pub mod ScriptLemmas
-pub mod ServerLemmas
-pub mod ServingLemmas
-pub mod Tails
-pub mod TakeLemmas
-pub mod WordLemmas
+mod ClientLemmas
+mod Counting
+mod Fitting
+mod Heads
+mod ItemLemmas
+mod Leads
+mod LineLemmas
+mod ScriptLemmas
+mod ServerLemmas
+mod ServingLemmas
+mod Tails
+mod TakeLemmas
+mod WordLemmas

@@ -5,12 +5,9 @@ use Rattle.kc_graph.specs.declared.items.Item.{Item}
 use Rattle.kc_graph.specs.declared.items.Item.TheVariants.{Insert, Delete, Isolate}
 use Rattle.kc_text.specs.declared.reason.Reason.{Reason}
 use Rattle.kc_text.specs.Reasons.{reason_word}
-use Rattle.kc_report.specs.Lines.{line_of, vertices_line}
+use Rattle.kc_report.specs.Lines.{line_of}
 use Rattle.kc_intake.specs.declared.updates.Update.{Update}
 use Rattle.kserve.specs.Lines.{refused_line, batch_line, item_words, take_line}
-
-pub vertices_filled : (n : ℕ) (buffer old : List ℕ) → old ≡ [] → buffer ≡ (old ++ codes "vertices ") ++ decimal n → buffer ++ 10 ∷ [] ≡ vertices_line n
-vertices_filled n buffer old e f = rw (f, e) (simp append_assoc)
 
 pub batch_filled : (number : ℕ) (buffer old : List ℕ) → old ≡ [] → buffer ≡ (old ++ codes "batch ") ++ decimal number → buffer ++ 10 ∷ [] ≡ batch_line number
 batch_filled number buffer old e f = rw (f, e) (simp append_assoc)

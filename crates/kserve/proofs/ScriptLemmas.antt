@@ -1,7 +1,6 @@
 -- Scripts that are read one after another.
-use Rattle.std.proofs.Common.{ℕ, ◌≡◌, ◌≤◌, ◌<◌, ◌+◌, Bool, true, false, List, [], ◌∷◌, ◌++◌, length, refl, sym, ap, ◌∙◌, arith}
+use Rattle.std.proofs.Common.{ℕ, ◌≡◌, ◌≤◌, ◌<◌, ◌+◌, Bool, true, false, List, [], ◌∷◌, ◌++◌, length, refl, sym, ◌∙◌, arith}
 use Rattle.std.specs.Prelude.{Option, Some, None, All}
-use Rattle.std.specs.List.{sum_by}
 use Rattle.std.specs.Option.{option_map}
 use Rattle.std.proofs.lemmas.Bool.Decides.{nat_tests}
 use Rattle.std.proofs.lemmas.List.Sums.{sum_by_push}
@@ -19,11 +18,11 @@ use Rattle.kc_batch.specs.declared.batch.Next.{Next}
 use Rattle.kc_batch.specs.declared.batch.Next.TheVariants as next
 use Rattle.kc_batch.specs.Turns.{is_allowed}
 use Rattle.kc_batch.specs.Batches.{behind_batch, IsBatch}
-use Rattle.kc_batch.proofs.Stepping.{step_on}
+use Rattle.kc_batch.proofs.lemmas.Inputs.{step_on}
 use Rattle.kserve.specs.declared.reading.Said.{Said}
 use Rattle.kserve.specs.Inputs.{ScriptInput, WithScripts, Refused, rules_for, items_in, has_room, scripts_from}
-use Rattle.kserve.specs.Fitting.{is_due}
-use Rattle.kserve.specs.Reading.{input_as, Says}
+use Rattle.kserve.specs.private.Fitting.{is_due}
+use Rattle.kserve.specs.private.Reading.{input_as, Says}
 
 -- an answer for what is left is an answer for the whole
 pub says : {A : Type 0} (answer : Said) (told : Option ScriptInput) (rest : Option A) → told ≡ option_map (λ _. input_as answer) rest → Says answer told

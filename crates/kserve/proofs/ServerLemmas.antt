@@ -5,11 +5,10 @@ use Rattle.std.specs.Io.KnownBytes.{append_known}
 use Rattle.std.proofs.lemmas.List.Elements.{All-nil, All-push, All-append}
 use Rattle.std.proofs.lemmas.List.{length-map}
 use Rattle.kc_text.specs.Writing.{IsPrefix}
-use Rattle.kc_text.proofs.Known.{append_none, append_twice, prefix_all, prefix_longer, prefix_then}
-use Rattle.kc_graph.specs.declared.limits.TheConstants.{MAX_EDGES, MAX_ITEMS}
-use Rattle.kc_graph.specs.Cleaning.{IsInside, cleaned}
-use Rattle.kc_engine.specs.States.{State, IsSound}
-use Rattle.kc_engine.specs.Batches.{IsAfterBatch}
+use Rattle.kc_text.proofs.lemmas.Writing.{append_none, append_twice, prefix_longer, prefix_then}
+use Rattle.kc_graph.specs.declared.limits.TheConstants.{MAX_ITEMS}
+use Rattle.kc_graph.specs.Cleaning.{IsInside}
+use Rattle.kc_engine.specs.States.{State}
 use Rattle.kc_engine.specs.Planning.{EngineView}
 use Rattle.kc_intake.specs.declared.updates.Update.{Update}
 use Rattle.kc_intake.specs.Updates.{all_updates}
@@ -17,14 +16,15 @@ use Rattle.kc_intake.specs.Views.{IntakeShape, DrainerShape}
 use Rattle.kserve.specs.declared.fault.Stop.{Stop}
 use Rattle.kserve.specs.declared.fault.Stop.TheVariants.{WriteFault, Memory, Stray}
 use Rattle.kserve.specs.declared.limits.TheConstants.{CAPACITY}
-use Rattle.kserve.specs.Batches.{start, LeadTo}
-use Rattle.kserve.specs.Fitting.{are_due, items_of}
-use Rattle.kserve.specs.Engines.{IsOpen, HasRoom, IsReady}
-use Rattle.kserve.specs.Faults.{StopCause, GoesOnCause}
+use Rattle.kserve.specs.Batches.{start}
+use Rattle.kserve.specs.private.Fitting.{are_due}
+use Rattle.kserve.specs.Fitting.{items_of}
+use Rattle.kserve.specs.private.Engines.{IsOpen, IsReady}
+use Rattle.kserve.specs.private.Faults.{StopCause, GoesOnCause}
 use Rattle.kserve.specs.Lines.{batch_text, batch_lines}
-use Rattle.kserve.specs.Clients.{AreDrained}
-use Rattle.kserve.specs.Serving.{TakesBatch, GoesOn, HaveServed, Serves}
-use Rattle.kserve.proofs.Leads.{IsWithin, room_within, within_more, inside_all, lead_more, vertices_lead, updates_more, due_more, count_more, lines_more}
+use Rattle.kserve.specs.private.Clients.{AreDrained}
+use Rattle.kserve.specs.private.Serving.{TakesBatch, GoesOn, HaveServed, Serves}
+use Rattle.kserve.proofs.Leads.{IsWithin, room_within, within_more, inside_all, lead_more, vertices_lead, updates_more, due_more, lines_more}
 
 -- where the server has gone on so far, after so many updates
 abbrev pub IsRunning : {T : Type 0} → ℕ → ℕ → EngineView → List ℕ → Result T Stop → Type 0

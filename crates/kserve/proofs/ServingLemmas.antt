@@ -1,6 +1,6 @@
 -- The texts of scripts that are served.
-use Rattle.std.proofs.Common.{ℕ, ◌≡◌, ◌≤◌, ◌<◌, Bool, true, false, List, [], ◌∷◌, ◌++◌, length, refl, sym, ap, ◌∙◌, subst, append_assoc, arith}
-use Rattle.std.specs.Prelude.{Option, Some, None, Result, Ok, Err, All, if◌then◌else◌}
+use Rattle.std.proofs.Common.{ℕ, ◌≡◌, ◌≤◌, ◌<◌, Bool, true, false, List, [], ◌∷◌, ◌++◌, length, refl, sym, ap, ◌∙◌, subst, arith}
+use Rattle.std.specs.Prelude.{Option, Some, None, Err, All, if◌then◌else◌}
 use Rattle.std.specs.Io.KnownBytes.{append_known}
 use Rattle.std.specs.Option.{option_map}
 use Rattle.std.proofs.lemmas.Bool.{false≢true}
@@ -15,7 +15,7 @@ use Rattle.kc_text.specs.Lines.{lines}
 use Rattle.kc_text.specs.Words.{words}
 use Rattle.kc_text.specs.Writing.{IsPrefix, WriteCause}
 use Rattle.kc_text.specs.Causes.{Rose}
-use Rattle.kc_text.proofs.Known.{append_none, append_twice, prefix_none, prefix_longer, prefix_then}
+use Rattle.kc_text.proofs.lemmas.Writing.{append_none, append_twice, prefix_none, prefix_longer, prefix_then}
 use Rattle.kc_graph.specs.declared.items.Item.{Item}
 use Rattle.kc_graph.specs.declared.limits.TheConstants.{MAX_EDGES, MAX_ITEMS}
 use Rattle.kc_levels.specs.declared.profile.Profile.{Profile}
@@ -27,12 +27,12 @@ use Rattle.kc_batch.specs.Kept.{kept, text_of}
 use Rattle.kc_batch.specs.Headers.{vertices_in}
 use Rattle.kc_batch.specs.Tokens.{tokens}
 use Rattle.kc_batch.specs.Batches.{batches, IsNext}
-use Rattle.kc_batch.proofs.BatchRanges.{batches_keep_ranges}
+use Rattle.kc_batch.proofs.lemmas.Inputs.{batches_keep_ranges}
 use Rattle.kc_engine.specs.States.{State, IsSound}
 use Rattle.kc_intake.specs.declared.updates.Update.{Update}
 use Rattle.kc_intake.specs.Updates.{all_updates}
 use Rattle.kc_intake.specs.Views.{IntakeShape, ClientShape, DrainerShape}
-use Rattle.kserve.specs.Clients.{HaveEnded, AreTakenIn, AreDrained}
+use Rattle.kserve.specs.private.Clients.{HaveEnded, AreTakenIn, AreDrained}
 use Rattle.kserve.specs.declared.fault.ServeFault.{ServeFault}
 use Rattle.kserve.specs.declared.fault.ServeFault.TheVariants as fault
 use Rattle.kserve.specs.declared.fault.Stop.{Stop}
@@ -46,18 +46,19 @@ use Rattle.kserve.specs.declared.limits.TheConstants.{CAPACITY, LINE_LIMIT, INPU
 use Rattle.kserve.specs.declared.head.Head.{Head}
 use Rattle.kserve.specs.declared.head.Head.TheVariants as head
 use Rattle.kserve.specs.Batches.{start, LeadTo}
-use Rattle.kserve.specs.Fitting.{is_due, are_due, Fit}
+use Rattle.kserve.specs.private.Fitting.{is_due, are_due}
+use Rattle.kserve.specs.Fitting.{Fit}
 use Rattle.kserve.specs.Inputs.{ScriptInput, WithScripts, Refused, rules_for, items_in, has_room, scripts_from, after_head, head_of, after_magic, input_from, is_magic, input_said}
 use Rattle.kserve.specs.Lines.{head_text, batch_lines, refused_line}
-use Rattle.kserve.specs.Ending.{status_of}
-use Rattle.kserve.specs.Faults.{fault_of_send, ReadingCause, WritingCause, FaultCause}
-use Rattle.kserve.specs.Reading.{input_as, Says}
+use Rattle.kserve.specs.private.Ending.{status_of}
+use Rattle.kserve.specs.private.Faults.{fault_of_send, ReadingCause, WritingCause, FaultCause}
+use Rattle.kserve.specs.private.Reading.{input_as, Says}
 use Rattle.kserve.specs.Served.{served_text, IsServed, IsTextOf, WritesWhole, WritesPrefix, Wrote, Answers}
-use Rattle.kserve.specs.Serving.{HaveServed, Serves, HaveServedAll, StoppedServing}
+use Rattle.kserve.specs.private.Serving.{HaveServed, Serves, HaveServedAll, StoppedServing}
 use Rattle.kserve.specs.VertexLines.{tail_text}
-use Rattle.kc_engine.proofs.BatchLemmas.{start_is_sound}
+use Rattle.kc_engine.proofs.lemmas.Batches.{start_is_sound}
 use Rattle.kserve.proofs.Fitting.{CanServe, fit_due, fit_count, drained_fit, some_fit}
-use Rattle.kserve.proofs.Leads.{IsWithin, leads, profile_lead, vertices_lead}
+use Rattle.kserve.proofs.Leads.{leads, profile_lead, vertices_lead}
 use Rattle.kserve.proofs.ScriptLemmas.{due_script, items_more, room_told}
 
 -- so they lead somewhere

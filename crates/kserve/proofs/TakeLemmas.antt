@@ -8,8 +8,8 @@ use Rattle.kc_graph.specs.Cleaning.{IsInside, cleaned}
 use Rattle.kc_engine.specs.States.{State, IsSound}
 use Rattle.kc_engine.specs.Batches.{refusal_of}
 use Rattle.kc_intake.specs.declared.updates.Update.{Update}
-use Rattle.kserve.specs.Engines.{HasRoom}
-use Rattle.kserve.specs.Serving.{AreItems}
+use Rattle.kserve.specs.private.Engines.{HasRoom}
+use Rattle.kserve.specs.private.Serving.{AreItems}
 use Rattle.kserve.proofs.Leads.{inside_all, accepted}
 
 -- the items may be applied

@@ -1,9 +1,7 @@
 -- The command line, the causes of the answers, and how the program ends.
-use Rattle.std.specs.Prelude.{ℕ, ◌≡◌, nat_le, List, [], ◌∷◌, Option, Some, None, ◌&&◌, if◌then◌else◌, ◌⊎◌, Bool, true, false, Result, Ok, Err}
+use Rattle.std.specs.Prelude.{ℕ, ◌≡◌, nat_le, List, [], ◌∷◌, Option, Some, None, ◌&&◌, if◌then◌else◌, ◌⊎◌, true}
 use Rattle.kc_text.specs.Causes.{Rose, Outlet}
 use Rattle.kc_text.specs.Numbers.{number_of}
-use Rattle.kserve.specs.declared.fault.ServeFault.{ServeFault}
-use Rattle.kserve.specs.declared.fault.ServeFault.TheVariants as fault
 use Rattle.kserve.specs.declared.status.ServeStatus.{ServeStatus}
 use Rattle.kserve.specs.declared.status.ServeStatus.TheVariants.{Done, Refused, Usage, ReadFault, WriteFault, Memory}
 
@@ -17,14 +15,6 @@ unfoldable pub workers_of : List (List ℕ) → Option ℕ
 workers_of [] = None
 workers_of (w ∷ []) = few_workers (number_of w)
 workers_of (w ∷ a ∷ more) = None
-
--- how a call ended, where the answer says whether the input is refused
-abbrev pub status_of : Result Bool ServeFault → ServeStatus
-status_of (Ok false) = Done
-status_of (Ok true) = Refused
-status_of (Err fault.ReadFault) = ReadFault
-status_of (Err fault.WriteFault) = WriteFault
-status_of (Err (fault.Memory _)) = Memory
 
 -- the counts of faults of the source, r, and of the sink, w: a fault is answered only where the count of its object rose, and every
 -- other count is as it was

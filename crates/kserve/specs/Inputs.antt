@@ -1,10 +1,10 @@
 -- What an input of scripts says: `kserve 1`, then `vertices N`, then a block for each client. All lines are lines that aren't skipped;
 -- `Limit` or `End` is the last of them, so there is always one.
-use Rattle.std.specs.Prelude.{ℕ, ◌+◌, ◌≤◌, nat_le, nat_lt, Bool, false, ◌&&◌, List, [], ◌∷◌, ◌++◌, length, Option, Some, None, if◌then◌else◌, codes}
+use Rattle.std.specs.Prelude.{ℕ, ◌+◌, nat_le, nat_lt, Bool, false, ◌&&◌, List, [], ◌∷◌, ◌++◌, length, Option, Some, None, if◌then◌else◌, codes}
 use Rattle.std.specs.Str.{bytes_eq}
 use Rattle.std.specs.List.{sum_by}
 use Rattle.kc_graph.specs.declared.items.Item.{Item}
-use Rattle.kc_graph.specs.declared.limits.TheConstants.{MAX_ITEMS, MAX_VERTICES}
+use Rattle.kc_graph.specs.declared.limits.TheConstants.{MAX_ITEMS}
 use Rattle.kc_levels.specs.declared.profile.Profile.TheVariants.{One}
 use Rattle.kc_text.specs.declared.line.Line.{Line}
 use Rattle.kc_text.specs.declared.reason.Reason.{Reason}
@@ -78,8 +78,3 @@ input_from (line ∷ rest) = if is_magic (words (text_of line.body)) then after_
 -- lines have at most 65,536 bytes, and the input at most 1,073,741,824
 abbrev pub input_said : List ℕ → ScriptInput
 input_said bytes = input_from (kept (lines LINE_LIMIT INPUT_LIMIT bytes))
-
--- the range of a number of vertices
-abbrev pub HasRange : Head → Type 0
-HasRange (head.Vertices n) = (1 ≤ n) × (n ≤ MAX_VERTICES)
-HasRange (head.Refused line) = Unit {0}

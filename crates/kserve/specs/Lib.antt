@@ -1,12 +1,8 @@
 pub mod Batches
-pub mod Clients
 pub mod Ending
-pub mod Engines
-pub mod Faults
 pub mod Fitting
 pub mod Inputs
 pub mod Lines
-pub mod Reading
 pub mod Served
-pub mod Serving
 pub mod VertexLines
+pub mod private

@@ -1,5 +1,5 @@
 -- The text of served scripts, and what a sink has taken of it.
-use Rattle.std.specs.Prelude.{ℕ, ◌≡◌, List, ◌++◌, Option, Some, None, Result, Ok, Err}
+use Rattle.std.specs.Prelude.{ℕ, ◌≡◌, List, ◌++◌, Option, Some, None}
 use Rattle.std.specs.Io.KnownBytes.{append_known}
 use Rattle.kc_text.specs.Writing.{IsPrefix}
 use Rattle.kc_graph.specs.declared.items.Item.{Item}
@@ -7,7 +7,6 @@ use Rattle.kc_levels.specs.declared.profile.Profile.TheVariants.{One}
 use Rattle.kc_levels.specs.LevelList.{MeetsBoth}
 use Rattle.kc_engine.specs.States.{State}
 use Rattle.kc_intake.specs.declared.updates.Update.{Update}
-use Rattle.kserve.specs.declared.fault.ServeFault.{ServeFault}
 use Rattle.kserve.specs.declared.status.ServeStatus.{ServeStatus}
 use Rattle.kserve.specs.declared.status.ServeStatus.TheVariants as status
 use Rattle.kserve.specs.Inputs.{ScriptInput, WithScripts, Refused, input_said}
@@ -46,11 +45,6 @@ pub record WritesPrefix (IsText : List ℕ → Type 0) (before now : Option (Lis
   pub text : List ℕ
   pub is_text : IsText text
   pub prefix : IsPrefix before now text
-
--- it took a whole text of these scripts, or after a fault a prefix of one
-abbrev pub Writes : {T : Type 0} → ℕ → List (List Item) → Option (List ℕ) → Option (List ℕ) → Result T ServeFault → Type 0
-Writes n scripts before now (Ok _) = WritesWhole (IsServed n scripts) before now
-Writes n scripts before now (Err _) = WritesPrefix (IsServed n scripts) before now
 
 -- the input has scripts
 abbrev pub IsAccepted : ScriptInput → Type 0

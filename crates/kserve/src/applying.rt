@@ -5,10 +5,10 @@ ghost use Rattle.kc_graph.specs.declared.limits.TheConstants.{MAX_EDGES};
 ghost use Rattle.kc_graph.specs.Cleaning.{IsInside, cleaned};
 ghost use Rattle.kc_engine.specs.Batches.{IsAfterBatch, refusal_of};
 ghost use Rattle.kserve.specs.Batches.{start};
-ghost use Rattle.kserve.specs.Fitting.{is_due};
-ghost use Rattle.kserve.specs.Engines.{IsOpen, HasRoom};
-ghost use Rattle.kserve.specs.Serving.{AreItems, TakesBatch};
-ghost use Rattle.kserve.specs.Faults.{StopCause};
+ghost use Rattle.kserve.specs.private.Fitting.{is_due};
+ghost use Rattle.kserve.specs.private.Engines.{IsOpen, HasRoom};
+ghost use Rattle.kserve.specs.private.Serving.{AreItems, TakesBatch};
+ghost use Rattle.kserve.specs.private.Faults.{StopCause};
 
 use crate::fault::Stop;
 use crate::lines::write_batch;

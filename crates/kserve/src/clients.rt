@@ -2,7 +2,7 @@
 ghost use Rattle.std.specs.Prelude.{◌≡◌, ◌≤◌, ◌<◌, ◌++◌, ◌∷◌, [], length, slice_index_or, All};
 ghost use Rattle.std.specs.Thread.{IsSync};
 ghost use Rattle.kc_intake.specs.Views.{new_client};
-ghost use Rattle.kserve.specs.Clients.{ended_client, AreNew, HaveEnded, AreTakenIn};
+ghost use Rattle.kserve.specs.private.Clients.{ended_client, AreNew, HaveEnded, AreTakenIn};
 
 use kc_batch::Items;
 use kc_graph::{Item, MAX_ITEMS};

@@ -31,7 +31,7 @@ impl From<AllocError> for ServeFault {
 }
 
 impl From<LineFault> for ServeFault {
-    ghost use Rattle.kserve.specs.Faults.{fault_of_line};
+    ghost use Rattle.kserve.specs.private.Faults.{fault_of_line};
 
     ghost from_gives = { λ f s. s ≡ fault_of_line f };
 
@@ -44,7 +44,7 @@ impl From<LineFault> for ServeFault {
 }
 
 impl From<BatchFault> for ServeFault {
-    ghost use Rattle.kserve.specs.Faults.{fault_of_batch};
+    ghost use Rattle.kserve.specs.private.Faults.{fault_of_batch};
 
     ghost from_gives = { λ f s. s ≡ fault_of_batch f };
 
@@ -57,7 +57,7 @@ impl From<BatchFault> for ServeFault {
 }
 
 impl From<SendFault> for ServeFault {
-    ghost use Rattle.kserve.specs.Faults.{fault_of_send};
+    ghost use Rattle.kserve.specs.private.Faults.{fault_of_send};
 
     ghost from_gives = { λ f s. s ≡ fault_of_send f };
 
@@ -91,7 +91,7 @@ impl From<AllocError> for Stop {
 }
 
 impl From<SendFault> for Stop {
-    ghost use Rattle.kserve.specs.Faults.{stop_of_send};
+    ghost use Rattle.kserve.specs.private.Faults.{stop_of_send};
 
     ghost from_gives = { λ f s. s ≡ stop_of_send f };
 

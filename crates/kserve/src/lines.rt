@@ -1,23 +1,16 @@
 //! The lines that are written, but for those of the vertices.
-ghost use Rattle.std.specs.Prelude.{◌≡◌, [], ◌∷◌, ◌++◌, OnOk, decimal};
+ghost use Rattle.std.specs.Prelude.{◌≡◌, [], ◌∷◌, ◌++◌, OnOk};
 ghost use Rattle.std.specs.List.{flat_map};
 ghost use Rattle.kc_text.specs.Writing.{Appends, WriteCause};
 ghost use Rattle.kc_report.specs.Buffer.{IsCleared};
-ghost use Rattle.kc_report.specs.Lines.{line_of, vertices_line};
+ghost use Rattle.kc_report.specs.Lines.{line_of};
 ghost use Rattle.kserve.specs.Lines.{magic_line, head_text, refused_line, batch_line, item_words, take_line, batch_text};
 
 use kc_graph::Item;
 use kc_intake::Update;
-use kc_text::{LineBuf, Reason, SendFault, Sink};
+use kc_report::write_vertex_count;
+use kc_text::{LineBuf, Reason, SendFault, Sink, fill_named};
 use std::alloc::{AllocError, Global};
-
-// Appends a name, with its blanks, and a number.
-fn fill_named(alloc: Global, buf: &mut LineBuf, name: &[u8], value: u32) -> Result<(), AllocError>
-    ensures { OnOk result (buf.new ≡ (buf.old ++ name.now) ++ decimal value) }
-{
-    buf.text(alloc, name)?;
-    buf.number(alloc, value)
-}
 
 // Writes the first line.
 fn write_magic<K: Sink>(alloc: Global, buf: &mut LineBuf, sink: &mut K) -> Result<(), SendFault>
@@ -27,24 +20,6 @@ fn write_magic<K: Sink>(alloc: Global, buf: &mut LineBuf, sink: &mut K) -> Resul
     ensures cause { WriteCause (K.faults sink.old) (K.faults sink.new) result }
 {
     match buf.text(alloc, b"kserve-run 1") {
-        Ok(()) => buf.send(alloc, sink),
-        Err(fault) => Err(SendFault::Memory(fault)),
-    }
-}
-
-// Writes the second line.
-fn write_vertex_count<K: Sink>(
-    alloc: Global,
-    buf: &mut LineBuf,
-    sink: &mut K,
-    n: u32,
-) -> Result<(), SendFault>
-    requires { buf.old ≡ [] }
-    ensures text { Appends (K.taken sink.old) (K.taken sink.new) (vertices_line n) result }
-    ensures buffer { IsCleared buf.new result }
-    ensures cause { WriteCause (K.faults sink.old) (K.faults sink.new) result }
-{
-    match fill_named(alloc, buf, b"vertices ", n) {
         Ok(()) => buf.send(alloc, sink),
         Err(fault) => Err(SendFault::Memory(fault)),
     }

@@ -3,8 +3,8 @@ ghost use Rattle.std.specs.Prelude.{◌≡◌, ◌≤◌, ◌++◌, ◌∷◌, [
 ghost use Rattle.std.specs.Option.{option_map};
 ghost use Rattle.kc_batch.specs.Batches.{batches_left};
 ghost use Rattle.kserve.specs.Inputs.{rules_for, scripts_from, input_said, has_room};
-ghost use Rattle.kserve.specs.Faults.{ReadingCause};
-ghost use Rattle.kserve.specs.Reading.{Says, IsSaid};
+ghost use Rattle.kserve.specs.private.Faults.{ReadingCause};
+ghost use Rattle.kserve.specs.private.Reading.{Says, IsSaid};
 
 use crate::fault::ServeFault;
 use crate::head::{Head, read_head};

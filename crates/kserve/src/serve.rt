@@ -1,7 +1,8 @@
 //! The top call: a command line, an input and an output.
 ghost use Rattle.std.specs.Prelude.{◌≡◌, ◌≤◌, ◌↔◌, ◌∷◌, [], None, IfSome};
-ghost use Rattle.kserve.specs.Ending.{workers_of, status_of, HasCause};
-ghost use Rattle.kserve.specs.Faults.{FaultCause};
+ghost use Rattle.kserve.specs.Ending.{workers_of, HasCause};
+ghost use Rattle.kserve.specs.private.Ending.{status_of};
+ghost use Rattle.kserve.specs.private.Faults.{FaultCause};
 ghost use Rattle.kserve.specs.Served.{Answers};
 
 use crate::fault::ServeFault;

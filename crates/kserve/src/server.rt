@@ -2,10 +2,10 @@
 ghost use Rattle.std.specs.Prelude.{◌≡◌, ◌≤◌, ◌<◌, [], length, All, OnOk};
 ghost use Rattle.kc_intake.specs.Updates.{all_updates};
 ghost use Rattle.kserve.specs.Batches.{start};
-ghost use Rattle.kserve.specs.Engines.{IsOpen, IsReady};
-ghost use Rattle.kserve.specs.Faults.{StopCause, GoesOnCause};
-ghost use Rattle.kserve.specs.Clients.{AreDrained};
-ghost use Rattle.kserve.specs.Serving.{Serves, GoesOn};
+ghost use Rattle.kserve.specs.private.Engines.{IsOpen, IsReady};
+ghost use Rattle.kserve.specs.private.Faults.{StopCause, GoesOnCause};
+ghost use Rattle.kserve.specs.private.Clients.{AreDrained};
+ghost use Rattle.kserve.specs.private.Serving.{Serves, GoesOn};
 
 use crate::applying::take_batch;
 use crate::fault::Stop;

@@ -3,12 +3,12 @@ ghost use Rattle.std.specs.Prelude.{◌≡◌, ◌≤◌, [], length, All, OnOk}
 ghost use Rattle.std.specs.Thread.{IsSync};
 ghost use Rattle.kc_intake.specs.Updates.{all_updates};
 ghost use Rattle.kserve.specs.Batches.{start};
-ghost use Rattle.kserve.specs.Clients.{AreNew, HaveEnded, AreDrained};
-ghost use Rattle.kserve.specs.Engines.{IsOpen};
-ghost use Rattle.kserve.specs.Faults.{IsFaultOf, StopCause, WritingCause};
-ghost use Rattle.kserve.specs.Reading.{AreRead};
-ghost use Rattle.kserve.specs.Served.{Writes};
-ghost use Rattle.kserve.specs.Serving.{Serves, ServesAll};
+ghost use Rattle.kserve.specs.private.Clients.{AreNew, HaveEnded, AreDrained};
+ghost use Rattle.kserve.specs.private.Engines.{IsOpen};
+ghost use Rattle.kserve.specs.private.Faults.{IsFaultOf, StopCause, WritingCause};
+ghost use Rattle.kserve.specs.private.Reading.{AreRead};
+ghost use Rattle.kserve.specs.private.Served.{Writes};
+ghost use Rattle.kserve.specs.private.Serving.{Serves, ServesAll};
 
 use crate::applying::open;
 use crate::clients::{run_clients, take_in_all};

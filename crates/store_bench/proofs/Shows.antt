@@ -14,8 +14,9 @@ use Rattle.kc_store.specs.declared.roles.Loan.{Loan}
 use Rattle.kc_store.specs.declared.roles.WriterState.{WriterState}
 use Rattle.kc_store.specs.Plans.{Move, group_at}
 use Rattle.kc_store.specs.States.{AllMovesIn, MayBegin, MayPublish, with_marked, with_cleared, with_entry_if, with_published, with_phase}
-use Rattle.kc_store.specs.Showing.{HasMarked, HasCleared, HasShownGroup, AreCurrent, IsIdle}
-use Rattle.store_bench.specs.Showing.{IsShowing}
+use Rattle.kc_store.specs.private.Showing.{HasMarked, HasCleared, HasShownGroup}
+use Rattle.kc_store.specs.Showing.{AreCurrent, IsIdle}
+use Rattle.store_bench.specs.private.Showing.{IsShowing}
 
 there : {A : Type 0} → (xs : List A) (i : ℕ) (d : A) → i < length xs → slice_get xs i ≡ Some (get_or xs i d)
 there [] i d lt = absurd (omega (arith, lt))

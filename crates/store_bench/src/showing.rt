@@ -4,8 +4,9 @@ ghost use Rattle.std.specs.Bool.{OnTrue};
 ghost use Rattle.kc_groups.specs.WellFormed.{IsWellFormed};
 ghost use Rattle.kc_store.specs.Plans.{group_at};
 ghost use Rattle.kc_store.specs.States.{MayBegin, last_level};
-ghost use Rattle.kc_store.specs.Showing.{HasMarked, HasCleared, HasShownGroup, AreCurrent, IsIdle};
-ghost use Rattle.store_bench.specs.Showing.{IsShowing};
+ghost use Rattle.kc_store.specs.private.Showing.{HasMarked, HasCleared, HasShownGroup};
+ghost use Rattle.kc_store.specs.Showing.{AreCurrent, IsIdle};
+ghost use Rattle.store_bench.specs.private.Showing.{IsShowing};
 
 use kc_groups::PhasePlan;
 use kc_groups::sizes::plans_are_small;

@@ -1,5 +1,5 @@
 -- A batch that was planned, and then shown.
-use Rattle.std.proofs.Common.{ℕ, ◌≡◌, ◌≤◌, List, length, refl, sym, ap, ◌∙◌, subst}
+use Rattle.std.proofs.Common.{◌≡◌, ◌≤◌, List, length, refl, sym, ap, ◌∙◌, subst}
 use Rattle.std.specs.Prelude.{All}
 use Rattle.kc_graph.specs.declared.cleaning.Cleaned.{Cleaned}
 use Rattle.kc_graph.specs.declared.items.Item.{Item}
@@ -8,11 +8,11 @@ use Rattle.kc_graph.specs.Shape.{GraphShape}
 use Rattle.kc_graph.specs.Cleaning.{IsInside, cleaned}
 use Rattle.kc_store.specs.declared.roles.WriterState.{WriterState}
 use Rattle.kc_engine.specs.declared.plans.BatchPlan.{BatchPlan}
-use Rattle.kc_engine.specs.States.{State, IsSound}
+use Rattle.kc_engine.specs.States.{IsSound}
 use Rattle.kc_engine.specs.Batches.{IsCleaning, IsAfterPhases}
 use Rattle.kc_engine.specs.Planning.{EngineView, IsPlanned}
 use Rattle.kc_engine.specs.Showing.{AreShown, IsAbreast, Continues, PhasesContinue, ShownIsAbreast}
-use Rattle.kc_engine.proofs.BatchLemmas.{vertices_after}
+use Rattle.kc_engine.proofs.lemmas.Batches.{vertices_after}
 
 -- items of a batch for an engine and a writer that is abreast of it
 pub record IsDue (w : WriterState) (e : EngineView) (items : List Item) : Type 0 where

@@ -1,35 +1,31 @@
 // The moves of a group are lent in ranges, and given back.
-ghost use Rattle.std.specs.Prelude.{◌≡◌, ◌<◌, ◌≤◌, [], length, vec_len, vec_capacity, All};
-ghost use Rattle.kc_store.specs.Plans.{group_at};
-ghost use Rattle.kc_engine.specs.Lending.{AreLent, all_returned};
+ghost use Rattle.std.specs.Prelude.{◌≡◌, ◌≤◌, [], vec_len, vec_capacity, All};
+ghost use Rattle.kc_engine.specs.private.Lending.{AreLent, all_returned};
 
+use crate::showing::planned::PlannedGroup;
 use crate::showing::sizes::{range_end, range_size};
-use kc_groups::PhasePlan;
 use kc_store::{Marker, Store, Writer};
 
-// Lends the moves of the group at place g in ranges, to no more markers than there are workers. No marker is out or in the list.
+// Lends the moves of a group in ranges, to no more markers than there are workers. No marker is out or in the list.
 pub(crate) fn lend_all(
     store: &Store,
     writer: &mut Writer,
-    plan: &PhasePlan,
-    g: u32,
-    moves: u32,
+    group: &PlannedGroup<'_>,
     workers: u32,
     markers: &mut Vec<Marker>,
 )
     requires table { writer.old.table ≡ store.now.table }
-    requires plan { plan.now ≡ writer.old.state.plan }
-    requires inside { g < length plan.now.groups }
-    requires moves { moves ≡ length (group_at plan.now g).moves }
+    requires plan { group.now.plan.now ≡ writer.old.state.plan }
     requires workers { 1 ≤ workers }
     requires none_out { writer.old.state.loans ≡ [] }
     requires empty { (markers.old.items ≡ []) × (vec_len markers.old ≡ 0) }
     requires room { workers ≤ vec_capacity markers.old }
     ensures table { writer.new.table ≡ writer.old.table }
-    ensures lent { AreLent writer.old.table g moves writer.old.state writer.new.state markers.new.items }
+    ensures lent { AreLent writer.old.table group.now.g group.now.moves writer.old.state writer.new.state markers.new.items }
     ensures few { vec_len markers.new ≤ workers }
     ensures room { workers ≤ vec_capacity markers.new }
 {
+    let PlannedGroup { plan, g, moves } = *group;
     let size = range_size(moves, workers);
     let mut from = 0;
     for _worker in 0..workers {

@@ -1,10 +1,13 @@
 ghost use Rattle.std.specs.Prelude.{◌≡◌, ◌+◌, ◌≤◌, length};
 ghost use Rattle.kc_store.specs.States.{MayBegin};
-ghost use Rattle.kc_store.specs.Showing.{HasShown, IsIdle};
+ghost use Rattle.kc_store.specs.private.Showing.{HasShown};
+ghost use Rattle.kc_store.specs.Showing.{IsIdle};
 ghost use Rattle.kc_engine.specs.Showing.{GoOn, AreShown};
 
+use crate::showing::crew::Crew;
 use crate::showing::places::MarkerPlaces;
-use crate::showing::sizes::{groups_of, moves_of};
+use crate::showing::planned::PlannedGroup;
+use crate::showing::sizes::groups_of;
 use kc_groups::PhasePlan;
 use kc_history::MAX_PHASE;
 use kc_rounds::Gate;
@@ -13,8 +16,7 @@ use std::thread::Threads;
 
 // Begins the phase of a plan, and shows each of its groups.
 fn show_phase<R: Threads + Sync, G: Gate + Sync>(
-    rt: &R,
-    gate: &G,
+    crew: &Crew<'_, R, G>,
     store: &Store,
     writer: &mut Writer,
     plan: &PhasePlan,
@@ -30,8 +32,8 @@ fn show_phase<R: Threads + Sync, G: Gate + Sync>(
 {
     writer.begin(store, plan);
     for g in 0..groups_of(plan, n) {
-        let moves = moves_of(plan, n, g);
-        places.show_group(rt, gate, store, writer, plan, g, moves);
+        let group = PlannedGroup::new(plan, n, g);
+        places.show_group(crew, store, writer, &group);
     }
 }
 
@@ -45,8 +47,7 @@ fn show_phase<R: Threads + Sync, G: Gate + Sync>(
 // these places. The gate is told `Piece` with the range's index at the start of each range, for marking and for clearing, and `Publishing`
 // before each publication. Takes no memory, and never waits.
 pub(crate) fn show_phases<R: Threads + Sync, G: Gate + Sync>(
-    rt: &R,
-    gate: &G,
+    crew: &Crew<'_, R, G>,
     store: &Store,
     writer: &mut Writer,
     phases: &[PhasePlan],
@@ -63,6 +64,6 @@ pub(crate) fn show_phases<R: Threads + Sync, G: Gate + Sync>(
     ensures shown { AreShown phases.now writer.old.state writer.new.state }
 {
     for i in 0..phases.len() {
-        show_phase(rt, gate, store, writer, &phases[i], places, n);
+        show_phase(crew, store, writer, &phases[i], places, n);
     }
 }

@@ -1,10 +1,12 @@
 ghost use Rattle.std.specs.Prelude.{◌≡◌, ◌≤◌, ◌<◌, [], IfOk, length};
-ghost use Rattle.kc_store.specs.Plans.{group_at};
-ghost use Rattle.kc_store.specs.Showing.{HasShownGroup};
+ghost use Rattle.kc_store.specs.private.Showing.{HasShownGroup};
+ghost use Rattle.kc_engine.specs.private.Lending.{HasMarkedGroup, HasClearedGroup};
 
-use crate::showing::group::show_group;
-use kc_groups::PhasePlan;
-use kc_rounds::Gate;
+use crate::showing::crew::Crew;
+use crate::showing::lending::{give_back_all, lend_all};
+use crate::showing::planned::PlannedGroup;
+use crate::showing::side_by_side::{clear_lent, mark_lent};
+use kc_rounds::{Gate, Spot};
 use kc_store::{Marker, Store, Writer};
 use std::alloc::{AllocError, Global};
 use std::marker::Model;
@@ -35,6 +37,14 @@ impl Model for MarkerPlaces {
     ghost invariant = { λ p. (p.markers.items ≡ []) × (vec_len p.markers ≡ 0) × (p.workers ≤ vec_capacity p.markers) × (1 ≤ p.workers) × (p.workers ≤ 64) };
 }
 
+// Tells the gate that the group is published next.
+fn tell_publishing<G: Gate>(gate: &G, group: &PlannedGroup<'_>) {
+    let phase = group.plan.quiet.phase;
+    if let Some(label) = group.plan.groups.as_slice()[group.g as usize].label {
+        gate.at(Spot::Publishing { phase, label });
+    }
+}
+
 impl MarkerPlaces {
     // Places for the markers of so many workers, 1 to 64. Fails only if memory runs out.
     pub(crate) fn new(alloc: Global, workers: u32) -> Result<MarkerPlaces, AllocError>
@@ -59,33 +69,73 @@ impl MarkerPlaces {
         }
     }
 
-    // Marks, publishes and clears the next group. No marker is out before or afterwards.
-    pub(crate) fn show_group<R: Threads + Sync, G: Gate + Sync>(
+    // Marks the moves of a group that isn't published yet, in at most so many threads. No marker is out before or afterwards.
+    fn mark_group<R: Threads + Sync, G: Gate + Sync>(
         &mut self,
-        rt: &R,
-        gate: &G,
+        crew: &Crew<'_, R, G>,
         store: &Store,
         writer: &mut Writer,
-        plan: &PhasePlan,
-        g: u32,
-        moves: u32,
+        group: &PlannedGroup<'_>,
+        threads: usize,
     )
         requires table { writer.old.table ≡ store.now.table }
-        requires plan { plan.now ≡ writer.old.state.plan }
-        requires next { g ≡ writer.old.state.published }
-        requires inside { g < length plan.now.groups }
-        requires moves { moves ≡ length (group_at plan.now g).moves }
+        requires plan { group.now.plan.now ≡ writer.old.state.plan }
+        requires early { writer.old.state.published ≤ group.now.g }
+        requires threads { 0 < threads }
         requires none_out { writer.old.state.loans ≡ [] }
         ensures same { self.new ≡ self.old }
         ensures table { writer.new.table ≡ writer.old.table }
-        ensures shown { HasShownGroup g writer.old.state writer.new.state }
+        ensures marked { HasMarkedGroup group.now.g group.now.moves writer.old.state writer.new.state }
     {
-        let threads = self.threads_for(moves);
+        lend_all(store, writer, group, self.workers, &mut self.markers);
+        mark_lent(crew, store, group.plan, threads, &mut self.markers);
+        give_back_all(store, writer, &mut self.markers);
+    }
+
+    // Clears the moves of a group that is published, in at most so many threads. No marker is out before or afterwards.
+    fn clear_group<R: Threads + Sync, G: Gate + Sync>(
+        &mut self,
+        crew: &Crew<'_, R, G>,
+        store: &Store,
+        writer: &mut Writer,
+        group: &PlannedGroup<'_>,
+        threads: usize,
+    )
+        requires table { writer.old.table ≡ store.now.table }
+        requires plan { group.now.plan.now ≡ writer.old.state.plan }
+        requires late { group.now.g < writer.old.state.published }
+        requires threads { 0 < threads }
+        requires none_out { writer.old.state.loans ≡ [] }
+        ensures same { self.new ≡ self.old }
+        ensures table { writer.new.table ≡ writer.old.table }
+        ensures cleared { HasClearedGroup group.now.g group.now.moves writer.old.state writer.new.state }
+    {
+        lend_all(store, writer, group, self.workers, &mut self.markers);
+        clear_lent(crew, store, group.plan, threads, &mut self.markers);
+        give_back_all(store, writer, &mut self.markers);
+    }
+
+    // Marks, publishes and clears the next group. No marker is out before or afterwards.
+    pub(crate) fn show_group<R: Threads + Sync, G: Gate + Sync>(
+        &mut self,
+        crew: &Crew<'_, R, G>,
+        store: &Store,
+        writer: &mut Writer,
+        group: &PlannedGroup<'_>,
+    )
+        requires table { writer.old.table ≡ store.now.table }
+        requires plan { group.now.plan.now ≡ writer.old.state.plan }
+        requires next { group.now.g ≡ writer.old.state.published }
+        requires none_out { writer.old.state.loans ≡ [] }
+        ensures same { self.new ≡ self.old }
+        ensures table { writer.new.table ≡ writer.old.table }
+        ensures shown { HasShownGroup group.now.g writer.old.state writer.new.state }
+    {
+        let threads = self.threads_for(group.moves);
         self.is_first_ahead = false;
-        let workers = self.workers;
-        let markers = &mut self.markers;
-        show_group(
-            rt, gate, store, writer, plan, g, moves, workers, threads, markers,
-        );
+        self.mark_group(crew, store, writer, group, threads);
+        tell_publishing(crew.gate, group);
+        writer.publish(store, group.plan, group.g);
+        self.clear_group(crew, store, writer, group, threads);
     }
 }

@@ -1,7 +1,8 @@
 // Markers work at the same time, each on its own range.
 ghost use Rattle.std.specs.Prelude.{◌≡◌, ℕ, ◌<◌, ◌≤◌, ◌^◌, length, vec_len, vec_capacity, All, slice_index_or};
-ghost use Rattle.kc_engine.specs.Lending.{MayMark, MayClear, HasMarkedRange, HasClearedRange, AreMarked, AreCleared};
+ghost use Rattle.kc_engine.specs.private.Lending.{MayMark, MayClear, HasMarkedRange, HasClearedRange, AreMarked, AreCleared};
 
+use crate::showing::crew::Crew;
 use kc_groups::PhasePlan;
 use kc_rounds::{Gate, Spot};
 use kc_store::{Marker, Store};
@@ -40,8 +41,7 @@ fn clear_range<G: Gate>(
 
 // Each marker marks its range, in at most so many threads.
 fn mark_each<R: Threads + Sync, G: Gate + Sync>(
-    rt: &R,
-    gate: &G,
+    crew: &Crew<'_, R, G>,
     store: &Store,
     plan: &PhasePlan,
     threads: usize,
@@ -52,8 +52,9 @@ fn mark_each<R: Threads + Sync, G: Gate + Sync>(
     requires may { All (MayMark store.now.table plan.now) markers.old }
     ensures { (i : ℕ) (d : _) → i < length markers.old → HasMarkedRange (slice_index_or markers.old i d) (slice_index_or markers.new i d) }
 {
+    let gate = crew.gate;
     thread::for_each_mut(
-        rt,
+        crew.rt,
         markers,
         threads,
         &|index: usize, marker: &mut Marker| mark_range(gate, store, plan, index, marker),
@@ -62,8 +63,7 @@ fn mark_each<R: Threads + Sync, G: Gate + Sync>(
 
 // Each marker clears its range, in at most so many threads.
 fn clear_each<R: Threads + Sync, G: Gate + Sync>(
-    rt: &R,
-    gate: &G,
+    crew: &Crew<'_, R, G>,
     store: &Store,
     plan: &PhasePlan,
     threads: usize,
@@ -74,8 +74,9 @@ fn clear_each<R: Threads + Sync, G: Gate + Sync>(
     requires may { All (MayClear store.now.table plan.now) markers.old }
     ensures { (i : ℕ) (d : _) → i < length markers.old → HasClearedRange (slice_index_or markers.old i d) (slice_index_or markers.new i d) }
 {
+    let gate = crew.gate;
     thread::for_each_mut(
-        rt,
+        crew.rt,
         markers,
         threads,
         &|index: usize, marker: &mut Marker| clear_range(gate, store, plan, index, marker),
@@ -84,8 +85,7 @@ fn clear_each<R: Threads + Sync, G: Gate + Sync>(
 
 // Each marker of the list marks its range, in at most so many threads.
 pub(crate) fn mark_lent<R: Threads + Sync, G: Gate + Sync>(
-    rt: &R,
-    gate: &G,
+    crew: &Crew<'_, R, G>,
     store: &Store,
     plan: &PhasePlan,
     threads: usize,
@@ -97,13 +97,12 @@ pub(crate) fn mark_lent<R: Threads + Sync, G: Gate + Sync>(
     ensures marked { AreMarked markers.old.items markers.new.items }
     ensures room { vec_capacity markers.new ≡ vec_capacity markers.old }
 {
-    mark_each(rt, gate, store, plan, threads, markers.as_mut_slice());
+    mark_each(crew, store, plan, threads, markers.as_mut_slice());
 }
 
 // Each marker of the list clears its range, in at most so many threads.
 pub(crate) fn clear_lent<R: Threads + Sync, G: Gate + Sync>(
-    rt: &R,
-    gate: &G,
+    crew: &Crew<'_, R, G>,
     store: &Store,
     plan: &PhasePlan,
     threads: usize,
@@ -115,5 +114,5 @@ pub(crate) fn clear_lent<R: Threads + Sync, G: Gate + Sync>(
     ensures cleared { AreCleared markers.old.items markers.new.items }
     ensures room { vec_capacity markers.new ≡ vec_capacity markers.old }
 {
-    clear_each(rt, gate, store, plan, threads, markers.as_mut_slice());
+    clear_each(crew, store, plan, threads, markers.as_mut_slice());
 }

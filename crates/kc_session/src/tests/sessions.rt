@@ -1,6 +1,5 @@
 // Sessions over sources and sinks in memory. Each text was worked out by hand from its input.
-ghost use Rattle.std.specs.Prelude.{◌≤◌, ◌+◌, ◌^◌, IfOk};
-ghost use Rattle.kc_text.specs.Reading.{budget};
+ghost use Rattle.std.specs.Prelude.{◌≤◌};
 
 use crate::ended::Ended;
 use crate::fault::SessionFault;
@@ -17,9 +16,7 @@ use std::thread;
 use std::thread::Threads;
 
 // A reader of the lines after the header of an input, and that header.
-fn open_input(alloc: Global, source: &mut MemSource) -> Result<(Header, LineReader), Fail>
-    ensures { IfOk result (λ r. budget r.1 ≤ 2 ^ 30 + 1) }
-{
+fn open_input(alloc: Global, source: &mut MemSource) -> Result<(Header, LineReader), Fail> {
     let mut reader = LineReader::new(alloc, 65_536, 1_073_741_824)?;
     let header = Header::read(alloc, &mut reader, source)?;
     Ok((header, reader))
@@ -125,9 +122,7 @@ fn totals<R: Threads + Sync>(
     reader: LineReader,
     source: &mut MemSource,
     sink: &mut MemSink,
-) -> Result<(u32, u32), SessionFault>
-    requires { budget reader ≤ 2 ^ 30 + 1 }
-{
+) -> Result<(u32, u32), SessionFault> {
     let settled = settle(rt, alloc, &OpenGate::new(), 1, header, reader, source, sink)?;
     Ok((settled.refused, settled.engine.phases()))
 }

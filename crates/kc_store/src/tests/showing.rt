@@ -5,7 +5,8 @@ ghost use Rattle.kc_history.specs.declared.limits.TheConstants.{MAX_PHASE};
 ghost use Rattle.kc_groups.specs.WellFormed.{IsWellFormed};
 ghost use Rattle.kc_store.specs.Plans.{group_at};
 ghost use Rattle.kc_store.specs.States.{AllMovesIn, MayBegin, last_level};
-ghost use Rattle.kc_store.specs.Showing.{HasMarked, HasCleared, HasShownGroup, HasShown, AreCurrent, IsAt, IsIdle};
+ghost use Rattle.kc_store.specs.private.Showing.{HasMarked, HasCleared, HasShownGroup, HasShown, IsAt};
+ghost use Rattle.kc_store.specs.Showing.{AreCurrent, IsIdle};
 
 use crate::{Store, Writer};
 use kc_groups::PhasePlan;

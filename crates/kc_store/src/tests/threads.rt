@@ -16,9 +16,9 @@ use std::thread::Threads;
 
 const VERTICES: u32 = 24;
 
-const PLANS: u32 = 300;
+const PLANS: u32 = 2_000;
 
-const READS: usize = 60_000;
+const READS: usize = 600_000;
 
 // A pass and what it reads: the vertices in turn, over and over.
 #[derive(Drop)]
@@ -124,11 +124,12 @@ fn show_plans(
     Ok(true)
 }
 
-// Four readers that have read nothing.
+// Four readers that have read nothing yet, and will so often.
 fn make_readers(
     alloc: Global,
     store: &Store,
     writer: &mut Writer,
+    reads: usize,
 ) -> Result<Vec<Reader>, AllocError>
     requires { writer.old.table ≡ store.now.table }
     ensures same { writer.new ≡ writer.old }
@@ -137,7 +138,7 @@ fn make_readers(
     let mut readers = Vec::new(alloc);
     for _turn in 0..4 {
         let pass = writer.pass(store);
-        let levels = vec![in alloc; 0u16; READS]?;
+        let levels = vec![in alloc; 0u16; reads]?;
         readers.push(Reader { pass, levels })?;
     }
     Ok(readers)
@@ -252,7 +253,7 @@ fn readers_see_points_of_the_history(rt: HostRuntime) -> Result<(), Fail> {
     ];
     insert_all(&rt, alloc, &mut graph, &edges)?;
     let (store, mut writer) = Store::open(alloc, VERTICES, 0)?;
-    let mut readers = make_readers(alloc, &store, &mut writer)?;
+    let mut readers = make_readers(alloc, &store, &mut writer, READS)?;
     let mut shown = Vec::new(alloc);
     let current = side_by_side(
         &rt,

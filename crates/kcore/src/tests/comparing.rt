@@ -1,7 +1,7 @@
 // The engine beside the plain body that recounts, on batches without an order.
 ghost use Rattle.std.specs.Prelude.{◌≡◌, ℕ, ◌<◌, ◌≤◌, IfOk, OnOk, length, All};
 ghost use Rattle.kc_graph.specs.Cleaning.{IsInside};
-ghost use Rattle.kcore.specs.Rising.{IsPlain};
+ghost use Rattle.kcore.specs.private.Rising.{IsPlain};
 
 use super::recounting::insert_rounds;
 use crate::limits::{INPUT_LIMIT, LINE_LIMIT};

@@ -8,7 +8,7 @@ ghost use Rattle.kc_graph.specs.Shape.{EdgesFrom, with_edges};
 ghost use Rattle.kc_graph.specs.Changes.{AllAbsent, CanAdd};
 ghost use Rattle.kc_levels.specs.LevelList.{MeetsUpper, IsCapped, IsRaised};
 ghost use Rattle.kc_levels.specs.Moved.{moved_count};
-ghost use Rattle.kcore.specs.Waiting.{all_queued, ends_of};
+ghost use Rattle.kcore.specs.private.Waiting.{all_queued, ends_of};
 
 use kc_graph::{Edge, Graph, MAX_EDGES};
 use kc_levels::{Levels, Thresholds, moved_count};

@@ -1,6 +1,6 @@
 use Rattle.std.proofs.Common.{◌≡◌, ◌∙◌, false, arith, rules, sym}
 use Rattle.std.proofs.lemmas.Bool.{true≢false}
-use Rattle.kc_levels.proofs.Lowering.{held_down}
+use Rattle.kc_levels.proofs.lemmas.Lowering.{held_down}
 use Rattle.kc_adj.proofs.desired.bound_near.Goals as goal
 
 pub returns-then-not-is_held-clause-above : goal.returns-then-not-is_held-clause-above

@@ -1,6 +1,6 @@
 use Rattle.std.proofs.Common.{◌≤◌, ◌-◌, ◌/◌, arith, rules, sym}
 use Rattle.std.proofs.lemmas.Bool.{true≢false}
-use Rattle.kc_levels.proofs.Lowering.{held_down}
+use Rattle.kc_levels.proofs.lemmas.Lowering.{held_down}
 use Rattle.kc_adj.proofs.desired.desired_below.Goals as goal
 
 pub loop-least-preserved : goal.loop-least-preserved

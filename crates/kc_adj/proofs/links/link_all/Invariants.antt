@@ -1,5 +1,5 @@
 use Rattle.std.proofs.Common.{drop}
-use Rattle.kc_adj.specs.Linking.{AwaitsEdges}
+use Rattle.kc_adj.specs.private.Linking.{AwaitsEdges}
 use Rattle.kc_adj.proofs.links.link_all.Given as goal
 
 abbrev pub invariant-loop-e : goal.invariant-loop-e

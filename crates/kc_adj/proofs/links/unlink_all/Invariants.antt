@@ -1,5 +1,5 @@
 use Rattle.std.proofs.Common.{drop}
-use Rattle.kc_adj.specs.Linking.{LosesEdges}
+use Rattle.kc_adj.specs.private.Linking.{LosesEdges}
 use Rattle.kc_adj.proofs.links.unlink_all.Given as goal
 
 abbrev pub invariant-loop-e : goal.invariant-loop-e

@@ -1,5 +1,5 @@
 use Rattle.std.proofs.Common.{◌≡◌, ◌≤◌, ◌<◌, ℕ, get_or, []}
-use Rattle.kc_audit.specs.Walks.{GoesOn}
+use Rattle.kc_audit.specs.private.Walks.{GoesOn}
 use Rattle.kc_audit.proofs.walk.go_on.Given as goal
 
 abbrev pub invariant-loop-reader : goal.invariant-loop-reader

@@ -1,5 +1,5 @@
 use Rattle.std.proofs.Common.{◌≡◌, ◌≤◌, ◌<◌, ℕ, get_or}
-use Rattle.kc_audit.specs.Walks.{reply_at}
+use Rattle.kc_audit.specs.private.Walks.{reply_at}
 use Rattle.kc_audit.proofs.walk.next_unfit.Given as goal
 
 abbrev pub invariant-loop-at : goal.invariant-loop-at

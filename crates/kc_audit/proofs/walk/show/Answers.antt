@@ -2,7 +2,7 @@ use Rattle.std.proofs.Common.{◌≡◌, ◌<◌, ◌∙◌, sym, Bool, true, fa
 use Rattle.std.proofs.lemmas.List.Elements.{All-more}
 use Rattle.std.proofs.lemmas.List.{take_all}
 use Rattle.kc_history.specs.declared.replies.Reply.{Reply}
-use Rattle.kc_audit.specs.Walks.{no_reply}
+use Rattle.kc_audit.specs.private.Walks.{no_reply}
 use Rattle.kc_audit.proofs.MoveLemmas.{moves_more}
 use Rattle.kc_audit.proofs.walk.show.Goals as goal
 

@@ -1,5 +1,5 @@
 use Rattle.std.proofs.Common.{◌≡◌, ◌≤◌, ◌<◌, ℕ, get_or, length, true, false, []}
-use Rattle.kc_audit.specs.Walks.{reply_at}
+use Rattle.kc_audit.specs.private.Walks.{reply_at}
 use Rattle.kc_audit.proofs.walk.wait.Given as goal
 
 abbrev pub invariant-loop-reader : goal.invariant-loop-reader

@@ -1,7 +1,7 @@
 use Rattle.std.proofs.Common.{◌≡◌, ◌-◌, ◌≤◌, length, false}
 use Rattle.kc_history.specs.Points.{levels_at}
 use Rattle.kc_audit.specs.Runs.{history_of}
-use Rattle.kc_audit.specs.Walks.{AreWithin, HaveTold, IsAwaited}
+use Rattle.kc_audit.specs.private.Walks.{AreWithin, HaveTold, IsAwaited}
 use Rattle.kc_audit.proofs.Walking.{AreStuck}
 use Rattle.kc_audit.proofs.walk.walk.Given as goal
 

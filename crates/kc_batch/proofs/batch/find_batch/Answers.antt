@@ -1,5 +1,5 @@
 use Rattle.std.proofs.Common.{[], refl, ◌∙◌, inl, inr}
-use Rattle.kc_batch.specs.Tokens.{onto_token}
+use Rattle.kc_batch.specs.private.Tokens.{onto_token}
 use Rattle.kc_batch.specs.Batches.{items_from, batch_of, with_next}
 use Rattle.kc_batch.proofs.Stepping.{step_on, step_last, passed_over, batch_start, batch_end, batch_long, batch_item, batch_other, batch_limit, batch_none}
 use Rattle.kc_batch.proofs.batch.find_batch.Goals as goal

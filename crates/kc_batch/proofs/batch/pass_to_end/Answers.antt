@@ -1,6 +1,6 @@
 use Rattle.std.proofs.Common.{arith, refl, ◌∙◌, inl, inr}
 use Rattle.kc_batch.specs.Batches.{after_end}
-use Rattle.kc_batch.specs.Tokens.{onto_token}
+use Rattle.kc_batch.specs.private.Tokens.{onto_token}
 use Rattle.kc_batch.proofs.Saying.{takes_le}
 use Rattle.kc_batch.proofs.Stepping.{step_on, step_last, map_same, passed_by, after_on, after_at_end, after_at_last}
 use Rattle.kc_batch.proofs.batch.pass_to_end.Goals as goal

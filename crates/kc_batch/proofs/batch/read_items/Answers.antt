@@ -1,7 +1,7 @@
 use Rattle.std.proofs.Common.{arith, ◌≡◌, true, ◌∙◌, sym, ap, [], ◌∷◌, nat_le, length-append}
 use Rattle.std.proofs.lemmas.List.Elements.{All-push}
 use Rattle.std.proofs.lemmas.Bool.Decides.{nat_tests}
-use Rattle.kc_batch.specs.Tokens.{onto_token}
+use Rattle.kc_batch.specs.private.Tokens.{onto_token}
 use Rattle.kc_graph.specs.Cleaning.{IsInside}
 use Rattle.kc_batch.specs.Turns.{is_allowed}
 use Rattle.kc_batch.specs.Batches.{items_from, with_next}

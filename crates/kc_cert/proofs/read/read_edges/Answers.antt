@@ -1,6 +1,6 @@
 use Rattle.std.proofs.Common.{◌∙◌, ◌+◌, sym, ap}
 use Rattle.std.specs.Prelude.{Err}
-use Rattle.kc_graph.proofs.EdgeLemmas.{length-insert_edge}
+use Rattle.kc_graph.proofs.lemmas.Edges.{length-insert_edge}
 use Rattle.kc_cert.specs.declared.read.CertFault.TheVariants.{Refused}
 use Rattle.kc_cert.proofs.EdgeSteps.{edge_fits, absent, edge_step, after_insert, follow_insert}
 use Rattle.kc_cert.proofs.Stepping.{answers_on, answers_refused}

@@ -4,7 +4,7 @@ use Rattle.kc_cert.specs.declared.certificate.Certificate.{Certificate}
 use Rattle.kc_cert.specs.declared.read.CertFault.{CertFault}
 use Rattle.kc_cert.specs.Tokens.{tokens_left}
 use Rattle.kc_cert.specs.Documents.{AtBody, empty_certificate}
-use Rattle.kc_cert.specs.Reads.{Answers}
+use Rattle.kc_cert.specs.private.Reads.{Answers}
 use Rattle.kc_cert.proofs.EdgeSteps.{MayFollow}
 use Rattle.kc_cert.proofs.read.read_edges.Given as goal
 

@@ -5,7 +5,7 @@ use Rattle.kc_cert.specs.declared.certificate.Certificate.{Certificate}
 use Rattle.kc_cert.specs.declared.read.CertFault.{CertFault}
 use Rattle.kc_cert.specs.Tokens.{tokens_left}
 use Rattle.kc_cert.specs.Documents.{AtBody}
-use Rattle.kc_cert.specs.Reads.{Answers}
+use Rattle.kc_cert.specs.private.Reads.{Answers}
 use Rattle.kc_cert.proofs.read.read_levels.Given as goal
 
 abbrev pub invariant-loop-v : goal.invariant-loop-v

@@ -1,6 +1,6 @@
 use Rattle.std.proofs.Common.{◌≡◌, [], drop}
 use Rattle.kc_text.specs.Printing.{printed}
-use Rattle.kc_cert.specs.Texts.{row_lines}
+use Rattle.kc_cert.specs.private.Texts.{row_lines}
 use Rattle.kc_cert.proofs.Written.{Writes}
 use Rattle.kc_cert.proofs.write.write_row.Given as goal
 

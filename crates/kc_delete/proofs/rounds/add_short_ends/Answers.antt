@@ -1,5 +1,5 @@
 use Rattle.std.proofs.Common.{inl, inr, sym, arith, subst}
-use Rattle.kc_delete.specs.Settling.{WaitsOrMeets}
+use Rattle.kc_delete.specs.private.Settling.{WaitsOrMeets}
 use Rattle.kc_delete.proofs.SettlingLemmas.{ends_at, end_index}
 use Rattle.kc_delete.proofs.rounds.add_short_ends.Goals as goal
 

@@ -1,5 +1,5 @@
 use Rattle.std.proofs.Common.{ℕ, ◌≡◌, ◌<◌, length, get_or}
-use Rattle.kc_delete.specs.Settling.{WaitsOrMeets}
+use Rattle.kc_delete.specs.private.Settling.{WaitsOrMeets}
 use Rattle.kc_delete.proofs.rounds.add_short_ends.Given as goal
 
 abbrev pub invariant-loop-e : goal.invariant-loop-e

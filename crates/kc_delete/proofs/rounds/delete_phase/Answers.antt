@@ -1,7 +1,7 @@
 use Rattle.std.proofs.Common.{◌≡◌, ℕ, Bool, List, false, replicate, length, ap, sym, ◌∙◌, subst}
 use Rattle.std.proofs.lemmas.List.{length-replicate}
 use Rattle.kc_graph.specs.Shape.{GraphShape}
-use Rattle.kc_graph.proofs.ChangeLemmas.{vertices-without_edges, is_graph-without_edges}
+use Rattle.kc_graph.proofs.lemmas.Changes.{vertices-without_edges, removals_keep_graph}
 use Rattle.kc_levels.specs.Moved.{moves_between}
 use Rattle.kc_adj.specs.LeveledGraph.{LeveledGraph}
 use Rattle.kc_delete.specs.Working.{IsReady}
@@ -29,7 +29,7 @@ add_short_ends-requires-clause-ascending g c =
 
 pub settle-requires-clause-graph : goal.settle-requires-clause-graph
 settle-requires-clause-graph g c κs o =
-    rw c.in_ok-unlink_edges.ensures (is_graph-without_edges c.args.adj.now.graph c.args.removed.now (rw c.graph.ensures at c.vertices-n.ensures.graph))
+    rw c.in_ok-unlink_edges.ensures (removals_keep_graph c.args.adj.now.graph c.args.removed.now (rw c.graph.ensures at c.vertices-n.ensures.graph))
 
 pub settle-requires-clause-scale : goal.settle-requires-clause-scale
 settle-requires-clause-scale g c κs o =

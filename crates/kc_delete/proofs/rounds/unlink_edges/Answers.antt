@@ -1,4 +1,4 @@
-use Rattle.kc_graph.proofs.ChangeLemmas.{can_remove_ascending}
+use Rattle.kc_graph.proofs.lemmas.Changes.{can_remove_ascending}
 use Rattle.kc_delete.proofs.rounds.unlink_edges.Goals as goal
 
 pub unlink_each-requires : goal.unlink_each-requires

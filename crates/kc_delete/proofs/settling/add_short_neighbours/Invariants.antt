@@ -1,5 +1,5 @@
 use Rattle.std.proofs.Common.{ℕ, ◌≡◌, ◌<◌, length, get_or}
-use Rattle.kc_delete.specs.Settling.{StillWait, IsLookedAt}
+use Rattle.kc_delete.specs.private.Settling.{StillWait, IsLookedAt}
 use Rattle.kc_delete.proofs.settling.add_short_neighbours.Given as goal
 
 abbrev pub invariant-loop-w : goal.invariant-loop-w

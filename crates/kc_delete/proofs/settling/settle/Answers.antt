@@ -1,5 +1,5 @@
 use Rattle.std.proofs.Common.{◌<◌, length, arith, ◌∙◌}
-use Rattle.kc_delete.specs.Waiting.{IsTaken}
+use Rattle.kc_delete.specs.private.Waiting.{IsTaken}
 use Rattle.kc_delete.proofs.SettlingLemmas.{settling_sifted, after_fall, work_taken}
 use Rattle.kc_delete.proofs.settling.settle.Goals as goal
 

@@ -1,6 +1,6 @@
 use Rattle.std.proofs.Common.{◌≡◌}
-use Rattle.kc_delete.specs.Settling.{IsSettling}
-use Rattle.kc_delete.specs.Fallen.{AreFallen}
+use Rattle.kc_delete.specs.private.Settling.{IsSettling}
+use Rattle.kc_delete.specs.private.Fallen.{AreFallen}
 use Rattle.kc_delete.proofs.SettlingLemmas.{work_left}
 use Rattle.kc_delete.proofs.settling.settle.Given as goal
 

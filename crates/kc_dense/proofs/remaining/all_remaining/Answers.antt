@@ -1,6 +1,6 @@
 use Rattle.std.proofs.Common.{◌≡◌, ◌∙◌, ℕ, List, ltb, sym, subst}
 use Rattle.std.proofs.lemmas.Result.{IfOk-weaker}
-use Rattle.kc_dense.specs.Remaining.{is_left, AreRemaining}
+use Rattle.kc_dense.specs.private.Remaining.{is_left, AreRemaining}
 use Rattle.kc_dense.proofs.RemainingLemmas.{remaining_first}
 use Rattle.kc_dense.proofs.remaining.all_remaining.Goals as goal
 

@@ -4,7 +4,7 @@ use Rattle.std.proofs.lemmas.List.{take_all}
 use Rattle.std.proofs.lemmas.List.Elements.{All-get_or}
 use Rattle.kc_graph.specs.Numbers.{has_number}
 use Rattle.kc_graph.specs.Shape.{neighbours_of}
-use Rattle.kc_graph.proofs.NumberLemmas.{has_number_at}
+use Rattle.kc_graph.proofs.lemmas.Numbers.{has_number_at}
 use Rattle.kc_dense.proofs.RemainingLemmas.{AreFalling, next_least, falling_first, falling_more, falling_some, falling_last, rising_new}
 use Rattle.kc_dense.proofs.remaining.take_next.Goals as goal
 

@@ -1,9 +1,9 @@
 use Rattle.std.proofs.Common.{ℕ, ◌≡◌, false, List, length, ap, refl, sym, ◌∙◌, arith}
 use Rattle.std.proofs.lemmas.Result.{IfOk-weaker}
 use Rattle.kc_graph.specs.Shape.{GraphShape}
-use Rattle.kc_graph.proofs.ChangeLemmas.{vertices-without_edges}
+use Rattle.kc_graph.proofs.lemmas.Changes.{vertices-without_edges}
 use Rattle.kc_levels.specs.Moved.{moved_count}
-use Rattle.kc_groups.proofs.PlanLemmas.{between_in_order}
+use Rattle.kc_groups.proofs.lemmas.Plans.{between_in_order}
 use Rattle.kc_engine.specs.declared.plans.BatchPlan.{BatchPlan}
 use Rattle.kc_engine.specs.Readiness.{AreReady}
 use Rattle.kc_engine.proofs.BatchLemmas.{moved_same}
@@ -18,12 +18,12 @@ returns-then-is_empty-clause-moves g c = ap (λ (p : BatchPlan). p.moves) c.empt
 pub follow-requires-clause-before : goal.follow-requires-clause-before
 follow-requires-clause-before g c =
     let same : c.delete_phase.new.adj.graph.vertices ≡ c.args.adj.now.graph.vertices = ap (λ (h : GraphShape). h.vertices) c.in_ok-moves.ensures.graph ∙ vertices-without_edges c.args.adj.now.graph c.as_slice-edges.result.now in
-    ap (λ (x : List ℕ). length x) c.requires.ready.insertion.before ∙ c.requires.sized ∙ sym same
+    ap (λ (x : List ℕ). length x) c.requires.ready.insertion.before ∙ c.levels-levels.ensures.sized ∙ sym same
 
 pub follow-requires-clause-levels : goal.follow-requires-clause-levels
 follow-requires-clause-levels g c =
     let same : c.delete_phase.new.adj.graph.vertices ≡ c.args.adj.now.graph.vertices = ap (λ (h : GraphShape). h.vertices) c.in_ok-moves.ensures.graph ∙ vertices-without_edges c.args.adj.now.graph c.as_slice-edges.result.now in
-    ap (λ (x : List ℕ). length x) c.requires.ready.insertion.levels ∙ c.requires.sized ∙ sym same
+    ap (λ (x : List ℕ). length x) c.requires.ready.insertion.levels ∙ c.levels-levels.ensures.sized ∙ sym same
 
 pub follow-requires-clause-counts : goal.follow-requires-clause-counts
 follow-requires-clause-counts g c =
@@ -42,21 +42,21 @@ follow-requires-clause-moves g c =
 
 pub plan_moves-requires-clause-clean : goal.plan_moves-requires-clause-clean
 plan_moves-requires-clause-clean g c =
-    rw (c.graph.ensures, c.in_ok-moves.ensures.graph, vertices-without_edges c.args.adj.now.graph c.as_slice-edges.result.now) c.requires.ready.groups
+    rw (c.graph-2.ensures, c.in_ok-moves.ensures.graph, vertices-without_edges c.args.adj.now.graph c.as_slice-edges.result.now) c.requires.ready.groups
 
 pub plan_moves-requires-clause-order : goal.plan_moves-requires-clause-order
 plan_moves-requires-clause-order g c =
-    rw c.graph.ensures (between_in_order c.delete_phase.new.adj.graph.vertices c.args.adj.now.levels c.delete_phase.new.adj.levels c.in_ok-moves.moves c.in_ok-moves.ensures.moves)
+    rw c.graph-2.ensures (between_in_order c.delete_phase.new.adj.graph.vertices c.args.adj.now.levels c.delete_phase.new.adj.levels c.in_ok-moves.moves c.in_ok-moves.ensures.moves)
 
 pub plan_moves-requires-clause-ascending : goal.plan_moves-requires-clause-ascending
 plan_moves-requires-clause-ascending g c =
-    rw (c.graph.ensures, c.in_ok-moves.ensures.graph, c.as_slice-edges.ensures, vertices-without_edges c.args.adj.now.graph c.args.removed.now) c.requires.ascending
+    rw (c.graph-2.ensures, c.in_ok-moves.ensures.graph, c.as_slice-edges.ensures, vertices-without_edges c.args.adj.now.graph c.args.removed.now) c.requires.ascending
 
 pub overflow_cast-len : goal.overflow_cast-len
 overflow_cast-len g c =
     let same : c.delete_phase.new.adj.graph.vertices ≡ c.args.adj.now.graph.vertices = ap (λ (h : GraphShape). h.vertices) c.in_ok-moves.ensures.graph ∙ vertices-without_edges c.args.adj.now.graph c.as_slice-edges.result.now in
     let few = few_moves c.delete_phase.new.adj.graph.vertices c.args.adj.now.graph.vertices c.args.adj.now.levels c.delete_phase.new.adj.levels c.in_ok-moves.moves same c.in_ok-moves.ensures.moves in
-    omega (arith, c.len.ensures, few, c.requires.small)
+    omega (arith, c.len.ensures, few, (rw c.graph.ensures at c.vertices-n.ensures.small))
 
 pub returns-clause-phases : goal.returns-clause-phases
 returns-clause-phases g c =
@@ -64,19 +64,19 @@ returns-clause-phases g c =
     let x = c.args.adj.now.levels in
     let y = c.delete_phase.new.adj.levels in
     let same : c.delete_phase.new.adj.graph.vertices ≡ c.args.adj.now.graph.vertices = ap (λ (h : GraphShape). h.vertices) c.in_ok-moves.ensures.graph ∙ vertices-without_edges c.args.adj.now.graph c.as_slice-edges.result.now in
-    let planned = rw c.graph.ensures at c.in_ok-plan.ensures.entries in
-    let entries = planned x y (record { before = c.requires.sized ∙ sym same; after = c.in_ok-moves.ensures.lowered.lowerable.sized; moves = c.in_ok-moves.ensures.moves }) in
-    let again = linked_again graph c.args.removed.now c.requires.graph c.requires.ascending c.requires.present in
+    let planned = rw c.graph-2.ensures at c.in_ok-plan.ensures.entries in
+    let entries = planned x y (record { before = c.levels-levels.ensures.sized ∙ sym same; after = c.in_ok-moves.ensures.lowered.lowerable.sized; moves = c.in_ok-moves.ensures.moves }) in
+    let again = linked_again graph c.args.removed.now (rw c.graph.ensures at c.vertices-n.ensures.graph) c.requires.ascending c.requires.present in
     phase_made c.of_phase.result c.args.phase c.len.result false c.is_empty.result c.args.removed.now x y graph c.in_ok-plan.plan
     c.is_empty.ensures c.if-is_empty.false (rw (c.in_ok-moves.ensures.graph, c.as_slice-edges.ensures, again) at entries) c.of_phase.ensures
 
 pub returns-clause-ready : goal.returns-clause-ready
 returns-clause-ready g c =
     let same : c.delete_phase.new.adj.graph.vertices ≡ c.args.adj.now.graph.vertices = ap (λ (h : GraphShape). h.vertices) c.in_ok-moves.ensures.graph ∙ vertices-without_edges c.args.adj.now.graph c.as_slice-edges.result.now in
-    let ready : AreReady c.args.th.now.profile c.delete_phase.new.adj (record { deletion = c.delete_phase.new.work; insertion = c.follow.new.self; groups = c.plan_moves.new.work }) = record {
+    let ready : AreReady c.args.context.now.th.now.profile c.delete_phase.new.adj (record { deletion = c.delete_phase.new.work; insertion = c.follow.new.self; groups = c.plan_moves.new.work }) = record {
       deletion = c.in_ok-moves.ensures.ready;
-      insertion = c.follow.ensures c.args.th.now.profile c.args.adj.now c.requires.ready.insertion c.requires.sized c.in_ok-moves.ensures.graph (moves_again c.delete_phase.new.adj.graph.vertices c.args.adj.now.graph.vertices c.args.adj.now.levels c.delete_phase.new.adj.levels c.in_ok-moves.moves same c.in_ok-moves.ensures.moves);
-      groups = rw c.graph.ensures at c.in_ok-plan.ensures.clean;
+      insertion = c.follow.ensures c.args.context.now.th.now.profile c.args.adj.now c.requires.ready.insertion c.levels-levels.ensures.sized c.in_ok-moves.ensures.graph (moves_again c.delete_phase.new.adj.graph.vertices c.args.adj.now.graph.vertices c.args.adj.now.levels c.delete_phase.new.adj.levels c.in_ok-moves.moves same c.in_ok-moves.ensures.moves);
+      groups = rw c.graph-2.ensures at c.in_ok-plan.ensures.clean;
     } in
     IfOk-weaker c.of_phase.result _ _ (λ plan made. ready) c.of_phase.ensures
 

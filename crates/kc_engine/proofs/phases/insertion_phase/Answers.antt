@@ -2,9 +2,10 @@ use Rattle.std.proofs.Common.{ℕ, ◌≡◌, true, List, length, ap, sym, ◌�
 use Rattle.std.proofs.lemmas.Result.{IfOk-weaker}
 use Rattle.kc_graph.specs.Shape.{GraphShape, IsGraph}
 use Rattle.kc_graph.specs.Changes.{AllPresent}
-use Rattle.kc_graph.proofs.ChangeLemmas.{vertices-with_edges, is_graph-with_edges, inside_from_ascending}
+use Rattle.kc_graph.proofs.lemmas.Changes.{vertices-with_edges, insertions_keep_graph, inside_from_ascending}
 use Rattle.kc_levels.specs.Moved.{moved_count}
-use Rattle.kc_groups.proofs.PlanLemmas.{between_in_order, all_there}
+use Rattle.kc_groups.proofs.lemmas.Plans.{between_in_order}
+use Rattle.kc_groups.proofs.lemmas.Phases.{all_there}
 use Rattle.kc_engine.specs.declared.plans.BatchPlan.{BatchPlan}
 use Rattle.kc_engine.specs.Readiness.{AreReady}
 use Rattle.kc_engine.proofs.BatchLemmas.{moved_same}
@@ -20,25 +21,25 @@ pub follow-requires : goal.follow-requires
 follow-requires g c =
     let same : c.insert_phase.new.adj.graph.vertices ≡ c.args.adj.now.graph.vertices = ap (λ (h : GraphShape). h.vertices) c.in_ok-moves.ensures.graph ∙ vertices-with_edges c.args.adj.now.graph c.as_slice-edges.result.now in
     moves_inside c.insert_phase.new.adj.graph.vertices (length c.args.work.now.deletion.before) c.args.adj.now.levels c.insert_phase.new.adj.levels c.in_ok-moves.moves
-    (same ∙ sym c.requires.sized ∙ sym (ap (λ (x : List ℕ). length x) c.requires.ready.deletion.before)) c.in_ok-moves.ensures.moves
+    (same ∙ sym c.levels-levels.ensures.sized ∙ sym (ap (λ (x : List ℕ). length x) c.requires.ready.deletion.before)) c.in_ok-moves.ensures.moves
 
 pub plan_moves-requires-clause-clean : goal.plan_moves-requires-clause-clean
 plan_moves-requires-clause-clean g c =
-    rw (c.graph.ensures, c.in_ok-moves.ensures.graph, vertices-with_edges c.args.adj.now.graph c.as_slice-edges.result.now) c.requires.ready.groups
+    rw (c.graph-2.ensures, c.in_ok-moves.ensures.graph, vertices-with_edges c.args.adj.now.graph c.as_slice-edges.result.now) c.requires.ready.groups
 
 pub plan_moves-requires-clause-order : goal.plan_moves-requires-clause-order
 plan_moves-requires-clause-order g c =
-    rw c.graph.ensures (between_in_order c.insert_phase.new.adj.graph.vertices c.args.adj.now.levels c.insert_phase.new.adj.levels c.in_ok-moves.moves c.in_ok-moves.ensures.moves)
+    rw c.graph-2.ensures (between_in_order c.insert_phase.new.adj.graph.vertices c.args.adj.now.levels c.insert_phase.new.adj.levels c.in_ok-moves.moves c.in_ok-moves.ensures.moves)
 
 pub plan_moves-requires-clause-ascending : goal.plan_moves-requires-clause-ascending
 plan_moves-requires-clause-ascending g c =
-    rw (c.graph.ensures, c.in_ok-moves.ensures.graph, c.as_slice-edges.ensures, vertices-with_edges c.args.adj.now.graph c.args.added.now) c.requires.ascending
+    rw (c.graph-2.ensures, c.in_ok-moves.ensures.graph, c.as_slice-edges.ensures, vertices-with_edges c.args.adj.now.graph c.args.added.now) c.requires.ascending
 
 pub overflow_cast-len : goal.overflow_cast-len
 overflow_cast-len g c =
     let same : c.insert_phase.new.adj.graph.vertices ≡ c.args.adj.now.graph.vertices = ap (λ (h : GraphShape). h.vertices) c.in_ok-moves.ensures.graph ∙ vertices-with_edges c.args.adj.now.graph c.as_slice-edges.result.now in
     let few = few_moves c.insert_phase.new.adj.graph.vertices c.args.adj.now.graph.vertices c.args.adj.now.levels c.insert_phase.new.adj.levels c.in_ok-moves.moves same c.in_ok-moves.ensures.moves in
-    omega (arith, c.len.ensures, few, c.requires.small)
+    omega (arith, c.len.ensures, few, (rw c.graph.ensures at c.vertices-n.ensures.small))
 
 pub returns-clause-phases : goal.returns-clause-phases
 returns-clause-phases g c =
@@ -46,10 +47,10 @@ returns-clause-phases g c =
     let x = c.args.adj.now.levels in
     let y = c.insert_phase.new.adj.levels in
     let same : c.insert_phase.new.adj.graph.vertices ≡ c.args.adj.now.graph.vertices = ap (λ (h : GraphShape). h.vertices) c.in_ok-moves.ensures.graph ∙ vertices-with_edges c.args.adj.now.graph c.as_slice-edges.result.now in
-    let planned = rw c.graph.ensures at c.in_ok-plan.ensures.entries in
-    let entries = planned x y (record { before = c.requires.sized ∙ sym same; after = c.in_ok-moves.ensures.raised.raisable.sized; moves = c.in_ok-moves.ensures.moves }) in
+    let planned = rw c.graph-2.ensures at c.in_ok-plan.ensures.entries in
+    let entries = planned x y (record { before = c.levels-levels.ensures.sized ∙ sym same; after = c.in_ok-moves.ensures.raised.raisable.sized; moves = c.in_ok-moves.ensures.moves }) in
     let later = c.insert_phase.new.adj.graph in
-    let is : IsGraph c.insert_phase.new.adj.graph = rw (c.in_ok-moves.ensures.graph, c.as_slice-edges.ensures) (is_graph-with_edges graph c.args.added.now c.requires.graph (inside_from_ascending graph.vertices 0 0 c.args.added.now c.requires.ascending)) in
+    let is : IsGraph c.insert_phase.new.adj.graph = rw (c.in_ok-moves.ensures.graph, c.as_slice-edges.ensures) (insertions_keep_graph graph c.args.added.now (rw c.graph.ensures at c.vertices-n.ensures.graph) (inside_from_ascending graph.vertices 0 0 c.args.added.now c.requires.ascending)) in
     let there : AllPresent c.insert_phase.new.adj.graph c.args.added.now = rw (c.in_ok-moves.ensures.graph, c.as_slice-edges.ensures) (present_after graph c.args.added.now) in
     let whole = all_there later c.args.added.now is there in
     phase_made c.of_phase.result c.args.phase c.len.result true c.is_empty.result c.args.added.now x y later c.in_ok-plan.plan
@@ -58,10 +59,10 @@ returns-clause-phases g c =
 pub returns-clause-ready : goal.returns-clause-ready
 returns-clause-ready g c =
     let same : c.insert_phase.new.adj.graph.vertices ≡ c.args.adj.now.graph.vertices = ap (λ (h : GraphShape). h.vertices) c.in_ok-moves.ensures.graph ∙ vertices-with_edges c.args.adj.now.graph c.as_slice-edges.result.now in
-    let ready : AreReady c.args.th.now.profile c.insert_phase.new.adj (record { deletion = c.follow.new.self; insertion = c.insert_phase.new.work; groups = c.plan_moves.new.work }) = record {
-      deletion = c.follow.ensures c.args.adj.now c.insert_phase.new.adj c.requires.ready.deletion c.requires.sized c.in_ok-moves.ensures.raised.raisable.sized same (moves_again c.insert_phase.new.adj.graph.vertices c.args.adj.now.graph.vertices c.args.adj.now.levels c.insert_phase.new.adj.levels c.in_ok-moves.moves same c.in_ok-moves.ensures.moves);
+    let ready : AreReady c.args.context.now.th.now.profile c.insert_phase.new.adj (record { deletion = c.follow.new.self; insertion = c.insert_phase.new.work; groups = c.plan_moves.new.work }) = record {
+      deletion = c.follow.ensures c.args.adj.now c.insert_phase.new.adj c.requires.ready.deletion c.levels-levels.ensures.sized c.in_ok-moves.ensures.raised.raisable.sized same (moves_again c.insert_phase.new.adj.graph.vertices c.args.adj.now.graph.vertices c.args.adj.now.levels c.insert_phase.new.adj.levels c.in_ok-moves.moves same c.in_ok-moves.ensures.moves);
       insertion = c.in_ok-moves.ensures.ready;
-      groups = rw c.graph.ensures at c.in_ok-plan.ensures.clean;
+      groups = rw c.graph-2.ensures at c.in_ok-plan.ensures.clean;
     } in
     IfOk-weaker c.of_phase.result _ _ (λ plan made. ready) c.of_phase.ensures
 

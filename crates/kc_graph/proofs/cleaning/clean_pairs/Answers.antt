@@ -74,4 +74,4 @@ returns g c =
     ∙ c.loop-key.invariant.known
     ∙ ap (λ (ks : List Key). walked edges ks c.of_loops-cleaned.result) c.as_slice-rest.ensures.value
     ∙ ap (λ (known : Cleaned). walked edges keys known) c.of_loops-cleaned.ensures
-    ∙ walked_is_cleaned c.args.graph.now items keys (length items - c.len.result) c.requires.none c.vertices.ensures.graph c.requires.inside c.in_ok-keys.ensures.same c.in_ok-keys.ensures.in_order (omega (arith, few))
+    ∙ walked_is_cleaned c.args.graph.now items keys (length items - c.len.result) c.requires.none c.vertices.ensures.graph c.requires.inside c.in_ok-keys.ensures.same c.in_ok-keys.ensures.in_order (omega arith) (omega arith) (omega (arith, few))

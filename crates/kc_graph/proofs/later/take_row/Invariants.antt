@@ -1,5 +1,5 @@
 use Rattle.std.proofs.Common.{◌≡◌, ◌++◌, drop}
-use Rattle.kc_graph.specs.Later.{untouched_at}
+use Rattle.kc_graph.specs.private.Later.{untouched_at}
 use Rattle.kc_graph.proofs.later.take_row.Given as goal
 
 abbrev pub invariant-loop-w : goal.invariant-loop-w

@@ -1,6 +1,6 @@
 use Rattle.std.proofs.Common.{◌≡◌, drop, length, subst, arith}
 use Rattle.std.proofs.lemmas.List.{drop_all, length-drop}
-use Rattle.kc_graph.specs.Later.{ComesTo}
+use Rattle.kc_graph.specs.private.Later.{ComesTo}
 use Rattle.kc_graph.proofs.LaterLemmas.{counts_few}
 use Rattle.kc_graph.proofs.later.walk_back.Goals as goal
 

@@ -1,5 +1,5 @@
 use Rattle.std.proofs.Common.{◌≤◌, drop, length}
-use Rattle.kc_graph.specs.Later.{ComesTo}
+use Rattle.kc_graph.specs.private.Later.{ComesTo}
 use Rattle.kc_graph.proofs.later.walk_back.Given as goal
 
 abbrev pub invariant-loop-place : goal.invariant-loop-place

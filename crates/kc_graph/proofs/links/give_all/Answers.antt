@@ -2,7 +2,7 @@ use Rattle.std.proofs.Common.{ℕ, ◌≡◌, ◌<◌, ◌∙◌, ◌||◌, [], 
 use Rattle.std.proofs.lemmas.List.{get_or_read, set-get_or}
 use Rattle.kc_graph.specs.Numbers.{has_number}
 use Rattle.kc_graph.specs.Shape.{Pair}
-use Rattle.kc_graph.specs.Halves.{has_second, AreOf, AreGivenSome}
+use Rattle.kc_graph.specs.private.Halves.{has_second, AreOf, AreGivenSome}
 use Rattle.kc_graph.proofs.HalfLemmas.{first_inside, giving_next, given_some, on_err}
 use Rattle.kc_graph.proofs.links.give_all.Goals as goal
 

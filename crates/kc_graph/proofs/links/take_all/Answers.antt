@@ -2,7 +2,7 @@ use Rattle.std.proofs.Common.{ℕ, ◌≡◌, ◌<◌, ◌∙◌, [], List, leng
 use Rattle.std.specs.Prelude.{filter, not}
 use Rattle.std.proofs.lemmas.List.{get_or_read}
 use Rattle.kc_graph.specs.Shape.{Pair}
-use Rattle.kc_graph.specs.Halves.{has_second, AreOf}
+use Rattle.kc_graph.specs.private.Halves.{has_second, AreOf}
 use Rattle.kc_graph.proofs.HalfLemmas.{first_inside, taking_next}
 use Rattle.kc_graph.proofs.links.take_all.Goals as goal
 

@@ -1,6 +1,6 @@
 use Rattle.std.proofs.Common.{◌≡◌, ◌<◌, ◌≤◌, ◌∷◌, ◌++◌, [], List, length, ap, sym, ◌∙◌, arith, get_or, take, filter}
 use Rattle.kc_graph.specs.Shape.{Pair}
-use Rattle.kc_groups.specs.Dealing.{edge_place, is_unplaced}
+use Rattle.kc_groups.specs.private.Dealing.{edge_place, is_unplaced}
 use Rattle.kc_groups.proofs.DealingLemmas.{deal_edge, deal_edge_quiet, quiet_same, quiet_more, pushed_edge}
 use Rattle.kc_groups.proofs.dealing.deal_edges.Goals as goal
 use Rattle.kc_groups.proofs.dealing.deal_edges.Goals.{then-place-n+in_ok-push_edge, else-place-n+in_ok-push}

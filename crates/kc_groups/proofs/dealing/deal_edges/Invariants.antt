@@ -1,5 +1,5 @@
 use Rattle.std.proofs.Common.{◌≡◌, length, filter, take}
-use Rattle.kc_groups.specs.Dealing.{with_edges, is_unplaced, AreDealt}
+use Rattle.kc_groups.specs.private.Dealing.{with_edges, is_unplaced, AreDealt}
 use Rattle.kc_groups.proofs.dealing.deal_edges.Given as goal
 
 abbrev pub invariant-loop-e : goal.invariant-loop-e

@@ -1,5 +1,5 @@
 use Rattle.std.proofs.Common.{take}
-use Rattle.kc_groups.specs.Dealing.{with_moves, AreDealt}
+use Rattle.kc_groups.specs.private.Dealing.{with_moves, AreDealt}
 use Rattle.kc_groups.proofs.dealing.deal_moves.Given as goal
 
 abbrev pub invariant-loop-m : goal.invariant-loop-m

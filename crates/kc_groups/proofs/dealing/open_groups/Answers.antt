@@ -1,7 +1,7 @@
 use Rattle.std.proofs.Common.{◌≡◌, List, ℕ, length, get_or, ap, sym, ◌∙◌, arith}
 use Rattle.std.proofs.lemmas.List.{get_or_read}
 use Rattle.kc_history.specs.declared.entries.Entry.{Entry}
-use Rattle.kc_groups.specs.Gathering.{is_mover}
+use Rattle.kc_groups.specs.private.Gathering.{is_mover}
 use Rattle.kc_groups.proofs.DealingLemmas.{IsOpening, opening_first, opening_past, opening_more, opening_join}
 use Rattle.kc_groups.proofs.WorkLemmas.{no_move}
 use Rattle.kc_groups.proofs.MovedLemmas.{mover_at, mover_this, mover_first, mover_next}

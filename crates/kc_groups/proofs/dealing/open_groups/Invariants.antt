@@ -1,7 +1,7 @@
 use Rattle.std.proofs.Common.{◌≡◌, map, length, get_or}
 use Rattle.kc_groups.specs.Entries.{labels_below}
 use Rattle.kc_groups.specs.Gathering.{vertices}
-use Rattle.kc_groups.specs.Dealing.{empty_entry, ArePlaces}
+use Rattle.kc_groups.specs.private.Dealing.{empty_entry, ArePlaces}
 use Rattle.kc_groups.proofs.dealing.open_groups.Given as goal
 
 abbrev pub invariant-loop-m : goal.invariant-loop-m

@@ -1,5 +1,5 @@
 use Rattle.std.proofs.Common.{ℕ, ◌≡◌, ◌<◌, List, length, get_or}
-use Rattle.kc_groups.specs.Forest.{IsForest}
+use Rattle.kc_groups.specs.private.Forest.{IsForest}
 use Rattle.kc_groups.proofs.forest.find.Given as goal
 
 abbrev pub invariant-loop-at : goal.invariant-loop-at

@@ -1,6 +1,6 @@
 use Rattle.std.proofs.Common.{◌≡◌, ◌<◌, ◌≤◌, inl, inr, length, get_or, ap, ◌∙◌, arith}
-use Rattle.kc_graph.proofs.NumberLemmas.{length-rising}
-use Rattle.kc_graph.proofs.ChangeLemmas.{inside_from_ascending}
+use Rattle.kc_graph.proofs.lemmas.Numbers.{length-rising}
+use Rattle.kc_graph.proofs.lemmas.Changes.{inside_from_ascending}
 use Rattle.kc_graph.specs.Shape.{Pair}
 use Rattle.kc_groups.specs.Gathering.{vertices}
 use Rattle.kc_groups.proofs.WorkLemmas.{many}

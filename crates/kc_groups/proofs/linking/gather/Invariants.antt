@@ -1,5 +1,6 @@
-use Rattle.kc_groups.specs.Forest.{AreGathered}
-use Rattle.kc_groups.specs.Gathering.{vertices, in_rows}
+use Rattle.kc_groups.specs.private.Forest.{AreGathered}
+use Rattle.kc_groups.specs.Gathering.{vertices}
+use Rattle.kc_groups.specs.private.Gathering.{in_rows}
 use Rattle.kc_groups.proofs.LinkLemmas.{with_first}
 use Rattle.kc_groups.proofs.linking.gather.Given as goal
 

@@ -1,6 +1,6 @@
 use Rattle.std.proofs.Common.{◌≡◌, ◌<◌, ◌≤◌, length, get_or, refl, ap, ◌∙◌, arith}
 use Rattle.kc_graph.specs.Shape.{neighbours_of}
-use Rattle.kc_graph.proofs.NumberLemmas.{length-rising}
+use Rattle.kc_graph.proofs.lemmas.Numbers.{length-rising}
 use Rattle.kc_groups.specs.Gathering.{vertices}
 use Rattle.kc_groups.proofs.WorkLemmas.{vertex_at, vertex_inside, many}
 use Rattle.kc_groups.proofs.LinkLemmas.{row_first, row_last, row_past, row_link}

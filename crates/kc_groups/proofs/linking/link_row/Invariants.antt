@@ -1,5 +1,5 @@
 use Rattle.std.proofs.Common.{length}
-use Rattle.kc_groups.specs.Forest.{AreGathered}
+use Rattle.kc_groups.specs.private.Forest.{AreGathered}
 use Rattle.kc_groups.specs.Gathering.{vertices}
 use Rattle.kc_groups.proofs.LinkLemmas.{so_far}
 use Rattle.kc_groups.proofs.linking.link_row.Given as goal

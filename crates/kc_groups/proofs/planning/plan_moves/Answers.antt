@@ -1,8 +1,9 @@
 use Rattle.std.proofs.Common.{◌≡◌, List, ℕ, length, ap, sym, ◌∙◌, arith}
 use Rattle.std.proofs.lemmas.List.{length-replicate}
-use Rattle.kc_graph.proofs.NumberLemmas.{length-rising}
+use Rattle.kc_graph.proofs.lemmas.Numbers.{length-rising}
 use Rattle.kc_graph.specs.Shape.{with_edges}
-use Rattle.kc_groups.specs.Gathering.{vertices, is_mover, AreInOrder}
+use Rattle.kc_groups.specs.Gathering.{vertices, AreInOrder}
+use Rattle.kc_groups.specs.private.Gathering.{is_mover}
 use Rattle.kc_groups.specs.Links.{AreLabels}
 use Rattle.kc_groups.proofs.WorkLemmas.{many}
 use Rattle.kc_groups.proofs.PlanLemmas.{labels_here, rooted_here, placed_moves, no_moves, no_edges, placed_edges, entries_are}

@@ -1,6 +1,7 @@
 use Rattle.std.proofs.Common.{ℕ, ◌≡◌, ◌<◌, List, length, get_or}
-use Rattle.kc_groups.specs.Forest.{IsForest}
-use Rattle.kc_groups.specs.Gathering.{vertices, HaveNone}
+use Rattle.kc_groups.specs.private.Forest.{IsForest}
+use Rattle.kc_groups.specs.Gathering.{vertices}
+use Rattle.kc_groups.specs.private.Gathering.{HaveNone}
 use Rattle.kc_groups.proofs.work.label.Given as goal
 
 abbrev pub invariant-loop-place : goal.invariant-loop-place

@@ -1,6 +1,6 @@
 use Rattle.std.proofs.Common.{◌<◌, length, get_or, ◌∙◌, arith, refl}
 use Rattle.std.proofs.lemmas.List.{length-set}
-use Rattle.kc_graph.proofs.NumberLemmas.{length-rising}
+use Rattle.kc_graph.proofs.lemmas.Numbers.{length-rising}
 use Rattle.kc_groups.specs.Gathering.{vertices}
 use Rattle.kc_groups.proofs.WorkLemmas.{no_move, vertex_at, vertex_inside, many, keeps_none, keeps_at, clean_none}
 use Rattle.kc_groups.proofs.work.number.Goals as goal

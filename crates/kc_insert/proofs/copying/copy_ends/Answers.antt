@@ -1,6 +1,6 @@
 use Rattle.std.proofs.Common.{◌≢◌, arith, ◌∙◌}
 use Rattle.kc_graph.specs.Shape.{Pair}
-use Rattle.kc_levels.proofs.Copied.{copied_all}
+use Rattle.kc_levels.proofs.lemmas.Writes.{copied_all}
 use Rattle.kc_insert.proofs.Followed.{ends_copied}
 use Rattle.kc_insert.proofs.copying.copy_ends.Goals as goal
 

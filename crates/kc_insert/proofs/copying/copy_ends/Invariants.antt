@@ -1,7 +1,7 @@
 use Rattle.std.proofs.Common.{◌≢◌, take}
 use Rattle.std.specs.List.{All}
 use Rattle.kc_graph.specs.Shape.{Pair}
-use Rattle.kc_levels.specs.Following.{IsCopied}
+use Rattle.kc_levels.specs.private.Following.{IsCopied}
 use Rattle.kc_insert.proofs.copying.copy_ends.Given as goal
 
 abbrev pub invariant-loop-e : goal.invariant-loop-e

@@ -1,6 +1,6 @@
 use Rattle.std.proofs.Common.{ℕ, ◌≡◌, ◌≢◌, false, List, arith, subst}
 use Rattle.kc_graph.specs.Numbers.{has_number}
-use Rattle.kc_levels.specs.Following.{IsCopied}
+use Rattle.kc_levels.specs.private.Following.{IsCopied}
 use Rattle.kc_insert.proofs.Followed.{row_copied, row_last}
 use Rattle.kc_insert.proofs.copying.copy_row.Goals as goal
 

@@ -1,6 +1,6 @@
 use Rattle.std.proofs.Common.{ℕ, ◌≢◌, take}
 use Rattle.std.specs.List.{All}
-use Rattle.kc_levels.specs.Following.{IsCopied}
+use Rattle.kc_levels.specs.private.Following.{IsCopied}
 use Rattle.kc_insert.proofs.copying.copy_row.Given as goal
 
 abbrev pub invariant-loop-w : goal.invariant-loop-w

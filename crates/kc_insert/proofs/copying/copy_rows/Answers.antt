@@ -2,7 +2,7 @@ use Rattle.std.proofs.Common.{◌≡◌, ◌≢◌, false, arith, refl}
 use Rattle.kc_graph.specs.Numbers.{has_number}
 use Rattle.kc_graph.specs.Shape.{neighbours_of}
 use Rattle.kc_levels.specs.declared.moves.Move.{Move}
-use Rattle.kc_levels.proofs.Copied.{copied_all, copied_next}
+use Rattle.kc_levels.proofs.lemmas.Writes.{copied_all, copied_next}
 use Rattle.kc_insert.proofs.copying.copy_rows.Goals as goal
 
 pub loop-m-preserved : goal.loop-m-preserved

@@ -3,7 +3,7 @@ use Rattle.std.specs.List.{All}
 use Rattle.kc_graph.specs.Numbers.{has_number}
 use Rattle.kc_graph.specs.Shape.{neighbours_of}
 use Rattle.kc_levels.specs.declared.moves.Move.{Move}
-use Rattle.kc_levels.specs.Following.{IsCopied}
+use Rattle.kc_levels.specs.private.Following.{IsCopied}
 use Rattle.kc_insert.proofs.copying.copy_rows.Given as goal
 
 abbrev pub invariant-loop-m : goal.invariant-loop-m

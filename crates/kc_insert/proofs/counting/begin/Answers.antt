@@ -2,9 +2,9 @@ use Rattle.std.proofs.Common.{◌≡◌, ◌+◌, ℕ, List, length, get_or, tak
 use Rattle.std.specs.List.{flat_map}
 use Rattle.std.proofs.lemmas.Grind.{get_or_default_zero}
 use Rattle.kc_graph.specs.Shape.{neighbours_of}
-use Rattle.kc_graph.proofs.NumberLemmas.{has_number_at}
+use Rattle.kc_graph.proofs.lemmas.Numbers.{has_number_at}
 use Rattle.kc_levels.specs.LevelList.{at_least}
-use Rattle.kc_insert.specs.Counting.{stood_above, HasBegun}
+use Rattle.kc_insert.specs.private.Counting.{stood_above, HasBegun}
 use Rattle.kc_insert.proofs.Starting.{piece_next, piece_within, piece_at, mapped_at}
 use Rattle.kc_insert.proofs.Beginning.{few_unlisted, degrees_next, are_beginning_next, have_begun, have_filed}
 use Rattle.kc_insert.proofs.counting.begin.Goals as goal

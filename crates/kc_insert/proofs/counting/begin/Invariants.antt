@@ -1,6 +1,6 @@
 use Rattle.std.proofs.Common.{◌≡◌, ◌+◌, drop, take, length}
 use Rattle.std.specs.List.{flat_map}
-use Rattle.kc_insert.specs.Counting.{degrees, stood_above}
+use Rattle.kc_insert.specs.private.Counting.{degrees, stood_above}
 use Rattle.kc_insert.proofs.Beginning.{AreBeginning}
 use Rattle.kc_insert.proofs.counting.begin.Given as goal
 

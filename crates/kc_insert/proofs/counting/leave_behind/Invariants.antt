@@ -1,6 +1,6 @@
 use Rattle.std.proofs.Common.{drop}
-use Rattle.kc_insert.specs.Meetings.{AreApart}
-use Rattle.kc_insert.specs.Counting.{goes_on, AreSeen, sees_met}
+use Rattle.kc_insert.specs.private.Meetings.{AreApart}
+use Rattle.kc_insert.specs.private.Counting.{goes_on, AreSeen, sees_met}
 use Rattle.kc_insert.proofs.counting.leave_behind.Given as goal
 
 abbrev pub invariant-loop-m : goal.invariant-loop-m

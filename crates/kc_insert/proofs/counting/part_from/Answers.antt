@@ -1,5 +1,5 @@
 use Rattle.std.proofs.Common.{arith}
-use Rattle.kc_insert.specs.Counting.{goes_on}
+use Rattle.kc_insert.specs.private.Counting.{goes_on}
 use Rattle.kc_insert.proofs.Parting.{parting_first, parting_less_at, parting_kept_at, parting_last}
 use Rattle.kc_insert.proofs.counting.part_from.Goals.{then-goes_on, else-goes_on}
 use Rattle.kc_insert.proofs.counting.part_from.Goals as goal

@@ -1,5 +1,5 @@
 use Rattle.std.proofs.Common.{◌≡◌, ◌+◌, drop}
-use Rattle.kc_insert.specs.Counting.{goes_on}
+use Rattle.kc_insert.specs.private.Counting.{goes_on}
 use Rattle.kc_insert.proofs.Parting.{IsParting}
 use Rattle.kc_insert.proofs.counting.part_from.Given as goal
 

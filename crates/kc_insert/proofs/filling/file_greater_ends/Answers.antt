@@ -1,6 +1,6 @@
 use Rattle.std.proofs.Common.{◌≢◌, ◌∙◌, arith}
 use Rattle.kc_graph.specs.Shape.{Pair}
-use Rattle.kc_levels.proofs.Copied.{copied_all}
+use Rattle.kc_levels.proofs.lemmas.Writes.{copied_all}
 use Rattle.kc_insert.proofs.Filing.{end_copied}
 use Rattle.kc_insert.proofs.filling.file_greater_ends.Goals as goal
 

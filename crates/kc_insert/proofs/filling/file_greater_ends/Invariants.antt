@@ -1,8 +1,8 @@
 use Rattle.std.proofs.Common.{ℕ, ◌≡◌, ◌≢◌, List, length, take}
 use Rattle.std.specs.List.{All}
 use Rattle.kc_graph.specs.Shape.{Pair}
-use Rattle.kc_levels.specs.Following.{IsCopied}
-use Rattle.kc_insert.specs.BucketQueue.{IsFiling}
+use Rattle.kc_levels.specs.private.Following.{IsCopied}
+use Rattle.kc_insert.specs.private.BucketQueue.{IsFiling}
 use Rattle.kc_insert.proofs.filling.file_greater_ends.Given as goal
 
 abbrev pub invariant-loop-e : goal.invariant-loop-e

@@ -1,4 +1,4 @@
-use Rattle.kc_graph.proofs.ChangeLemmas.{can_add_ascending}
+use Rattle.kc_graph.proofs.lemmas.Changes.{can_add_ascending}
 use Rattle.kc_insert.proofs.filling.link_edges.Goals as goal
 
 pub link_each-requires : goal.link_each-requires

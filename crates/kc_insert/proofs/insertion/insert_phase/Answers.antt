@@ -1,9 +1,9 @@
 use Rattle.std.proofs.Common.{◌≡◌, ◌+◌, ℕ, List, [], replicate, length, ap, sym, ◌∙◌, subst, arith}
 use Rattle.kc_graph.specs.Shape.{GraphShape, with_edges}
-use Rattle.kc_graph.proofs.ChangeLemmas.{vertices-with_edges, inside_from_ascending}
+use Rattle.kc_graph.proofs.lemmas.Changes.{vertices-with_edges, inside_from_ascending}
 use Rattle.kc_levels.specs.Thresholds.{top_level}
 use Rattle.kc_adj.specs.LeveledGraph.{LeveledGraph}
-use Rattle.kc_insert.specs.BucketQueue.{IsFiling}
+use Rattle.kc_insert.specs.private.BucketQueue.{IsFiling}
 use Rattle.kc_insert.specs.Working.{IsReady}
 use Rattle.kc_insert.proofs.Filing.{filing_first, filing_last}
 use Rattle.kc_insert.proofs.Followed.{counted_added}

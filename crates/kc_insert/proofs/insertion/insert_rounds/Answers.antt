@@ -1,10 +1,10 @@
 use Rattle.std.proofs.Common.{◌≡◌, List, length, ap, ◌∙◌, arith}
 use Rattle.kc_graph.specs.Shape.{GraphShape}
-use Rattle.kc_graph.proofs.ChangeLemmas.{vertices-with_edges}
-use Rattle.kc_graph.proofs.CountLemmas.{count_below-le}
+use Rattle.kc_graph.proofs.lemmas.Changes.{vertices-with_edges}
+use Rattle.kc_graph.proofs.lemmas.Counts.{count_below-le}
 use Rattle.kc_levels.specs.declared.moves.Move.{Move}
 use Rattle.kc_levels.specs.Moved.{is_moved, moved_count}
-use Rattle.kc_levels.proofs.MovesBetween.{length-moves_between}
+use Rattle.kc_levels.proofs.lemmas.Moves.{length-moves_between}
 use Rattle.kc_insert.proofs.insertion.insert_rounds.Goals as goal
 
 pub overflow_cast-result : goal.overflow_cast-result

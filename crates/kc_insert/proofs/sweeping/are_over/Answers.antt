@@ -1,7 +1,7 @@
 use Rattle.std.proofs.Common.{◌<◌, length, get_or, arith, inl, inr, refl, rules, subst, sym}
 use Rattle.std.proofs.lemmas.Bool.{cases_eq}
 use Rattle.std.proofs.lemmas.List.{get_or_read}
-use Rattle.kc_graph.proofs.NumberLemmas.{has_number_at, has_number_index}
+use Rattle.kc_graph.proofs.lemmas.Numbers.{has_number_at, has_number_index}
 use Rattle.kc_insert.proofs.sweeping.are_over.Goals as goal
 
 pub index-requires : goal.index-requires

@@ -1,5 +1,5 @@
 use Rattle.std.proofs.Common.{arith}
-use Rattle.kc_levels.proofs.Groups.{group_of-mono}
+use Rattle.kc_levels.proofs.lemmas.Thresholds.{group_of-mono}
 use Rattle.kc_insert.proofs.sweeping.end_of_group.Goals as goal
 
 pub returns-clause-same : goal.returns-clause-same

@@ -1,5 +1,5 @@
 use Rattle.std.proofs.Common.{refl, arith}
-use Rattle.kc_graph.proofs.NumberLemmas.{has_number_at}
+use Rattle.kc_graph.proofs.lemmas.Numbers.{has_number_at}
 use Rattle.kc_insert.proofs.Lifting.{going_next, going_last}
 use Rattle.kc_insert.proofs.sweeping.go_up.Goals as goal
 

@@ -1,5 +1,5 @@
 use Rattle.std.proofs.Common.{◌≡◌, ◌+◌, drop}
-use Rattle.kc_insert.specs.Counting.{degrees}
+use Rattle.kc_insert.specs.private.Counting.{degrees}
 use Rattle.kc_insert.proofs.Lifting.{IsLiftingAll}
 use Rattle.kc_insert.proofs.sweeping.lift_all.Given as goal
 

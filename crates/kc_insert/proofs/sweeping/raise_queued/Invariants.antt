@@ -1,6 +1,6 @@
 use Rattle.std.proofs.Common.{◌≡◌, ◌+◌, ◌-◌, ◌≤◌, length}
 use Rattle.kc_levels.specs.Thresholds.{top_level}
-use Rattle.kc_insert.specs.Sweeping.{IsSweeping, HaveCome}
+use Rattle.kc_insert.specs.private.Sweeping.{IsSweeping, HaveCome}
 use Rattle.kc_insert.proofs.sweeping.raise_queued.Given as goal
 
 abbrev pub invariant-loop-level : goal.invariant-loop-level

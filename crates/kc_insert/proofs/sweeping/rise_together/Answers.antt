@@ -1,7 +1,7 @@
 use Rattle.std.proofs.Common.{ℕ, true, ◌+◌, ◌-◌, ◌<◌, ◌≤◌, ◌≡◌, get_or, ap, sym, ◌∙◌, arith}
 use Rattle.kc_graph.specs.Numbers.{has_number}
 use Rattle.kc_levels.specs.Thresholds.{high, group_of, top_level}
-use Rattle.kc_insert.specs.Together.{IsFree}
+use Rattle.kc_insert.specs.private.Together.{IsFree}
 use Rattle.kc_insert.proofs.Together.{free_less, sweeping_together, have_together}
 use Rattle.kc_insert.proofs.sweeping.rise_together.Goals as goal
 

@@ -1,6 +1,6 @@
 use Rattle.std.proofs.Common.{ap}
 use Rattle.kc_adj.specs.LeveledGraph.{LeveledGraph}
-use Rattle.kc_levels.proofs.Raising.{no_edges_meets_upper}
+use Rattle.kc_levels.proofs.lemmas.Raising.{no_edges_meets_upper}
 use Rattle.kc_insert.proofs.tests.check_counted.Goals as goal
 
 pub insert_rounds-requires-clause-upper : goal.insert_rounds-requires-clause-upper

@@ -1,6 +1,6 @@
 use Rattle.std.proofs.Common.{ap}
 use Rattle.kc_adj.specs.LeveledGraph.{LeveledGraph}
-use Rattle.kc_levels.proofs.Raising.{no_edges_meets_upper}
+use Rattle.kc_levels.proofs.lemmas.Raising.{no_edges_meets_upper}
 use Rattle.kc_insert.proofs.tests.check_in_turn.Goals as goal
 
 pub insert_phase-requires-clause-upper : goal.insert_phase-requires-clause-upper

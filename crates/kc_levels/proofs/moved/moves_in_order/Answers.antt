@@ -1,5 +1,5 @@
 use Rattle.std.proofs.Common.{refl}
-use Rattle.kc_graph.proofs.NumberLemmas.{has_number_at}
+use Rattle.kc_graph.proofs.lemmas.Numbers.{has_number_at}
 use Rattle.kc_levels.proofs.moved.moves_in_order.Goals as goal
 
 pub get-requires : goal.get-requires

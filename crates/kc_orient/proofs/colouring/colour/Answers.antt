@@ -1,6 +1,6 @@
-use Rattle.std.proofs.Common.{ℕ, suc, ◌≡◌, ◌≤◌, ◌+◌, ◌-◌, ◌<◌, List, [], length, replicate, arith, rules, subst, ap, sym, ◌∙◌, refl}
+use Rattle.std.proofs.Common.{ℕ, suc, ◌≡◌, ◌+◌, ◌-◌, List, length, replicate, arith, rules, subst, ap, sym, ◌∙◌, refl}
 use Rattle.kc_orient.specs.Shape.{OrientationShape}
-use Rattle.kc_orient.specs.Descent.{AreLinked, IsColouredTo}
+use Rattle.kc_orient.specs.private.Descent.{AreLinked, IsColouredTo}
 use Rattle.kc_orient.proofs.Coloured.{coloured_none, coloured_down, coloured_all}
 use Rattle.kc_orient.proofs.colouring.colour.Goals as goal
 

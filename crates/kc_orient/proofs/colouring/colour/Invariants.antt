@@ -1,4 +1,4 @@
-use Rattle.kc_orient.specs.Descent.{IsColouredTo}
+use Rattle.kc_orient.specs.private.Descent.{IsColouredTo}
 use Rattle.kc_orient.proofs.colouring.colour.Given as goal
 
 abbrev pub invariant-loop-level : goal.invariant-loop-level

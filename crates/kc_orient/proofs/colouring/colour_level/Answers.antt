@@ -1,4 +1,4 @@
-use Rattle.std.proofs.Common.{ℕ, suc, ◌≡◌, ◌-◌, ◌<◌, List, [], length, get_or, arith, subst, sym, ◌∙◌}
+use Rattle.std.proofs.Common.{ℕ, suc, ◌≡◌, ◌-◌, ◌<◌, length, get_or, arith, subst, ◌∙◌}
 use Rattle.std.proofs.lemmas.List.{get_or_read}
 use Rattle.kc_orient.proofs.Coloured.{IsColouringLevel, stamp_is_fresh, level_more}
 use Rattle.kc_orient.proofs.colouring.colour_level.Goals as goal

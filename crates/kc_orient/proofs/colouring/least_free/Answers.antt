@@ -1,6 +1,6 @@
-use Rattle.std.proofs.Common.{ℕ, ◌≡◌, ◌<◌, ◌+◌, ◌-◌, length, get_or, arith, refl, add-one, below_more, sym, ◌∙◌}
+use Rattle.std.proofs.Common.{◌≡◌, ◌<◌, length, get_or, arith, refl, add-one, below_more, sym, ◌∙◌}
 use Rattle.std.proofs.lemmas.List.{get_or_read}
-use Rattle.kc_orient.proofs.Marking.{marking_first, marking_more, marking_all, marks_few, least_unmarked}
+use Rattle.kc_orient.proofs.Marking.{marking_more, marking_all, marks_few}
 use Rattle.kc_orient.proofs.colouring.least_free.Goals as goal
 
 pub loop-w-preserved : goal.loop-w-preserved

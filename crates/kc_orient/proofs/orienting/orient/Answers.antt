@@ -1,4 +1,4 @@
-use Rattle.std.proofs.Common.{ℕ, suc, ◌≡◌, ◌<◌, ◌≤◌, ◌+◌, List, [], ◌∷◌, ◌++◌, length, get_or, arith, add-one, subst, sym, ◌∙◌, ap}
+use Rattle.std.proofs.Common.{ℕ, suc, ◌≡◌, ◌≤◌, ◌++◌, length, arith, add-one, subst}
 use Rattle.kc_graph.specs.declared.limits.TheConstants.{MAX_EDGES}
 use Rattle.kc_orient.specs.Shape.{out_neighbours}
 use Rattle.kc_orient.proofs.Arcs.{arcs-below}

@@ -1,6 +1,6 @@
 use Rattle.std.specs.List.{flat_map}
 use Rattle.std.proofs.lemmas.Result.{err_from_is_err_and}
-use Rattle.kc_text.proofs.Known.{prefix_longer, appends_then}
+use Rattle.kc_text.proofs.lemmas.Writing.{prefix_longer, appends_then}
 use Rattle.kc_report.specs.Lines.{batch_line, phase_text}
 use Rattle.kc_report.proofs.batches.write_batch.Goals as goal
 

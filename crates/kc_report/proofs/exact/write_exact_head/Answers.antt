@@ -1,5 +1,5 @@
 use Rattle.std.proofs.lemmas.Result.{err_from_is_err_and}
-use Rattle.kc_text.proofs.Known.{prefix_longer, appends_then}
+use Rattle.kc_text.proofs.lemmas.Writing.{prefix_longer, appends_then}
 use Rattle.kc_report.specs.Lines.{exact_magic_line, vertices_line}
 use Rattle.kc_report.proofs.exact.write_exact_head.Goals as goal
 
@@ -9,4 +9,4 @@ returns-in_err-write_exact_magic-clause-text g c =
     rw p.1 (prefix_longer _ _ exact_magic_line (vertices_line c.args.n) c.in_err-write_exact_magic.ensures.text)
 
 pub returns-clause-text : goal.returns-clause-text
-returns-clause-text g c = appends_then _ _ _ exact_magic_line (vertices_line c.args.n) c.write_vertices.result c.in_ok-write_exact_magic.ensures.text c.write_vertices.ensures.text
+returns-clause-text g c = appends_then _ _ _ exact_magic_line (vertices_line c.args.n) c.write_vertex_count.result c.in_ok-write_exact_magic.ensures.text c.write_vertex_count.ensures.text

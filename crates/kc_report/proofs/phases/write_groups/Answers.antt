@@ -1,6 +1,6 @@
 use Rattle.std.proofs.Common.{◌∙◌, refl}
 use Rattle.std.proofs.lemmas.Result.{err_from_is_err_and}
-use Rattle.kc_text.proofs.Known.{append_none}
+use Rattle.kc_text.proofs.lemmas.Writing.{append_none}
 use Rattle.kc_report.specs.Lines.{group_line}
 use Rattle.kc_report.proofs.TextLemmas.{texts_more, texts_prefix}
 use Rattle.kc_report.proofs.phases.write_groups.Goals as goal

@@ -1,6 +1,6 @@
 use Rattle.std.specs.List.{flat_map}
 use Rattle.std.proofs.lemmas.Result.{err_from_is_err_and}
-use Rattle.kc_text.proofs.Known.{prefix_longer, appends_then}
+use Rattle.kc_text.proofs.lemmas.Writing.{prefix_longer, appends_then}
 use Rattle.kc_report.specs.Lines.{phase_line, group_line}
 use Rattle.kc_report.proofs.TextLemmas.{has_labels}
 use Rattle.kc_report.proofs.phases.write_phase.Goals as goal

@@ -1,6 +1,6 @@
 use Rattle.std.proofs.Common.{ℕ, ◌∙◌, refl, sym, subst}
 use Rattle.std.proofs.lemmas.Result.{err_from_is_err_and}
-use Rattle.kc_text.proofs.Known.{append_none}
+use Rattle.kc_text.proofs.lemmas.Writing.{append_none}
 use Rattle.kc_groups.specs.declared.plans.PhasePlan.{PhasePlan}
 use Rattle.kc_groups.specs.WellFormed.{IsWellFormed}
 use Rattle.kc_report.specs.Lines.{phase_text}

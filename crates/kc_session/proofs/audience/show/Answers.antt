@@ -3,10 +3,10 @@ use Rattle.kc_graph.specs.declared.limits.TheConstants.{MAX_EDGES}
 use Rattle.kc_graph.specs.Shape.{GraphShape}
 use Rattle.kc_engine.specs.Planning.{EngineView}
 use Rattle.kc_engine.specs.Showing as showing
-use Rattle.kc_engine.proofs.BatchLemmas.{vertices_after}
-use Rattle.kc_engine.proofs.ShowLaw.{phases_continue, shown_is_abreast}
+use Rattle.kc_engine.proofs.lemmas.Batches.{vertices_after}
+use Rattle.kc_engine.proofs.lemmas.Phases.{phases_continue, shown_is_abreast}
 use Rattle.kc_session.specs.declared.audience.Audience.{Audience}
-use Rattle.kc_session.specs.Audiences.{LeadOver}
+use Rattle.kc_session.specs.private.Audiences.{LeadOver}
 use Rattle.kc_session.proofs.audience.show.Goals as goal
 
 pub show-requires-clause-vertices : goal.show-requires-clause-vertices

@@ -3,22 +3,22 @@ use Rattle.std.proofs.lemmas.Result.{err_from_is_err_and}
 use Rattle.kc_batch.specs.Tokens.{tokens_left}
 use Rattle.kc_engine.specs.States.{State}
 use Rattle.kc_session.specs.declared.counts.Counts.{Counts}
-use Rattle.kc_session.specs.Audiences.{shown_to}
-use Rattle.kc_session.specs.Running.{is_last_batch}
+use Rattle.kc_session.specs.private.Audiences.{shown_to}
+use Rattle.kc_session.specs.private.Running.{is_last_batch}
 use Rattle.kc_session.proofs.Steps.{sound_step, profile_step}
 use Rattle.kc_session.proofs.Runs.{told_first, told_step, told_last, told_end, told_unread, told_stopped, takes_some, not_end, few_more, fewer_more}
 use Rattle.kc_session.proofs.batches.run_batches.Goals as goal
 
-pub loop-next-init : goal.loop-next-init
-loop-next-init g c = let none = c.none-counts.ensures in record {
+pub loop-reporter-init : goal.loop-reporter-init
+loop-reporter-init g c = let none = c.none-counts.ensures in record {
   store = refl;
   abreast = c.requires.abreast;
   open_for = c.requires.open;
   vertices = c.requires.vertices;
   profile = refl;
-  empty = c.requires.empty;
+  report = c.new-reporter.ensures;
   told = told_first c.args.report _ _ _ _ _ none;
-  few = rw none (omega (arith, c.requires.budget));
+  few = rw none (omega (arith, c.has_budget.ensures.budget));
   fewer = rw none (omega arith);
   read_faults = refl;
   write_faults = refl;
@@ -26,58 +26,58 @@ loop-next-init g c = let none = c.none-counts.ensures in record {
 
 pub returns-in_err-next-clause-text : goal.returns-in_err-next-clause-text
 returns-in_err-next-clause-text g c =
-    let i = c.loop-next.invariant in
+    let i = c.loop-reporter.invariant in
     let p = err_from_is_err_and c.from_residual.result c.from_residual.ensures.1 in
     rw p.1
-    (told_unread c.args.report (record { profile = c.args.profile; n = c.args.n; asks = [] }) c.args.engine.now.state c.loop-next.engine.state _ c.loop-next.engine.state (tokens_left c.loop-next.reader (g.S.Source.left c.loop-next.src))
-    _ _ _ (shown_to c.loop-next.audience) _ c.loop-next.counts p.0 i.open_for.sound i.vertices i.told)
+    (told_unread c.args.report (record { profile = c.args.context.now.profile; n = c.args.context.now.n; asks = [] }) c.args.watched.now.engine.state c.loop-reporter.watched.engine.state _ c.loop-reporter.watched.engine.state (tokens_left c.loop-reporter.reader (g.S.Source.left c.loop-reporter.src))
+    _ _ _ (shown_to c.loop-reporter.watched.audience) _ c.loop-reporter.counts p.0 i.open_for.sound i.vertices i.told)
 
 pub returns-in-End-clause-text : goal.returns-in-End-clause-text
 returns-in-End-clause-text g c =
-    let i = c.loop-next.invariant in
-    (told_end c.args.report c.args.engine.now.state _ c.loop-next.engine.state c.in_ok-next.next _ _ _ _ _ (shown_to c.loop-next.audience) c.loop-next.counts c.in_ok-next.ensures.batches (rw c.in-End.is tt) i.told)
+    let i = c.loop-reporter.invariant in
+    (told_end c.args.report c.args.watched.now.engine.state _ c.loop-reporter.watched.engine.state c.in_ok-next.next _ _ _ _ _ (shown_to c.loop-reporter.watched.audience) c.loop-reporter.counts c.in_ok-next.ensures.batches (rw c.in-End.is tt) i.told)
 
 pub returns-in_err-counts-clause-text : goal.returns-in_err-counts-clause-text
 returns-in_err-counts-clause-text g c =
-    let i = c.loop-next.invariant in
+    let i = c.loop-reporter.invariant in
     let p = err_from_is_err_and c.from_residual-in_err-counts.result c.from_residual-in_err-counts.ensures.1 in
     rw p.1
-    (told_stopped c.args.report (record { profile = c.args.profile; n = c.args.n; asks = [] }) c.args.engine.now.state c.run_batch.new.engine.state _ c.loop-next.engine.state c.in_ok-next.next
-    (tokens_left c.loop-next.reader (g.S.Source.left c.loop-next.src)) _ _ _ _ _ (shown_to c.loop-next.audience) _ c.loop-next.counts p.0 i.open_for.sound i.vertices c.in_ok-next.ensures.batches (not_end c.in_ok-next.next c.in_default.not-End) i.told
-    c.in_err-counts.ensures.step)
+    (told_stopped c.args.report (record { profile = c.args.context.now.profile; n = c.args.context.now.n; asks = [] }) c.args.watched.now.engine.state c.run_batch.new.watched.engine.state _ c.loop-reporter.watched.engine.state c.in_ok-next.next
+    (tokens_left c.loop-reporter.reader (g.S.Source.left c.loop-reporter.src)) _ _ _ _ _ (shown_to c.loop-reporter.watched.audience) _ c.loop-reporter.counts p.0 i.open_for.sound i.vertices c.in_ok-next.ensures.batches (not_end c.in_ok-next.next c.in_default.not-End) i.told
+    (rw i.report at c.in_err-counts.ensures.step))
 
 pub returns-then-last-clause-text : goal.returns-then-last-clause-text
 returns-then-last-clause-text g c =
-    let i = c.loop-next.invariant in
-    told_last c.args.report c.args.engine.now.state _ c.loop-next.engine.state c.run_batch.new.engine.state c.in_ok-next.next _ _ _ _ _ _ (shown_to c.loop-next.audience) _ c.loop-next.counts c.in_ok-counts.counts
-    c.in_ok-next.ensures.batches (sym c.is_last-last.ensures ∙ c.if-last.true) i.told c.in_ok-counts.ensures.step
+    let i = c.loop-reporter.invariant in
+    told_last c.args.report c.args.watched.now.engine.state _ c.loop-reporter.watched.engine.state c.run_batch.new.watched.engine.state c.in_ok-next.next _ _ _ _ _ _ (shown_to c.loop-reporter.watched.audience) _ c.loop-reporter.counts c.in_ok-counts.counts
+    c.in_ok-next.ensures.batches (sym c.is_last-last.ensures ∙ c.if-last.true) i.told (rw i.report at c.in_ok-counts.ensures.step)
 
 pub run_batch-requires-clause-batch : goal.run_batch-requires-clause-batch
-run_batch-requires-clause-batch g c κs within = (c.args.profile, rw c.loop-next.invariant.vertices c.in_ok-next.ensures.sound)
+run_batch-requires-clause-batch g c κs within = (c.args.context.now.profile, rw c.loop-reporter.invariant.vertices c.in_ok-next.ensures.sound)
 
 pub run_batch-requires-clause-some : goal.run_batch-requires-clause-some
 run_batch-requires-clause-some g c κs within = not_end c.in_ok-next.next c.in_default.not-End
 
-pub loop-next-preserved : goal.loop-next-preserved
-loop-next-preserved g c =
-    let i = c.loop-next.invariant in
+pub loop-reporter-preserved : goal.loop-reporter-preserved
+loop-reporter-preserved g c =
+    let i = c.loop-reporter.invariant in
     let more = not_end c.in_ok-next.next c.in_default.not-End in
     let last : is_last_batch c.in_ok-next.next ≡ false = sym c.is_last-last.ensures ∙ c.if-last.false in
-    let step = c.in_ok-counts.ensures.step in
-    let z = sound_step c.loop-next.engine.state (record { profile = c.args.profile; n = c.args.n; asks = [] }) c.in_ok-next.next step.step i.open_for.sound i.vertices c.in_ok-next.ensures.sound step.is_step in
+    let step = rw i.report at c.in_ok-counts.ensures.step in
+    let z = sound_step c.loop-reporter.watched.engine.state (record { profile = c.args.context.now.profile; n = c.args.context.now.n; asks = [] }) c.in_ok-next.next step.step i.open_for.sound i.vertices c.in_ok-next.ensures.sound step.is_step in
     let takes = takes_some c.in_ok-next.next _ _ c.in_ok-next.ensures.takes more last in
     record {
       store = c.in_ok-counts.ensures.store ∙ i.store;
       abreast = c.in_ok-counts.ensures.abreast;
       open_for = c.in_ok-counts.ensures.open;
       vertices = rw step.last z.1;
-      profile = ap (λ (z : State). z.profile) step.last ∙ (profile_step c.loop-next.engine.state c.in_ok-next.next step.step step.is_step ∙ i.profile);
-      empty = c.in_ok-counts.ensures.empty;
+      profile = ap (λ (z : State). z.profile) step.last ∙ (profile_step c.loop-reporter.watched.engine.state c.in_ok-next.next step.step step.is_step ∙ i.profile);
+      report = c.in_ok-counts.ensures.report ∙ i.report;
       told =
-          told_step c.args.report c.args.engine.now.state _ c.loop-next.engine.state c.run_batch.new.engine.state c.in_ok-next.next _ _ _ _ _ _ (shown_to c.loop-next.audience) _ c.loop-next.counts c.in_ok-counts.counts
+          told_step c.args.report c.args.watched.now.engine.state _ c.loop-reporter.watched.engine.state c.run_batch.new.watched.engine.state c.in_ok-next.next _ _ _ _ _ _ (shown_to c.loop-reporter.watched.audience) _ c.loop-reporter.counts c.in_ok-counts.counts
           c.in_ok-next.ensures.batches more last i.told step;
       few = few_more _ _ _ _ _ (ap (λ (z : Counts). z.batches) step.counts) takes i.few;
-      fewer = fewer_more c.loop-next.engine.state c.in_ok-next.next step.step c.loop-next.counts c.in_ok-counts.counts step.counts i.fewer;
+      fewer = fewer_more c.loop-reporter.watched.engine.state c.in_ok-next.next step.step c.loop-reporter.counts c.in_ok-counts.counts step.counts i.fewer;
       read_faults = c.in_ok-next.ensures.cause ∙ i.read_faults;
       write_faults = c.in_ok-counts.ensures.cause ∙ i.write_faults;
     }

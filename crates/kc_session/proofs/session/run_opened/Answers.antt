@@ -1,7 +1,6 @@
 use Rattle.std.proofs.Common.{ℕ, List, refl, sym, ap, ◌∙◌, subst, arith}
 use Rattle.std.specs.Prelude.{All}
 use Rattle.std.proofs.lemmas.Result.{err_from_is_err_and}
-use Rattle.kc_batch.specs.HeaderShape.{HeaderShape}
 use Rattle.kc_batch.specs.Headers.{IsAsk}
 use Rattle.kc_batch.specs.Tokens.{tokens_left}
 use Rattle.kc_store.specs.Seats.{WriterShape}
@@ -9,7 +8,6 @@ use Rattle.kc_session.specs.declared.counts.Counts.{Counts}
 use Rattle.kc_session.specs.declared.ended.Ended.{Ended}
 use Rattle.kc_session.specs.Agents.{AgentShape}
 use Rattle.kc_session.specs.Asking.{HaveRun}
-use Rattle.kc_session.specs.States.{start}
 use Rattle.kc_session.proofs.AgentLists.{ready_to_run, ready_to_close}
 use Rattle.kc_session.proofs.AudienceLemmas.{store_has_writer, shown_by_writer, writer_is_abreast}
 use Rattle.kc_session.proofs.Causes.{same_cause, sent_cause}
@@ -18,50 +16,46 @@ use Rattle.kc_session.proofs.SessionTexts.{body_none, batches_prefix, batches_wr
 use Rattle.kc_session.proofs.session.run_opened.Goals as goal
 
 pub open_agents-requires-clause-few : goal.open_agents-requires-clause-few
-open_agents-requires-clause-few g c = let x = c.header.invariant.few in omega (arith, x)
+open_agents-requires-clause-few g c = let x = c.requires.asks.few in omega (arith, x)
 
 pub open_agents-requires-clause-ranges : goal.open_agents-requires-clause-ranges
 open_agents-requires-clause-ranges g c =
-    let size = c.requires.size ∙ ap (λ (z : HeaderShape). z.n) (sym c.header.view_is) in
-    subst (λ (k : ℕ). All (IsAsk k) c.header.inside.asks) (sym size) c.header.invariant.asks
+    subst (λ (k : ℕ). All (IsAsk k) c.args.opened.asks) (sym c.requires.size) c.requires.asks.each
 
 pub side_by_side-requires-clause-agents : goal.side_by_side-requires-clause-agents
-side_by_side-requires-clause-agents g c κs within = rw c.in_ok-agents.ensures.agents (ready_to_run c.args.store.now c.args.writer.state.history 0 c.header.inside.asks)
+side_by_side-requires-clause-agents g c κs within = rw c.in_ok-agents.ensures.agents (ready_to_run c.args.opened.store.now c.args.opened.writer.state.history 0 c.args.opened.asks)
 
 pub close_all-requires-clause-agents : goal.close_all-requires-clause-agents
 close_all-requires-clause-agents g c =
-    ready_to_close c.args.store.now c.args.writer.state.history 0 c.header.inside.asks c.side_by_side.new.agents.items
-    (subst (λ (xs : List AgentShape). HaveRun xs c.side_by_side.new.agents.items) c.in_ok-agents.ensures.agents c.side_by_side.ensures.agents)
+    ready_to_close c.args.opened.store.now c.args.opened.writer.state.history 0 c.args.opened.asks c.side_by_side.new.askers.agents.items
+    (subst (λ (xs : List AgentShape). HaveRun xs c.side_by_side.new.askers.agents.items) c.in_ok-agents.ensures.agents c.side_by_side.ensures.agents)
 
 pub write_rest-requires-clause-abreast : goal.write_rest-requires-clause-abreast
 write_rest-requires-clause-abreast g c =
-    let there = writer_is_abreast c.side_by_side.new.audience c.args.store.now c.into_writer-writer.result c.side_by_side.new.engine.state c.side_by_side.ensures.store c.into_writer-writer.ensures c.in_ok-counts.ensures.abreast in
-    joined_abreast c.into_writer-writer.result.state c.close_all.new.writer.state c.side_by_side.new.engine.state there.1 c.in_ok-lists.ensures.state
+    let there = writer_is_abreast c.side_by_side.new.watched.audience c.args.opened.store.now c.take_writer-writer.result c.side_by_side.new.watched.engine.state c.side_by_side.ensures.store c.take_writer-writer.ensures c.in_ok-counts.ensures.abreast in
+    joined_abreast c.take_writer-writer.result.state c.close_all.new.writer.state c.side_by_side.new.watched.engine.state there.1 c.in_ok-lists.ensures.state
 
 pub write_rest-requires-clause-few : goal.write_rest-requires-clause-few
 write_rest-requires-clause-few g c =
-    let size = c.requires.size ∙ ap (λ (z : HeaderShape). z.n) (sym c.header.view_is) in
-    let r = session_replies c.args.store.now c.header.inside.n c.args.writer.state.history c.into_writer-writer.result.state.history c.header.inside.asks c.in_ok-agents.agents.items c.side_by_side.new.agents.items c.in_ok-lists.lists.items size c.in_ok-agents.ensures.agents c.side_by_side.ensures.agents c.in_ok-lists.ensures.replies in
-    let few = few_replies c.header.inside.n c.header.inside.asks c.in_ok-lists.lists.items r.fit c.header.invariant.asks c.header.invariant.few in
+    let r = session_replies c.args.opened.store.now c.args.context.now.n c.args.opened.writer.state.history c.take_writer-writer.result.state.history c.args.opened.asks c.in_ok-agents.agents.items c.side_by_side.new.askers.agents.items c.in_ok-lists.lists.items c.requires.size c.in_ok-agents.ensures.agents c.side_by_side.ensures.agents c.in_ok-lists.ensures.replies in
+    let few = few_replies c.args.context.now.n c.args.opened.asks c.in_ok-lists.lists.items r.fit c.requires.asks.each c.requires.asks.few in
     rw c.as_slice.ensures.value few.1
 
 pub count_replies-replies-requires : goal.count_replies-replies-requires
 count_replies-replies-requires g c =
-    let size = c.requires.size ∙ ap (λ (z : HeaderShape). z.n) (sym c.header.view_is) in
-    let r = session_replies c.args.store.now c.header.inside.n c.args.writer.state.history c.into_writer-writer.result.state.history c.header.inside.asks c.in_ok-agents.agents.items c.side_by_side.new.agents.items c.in_ok-lists.lists.items size c.in_ok-agents.ensures.agents c.side_by_side.ensures.agents c.in_ok-lists.ensures.replies in
-    let few = few_replies c.header.inside.n c.header.inside.asks c.in_ok-lists.lists.items r.fit c.header.invariant.asks c.header.invariant.few in
+    let r = session_replies c.args.opened.store.now c.args.context.now.n c.args.opened.writer.state.history c.take_writer-writer.result.state.history c.args.opened.asks c.in_ok-agents.agents.items c.side_by_side.new.askers.agents.items c.in_ok-lists.lists.items c.requires.size c.in_ok-agents.ensures.agents c.side_by_side.ensures.agents c.in_ok-lists.ensures.replies in
+    let few = few_replies c.args.context.now.n c.args.opened.asks c.in_ok-lists.lists.items r.fit c.requires.asks.each c.requires.asks.few in
     rw c.as_slice-2.ensures.value few.0
 
 pub returns-in_err-agents-clause-text : goal.returns-in_err-agents-clause-text
 returns-in_err-agents-clause-text g c =
     let p = err_from_is_err_and c.from_residual.result c.from_residual.ensures.1 in
-    rw (p.1, ← c.header.view_is) (body_none (record { profile = c.header.inside.profile; n = c.header.inside.n; asks = c.header.inside.asks }) (tokens_left c.args.reader (g.S.Source.left c.args.src.now)) _ _ p.0 refl)
+    rw p.1 (body_none (record { profile = c.args.context.now.profile; n = c.args.context.now.n; asks = c.args.opened.asks }) (tokens_left c.args.reader (g.S.Source.left c.args.src.now)) _ _ p.0 refl)
 
 pub returns-in_err-counts-clause-text : goal.returns-in_err-counts-clause-text
 returns-in_err-counts-clause-text g c =
-    let first = c.requires.start ∙ ap (λ (z : HeaderShape). start z.profile z.n) (sym c.header.view_is) in
     let p = err_from_is_err_and c.from_residual-in_err-counts.result c.from_residual-in_err-counts.ensures.1 in
-    rw (p.1, ← c.header.view_is) (batches_prefix (record { profile = c.header.inside.profile; n = c.header.inside.n; asks = c.header.inside.asks }) (tokens_left c.args.reader (g.S.Source.left c.args.src.now)) _ _ _ _ _ _ p.0 _ first c.in_err-counts.ensures.text)
+    rw p.1 (batches_prefix (record { profile = c.args.context.now.profile; n = c.args.context.now.n; asks = c.args.opened.asks }) (tokens_left c.args.reader (g.S.Source.left c.args.src.now)) _ _ _ _ _ _ p.0 _ c.requires.start c.in_err-counts.ensures.text)
 
 pub returns-in_err-counts-clause-cause : goal.returns-in_err-counts-clause-cause
 returns-in_err-counts-clause-cause g c =
@@ -70,19 +64,16 @@ returns-in_err-counts-clause-cause g c =
 
 pub returns-in_err-lists-clause-text : goal.returns-in_err-lists-clause-text
 returns-in_err-lists-clause-text g c =
-    let first = c.requires.start ∙ ap (λ (z : HeaderShape). start z.profile z.n) (sym c.header.view_is) in
     let p = err_from_is_err_and c.from_residual-in_err-lists.result c.from_residual-in_err-lists.ensures.1 in
-    rw (p.1, ← c.header.view_is) (batches_written (record { profile = c.header.inside.profile; n = c.header.inside.n; asks = c.header.inside.asks }) (tokens_left c.args.reader (g.S.Source.left c.args.src.now)) _ _ _ _ _ _ c.in_ok-counts.counts p.0 first c.in_ok-counts.ensures.text)
+    rw p.1 (batches_written (record { profile = c.args.context.now.profile; n = c.args.context.now.n; asks = c.args.opened.asks }) (tokens_left c.args.reader (g.S.Source.left c.args.src.now)) _ _ _ _ _ _ c.in_ok-counts.counts p.0 c.requires.start c.in_ok-counts.ensures.text)
 
 pub returns-in_err-levels-clause-text : goal.returns-in_err-levels-clause-text
 returns-in_err-levels-clause-text g c =
-    let first = c.requires.start ∙ ap (λ (z : HeaderShape). start z.profile z.n) (sym c.header.view_is) in
     let none = ap (λ (w : WriterShape). w.state.history) c.in_ok-agents.ensures.same ∙ c.requires.none in
-    let size = c.requires.size ∙ ap (λ (z : HeaderShape). z.n) (sym c.header.view_is) in
-    let r = session_replies c.args.store.now c.header.inside.n c.args.writer.state.history c.into_writer-writer.result.state.history c.header.inside.asks c.in_ok-agents.agents.items c.side_by_side.new.agents.items c.in_ok-lists.lists.items size c.in_ok-agents.ensures.agents c.side_by_side.ensures.agents c.in_ok-lists.ensures.replies in
+    let r = session_replies c.args.opened.store.now c.args.context.now.n c.args.opened.writer.state.history c.take_writer-writer.result.state.history c.args.opened.asks c.in_ok-agents.agents.items c.side_by_side.new.askers.agents.items c.in_ok-lists.lists.items c.requires.size c.in_ok-agents.ensures.agents c.side_by_side.ensures.agents c.in_ok-lists.ensures.replies in
     let p = err_from_is_err_and c.from_residual-in_err-levels.result c.from_residual-in_err-levels.ensures.1 in
     let rest = rw c.as_slice.ensures.value at c.in_err-levels.ensures.text in
-    rw (p.1, ← c.header.view_is) (rest_prefix (record { profile = c.header.inside.profile; n = c.header.inside.n; asks = c.header.inside.asks }) (tokens_left c.args.reader (g.S.Source.left c.args.src.now)) _ _ _ _ _ _ _ c.in_ok-counts.counts c.in_ok-lists.lists.items p.0 first c.in_ok-counts.ensures.text (λ es e. replies_of c.header.inside.n _ _ c.header.inside.asks c.in_ok-lists.lists.items none r es (sym (shown_by_writer c.side_by_side.new.audience c.into_writer-writer.result c.into_writer-writer.ensures) ∙ e)) rest)
+    rw p.1 (rest_prefix (record { profile = c.args.context.now.profile; n = c.args.context.now.n; asks = c.args.opened.asks }) (tokens_left c.args.reader (g.S.Source.left c.args.src.now)) _ _ _ _ _ _ _ c.in_ok-counts.counts c.in_ok-lists.lists.items p.0 c.requires.start c.in_ok-counts.ensures.text (λ es e. replies_of c.args.context.now.n _ _ c.args.opened.asks c.in_ok-lists.lists.items none r es (sym (shown_by_writer c.side_by_side.new.watched.audience c.take_writer-writer.result c.take_writer-writer.ensures) ∙ e)) rest)
 
 pub returns-in_err-levels-clause-cause : goal.returns-in_err-levels-clause-cause
 returns-in_err-levels-clause-cause g c =
@@ -91,16 +82,14 @@ returns-in_err-levels-clause-cause g c =
 
 pub returns-clause-text : goal.returns-clause-text
 returns-clause-text g c =
-    let first = c.requires.start ∙ ap (λ (z : HeaderShape). start z.profile z.n) (sym c.header.view_is) in
     let none = ap (λ (w : WriterShape). w.state.history) c.in_ok-agents.ensures.same ∙ c.requires.none in
-    let size = c.requires.size ∙ ap (λ (z : HeaderShape). z.n) (sym c.header.view_is) in
-    let r = session_replies c.args.store.now c.header.inside.n c.args.writer.state.history c.into_writer-writer.result.state.history c.header.inside.asks c.in_ok-agents.agents.items c.side_by_side.new.agents.items c.in_ok-lists.lists.items size c.in_ok-agents.ensures.agents c.side_by_side.ensures.agents c.in_ok-lists.ensures.replies in
+    let r = session_replies c.args.opened.store.now c.args.context.now.n c.args.opened.writer.state.history c.take_writer-writer.result.state.history c.args.opened.asks c.in_ok-agents.agents.items c.side_by_side.new.askers.agents.items c.in_ok-lists.lists.items c.requires.size c.in_ok-agents.ensures.agents c.side_by_side.ensures.agents c.in_ok-lists.ensures.replies in
     let rest = rw c.as_slice.ensures.value at c.in_ok-levels.ensures.text in
-    rw (← c.header.view_is) (rest_written (record { profile = c.header.inside.profile; n = c.header.inside.n; asks = c.header.inside.asks }) (tokens_left c.args.reader (g.S.Source.left c.args.src.now)) _ _ _ _ _ _ _ c.in_ok-counts.counts c.in_ok-lists.lists.items c.as_slice-3.result.now c.with.result first c.in_ok-counts.ensures.text (λ es e. replies_of c.header.inside.n _ _ c.header.inside.asks c.in_ok-lists.lists.items none r es (sym (shown_by_writer c.side_by_side.new.audience c.into_writer-writer.result c.into_writer-writer.ensures) ∙ e)) rest (c.as_slice-3.ensures.value ∙ c.in_ok-levels.ensures.levels) (rw (c.count_replies-replies.ensures, c.as_slice-2.ensures.value) at c.with.ensures))
+    (rest_written (record { profile = c.args.context.now.profile; n = c.args.context.now.n; asks = c.args.opened.asks }) (tokens_left c.args.reader (g.S.Source.left c.args.src.now)) _ _ _ _ _ _ _ c.in_ok-counts.counts c.in_ok-lists.lists.items c.as_slice-3.result.now c.with.result c.requires.start c.in_ok-counts.ensures.text (λ es e. replies_of c.args.context.now.n _ _ c.args.opened.asks c.in_ok-lists.lists.items none r es (sym (shown_by_writer c.side_by_side.new.watched.audience c.take_writer-writer.result c.take_writer-writer.ensures) ∙ e)) rest (c.as_slice-3.ensures.value ∙ c.in_ok-levels.ensures.levels) (rw (c.count_replies-replies.ensures, c.as_slice-2.ensures.value) at c.with.ensures))
 
 pub close_all-requires-clause-table : goal.close_all-requires-clause-table
 close_all-requires-clause-table g c =
-    (writer_is_abreast c.side_by_side.new.audience c.args.store.now c.into_writer-writer.result c.side_by_side.new.engine.state c.side_by_side.ensures.store c.into_writer-writer.ensures c.in_ok-counts.ensures.abreast).0
+    (writer_is_abreast c.side_by_side.new.watched.audience c.args.opened.store.now c.take_writer-writer.result c.side_by_side.new.watched.engine.state c.side_by_side.ensures.store c.take_writer-writer.ensures c.in_ok-counts.ensures.abreast).0
 
-pub into_writer-writer-requires : goal.into_writer-writer-requires
-into_writer-writer-requires g c = store_has_writer c.side_by_side.new.audience c.args.store.now c.side_by_side.ensures.store
+pub take_writer-writer-requires : goal.take_writer-writer-requires
+take_writer-writer-requires g c = store_has_writer c.side_by_side.new.watched.audience c.args.opened.store.now c.side_by_side.ensures.store

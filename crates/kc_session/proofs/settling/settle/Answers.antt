@@ -24,11 +24,12 @@ returns-in_err-counts-clause-cause g c =
     rw p.1 (same_cause Counts Settled _ _ _ _ _ p.0 p.2 c.in_err-counts.ensures.cause)
 
 pub returns-clause-text : goal.returns-clause-text
-returns-clause-text g c = rw (← c.header.view_is) (settles_whole (record { profile = c.header.inside.profile; n = c.header.inside.n; asks = c.header.inside.asks }) _ _ _ _ _ _ c.in_ok-counts.counts _ c.in_ok-engine.ensures.state refl c.in_ok-counts.ensures.text)
+returns-clause-text g c = rw (← c.header.view_is, c.into_engine.ensures) (settles_whole (record { profile = c.header.inside.profile; n = c.header.inside.n; asks = c.header.inside.asks }) _ _ _ _ _ _ c.in_ok-counts.counts _ c.in_ok-engine.ensures.state refl c.in_ok-counts.ensures.text)
 
 pub returns-clause-settled : goal.returns-clause-settled
-returns-clause-settled g c = rw (← c.header.view_is) (record {
+returns-clause-settled g c = rw (← c.header.view_is, c.into_engine.ensures) (record {
   running = c.in_ok-counts.ensures.open.running;
+  none_waits = c.in_ok-counts.ensures.open.none_waits;
   profile = c.in_ok-counts.ensures.profile ∙ ap (λ (z : State). z.profile) c.in_ok-engine.ensures.state;
   vertices = c.in_ok-counts.ensures.vertices;
   sound = c.in_ok-counts.ensures.open.sound;

@@ -1,5 +1,5 @@
 use Rattle.std.proofs.lemmas.Result.{err_from_is_err_and}
-use Rattle.kc_text.proofs.Known.{appends_then}
+use Rattle.kc_text.proofs.lemmas.Writing.{appends_then}
 use Rattle.kc_report.specs.Lines.{end_line}
 use Rattle.kc_session.specs.VertexLines.{vertex_lines}
 use Rattle.kc_session.proofs.Tails.{tail_appends, tail_prefix}

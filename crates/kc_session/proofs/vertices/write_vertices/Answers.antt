@@ -1,6 +1,6 @@
 use Rattle.std.proofs.Common.{arith, ◌∙◌, refl}
 use Rattle.std.proofs.lemmas.Result.{err_from_is_err_and}
-use Rattle.kc_text.proofs.Known.{append_none}
+use Rattle.kc_text.proofs.lemmas.Writing.{append_none}
 use Rattle.kc_session.specs.VertexLines.{vertex_lines}
 use Rattle.kc_session.proofs.Tails.{lines_more, lines_prefix}
 use Rattle.kc_session.proofs.vertices.write_vertices.Goals as goal

@@ -1,5 +1,5 @@
 use Rattle.std.proofs.Common.{◌<◌, ◌-◌, ◌^◌, length}
-use Rattle.kc_text.specs.Numbers.{DigitsAt}
+use Rattle.kc_text.specs.private.Numbers.{DigitsAt}
 use Rattle.kc_text.proofs.number.pass_digits.Given as goal
 
 abbrev pub invariant-loop-at : goal.invariant-loop-at

@@ -1,4 +1,4 @@
-use Rattle.kcore.proofs.CheckLines.{sent_as}
+use Rattle.kc_report.proofs.lemmas.Lines.{sent_as}
 use Rattle.kcore.proofs.check.write_verdict.Goals as goal
 
 pub returns-in-Ok-clause-text : goal.returns-in-Ok-clause-text

@@ -1,7 +1,7 @@
 use Rattle.std.proofs.Common.{◌++◌, length}
 use Rattle.std.specs.List.{flat_map}
 use Rattle.std.proofs.lemmas.Result.{err_from_is_err_and}
-use Rattle.kc_text.proofs.Known.{prefix_longer, appends_then}
+use Rattle.kc_text.proofs.lemmas.Writing.{prefix_longer, appends_then}
 use Rattle.kc_report.specs.Lines.{end_line}
 use Rattle.kcore.specs.DenseLines.{size_line, member_line}
 use Rattle.kcore.proofs.dense.write_after_head.Goals as goal

@@ -1,5 +1,5 @@
 use Rattle.std.proofs.lemmas.Result.{err_from_is_err_and}
-use Rattle.kc_text.proofs.Known.{prefix_longer, appends_then}
+use Rattle.kc_text.proofs.lemmas.Writing.{prefix_longer, appends_then}
 use Rattle.kc_report.specs.Lines.{vertices_line}
 use Rattle.kcore.specs.DenseLines.{dense_magic_line}
 use Rattle.kcore.proofs.dense_lines.write_dense_head.Goals as goal

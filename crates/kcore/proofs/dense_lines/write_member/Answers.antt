@@ -1,4 +1,4 @@
-use Rattle.kc_report.proofs.LineLemmas.{sent_as}
+use Rattle.kc_report.proofs.lemmas.Lines.{sent_as}
 use Rattle.kcore.proofs.DenseLineLemmas.{member_filled}
 use Rattle.kcore.proofs.dense_lines.write_member.Goals as goal
 

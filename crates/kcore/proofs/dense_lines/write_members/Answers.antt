@@ -1,7 +1,7 @@
 use Rattle.std.proofs.Common.{◌∙◌, refl, get_or}
 use Rattle.std.proofs.lemmas.Result.{err_from_is_err_and}
-use Rattle.kc_text.proofs.Known.{append_none}
-use Rattle.kc_report.proofs.TextLemmas.{texts_more, texts_prefix}
+use Rattle.kc_text.proofs.lemmas.Writing.{append_none}
+use Rattle.kc_report.proofs.lemmas.Texts.{texts_more, texts_prefix}
 use Rattle.kcore.specs.DenseLines.{member_line}
 use Rattle.kcore.proofs.dense_lines.write_members.Goals as goal
 

@@ -1,6 +1,6 @@
 use Rattle.std.proofs.Common.{arith, ◌∙◌, refl}
 use Rattle.std.proofs.lemmas.Result.{err_from_is_err_and}
-use Rattle.kc_text.proofs.Known.{append_none}
+use Rattle.kc_text.proofs.lemmas.Writing.{append_none}
 use Rattle.kcore.specs.ExactText.{exact_vertex_text}
 use Rattle.kcore.specs.VertexLines.{vertex_lines}
 use Rattle.kcore.proofs.VertexLines.{lines_more, lines_prefix}

@@ -1,8 +1,8 @@
-use Rattle.std.proofs.Common.{◌∙◌, sym, refl, arith, inl, inr}
+use Rattle.std.proofs.Common.{◌∙◌, sym, refl, inl, inr}
 use Rattle.std.proofs.lemmas.Result.{err_from_is_err_and}
 use Rattle.kc_graph.specs.declared.limits.TheConstants.{MAX_ITEMS}
 use Rattle.kc_batch.specs.Kept.{kept_left}
-use Rattle.kc_batch.proofs.InputLemmas.{told_input, told_accepted, told_refused}
+use Rattle.kc_batch.proofs.lemmas.Inputs.{told_input, told_accepted, told_refused}
 use Rattle.kcore.specs.declared.limits.TheConstants.{LINE_LIMIT, INPUT_LIMIT}
 use Rattle.kcore.proofs.Openings.{is_refused}
 use Rattle.kcore.proofs.inputs.open_input.Goals as goal
@@ -11,9 +11,6 @@ pub returns-in_err-reader-clause-text : goal.returns-in_err-reader-clause-text
 returns-in_err-reader-clause-text g c =
     let p = err_from_is_err_and c.from_residual.result c.from_residual.ensures.1 in
     rw p.1 (inl refl)
-
-pub returns-in-Ok-clause-budget : goal.returns-in-Ok-clause-budget
-returns-in-Ok-clause-budget g c = omega (arith, c.in-Ok.ensures.budget, c.in_ok-reader.ensures.budget)
 
 pub returns-in-Ok-clause-text : goal.returns-in-Ok-clause-text
 returns-in-Ok-clause-text g c =

@@ -1,4 +1,4 @@
-use Rattle.kcore.proofs.CheckLines.{sent_as}
+use Rattle.kc_report.proofs.lemmas.Lines.{sent_as}
 use Rattle.kcore.proofs.load_line.write_load.Goals as goal
 
 pub returns-in-Ok-clause-text : goal.returns-in-Ok-clause-text

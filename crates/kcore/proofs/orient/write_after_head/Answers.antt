@@ -1,5 +1,5 @@
 use Rattle.std.proofs.lemmas.Result.{err_from_is_err_and}
-use Rattle.kc_text.proofs.Known.{prefix_longer, appends_then}
+use Rattle.kc_text.proofs.lemmas.Writing.{prefix_longer, appends_then}
 use Rattle.kc_report.specs.Lines.{end_line}
 use Rattle.kcore.specs.OrientText.{oriented_vertex_text}
 use Rattle.kcore.specs.VertexLines.{vertex_lines}

@@ -1,5 +1,5 @@
 use Rattle.std.proofs.lemmas.Result.{err_from_is_err_and}
-use Rattle.kc_text.proofs.Known.{prefix_longer, appends_then}
+use Rattle.kc_text.proofs.lemmas.Writing.{prefix_longer, appends_then}
 use Rattle.kc_report.specs.Lines.{vertices_line}
 use Rattle.kcore.specs.OrientLines.{orient_magic_line}
 use Rattle.kcore.proofs.orient_lines.write_orient_head.Goals as goal

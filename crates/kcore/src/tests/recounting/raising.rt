@@ -3,8 +3,8 @@ ghost use Rattle.std.specs.Bool.{OnTrue, OnFalse};
 ghost use Rattle.kc_graph.specs.Shape.{IsGraph, neighbours_of};
 ghost use Rattle.kc_levels.specs.Thresholds.{top_level};
 ghost use Rattle.kc_levels.specs.LevelList.{MeetsUpper, IsRaised};
-ghost use Rattle.kcore.specs.Waiting.{all_queued};
-ghost use Rattle.kcore.specs.Rising.{IsRising};
+ghost use Rattle.kcore.specs.private.Waiting.{all_queued};
+ghost use Rattle.kcore.specs.private.Rising.{IsRising};
 
 use super::waiting::Waiting;
 use kc_graph::Graph;

@@ -1,5 +1,5 @@
 ghost use Rattle.std.specs.Prelude.{◌≡◌, ℕ, ◌<◌, [], ◌∷◌, false, List, IfOk, IfSome, IfNone, OnOk, OnErr};
-ghost use Rattle.kcore.specs.Waiting.{queued};
+ghost use Rattle.kcore.specs.private.Waiting.{queued};
 
 use std::alloc::{AllocError, Global};
 use std::collections::VecDeque;
@@ -19,7 +19,7 @@ pub struct Waiting {
 
 impl Model for Waiting {
     ghost use Rattle.std.specs.Prelude.{length};
-    ghost use Rattle.kcore.specs.Waiting.{Queue, IsFlagged};
+    ghost use Rattle.kcore.specs.private.Waiting.{Queue, IsFlagged};
 
     ghost Value = { Queue };
 

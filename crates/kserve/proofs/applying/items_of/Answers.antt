@@ -1,6 +1,6 @@
-use Rattle.std.proofs.Common.{◌≡◌, ◌∙◌, true, false, ap, sym, get_or}
+use Rattle.std.proofs.Common.{◌∙◌, sym}
 use Rattle.std.proofs.lemmas.List.Folds.{list_all_at}
-use Rattle.kserve.specs.Fitting.{is_due}
+use Rattle.kserve.specs.private.Fitting.{is_due}
 use Rattle.kserve.proofs.LineLemmas.{none}
 use Rattle.kserve.proofs.ItemLemmas.{items_more, due_more}
 use Rattle.kserve.proofs.applying.items_of.Goals as goal

@@ -1,5 +1,6 @@
 use Rattle.std.proofs.Common.{◌≡◌, true, take}
-use Rattle.kserve.specs.Fitting.{items_of, are_due}
+use Rattle.kserve.specs.Fitting.{items_of}
+use Rattle.kserve.specs.private.Fitting.{are_due}
 use Rattle.kserve.proofs.applying.items_of.Given as goal
 
 abbrev pub invariant-loop-update : goal.invariant-loop-update

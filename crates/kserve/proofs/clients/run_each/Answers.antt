@@ -1,5 +1,5 @@
 use Rattle.std.proofs.Common.{◌≡◌, ◌∙◌, [], sym, rules, get_or}
-use Rattle.kserve.specs.Clients.{ended_client}
+use Rattle.kserve.specs.private.Clients.{ended_client}
 use Rattle.kserve.proofs.clients.run_each.Goals as goal
 
 pub returns : goal.returns

@@ -1,5 +1,5 @@
 use Rattle.std.proofs.Common.{◌≡◌, take}
-use Rattle.kserve.specs.Clients.{ended_client}
+use Rattle.kserve.specs.private.Clients.{ended_client}
 use Rattle.kserve.proofs.clients.submit_script.Given as goal
 
 abbrev pub invariant-loop-i : goal.invariant-loop-i

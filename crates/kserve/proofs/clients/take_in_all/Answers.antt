@@ -6,7 +6,7 @@ use Rattle.kc_intake.specs.declared.updates.Update.{Update}
 use Rattle.kc_intake.specs.Updates.{updates_of, updates_in, all_updates}
 use Rattle.kc_intake.specs.Views.{ClientShape, DrainerShape, submitted}
 use Rattle.kserve.proofs.ClientLemmas.{moved_over, all_over, next_of_all}
-use Rattle.kserve.specs.Clients.{AreTakenIn}
+use Rattle.kserve.specs.private.Clients.{AreTakenIn}
 use Rattle.kserve.proofs.clients.take_in_all.Goals as goal
 
 pub take_in-requires-clause-intake : goal.take_in-requires-clause-intake

@@ -1,5 +1,5 @@
 use Rattle.std.proofs.Common.{◌≡◌, ◌++◌}
-use Rattle.kserve.specs.Clients.{AreTakenIn}
+use Rattle.kserve.specs.private.Clients.{AreTakenIn}
 use Rattle.kserve.proofs.clients.take_in_all.Given as goal
 
 abbrev pub invariant-loop-client : goal.invariant-loop-client

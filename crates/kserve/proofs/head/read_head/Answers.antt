@@ -1,7 +1,7 @@
 use Rattle.std.proofs.Common.{◌∙◌, sym}
 use Rattle.std.proofs.lemmas.Result.{IfOk-weaker}
 use Rattle.kc_text.specs.Reading.{onto}
-use Rattle.kc_batch.proofs.Stepping.{step_on}
+use Rattle.kc_batch.proofs.lemmas.Inputs.{step_on}
 use Rattle.kserve.specs.declared.head.Head.TheVariants as head
 use Rattle.kserve.specs.Inputs.{input_from, after_magic, after_head}
 use Rattle.kserve.proofs.Heads.{magic_there, magic_missing}

@@ -1,6 +1,6 @@
 use Rattle.std.proofs.Common.{◌∙◌, sym}
 use Rattle.kc_text.specs.Reading.{onto}
-use Rattle.kc_batch.proofs.Stepping.{step_on}
+use Rattle.kc_batch.proofs.lemmas.Inputs.{step_on}
 use Rattle.kserve.specs.declared.head.Head.TheVariants as head
 use Rattle.kserve.specs.Inputs.{after_magic, after_head}
 use Rattle.kserve.proofs.Heads.{vertices_there, vertices_missing}

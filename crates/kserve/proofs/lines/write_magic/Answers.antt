@@ -1,5 +1,5 @@
 use Rattle.std.proofs.Common.{refl}
-use Rattle.kc_report.proofs.LineLemmas.{sent_as}
+use Rattle.kc_report.proofs.lemmas.Lines.{sent_as}
 use Rattle.kserve.proofs.lines.write_magic.Goals as goal
 
 pub returns-in-Ok-clause-text : goal.returns-in-Ok-clause-text

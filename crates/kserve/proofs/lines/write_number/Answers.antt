@@ -1,4 +1,4 @@
-use Rattle.kc_report.proofs.LineLemmas.{sent_as}
+use Rattle.kc_report.proofs.lemmas.Lines.{sent_as}
 use Rattle.kserve.proofs.LineLemmas.{batch_filled}
 use Rattle.kserve.proofs.lines.write_number.Goals as goal
 

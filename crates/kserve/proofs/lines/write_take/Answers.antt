@@ -1,4 +1,4 @@
-use Rattle.kc_report.proofs.LineLemmas.{sent_as}
+use Rattle.kc_report.proofs.lemmas.Lines.{sent_as}
 use Rattle.kserve.proofs.lines.write_take.Goals as goal
 
 pub returns-in-Ok-clause-text : goal.returns-in-Ok-clause-text

@@ -1,8 +1,8 @@
 use Rattle.std.proofs.Common.{◌∙◌, refl, get_or}
 use Rattle.kserve.proofs.LineLemmas.{none}
 use Rattle.std.proofs.lemmas.Result.{err_from_is_err_and}
-use Rattle.kc_text.proofs.Known.{append_none}
-use Rattle.kc_report.proofs.TextLemmas.{texts_more, texts_prefix}
+use Rattle.kc_text.proofs.lemmas.Writing.{append_none}
+use Rattle.kc_report.proofs.lemmas.Texts.{texts_more, texts_prefix}
 use Rattle.kserve.specs.Lines.{take_line}
 use Rattle.kserve.proofs.lines.write_takes.Goals as goal
 

@@ -3,7 +3,7 @@ use Rattle.std.specs.Option.{option_map}
 use Rattle.kc_graph.specs.declared.limits.TheConstants.{MAX_ITEMS}
 use Rattle.kc_batch.specs.Batches.{batches_left}
 use Rattle.kc_intake.specs.declared.limits.TheConstants.{MAX_CLIENTS}
-use Rattle.kserve.specs.Fitting.{is_due}
+use Rattle.kserve.specs.private.Fitting.{is_due}
 use Rattle.kserve.specs.Inputs.{rules_for, items_in, scripts_from}
 use Rattle.kserve.proofs.reading.read_scripts.Given as goal
 

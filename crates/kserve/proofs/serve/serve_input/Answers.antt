@@ -1,7 +1,7 @@
-use Rattle.std.proofs.Common.{refl, ◌∙◌}
+use Rattle.std.proofs.Common.{refl}
 use Rattle.std.specs.Prelude.{Bool}
 use Rattle.std.proofs.lemmas.Result.{err_from_is_err_and}
-use Rattle.kserve.proofs.ServingLemmas.{whole_written, some_written, refusal_written, refusal_prefix, unread, reading_cause, writing_cause, sent_cause}
+use Rattle.kserve.proofs.ServingLemmas.{some_written, refusal_prefix, unread, reading_cause, writing_cause, sent_cause}
 use Rattle.kserve.specs.declared.reading.Said.{Said}
 use Rattle.kserve.proofs.serve.serve_input.Goals as goal
 

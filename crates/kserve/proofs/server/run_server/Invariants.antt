@@ -3,9 +3,9 @@ use Rattle.kc_graph.specs.declared.limits.TheConstants.{MAX_ITEMS}
 use Rattle.kc_intake.specs.Updates.{all_updates}
 use Rattle.kserve.specs.declared.limits.TheConstants.{CAPACITY}
 use Rattle.kserve.specs.Batches.{start}
-use Rattle.kserve.specs.Faults.{StopCause}
-use Rattle.kserve.specs.Clients.{AreDrained}
-use Rattle.kserve.specs.Serving.{Serves}
+use Rattle.kserve.specs.private.Faults.{StopCause}
+use Rattle.kserve.specs.private.Clients.{AreDrained}
+use Rattle.kserve.specs.private.Serving.{Serves}
 use Rattle.kserve.proofs.ServerLemmas.{IsRunning}
 use Rattle.kserve.proofs.server.run_server.Given as goal
 

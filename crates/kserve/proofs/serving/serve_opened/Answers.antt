@@ -1,4 +1,4 @@
-use Rattle.std.proofs.Common.{refl, ◌∙◌}
+use Rattle.std.proofs.Common.{◌∙◌}
 use Rattle.std.proofs.lemmas.Result.{err_from_is_err_and}
 use Rattle.kserve.proofs.Fitting.{can_serve}
 use Rattle.kserve.proofs.ServingLemmas.{head_stopped, batches_stopped, tail_stopped, served_whole, vertices_served, sent_cause, same_cause}

@@ -1,5 +1,5 @@
 use Rattle.std.proofs.Common.{◌≡◌}
-use Rattle.kc_store.specs.Showing.{HasCleared}
+use Rattle.kc_store.specs.private.Showing.{HasCleared}
 use Rattle.store_bench.proofs.showing.clear_group.Given as goal
 
 abbrev pub invariant-loop-i : goal.invariant-loop-i

@@ -1,4 +1,4 @@
-use Rattle.std.proofs.Common.{◌≡◌, ◌≤◌}
+use Rattle.std.proofs.Common.{◌≡◌}
 use Rattle.store_bench.proofs.showing.mark.Given as goal
 
 abbrev pub invariant-loop-place : goal.invariant-loop-place

@@ -1,4 +1,4 @@
-use Rattle.std.proofs.Common.{sym, ap, ◌∙◌, ℕ, ◌+◌, ◌≤◌, arith, subst}
+use Rattle.std.proofs.Common.{sym, ap, ◌∙◌, ℕ, ◌+◌, arith}
 use Rattle.store_bench.proofs.Shows.{on_true, may_begin_joined, idle_joined}
 use Rattle.store_bench.proofs.showing.may_begin.Goals as goal
 

@@ -1,5 +1,5 @@
 use Rattle.std.proofs.Common.{◌≡◌}
-use Rattle.store_bench.specs.Showing.{IsShowing}
+use Rattle.store_bench.specs.private.Showing.{IsShowing}
 use Rattle.store_bench.proofs.showing.show.Given as goal
 
 abbrev pub invariant-loop-g : goal.invariant-loop-g

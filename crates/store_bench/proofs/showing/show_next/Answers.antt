@@ -1,4 +1,3 @@
-use Rattle.std.proofs.Common.{sym}
 use Rattle.store_bench.proofs.Shows.{idle_shown}
 use Rattle.store_bench.proofs.showing.show_next.Goals as goal
 

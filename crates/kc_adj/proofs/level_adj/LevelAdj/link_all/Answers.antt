@@ -1,5 +1,5 @@
 use Rattle.std.proofs.Common.{sym}
-use Rattle.kc_graph.proofs.ChangeLemmas.{can_add_ascending}
+use Rattle.kc_graph.proofs.lemmas.Changes.{can_add_ascending}
 use Rattle.kc_adj.proofs.level_adj.LevelAdj.link_all.Goals as goal
 
 pub link_all-requires : goal.link_all-requires

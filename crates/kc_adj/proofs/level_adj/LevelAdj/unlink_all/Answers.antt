@@ -1,5 +1,5 @@
 use Rattle.std.proofs.Common.{sym}
-use Rattle.kc_graph.proofs.ChangeLemmas.{can_remove_ascending}
+use Rattle.kc_graph.proofs.lemmas.Changes.{can_remove_ascending}
 use Rattle.kc_adj.proofs.level_adj.LevelAdj.unlink_all.Goals as goal
 
 pub unlink_all-requires : goal.unlink_all-requires

@@ -1,7 +1,7 @@
 use Rattle.std.proofs.Common.{◌<◌, List, length, sym, subst}
 use Rattle.std.specs.List.{All}
 use Rattle.kc_levels.specs.declared.moves.Move.{Move}
-use Rattle.kc_levels.proofs.MovesBetween.{moves_own}
+use Rattle.kc_levels.proofs.lemmas.Moves.{moves_own}
 use Rattle.kc_delete.proofs.fallen.Fallen.take_moves.Goals as goal
 
 pub follow-requires : goal.follow-requires

@@ -1,6 +1,6 @@
 use Rattle.std.proofs.Common.{ap, ◌∙◌}
 use Rattle.kc_graph.specs.Shape.{GraphShape}
-use Rattle.kc_graph.proofs.ChangeLemmas.{vertices-without_edges}
+use Rattle.kc_graph.proofs.lemmas.Changes.{vertices-without_edges}
 use Rattle.kc_delete.proofs.tests.recounting.compare_batch.Goals as goal
 
 pub delete_phase-requires-clause-ascending : goal.delete_phase-requires-clause-ascending

@@ -3,8 +3,8 @@ use Rattle.std.proofs.lemmas.List.{nil_from_length}
 use Rattle.std.proofs.lemmas.List.Elements.{All-from_get_or}
 use Rattle.kc_graph.specs.Numbers.{has_number}
 use Rattle.kc_levels.specs.Thresholds.{top_level}
-use Rattle.kc_delete.specs.Settling.{is_short}
-use Rattle.kc_delete.specs.Waiting.{AreFiled, IsSifted}
+use Rattle.kc_delete.specs.private.Settling.{is_short}
+use Rattle.kc_delete.specs.private.Waiting.{AreFiled, IsSifted}
 use Rattle.kc_delete.proofs.WaitingLemmas.{if_none, round_begun, filed_last, filed_none, round_inside, sifted_then, sifted_round, filed_movers, movers_inside}
 use Rattle.kc_delete.proofs.waiting.Waiting.next.Goals as goal
 

@@ -1,5 +1,5 @@
 use Rattle.std.proofs.Common.{◌-◌, length}
-use Rattle.kc_delete.specs.Waiting.{AreFiled, IsSifted}
+use Rattle.kc_delete.specs.private.Waiting.{AreFiled, IsSifted}
 use Rattle.kc_delete.proofs.waiting.Waiting.next.Given as goal
 
 abbrev pub invariant-loop-taken : goal.invariant-loop-taken

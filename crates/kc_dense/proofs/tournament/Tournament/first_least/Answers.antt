@@ -1,5 +1,5 @@
 use Rattle.std.proofs.Common.{ℕ, List, ◌+◌, ◌*◌, subst, sym}
-use Rattle.kc_dense.specs.Tournaments.{IsFirstLeastWithin}
+use Rattle.kc_dense.specs.private.Tournaments.{IsFirstLeastWithin}
 use Rattle.kc_dense.proofs.TournamentLemmas.{descent_first, descent_more, descent_last}
 use Rattle.kc_dense.proofs.tournament.Tournament.first_least.Goals as goal
 

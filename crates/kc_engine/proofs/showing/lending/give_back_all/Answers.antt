@@ -2,7 +2,7 @@ use Rattle.std.proofs.Common.{◌≡◌, length, List, [], ◌∷◌, sym, ap, �
 use Rattle.std.proofs.lemmas.Grind.{common_steps}
 use Rattle.std.proofs.lemmas.List.{get_or_append_left}
 use Rattle.kc_store.specs.Seats.{MarkerShape, WriterShape}
-use Rattle.kc_engine.specs.Lending.{all_returned}
+use Rattle.kc_engine.specs.private.Lending.{all_returned}
 use Rattle.kc_engine.proofs.Loans.{returned_last}
 use Rattle.kc_engine.proofs.showing.lending.give_back_all.Goals as goal
 use Rattle.kc_engine.proofs.showing.lending.give_back_all.Goals.{in-Some, in_default}

@@ -1,6 +1,6 @@
 use Rattle.std.proofs.Common.{◌≡◌, ◌+◌, length, All}
 use Rattle.std.specs.Prelude.{vec_capacity}
-use Rattle.kc_engine.specs.Lending.{all_returned}
+use Rattle.kc_engine.specs.private.Lending.{all_returned}
 use Rattle.kc_engine.proofs.showing.lending.give_back_all.Given as goal
 
 abbrev pub invariant-loop-turn : goal.invariant-loop-turn

@@ -3,7 +3,7 @@ use Rattle.std.specs.Prelude.{vec_len, vec_capacity}
 use Rattle.kc_store.specs.declared.roles.WriterState.{WriterState}
 use Rattle.kc_store.specs.Seats.{MarkerShape, WriterShape}
 use Rattle.kc_store.specs.States.{marker_for}
-use Rattle.kc_engine.specs.Lending.{AreLent}
+use Rattle.kc_engine.specs.private.Lending.{AreLent}
 use Rattle.kc_engine.proofs.Loans.{lent_more, next_place}
 use Rattle.kc_engine.proofs.showing.lending.lend_all.Goals as goal
 use Rattle.kc_engine.proofs.showing.lending.lend_all.Goals.{then-from-moves, else-from-moves}
@@ -22,8 +22,8 @@ loop-worker-preserved c =
     elim c.if-from-moves.branch [
       | then-from-moves w ↦
           let to : ℕ = w.range_end-to.result in
-          let made : w.lend-marker.result ≡ record { table = old.table; state = marker_for c.args.g c.loop-worker.from to mid.state } =
-          w.lend-marker.ensures.marker ∙ ap (λ t. record { table = t; state = marker_for c.args.g c.loop-worker.from to mid.state }) inv.0 in
+          let made : w.lend-marker.result ≡ record { table = old.table; state = marker_for c.args.group.now.g c.loop-worker.from to mid.state } =
+          w.lend-marker.ensures.marker ∙ ap (λ t. record { table = t; state = marker_for c.args.group.now.g c.loop-worker.from to mid.state }) inv.0 in
           let pushed : later.markers.items ≡ c.loop-worker.markers.items ++ w.lend-marker.result ∷ [] = search rules in
           let longer : vec_len later.markers ≡ vec_len c.loop-worker.markers + 1 = search rules in
           let wider : vec_capacity c.loop-worker.markers ≤ vec_capacity later.markers = search rules in
@@ -32,12 +32,12 @@ loop-worker-preserved c =
           let here = w.from-is in
           let before = w.if-from-moves.true in (
             ap (λ (z : WriterShape). z.table) went ∙ inv.0,
-            subst (λ (z : ℕ). AreLent old.table c.args.g z old.state later.writer.state later.markers.items) (sym w.from-is)
-                (lent_more old.table c.args.g c.loop-worker.from to old.state mid.state later.writer.state c.loop-worker.markers.items later.markers.items w.lend-marker.result inv.1 w.range_end-to.ensures.later (ap (λ (z : WriterShape). z.state) went) made pushed),
+            subst (λ (z : ℕ). AreLent old.table c.args.group.now.g z old.state later.writer.state later.markers.items) (sym w.from-is)
+                (lent_more old.table c.args.group.now.g c.loop-worker.from to old.state mid.state later.writer.state c.loop-worker.markers.items later.markers.items w.lend-marker.result inv.1 w.range_end-to.ensures.later (ap (λ (z : WriterShape). z.state) went) made pushed),
             omega (arith, inside, here),
-            ⊎_elim (λ (e : to ≡ c.args.moves). inl (w.from-is ∙ e))
+            ⊎_elim (λ (e : to ≡ c.args.group.now.moves). inl (w.from-is ∙ e))
                 (λ (e : to ≡ c.loop-worker.from + size).
-                ⊎_elim (λ (f : c.loop-worker.from ≡ c.args.moves). absurd (omega (arith, f, before)))
+                ⊎_elim (λ (f : c.loop-worker.from ≡ c.args.group.now.moves). absurd (omega (arith, f, before)))
                 (λ (f : c.loop-worker.from ≡ k * size). inr (w.from-is ∙ (e ∙ (ap (λ (z : ℕ). z + size) f ∙ sym more))))
                 inv.3)
                 w.range_end-to.ensures.long,
@@ -51,10 +51,10 @@ loop-worker-preserved c =
           let length = ap (λ v. vec_len v) w.markers-is in
           let capacity = ap (λ v. vec_capacity v) w.markers-is in (
             ap (λ (z : WriterShape). z.table) w.writer-is ∙ inv.0,
-            subst (λ (z : ℕ × WriterState × List MarkerShape). AreLent old.table c.args.g z.0 old.state z.1 z.2)
+            subst (λ (z : ℕ × WriterState × List MarkerShape). AreLent old.table c.args.group.now.g z.0 old.state z.1 z.2)
                 (λ i. (sym w.from-is i, (sym w.writer-is i).state, (sym w.markers-is i).items)) inv.1,
             omega (arith, here, inside),
-            inl (let e : later.from ≡ c.args.moves = omega (arith, here, inside, past) in e),
+            inl (let e : later.from ≡ c.args.group.now.moves = omega (arith, here, inside, past) in e),
             omega (arith, length, held),
             omega (arith, capacity, room),
           )

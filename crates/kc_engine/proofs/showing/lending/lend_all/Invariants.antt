@@ -1,6 +1,6 @@
 use Rattle.std.proofs.Common.{◌≡◌, ◌⊎◌, ◌*◌, ◌≤◌}
 use Rattle.std.specs.Prelude.{vec_len, vec_capacity}
-use Rattle.kc_engine.specs.Lending.{AreLent}
+use Rattle.kc_engine.specs.private.Lending.{AreLent}
 use Rattle.kc_engine.proofs.showing.lending.lend_all.Given as goal
 
 abbrev pub invariant-loop-worker : goal.invariant-loop-worker

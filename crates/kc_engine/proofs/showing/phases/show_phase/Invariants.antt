@@ -1,5 +1,5 @@
 use Rattle.std.proofs.Common.{◌≡◌}
-use Rattle.kc_store.specs.Showing.{HasShown}
+use Rattle.kc_store.specs.private.Showing.{HasShown}
 use Rattle.kc_engine.proofs.showing.phases.show_phase.Given as goal
 
 abbrev pub invariant-loop-g : goal.invariant-loop-g

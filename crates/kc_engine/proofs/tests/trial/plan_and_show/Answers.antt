@@ -1,4 +1,4 @@
-use Rattle.std.proofs.Common.{◌≡◌, sym, ap, ◌∙◌, subst}
+use Rattle.std.proofs.Common.{sym, subst}
 use Rattle.kc_engine.specs.Planning.{EngineView, IsPlanned}
 use Rattle.kc_engine.specs.Showing.{IsAbreast}
 use Rattle.kc_engine.proofs.ShowLaw.{planned_vertices, planned_continues, planned_abreast}

@@ -1,7 +1,7 @@
 use Rattle.std.proofs.Common.{ℕ, ◌≡◌, ◌∙◌, true, List, ap, sym, arith}
 use Rattle.kc_graph.specs.Shape.{EdgesFrom, has_edge}
 use Rattle.kc_graph.specs.Changes.{CanAdd, AllAbsent}
-use Rattle.kc_graph.specs.Halves.{AreGiven, AreGivenSome, AreTaken}
+use Rattle.kc_graph.specs.private.Halves.{AreGiven, AreGivenSome, AreTaken}
 use Rattle.kc_graph.proofs.ChangeLemmas.{can_add_ascending}
 use Rattle.kc_graph.proofs.GivenLemmas.{graph_of, halves_inside, kept_given, graph_given, undone_all}
 use Rattle.kc_graph.proofs.graphs.Graph.insert_all.Goals as goal

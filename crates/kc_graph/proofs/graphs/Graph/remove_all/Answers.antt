@@ -1,7 +1,7 @@
 use Rattle.std.proofs.Common.{◌≡◌, ◌∙◌, true, sym, arith}
 use Rattle.kc_graph.specs.Shape.{EdgesFrom, has_edge}
 use Rattle.kc_graph.specs.Changes.{CanRemove}
-use Rattle.kc_graph.specs.Halves.{AreTaken}
+use Rattle.kc_graph.specs.private.Halves.{AreTaken}
 use Rattle.kc_graph.proofs.ChangeLemmas.{can_remove_ascending}
 use Rattle.kc_graph.proofs.GivenLemmas.{graph_of, halves_inside, kept_taken, graph_taken, no_more_edges}
 use Rattle.kc_graph.proofs.graphs.Graph.remove_all.Goals as goal

@@ -1,6 +1,6 @@
 use Rattle.std.proofs.Common.{◌++◌, ◌∙◌, ap, refl, arith}
 use Rattle.kc_graph.specs.declared.later.Later.{Later}
-use Rattle.kc_graph.specs.Later.{untouched_at}
+use Rattle.kc_graph.specs.private.Later.{untouched_at}
 use Rattle.kc_graph.proofs.LaterLemmas.{neighbours_apart, all_noted, row_idle, row_works}
 use Rattle.kc_graph.proofs.later.Later.isolate.Goals.{then-len-before, else-len-before}
 use Rattle.kc_graph.proofs.later.Later.isolate.Goals as goal

@@ -1,5 +1,5 @@
 use Rattle.std.proofs.Common.{◌∙◌, sym, ap}
-use Rattle.kc_graph.specs.Numbers.{put}
+use Rattle.kc_graph.specs.private.Numbers.{put}
 use Rattle.kc_graph.proofs.SearchLemmas.{inserted, pushed, put_found}
 use Rattle.kc_graph.proofs.rows.Row.insert.Goals as goal
 
@@ -25,3 +25,12 @@ pub returns-in_ok-insert-in-Err-clause-ok : goal.returns-in_ok-insert-in-Err-cla
 returns-in_ok-insert-in-Err-clause-ok c =
     (inserted _ _ _ _ c.self.invariant (rw c.deref-2.ensures.value at c.in-Err.ensures) c.in_ok-insert-in-Err.ensures.items).0
     ∙ ap (put c.args.x) c.self.view_is
+
+pub returns-then-ends_below-clause-rises : goal.returns-then-ends_below-clause-rises
+returns-then-ends_below-clause-rises c =
+    let above = rw c.deref.ensures.value at c.ends_below.ensures in
+    (pushed _ _ c.args.x c.self.invariant (above.0 c.if-ends_below.true) c.in_ok-push.ensures.items).1
+
+pub returns-in_ok-insert-in-Err-clause-rises : goal.returns-in_ok-insert-in-Err-clause-rises
+returns-in_ok-insert-in-Err-clause-rises c =
+    (inserted _ _ _ _ c.self.invariant (rw c.deref-2.ensures.value at c.in-Err.ensures) c.in_ok-insert-in-Err.ensures.items).1

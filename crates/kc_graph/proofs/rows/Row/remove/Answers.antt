@@ -1,5 +1,5 @@
 use Rattle.std.proofs.Common.{◌∙◌, sym, ap}
-use Rattle.kc_graph.specs.Numbers.{without}
+use Rattle.kc_graph.specs.private.Numbers.{without}
 use Rattle.kc_graph.proofs.SearchLemmas.{removed, without_not_found}
 use Rattle.kc_graph.proofs.rows.Row.remove.Goals as goal
 
@@ -7,11 +7,15 @@ pub invariant_of-self : goal.invariant_of-self
 invariant_of-self c =
     (removed _ _ _ _ c.self.invariant (rw c.deref.ensures.value at c.in-Ok.ensures) c.remove.ensures.items).1
 
-pub returns-in-Ok : goal.returns-in-Ok
-returns-in-Ok c =
+pub returns-in-Ok-clause-value : goal.returns-in-Ok-clause-value
+returns-in-Ok-clause-value c =
     (removed _ _ _ _ c.self.invariant (rw c.deref.ensures.value at c.in-Ok.ensures) c.remove.ensures.items).0
     ∙ ap (without c.args.x) c.self.view_is
 
-pub returns-in_default : goal.returns-in_default
-returns-in_default c =
+pub returns-in_default-clause-value : goal.returns-in_default-clause-value
+returns-in_default-clause-value c =
     sym (without_not_found _ c.args.x _ (rw (c.deref.ensures.value, c.self.view_is) at c.in_default.ensures))
+
+pub returns-in-Ok-clause-rises : goal.returns-in-Ok-clause-rises
+returns-in-Ok-clause-rises c =
+    (removed _ _ _ _ c.self.invariant (rw c.deref.ensures.value at c.in-Ok.ensures) c.remove.ensures.items).1

@@ -2,7 +2,7 @@ use Rattle.std.proofs.Common.{ℕ, ◌≡◌, ◌≢◌, List, length, take}
 use Rattle.std.specs.List.{All}
 use Rattle.kc_levels.specs.declared.moves.Move.{Move}
 use Rattle.kc_levels.specs.Moved.{moves_between}
-use Rattle.kc_levels.specs.Following.{IsCopied}
+use Rattle.kc_levels.specs.private.Following.{IsCopied}
 use Rattle.kc_levels.proofs.levels.Levels.follow.Given as goal
 
 abbrev pub invariant-loop-m : goal.invariant-loop-m

@@ -1,12 +1,10 @@
-use Rattle.std.proofs.Common.{ℕ, ◌≡◌, ◌<◌, ◌≤◌, ◌+◌, List, [], length, get_or, sym, ap, ◌∙◌, arith, subst}
+use Rattle.std.proofs.Common.{ℕ, ◌≡◌, ◌<◌, ◌+◌, List, [], length, get_or, sym, ap, ◌∙◌, arith, subst}
 use Rattle.std.specs.Prelude.{All}
 use Rattle.std.specs.List.{slice_range}
 use Rattle.std.proofs.lemmas.List.{get_or_read}
-use Rattle.kc_graph.specs.declared.limits.TheConstants.{MAX_VERTICES}
 use Rattle.kc_graph.specs.Numbers.{RisesFrom}
-use Rattle.kc_graph.proofs.NumberLemmas.{all_from_below}
+use Rattle.kc_graph.proofs.lemmas.Numbers.{all_from_below}
 use Rattle.kc_orient.specs.Shape.{OrientationShape, IsOriented}
-use Rattle.kc_orient.specs.Layout.{list_at}
 use Rattle.kc_orient.proofs.Kept.{shape-at, fewer_out}
 use Rattle.kc_orient.proofs.orientation.Orientation.out.Goals as goal
 use Rattle.kc_orient.proofs.orientation.Orientation.out.Goals.{After-result-1}

@@ -2,7 +2,8 @@ use Rattle.std.proofs.Common.{rules, ◌≡◌, ◌<◌, ◌^◌, ℕ, refl, sym
 use Rattle.kc_groups.specs.declared.plans.PhasePlan.{PhasePlan}
 use Rattle.kc_groups.specs.WellFormed.{vertex_at}
 use Rattle.kc_words.specs.Packed.{packed}
-use Rattle.kc_store.specs.Plans.{Move, IsMoveAt}
+use Rattle.kc_store.specs.Plans.{Move}
+use Rattle.kc_store.specs.private.Plans.{IsMoveAt}
 use Rattle.kc_store.specs.Seats.{marker_of}
 use Rattle.kc_store.proofs.Limits.{vertex_fits, phase_fits}
 use Rattle.kc_store.proofs.Forms.{label_same}

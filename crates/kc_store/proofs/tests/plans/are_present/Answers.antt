@@ -1,7 +1,7 @@
 use Rattle.std.proofs.Common.{◌≡◌, ◌<◌, true, arith, subst, sym}
 use Rattle.std.proofs.lemmas.List.Elements.{All-from_get_or}
 use Rattle.kc_graph.specs.Shape.{Pair, has_edge}
-use Rattle.kc_graph.proofs.ChangeLemmas.{inside_from_ascending}
+use Rattle.kc_graph.proofs.lemmas.Changes.{inside_from_ascending}
 use Rattle.kc_store.proofs.tests.plans.are_present.Goals as goal
 
 pub has-requires : goal.has-requires

@@ -1,5 +1,5 @@
 use Rattle.std.proofs.Common.{◌≡◌}
-use Rattle.kc_store.specs.Showing.{HasMarked}
+use Rattle.kc_store.specs.private.Showing.{HasMarked}
 use Rattle.kc_store.proofs.tests.showing.mark_group.Given as goal
 
 abbrev pub invariant-loop-i : goal.invariant-loop-i

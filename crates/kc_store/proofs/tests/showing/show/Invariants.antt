@@ -1,5 +1,5 @@
 use Rattle.std.proofs.Common.{◌≡◌}
-use Rattle.kc_store.specs.Showing.{HasShown}
+use Rattle.kc_store.specs.private.Showing.{HasShown}
 use Rattle.kc_store.proofs.tests.showing.show.Given as goal
 
 abbrev pub invariant-loop-g : goal.invariant-loop-g

@@ -1,7 +1,8 @@
 use Rattle.std.proofs.Common.{rules, ◌≡◌, ◌<◌, sym, ap, ◌∙◌, subst, arith}
 use Rattle.kc_groups.specs.declared.plans.PhasePlan.{PhasePlan}
 use Rattle.kc_words.specs.Packed.{packed}
-use Rattle.kc_store.specs.Plans.{Move, IsMoveAt}
+use Rattle.kc_store.specs.Plans.{Move}
+use Rattle.kc_store.specs.private.Plans.{IsMoveAt}
 use Rattle.kc_store.proofs.Views.{writers_move, writer_cleared}
 use Rattle.kc_store.proofs.Calls.{clears_from}
 use Rattle.kc_store.proofs.writer.Writer.clear.Goals as goal

@@ -1,7 +1,8 @@
 use Rattle.std.proofs.Common.{rules, ◌≡◌, ◌<◌, ◌≤◌, ◌^◌, refl, sym, ap, ◌∙◌, subst, arith}
 use Rattle.kc_groups.specs.declared.plans.PhasePlan.{PhasePlan}
 use Rattle.kc_words.specs.Packed.{packed}
-use Rattle.kc_store.specs.Plans.{Move, IsMoveAt}
+use Rattle.kc_store.specs.Plans.{Move}
+use Rattle.kc_store.specs.private.Plans.{IsMoveAt}
 use Rattle.kc_store.proofs.Limits.{vertex_fits, phase_fits}
 use Rattle.kc_store.proofs.Forms.{label_same}
 use Rattle.kc_store.proofs.Views.{writers_move, writer_marked, marks_after, same_vertices}

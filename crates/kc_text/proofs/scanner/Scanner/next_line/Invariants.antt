@@ -1,6 +1,7 @@
 use Rattle.std.proofs.Common.{◌≡◌, true}
-use Rattle.kc_text.specs.Scanning.{scan_lines_left, scan_budget, is_scan_decided}
-use Rattle.kc_text.specs.ScannerSteps.{work}
+use Rattle.kc_text.specs.private.Scanning.{scan_lines_left}
+use Rattle.kc_text.specs.Scanning.{scan_budget, is_scan_decided}
+use Rattle.kc_text.specs.private.ScannerSteps.{work}
 use Rattle.kc_text.proofs.scanner.Scanner.next_line.Given as goal
 
 abbrev pub invariant-loop-line : goal.invariant-loop-line

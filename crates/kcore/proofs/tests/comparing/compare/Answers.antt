@@ -2,8 +2,8 @@ use Rattle.std.proofs.Common.{ℕ, ◌≡◌, List, [], replicate, refl}
 use Rattle.kc_graph.specs.Shape.{GraphShape}
 use Rattle.kc_levels.specs.declared.profile.Profile.TheVariants.{One}
 use Rattle.kc_levels.specs.Thresholds.{Scale}
-use Rattle.kc_session.proofs.Steps.{sound_start}
-use Rattle.kcore.specs.Rising.{IsPlain}
+use Rattle.kc_session.proofs.lemmas.Runs.{sound_start}
+use Rattle.kcore.specs.private.Rising.{IsPlain}
 use Rattle.kcore.proofs.tests.comparing.compare.Goals as goal
 
 plain_start : (th : Scale) (g : GraphShape) (x : List ℕ) → th.profile ≡ One → th.vertices ≡ 14 → g ≡ record { vertices = 14; edges = [] } → x ≡ replicate 14 0 → IsPlain th 14 g x

@@ -1,4 +1,4 @@
-use Rattle.kcore.specs.Rising.{IsPlain}
+use Rattle.kcore.specs.private.Rising.{IsPlain}
 use Rattle.kcore.proofs.tests.comparing.compare.Given as goal
 
 abbrev pub invariant-loop : goal.invariant-loop

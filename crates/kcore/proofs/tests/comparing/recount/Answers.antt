@@ -1,6 +1,6 @@
 use Rattle.std.proofs.Common.{◌≡◌, ap, sym, ◌∙◌}
 use Rattle.kc_graph.specs.Shape.{GraphShape}
-use Rattle.kc_graph.proofs.ChangeLemmas.{vertices-with_edges}
+use Rattle.kc_graph.proofs.lemmas.Changes.{vertices-with_edges}
 use Rattle.kcore.proofs.tests.comparing.recount.Goals as goal
 
 pub insert_rounds-requires-clause-ascending : goal.insert_rounds-requires-clause-ascending

@@ -1,7 +1,7 @@
 use Rattle.std.proofs.Common.{◌≡◌, drop}
 use Rattle.kc_graph.specs.Shape.{with_edges}
 use Rattle.kc_graph.specs.Changes.{CanAdd}
-use Rattle.kcore.specs.Waiting.{all_queued, ends_of}
+use Rattle.kcore.specs.private.Waiting.{all_queued, ends_of}
 use Rattle.kcore.proofs.tests.recounting.insert_edges.Given as goal
 
 abbrev pub invariant-loop-e : goal.invariant-loop-e

@@ -1,6 +1,6 @@
 use Rattle.std.proofs.Common.{◌≡◌, ℕ, List, length, ap, sym, ◌∙◌}
 use Rattle.kc_graph.specs.Shape.{GraphShape}
-use Rattle.kc_graph.proofs.ChangeLemmas.{can_add_ascending, vertices-with_edges, is_graph-with_edges}
+use Rattle.kc_graph.proofs.lemmas.Changes.{can_add_ascending, vertices-with_edges, insertions_keep_graph}
 use Rattle.kc_levels.specs.Moved.{moved_count}
 use Rattle.kcore.proofs.RisingLemmas.{rising_first, edges_in_order}
 use Rattle.kcore.proofs.tests.recounting.insert_rounds.Goals as goal
@@ -11,7 +11,7 @@ insert_edges-requires-clause-addable g c = can_add_ascending c.args.graph.now 0 
 pub raise_waiting-requires-clause-graph : goal.raise_waiting-requires-clause-graph
 raise_waiting-requires-clause-graph g c =
     rw c.in_ok-insert_edges.ensures.graph
-    (is_graph-with_edges c.args.graph.now c.args.added.now c.vertices.ensures.graph (edges_in_order c.args.graph.now.vertices 0 0 c.args.added.now c.requires.ascending))
+    (insertions_keep_graph c.args.graph.now c.args.added.now c.vertices.ensures.graph (edges_in_order c.args.graph.now.vertices 0 0 c.args.added.now c.requires.ascending))
 
 pub raise_waiting-requires-clause-scale : goal.raise_waiting-requires-clause-scale
 raise_waiting-requires-clause-scale g c =

@@ -1,6 +1,6 @@
 use Rattle.std.proofs.Common.{◌≡◌, take, get_or, eqb}
 use Rattle.std.specs.Prelude.{filter}
-use Rattle.kcore.specs.Waiting.{all_queued}
+use Rattle.kcore.specs.private.Waiting.{all_queued}
 use Rattle.kcore.proofs.tests.recounting.raising.add_neighbours_on.Given as goal
 
 abbrev pub invariant-loop-w : goal.invariant-loop-w

@@ -1,5 +1,5 @@
 use Rattle.std.proofs.Common.{◌≡◌}
-use Rattle.kcore.specs.Rising.{IsRising}
+use Rattle.kcore.specs.private.Rising.{IsRising}
 use Rattle.kcore.proofs.RisingLemmas.{work_left}
 use Rattle.kcore.proofs.tests.recounting.raising.raise_waiting.Given as goal
 

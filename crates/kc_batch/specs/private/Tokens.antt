@@ -1,0 +1,42 @@
+-- How tokens follow one another from a reader.
+use Rattle.std.specs.Prelude.{ℕ, ◌≡◌, ◌<◌, ◌≤◌, List, [], ◌∷◌, Option, Some, None, if◌then◌else◌}
+use Rattle.kc_text.specs.Words.{words, is_skip}
+use Rattle.kc_text.specs.Numbers.{number_of}
+use Rattle.kc_batch.specs.declared.token.Token.{Token}
+use Rattle.kc_batch.specs.declared.token.Kind.{Kind}
+use Rattle.kc_batch.specs.declared.token.Kind.TheVariants.{Limit, InputEnd}
+use Rattle.kc_batch.specs.Tokens.{kind_of_words}
+
+-- these are two words that say u and v
+pub record AreNumbers (ws : List (List ℕ)) (u v : ℕ) : Type 0 where
+  pub first : List ℕ
+  pub second : List ℕ
+  pub words_are : ws ≡ first ∷ second ∷ []
+  pub first_is : number_of first ≡ Some u
+  pub second_is : number_of second ≡ Some v
+
+-- what a text says, unless it is skipped
+unfoldable pub kind_of_text : List ℕ → Option Kind
+kind_of_text text = if is_skip (words text) then None else Some (kind_of_words (words text))
+
+-- the tokens that follow one of this kind: none after the end of the input or its limit
+abbrev pub behind_kind : Kind → List Token → List Token
+behind_kind Limit rest = []
+behind_kind InputEnd rest = []
+behind_kind _ rest = rest
+
+-- a token and what follows it
+abbrev pub onto_token : Token → List Token → List Token
+onto_token t rest = t ∷ behind_kind t.kind rest
+
+-- a token that comes again at each later call
+abbrev pub IsLastKind : Kind → Type 0
+IsLastKind Limit = Unit {0}
+IsLastKind InputEnd = Unit {0}
+IsLastKind _ = ⊥
+
+-- a token takes some of a reader's budget, and the last gives none back
+abbrev pub TakesToken : Kind → ℕ → ℕ → Type 0
+TakesToken Limit old new = new ≤ old
+TakesToken InputEnd old new = new ≤ old
+TakesToken _ old new = new < old

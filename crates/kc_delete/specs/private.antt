@@ -1,0 +1,4 @@
+-- Words of private contracts and loop invariants: no public contract needs them.
+pub mod Fallen
+pub mod Settling
+pub mod Waiting

@@ -1,0 +1,39 @@
+-- Lowering with marks at the vertices that are still to be looked at.
+use Rattle.std.specs.Prelude.{ℕ, ◌-◌, ◌≤◌, ◌<◌, ◌≡◌, ◌⊎◌, ◌&&◌, nat_lt, Bool, true, false, List, [], ◌∷◌, length, get_or}
+use Rattle.kc_graph.specs.Shape.{GraphShape, Pair}
+use Rattle.kc_levels.specs.declared.profile.Profile.{Profile}
+use Rattle.kc_levels.specs.Thresholds.{low, group_of}
+use Rattle.kc_levels.specs.LevelList.{at_least, MeetsLower}
+use Rattle.kc_levels.specs.private.LevelList.{IsLowering}
+
+-- v waits, or has enough neighbours to stand on its level
+abbrev pub WaitsOrMeets : Profile → GraphShape → List ℕ → List Bool → ℕ → Type 0
+WaitsOrMeets p g y waits v = (get_or waits v false ≡ true) ⊎ MeetsLower p g y v
+
+-- the levels x have come to y, and each vertex that breaks the lower invariant waits
+pub record IsSettling (p : Profile) (g : GraphShape) (x y : List ℕ) (waits : List Bool) : Type 0 where
+  pub lowering : IsLowering p g x y
+  pub sized : length waits ≡ g.vertices
+  pub meets : (v : ℕ) → v < g.vertices → WaitsOrMeets p g y waits v
+
+-- whether v has too few neighbours to stand on its level
+abbrev pub is_short : Profile → GraphShape → List ℕ → ℕ → Bool
+is_short p g y v = nat_lt 0 (get_or y v 0) && nat_lt (at_least g y v (get_or y v 0 - 1)) (low p (group_of p g.vertices (get_or y v 0 - 1)))
+
+-- who waits before waits after
+abbrev pub StillWait : List Bool → List Bool → Type 0
+StillWait before after = (v : ℕ) → get_or before v false ≡ true → get_or after v false ≡ true
+
+-- a neighbour on this level counts from the level below on, and counts a vertex that goes from one level down to another
+-- before and after, or neither before nor after
+abbrev pub IsUntouched : ℕ → ℕ → ℕ → Type 0
+IsUntouched from to level = (level - 1 ≤ to) ⊎ (from < level - 1)
+
+-- w was looked at after a neighbour went from one level down to another
+abbrev pub IsLookedAt : Profile → GraphShape → ℕ → ℕ → List ℕ → List Bool → ℕ → Type 0
+IsLookedAt p g from to y waits w = IsUntouched from to (get_or y w 0) ⊎ WaitsOrMeets p g y waits w
+
+-- both ends of each edge
+abbrev pub ends_of : List Pair → List ℕ
+ends_of [] = []
+ends_of (e ∷ es) = e.0 ∷ e.1 ∷ ends_of es

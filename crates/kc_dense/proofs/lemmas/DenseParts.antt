@@ -1,0 +1,8 @@
+-- What other crates may cite of dense parts of a graph.
+
+-- each graph has a dense part
+pub use Rattle.kc_dense.proofs.PeelingLemmas.{each_has_dense_part}
+-- and only one
+pub use Rattle.kc_dense.proofs.PeelingLemmas.{dense_part_is_one}
+-- no vertices of the graph are more than twice as dense
+pub use Rattle.kc_dense.proofs.FactorLemmas.{dense_part_is_half_as_dense}

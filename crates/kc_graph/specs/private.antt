@@ -1,0 +1,7 @@
+-- Words of private contracts and loop invariants: no public contract needs them.
+pub mod EdgeLists
+pub mod Halves
+pub mod KeptRows
+pub mod Keys
+pub mod Later
+pub mod Numbers

@@ -1,0 +1,40 @@
+-- How vertices that move are numbered, joined and labelled.
+use Rattle.std.specs.Prelude.{ℕ, ◌<◌, ◌≡◌, nat_lt, Bool, false, ◌&&◌, List, length, get_or}
+use Rattle.kc_graph.specs.Numbers.{RisesFrom, AllBelow, has_number}
+use Rattle.kc_graph.specs.Shape.{GraphShape, Pair, neighbours_of, has_edge}
+use Rattle.kc_levels.specs.declared.moves.Move.{Move}
+use Rattle.kc_groups.specs.Gathering.{vertices}
+
+-- whether v is the vertex of a move
+abbrev pub is_mover : List Move → ℕ → Bool
+is_mover ms v = has_number v (vertices ms)
+
+-- each of n vertices that isn't among the movers has the number n
+abbrev pub HaveNone : ℕ → List ℕ → List ℕ → Type 0
+HaveNone n movers numbers = (v : ℕ) → v < n → has_number v movers ≡ false → get_or numbers v 0 ≡ n
+
+-- the place of each of n vertices in the list of movers, and n for every other vertex
+pub record AreNumbered (n : ℕ) (movers places : List ℕ) : Type 0 where
+  pub rises : RisesFrom 0 movers
+  pub below : AllBelow n movers
+  pub sized : length places ≡ n
+  pub at : (i : ℕ) → i < length movers → get_or places (get_or movers i 0) 0 ≡ i
+  pub none : HaveNone n movers places
+
+-- whether the vertex at place j comes before the one at place i and is in a list of its neighbours
+abbrev pub is_near : List ℕ → List ℕ → ℕ → ℕ → Bool
+is_near movers items i j = nat_lt j i && has_number (get_or movers j 0) items
+
+-- whether the movers at places i and j, of which i is below k, are joined in the graph, j being the lesser place
+abbrev pub in_rows : GraphShape → List ℕ → ℕ → ℕ → ℕ → Bool
+in_rows g movers k i j = nat_lt i k && is_near movers (neighbours_of (get_or movers i 0) g.edges) i j
+
+-- whether an edge leads from the mover at place i to the one at place j
+abbrev pub in_edges : List Pair → List ℕ → ℕ → ℕ → Bool
+in_edges edges movers i j = has_edge (get_or movers i 0, get_or movers j 0) edges
+
+-- the label of each mover is that of its root, and no other vertex has one
+pub record AreLabelled (n : ℕ) (movers roots labels : List ℕ) : Type 0 where
+  pub sized : length labels ≡ n
+  pub at : (i : ℕ) → i < length movers → get_or labels (get_or movers i 0) 0 ≡ get_or movers (get_or roots i 0) 0
+  pub none : HaveNone n movers labels

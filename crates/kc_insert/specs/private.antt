@@ -1,0 +1,7 @@
+-- Words of private contracts and loop invariants: no public contract needs them.
+pub mod BucketQueue
+pub mod Counting
+pub mod Meetings
+pub mod Round
+pub mod Sweeping
+pub mod Together

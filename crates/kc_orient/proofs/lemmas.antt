@@ -1,0 +1,2 @@
+pub mod Colourings
+pub mod Orientations

@@ -1,0 +1,8 @@
+-- What other crates may cite of orientations and out-neighbours.
+
+-- there is a list of out-neighbours for each vertex
+pub use Rattle.kc_orient.proofs.Upward.{outs_sized}
+-- and the list of v is that of its out-neighbours
+pub use Rattle.kc_orient.proofs.Upward.{outs_at}
+-- a vertex that meets Upper has at most as many out-neighbours as `high` of its group
+pub use Rattle.kc_orient.proofs.Upward.{out_neighbours_are_few}

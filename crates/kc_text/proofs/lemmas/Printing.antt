@@ -1,0 +1,8 @@
+-- What other crates may cite of texts that are read back.
+
+-- lines that are printed are read back as those lines
+pub use Rattle.kc_text.proofs.PrintedText.{lines_back as lines_are_read_back}
+-- so are words of a line
+pub use Rattle.kc_text.proofs.PrintedText.{words_back as words_are_read_back}
+-- and so are numbers
+pub use Rattle.kc_text.proofs.PrintedText.{numbers_back as numbers_are_read_back}

@@ -1,0 +1,6 @@
+-- Words of private contracts and loop invariants: no public contract needs them.
+pub mod Numbers
+pub mod Reading
+pub mod ScannerState
+pub mod ScannerSteps
+pub mod Scanning

@@ -1,0 +1,10 @@
+-- For private contracts: what an input of scripts says: `kserve 1`, then `vertices N`, then a block for each client. All lines are lines that aren't skipped;
+use Rattle.std.specs.Prelude.{◌≤◌}
+use Rattle.kc_graph.specs.declared.limits.TheConstants.{MAX_VERTICES}
+use Rattle.kserve.specs.declared.head.Head.{Head}
+use Rattle.kserve.specs.declared.head.Head.TheVariants as head
+
+-- the range of a number of vertices
+abbrev pub HasRange : Head → Type 0
+HasRange (head.Vertices n) = (1 ≤ n) × (n ≤ MAX_VERTICES)
+HasRange (head.Refused line) = Unit {0}
