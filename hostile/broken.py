@@ -63,15 +63,15 @@ def great_inputs(kcore):
     yield great(kcore, "1 GiB of line feeds", b"", b"\n" * MEBIBYTE, GIBIBYTE, b"refused line %d header\n" % (GIBIBYTE + 1), GIBIBYTE)
 
 
-def great(kcore, name, start, more, most, text, size=1 << 40):
-    """Runs `run 1` on a beginning and then this over and over, up to a size. It is refused, and reads not much more than `most`."""
+def great(kcore, name, start, more, most, text, size=1 << 40, command="run 1", of=""):
+    """Runs a command on a beginning and then this over and over, up to a size. It is refused, and reads not much more than `most`."""
     def pieces():
         yield start
         for _ in range((size - len(start)) // len(more)):
             yield more
 
-    trial = Trial(f"run 1, {name}")
-    ended, given = kcore.program.feed(["run", "1"], pieces())
+    trial = Trial(f"{of} {command}, {name}".strip())
+    ended, given = kcore.program.feed(command.split(), pieces())
     trial.ended(name, ended, {REFUSED: "whole"}, text)
     trial.holds(ended.memory < MOST_MEMORY, f"it took {ended.memory} KiB of memory")
     trial.holds(given <= most + MEBIBYTE, f"it read {given} bytes")
@@ -119,6 +119,19 @@ def random_inputs(kcore):
     yield trial
 
 
+def refuses_words(trial, program, line, head):
+    """Runs a program with words that it has to refuse, and with an input that begins so: nothing may be read or written."""
+    out, into = os.pipe()
+    os.write(into, head)
+    os.close(into)
+    about = str(line)[:80]
+    ended = program.run(line, failing=Failing(), stdin=out)
+    trial.ended(about, ended, {USAGE: "nothing"})
+    trial.holds(queued(out) == len(head) and ended.calls["reads"] == 0, f"{about}: something was read")
+    trial.holds(ended.calls["writes"] == 0, f"{about}: something was written")
+    os.close(out)
+
+
 def words(kcore):
     trial = Trial("words that name no command: nothing is read or written")
     numbers = ["", "0", "00", "65", "-1", "+1", "1.0", "1e0", "0x1", "1 1", "00000000001", "4294967297", "18446744073709551617", "x", "½", "１"]
@@ -126,15 +139,7 @@ def words(kcore):
     lines += [[], [""], ["exact", "1"], ["exact", ""], ["EXACT"], ["help"], ["--help"], ["--version"], ["run", "1", "1"], ["run", "1"] * 50]
     lines += [[b"run", b"\xff"], [b"\xff\xfe"], [b"ex\xc3"], ["x" * 100_000], ["run"] * 10_000]
     for line in lines:
-        out, into = os.pipe()
-        os.write(into, HEAD)
-        os.close(into)
-        about = str(line)[:80]
-        ended = kcore.program.run(line, failing=Failing(), stdin=out)
-        trial.ended(about, ended, {USAGE: "nothing"})
-        trial.holds(queued(out) == len(HEAD) and ended.calls["reads"] == 0, f"{about}: something was read")
-        trial.holds(ended.calls["writes"] == 0, f"{about}: something was written")
-        os.close(out)
+        refuses_words(trial, kcore.program, line, HEAD)
     yield trial
 
 

@@ -1,16 +1,16 @@
 #!/usr/bin/env python3
-"""Runs kcore where memory, threads, devices and inputs fail, and checks how each run ends.
+"""Runs kcore and kserve where memory, threads, devices and inputs fail, and checks how each run ends.
 
-    hostile/check.py [--program PATH] [--engine-tests PATH] [--only WORD] [--short]
+    hostile/check.py [--program PATH] [--kserve PATH] [--engine-tests PATH] [--of PROGRAM] [--only WORD] [--short]
 
 Each run has to end by itself, with the exit number that is due: 0 or 1 with the whole text; 2 with nothing read or written; 3 after a
 read that failed, 4 after a write that failed, 5 without memory, each with a prefix of the text. Nothing is ever written to the
 standard error. Prints a line for each thing that was tried, with how its runs ended, and below it what was wrong; the last line
 counts. The exit number is 1 where something was wrong.
 
---only WORD tries the things with this word in their name, as `memory`; --short leaves out inputs of a gibibyte. Wants Linux and a C
-compiler, for failing_calls.c, which stands in front of the C library. Which allocation is which depends on the machine, so this isn't
-part of the gate. A new command is a line of COMMANDS.
+--of kcore and --of kserve try one of the programs alone; --only WORD tries the things with this word in their name, as `memory`; --short
+leaves out inputs of a gibibyte. Wants Linux and a C compiler, for failing_calls.c, which stands in front of the C library. Which allocation
+is which depends on the machine, so this isn't part of the gate. A new command is a line of COMMANDS.
 """
 import argparse
 import os
@@ -18,6 +18,7 @@ import sys
 
 import broken
 import calls
+import clients
 import devices
 from program import Program
 from trials import BATCHES, Command, Kcore
@@ -35,26 +36,45 @@ COMMANDS = [
 ]
 
 
+def tried(trials, subject, options):
+    """Tries those that are chosen, and tells how each ended. Gives how many runs there were, and how many things were wrong."""
+    runs, wrong = 0, 0
+    for one in trials:
+        if options.only not in one.__name__ or options.short and one.__name__ == "great_inputs":
+            continue
+        for trial in one(subject):
+            trial.tell()
+            runs, wrong = runs + sum(trial.ends.values()), wrong + len(trial.wrong)
+    return runs, wrong
+
+
 def main():
     here = os.path.dirname(os.path.abspath(__file__))
     parser = argparse.ArgumentParser(description=__doc__, formatter_class=argparse.RawDescriptionHelpFormatter)
-    parser.add_argument("--program", default=os.path.join(here, "..", "crates", "kcore", "out", "kcore"))
-    parser.add_argument("--engine-tests", default=os.path.join(here, "..", "crates", "kc_engine", "out", "kc_engine_tests"))
+    crates = os.path.join(here, "..", "crates")
+    parser.add_argument("--program", default=os.path.join(crates, "kcore", "out", "kcore"))
+    parser.add_argument("--kserve", default=os.path.join(crates, "kserve", "out", "kserve"))
+    parser.add_argument("--engine-tests", default=os.path.join(crates, "kc_engine", "out", "kc_engine_tests"))
+    parser.add_argument("--of", choices=("kcore", "kserve"))
     parser.add_argument("--only", default="")
     parser.add_argument("--short", action="store_true")
     options = parser.parse_args()
-    chosen = [one for one in calls.TRIALS + devices.TRIALS + broken.TRIALS if options.only in one.__name__]
-    if options.short:
-        chosen = [one for one in chosen if one is not broken.great_inputs]
-    program, runs, wrong = Program(options.program), 0, 0
-    try:
-        kcore = Kcore(program, COMMANDS, os.path.normpath(options.engine_tests))
-        for one in chosen:
-            for trial in one(kcore):
-                trial.tell()
-                runs, wrong = runs + sum(trial.ends.values()), wrong + len(trial.wrong)
-    finally:
-        program.close()
+    runs, wrong = 0, 0
+    if options.of != "kserve":
+        program = Program(options.program)
+        try:
+            kcore = Kcore(program, COMMANDS, os.path.normpath(options.engine_tests))
+            runs, wrong = tried(calls.TRIALS + devices.TRIALS + broken.TRIALS, kcore, options)
+        finally:
+            program.close()
+    if options.of != "kcore":
+        program = Program(options.kserve)
+        try:
+            kserve = clients.Kserve(program, os.path.abspath(options.program))
+            more = tried(clients.SHARED + clients.TRIALS, kserve, options)
+            runs, wrong = runs + more[0], wrong + more[1]
+        finally:
+            program.close()
     print(f"{runs} runs, {wrong} wrong")
     sys.exit(1 if wrong else 0)
 

@@ -30,16 +30,16 @@ def text_beside(name, words):
     return example(os.path.relpath(path, EXAMPLES)) if os.path.exists(path) else None
 
 
-def cut_batches(data):
-    """Reads the beginning of a well-formed batch input. Gives the input up to its last complete batch, and the batch that isn't
-    complete as its number, its first fault's line and the reason; None where there is no such batch. Where the header isn't
-    complete, gives None and the line at which it is refused."""
+def cut_batches(data, first=rb"kcore [12]"):
+    """Reads the beginning of a well-formed input, whose first line has this form. Gives the input up to its last complete batch, and the
+    batch that isn't complete as its number, its first fault's line and the reason; None where there is no such batch. Where the header
+    isn't complete, gives None and the line at which it is refused."""
     pieces = data.split(b"\n")
     if not pieces[-1]:
         pieces.pop()
     lines = [(number, line) for number, line in enumerate(pieces, 1) if line.strip(b" \t\r") and not line.startswith(b"#")]
     end = len(pieces) + 1
-    for place, form in enumerate([rb"kcore [12]", rb"vertices [1-9][0-9]*"]):
+    for place, form in enumerate([first, rb"vertices [1-9][0-9]*"]):
         number, line = lines[place] if place < len(lines) else (end, b"")
         if not re.fullmatch(form, line):
             return None, number

@@ -10,65 +10,16 @@ batches there were and how often updates of two clients were next to each other;
 threads come in each other's way depends on the machine, so this isn't part of the gate.
 """
 import argparse
-import itertools
 import os
 import random
-import subprocess
 import sys
 
-MOST = 1024
+from served import block, fault_of, run
 
 
 def script_of(draw, n, items):
     signs = ("+", "+", "+", "-")
     return [f"{draw.choice(signs)} {draw.randrange(n)} {draw.randrange(n)}" for _ in range(draw.randrange(items))]
-
-
-def run(program, words, text):
-    done = subprocess.run([program, *words], input=text.encode(), capture_output=True, timeout=120, check=False)
-    return done.returncode, done.stdout.decode(), done.stderr
-
-
-def block(lines):
-    return "".join(f"{line}\n" for line in ["batch", *lines, "end"])
-
-
-def batches_in(lines):
-    """The batches of the lines after the head, each a list of (client, item), and the lines after them."""
-    batches = []
-    while lines and lines[0].startswith("batch "):
-        if lines[0] != f"batch {len(batches) + 1}":
-            raise ValueError(f"{lines[0]} is batch {len(batches) + 1}")
-        taken = list(itertools.takewhile(lambda line: line.startswith("take "), lines[1:]))
-        words = [line.split(" ", 2) for line in taken]
-        batches.append([(int(client), item) for _, client, item in words])
-        lines = lines[1 + len(taken):]
-    return batches, lines
-
-
-def fault_of(n, scripts, text, kcore):
-    """What is wrong with a text, or None."""
-    lines = text.split("\n")
-    if lines[:2] != ["kserve-run 1", f"vertices {n}"]:
-        return "another head"
-    try:
-        batches, rest = batches_in(lines[2:])
-    except ValueError as fault:
-        return str(fault)
-    if any(not 1 <= len(batch) <= MOST for batch in batches):
-        return "a batch has no update, or more than 1,024"
-    found = [[] for _ in scripts]
-    for client, item in itertools.chain.from_iterable(batches):
-        found[client].append(item)
-    if found != scripts:
-        return "the updates of a client are not its script"
-    again = f"kcore 1\nvertices {n}\n" + "".join(block(item for _, item in batch) for batch in batches)
-    status, wanted, _ = run(kcore, ["run", "1"], again)
-    if status != 0:
-        return f"kcore ended with {status}"
-    if rest != [line for line in wanted.split("\n") if line.startswith(("vertex ", "end")) or not line]:
-        return "other lines of vertices than those of the batches"
-    return None
 
 
 def main():

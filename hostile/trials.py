@@ -20,14 +20,15 @@ class Trial:
         self.name, self.ends, self.wrong, self.notes = name, collections.Counter(), [], []
 
     def ended(self, about, ended, wanted, whole=b""):
-        """Notes how a run ended. `wanted` gives for each exit number that may come how much of the text was to be written."""
+        """Notes how a run ended. `wanted` gives for each exit number that may come how much of the text was to be written: of these bytes,
+        or of one of several texts (`Texts`)."""
         self.ends[ended.status] += 1
-        text, whole = without_replies(ended.text), without_replies(whole)
+        text = ended.text if isinstance(whole, Texts) else without_replies(ended.text)
         if ended.status not in wanted:
             self.wrong.append(f"{about}: ended with {end_name(ended.status)}, wrote {ended.text[-200:]!r}")
         elif ended.errors:
             self.wrong.append(f"{about}: wrote to the standard error: {ended.errors[:200]!r}")
-        elif not {"whole": text == whole, "prefix": whole.startswith(text), "nothing": not text}[wanted[ended.status]]:
+        elif not is_due(text, whole if isinstance(whole, Texts) else without_replies(whole), wanted[ended.status]):
             self.wrong.append(f"{about}: ended with {ended.status}, not with {wanted[ended.status]} of the text: {ended.text[-200:]!r}")
 
     def holds(self, fact, about):
@@ -43,6 +44,27 @@ class Trial:
         if len(self.wrong) > 5:
             print(f"    and {len(self.wrong) - 5} more")
         sys.stdout.flush()
+
+
+class Texts:
+    """Texts of which any may be written. A class below it says which these are."""
+
+    def has(self, text):
+        """Whether this is one of them."""
+        raise NotImplementedError
+
+    def begins_with(self, text):
+        """Whether one of them begins so."""
+        raise NotImplementedError
+
+
+def is_due(text, whole, how_much):
+    """Whether a text is so much of the whole one: all of it ("whole"), its beginning ("prefix") or "nothing"."""
+    if how_much == "nothing":
+        return not text
+    if isinstance(whole, Texts):
+        return whole.has(text) if how_much == "whole" else whole.begins_with(text)
+    return text == whole if how_much == "whole" else whole.startswith(text)
 
 
 def end_name(status):

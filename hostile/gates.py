@@ -1,0 +1,79 @@
+#!/usr/bin/env python3
+"""Runs the tests that stand on threads over and over, and counts how often each passes.
+
+    hostile/gates.py [--folder PATH] [--runs N] [--seconds S] [--at-once N] [--only WORD]
+
+A gate holds one thread until another has come to a place, so whether such a test passes could depend on how the system runs its threads:
+here each is run N (200) times in a row. `rt test` in a crate's folder makes its tests, out/NAME_tests; crates without them are named and
+passed over. A run that takes S (60) seconds counts as one that failed. --at-once has so many runs of a test side by side, so that the
+threads get less of the processors each. --folder is a folder with the programs of tests, in place of those of the crates. Prints a line for
+each test; the exit number is 1 where a run failed. How threads run depends on the machine, so this isn't part of the gate.
+"""
+import argparse
+import concurrent.futures
+import os
+import subprocess
+import sys
+import time
+
+# The tests of each crate in which a thread waits for another, or whose answer another thread could spoil.
+TESTS = {
+    "kc_rounds": ["pieces_run_at_the_same_time", "pieces_are_told_before_they_are_tested", "pieces_are_gathered_at_the_same_time"],
+    "kc_store": ["threads::readers_see_points_of_the_history"],
+    "kc_engine": ["showing::ranges_of_a_first_group_run_at_the_same_time"],
+    "kc_session": ["sessions::a_group_takes_effect_at_once", "sessions::a_reply_is_from_before_what_waits_for_it",
+                   "sessions::a_reader_looks_while_batches_are_shown", "sessions::a_batch_is_shown_before_it_is_told"],
+    "kcore": ["pieces::a_first_round_has_two_pieces_at_once", "pieces::a_first_round_has_a_piece_for_each_worker",
+              "hostile::both_branches_have_ended_after_a_fault"],
+    "kc_intake": ["threads::a_queue_of_one", "threads::eight_clients", "threads::clients_of_very_different_lengths"],
+    "kserve": ["gates::clients_run_at_once", "gates::updates_go_through_the_intake", "gates::a_long_script_of_one_client",
+               "failing::clients_wait_for_room_while_a_write_fails", "outputs::eight_clients", "outputs::sixty_four_clients"],
+}
+
+
+def run(words, seconds):
+    """Whether a test passed in time, and how long it took."""
+    began = time.monotonic()
+    try:
+        passed = subprocess.run(words, stdout=subprocess.DEVNULL, stderr=subprocess.DEVNULL, timeout=seconds, check=False).returncode == 0
+    except subprocess.TimeoutExpired:
+        passed = False
+    return passed, time.monotonic() - began
+
+
+def tests_of(options):
+    """Each test: its crate, its name, and the words that run it; None in their place where it wasn't made."""
+    crates = os.path.join(os.path.dirname(os.path.abspath(__file__)), "..", "crates")
+    for crate, names in TESTS.items():
+        folder = options.folder or os.path.join(crates, crate, "out")
+        program = os.path.abspath(os.path.join(folder, f"{crate}_tests"))
+        for name in names:
+            if options.only in f"{crate} {name}":
+                yield crate, name, [program, f"tests::{name}"] if os.path.exists(program) else None
+
+
+def main():
+    parser = argparse.ArgumentParser(description=__doc__, formatter_class=argparse.RawDescriptionHelpFormatter)
+    parser.add_argument("--folder")
+    parser.add_argument("--runs", type=int, default=200)
+    parser.add_argument("--seconds", type=int, default=60)
+    parser.add_argument("--at-once", type=int, default=1)
+    parser.add_argument("--only", default="")
+    options = parser.parse_args()
+    runs, wrong = 0, 0
+    with concurrent.futures.ThreadPoolExecutor(options.at_once) as pool:
+        for crate, name, words in tests_of(options):
+            if words is None:
+                print(f"{crate} {name}: not tried, since it wasn't made: `rt test` in crates/{crate} makes it")
+                continue
+            ended = list(pool.map(lambda _, these=words: run(these, options.seconds), range(options.runs)))
+            passed = sum(one for one, _ in ended)
+            runs, wrong = runs + len(ended), wrong + len(ended) - passed
+            print(f"{crate} {name}: {passed} of {len(ended)} passed, the slowest in {max(took for _, took in ended):.2f} s")
+            sys.stdout.flush()
+    print(f"{runs} runs, {wrong} failed")
+    sys.exit(1 if wrong else 0)
+
+
+if __name__ == "__main__":
+    main()
