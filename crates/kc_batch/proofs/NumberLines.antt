@@ -1,12 +1,17 @@
 -- Lines of two numbers, with a sign before them or without.
 use Rattle.std.proofs.Common.{ℕ, ◌≡◌, Bool, true, false, List, [], ◌∷◌, refl, ap, ◌∙◌, drop, arith}
-use Rattle.std.specs.Prelude.{Some, None, if◌then◌else◌, ◌==◌, slice_index}
+use Rattle.std.specs.Prelude.{Option, Some, None, if◌then◌else◌, ◌==◌, slice_index}
 use Rattle.std.specs.List.{slice_range}
 use Rattle.std.proofs.lemmas.Bool.Decides.{nat_tests}
 use Rattle.kc_text.specs.Words.{words, is_skip, WordAt}
 use Rattle.kc_text.specs.Numbers.{is_number, number_of, value_from, NumberAt}
+use Rattle.kc_text.specs.declared.number_line.Sign.{Sign}
+use Rattle.kc_text.specs.declared.number_line.Sign.TheVariants.{Plus, Minus}
+use Rattle.kc_text.specs.NumberLines.{SayNumbers}
+use Rattle.kc_batch.specs.declared.token.Kind.TheVariants.{Item}
 use Rattle.kc_batch.specs.Tokens.{insertion, signed, kind_of_words}
-use Rattle.kc_batch.specs.private.Tokens.{kind_of_text, AreNumbers}
+use Rattle.kc_batch.specs.private.Tokens.{kind_of_text, item_of, AreNumbers}
+use Rattle.kc_batch.proofs.Saying.{Says, says}
 
 pub two_numbers_at : (text : List ℕ) (from u mid v end : ℕ) → NumberAt text from u mid → NumberAt text mid v end → words (drop end text) ≡ [] → AreNumbers (words (drop from text)) u v
 two_numbers_at text from u mid v end a b e = record {
@@ -43,3 +48,13 @@ pub signed_line : (text : List ℕ) (start end u v : ℕ) → WordAt text 0 star
     → kind_of_words (words text) ≡ signed (slice_range text start end) (Some u) (Some v)
 unfolding kind_of_words
 signed_line text start end u v w a = rw (w.words, a.words_are, a.first_is, a.second_is) refl
+
+says_number : (text : List ℕ) (sign : Option Sign) (u v : ℕ) → SayNumbers (words text) sign u v → kind_of_text text ≡ Some (Item (item_of sign u v))
+unfolding kind_of_text kind_of_words
+says_number text None u v a = rw (a.words_are, number_no_hash a.one u a.one_is, a.one_is, a.two_is) refl
+says_number text (Some Plus) u v a = rw (a.words_are, a.one_is, a.two_is) refl
+says_number text (Some Minus) u v a = rw (a.words_are, a.one_is, a.two_is) refl
+
+-- a line of two numbers tells its item, with a sign before them or without
+pub number_item : (text : List ℕ) (sign : Option Sign) (u v : ℕ) → SayNumbers (words text) sign u v → Says text (Item (item_of sign u v))
+number_item text sign u v a = says text (Item (item_of sign u v)) (says_number text sign u v a)

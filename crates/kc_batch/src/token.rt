@@ -5,11 +5,13 @@ ghost use Rattle.kc_text.specs.Causes.{ReadCause};
 ghost use Rattle.kc_text.specs.Reading.{budget};
 ghost use Rattle.kc_text.specs.Words.{words, WordAt};
 ghost use Rattle.kc_batch.specs.Tokens.{insertion, deletion, isolation, unsigned, signed, kind_of_words, tokens_left};
-ghost use Rattle.kc_batch.specs.private.Tokens.{AreNumbers, kind_of_text, onto_token, TakesToken, IsLastKind};
+ghost use Rattle.kc_batch.specs.private.Tokens.{AreNumbers, kind_of_text, item_of, onto_token, TakesToken, IsLastKind};
 
 use crate::text::is;
 use kc_graph::Item;
-use kc_text::{Body, LineFault, LineReader, Source, next_number, next_word, read_number};
+use kc_text::{
+    Body, LineFault, LineReader, NumberLine, Sign, Source, next_number, next_word, read_number,
+};
 use std::alloc::Global;
 
 /// What a line of batches says by itself, wherever it stands.
@@ -174,7 +176,21 @@ fn classify(text: &[u8]) -> Option<Kind>
     Some(kind_of_line(text, start, end))
 }
 
-/// The next line that isn't skipped. After a fault skipped lines may be gone.
+// The item that a line of two numbers tells.
+#[inline(always)]
+fn item_of(line: NumberLine) -> Item
+    ensures { result ≡ item_of line.sign line.first line.second }
+{
+    let (u, v) = (line.first, line.second);
+    match line.sign {
+        Some(Sign::Minus) => Item::Delete { u, v },
+        Some(Sign::Plus) | None => Item::Insert { u, v },
+    }
+}
+
+/// The next line that isn't skipped. After a fault skipped lines may be gone. Cost: one pass over the bytes of the line
+/// and of those that are skipped, where they lie whole in the reader's memory and are two numbers with one blank between
+/// them, or a sign, a blank and such numbers; and a few passes over each other line.
 #[inline(always)]
 pub fn next_token<S: Source>(
     alloc: Global,
@@ -187,6 +203,11 @@ pub fn next_token<S: Source>(
     ensures cause { ReadCause (S.faults src.old) (S.faults src.new) result }
 {
     loop {
+        if let Some(numbers) = reader.number_line() {
+            let number = reader.pass_line(numbers.len);
+            let kind = Kind::Item(item_of(numbers));
+            return Ok(Token { number, kind });
+        }
         if let Some((ahead, len)) = reader.whole_line() {
             let told = classify(ahead);
             let number = reader.pass_line(len);

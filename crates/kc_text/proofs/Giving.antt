@@ -166,37 +166,6 @@ piece_fresh limit taken part part' e fresh none =
     let z : taken ≡ 0 = sym e ∙ ap length fresh in
     rw z (piece_none limit part' none)
 
-no_items : (xs : List ℕ) → length xs ≡ 0 → xs ≡ []
-no_items [] h = refl
-no_items (x ∷ xs) h = absurd (omega (arith, h))
-
--- where the first line feed stands, a line lies whole, if no byte of it was taken before
-pub whole_there : (limit n room taken : ℕ) (piece ready : List ℕ) (ended : Bool) (within len : ℕ) → length piece ≡ taken → taken ≡ 0 → within ≤ length ready → within ≤ room → within ≤ limit + 1
-    → FirstEnd ready within len → IsWhole len (record { limit = limit; number = n; room = room; piece = piece; ready = ready; ended = ended })
-whole_there limit n room taken piece ready ended within len e z w1 w2 w3 f =
-    let below = f.below in
-    record {
-      fresh = no_items piece (e ∙ z);
-      few = omega (arith, below);
-      room = omega (arith, below);
-      within = omega (arith, below);
-      end = f.here;
-      before = λ k lt. rw (get_or-take len ready k 0 lt) at (f.before k (omega (arith, lt, below, length-take-le len ready (omega (arith, below)))));
-    }
-
--- no line lies whole where a byte of the next one was taken before
-pub whole_fresh : (taken : ℕ) (piece : List ℕ) → length piece ≡ taken → 0 < taken → piece ≡ [] → ⊥
-whole_fresh taken piece e h fresh = omega (arith, h, e, ap length fresh)
-
--- nor where no line feed stands within the room and the limit of a line
-pub whole_ends : (limit n room : ℕ) (piece ready : List ℕ) (ended : Bool) (within len : ℕ) → (len < length ready → len < room → len ≤ limit → len < within) → within ≤ length ready
-    → HasNoEnd (take within ready) → IsWhole len (record { limit = limit; number = n; room = room; piece = piece; ready = ready; ended = ended }) → ⊥
-whole_ends limit n room piece ready ended within len w1 w2 f h =
-    let below : len < within = w1 h.within h.room h.few in
-    let none = rw (get_or-take within ready len 0 below) at (f len (omega (arith, below, length-take-le within ready w2))) in
-    let here = h.end in
-    grind (arith, nat_tests, none, here)
-
 -- a read moves bytes from the source to the reader
 pub filled : (limit n room : ℕ) (piece ready new : List ℕ) (ended : Bool) (old left : Option (List ℕ)) → ready ≡ [] → ended ≡ false → old ≡ prepend_known new left
     → scan_lines_left (record { limit = limit; number = n; room = room; piece = piece; ready = new; ended = ended }) left ≡ scan_lines_left (record { limit = limit; number = n; room = room; piece = piece; ready = ready; ended = ended }) old

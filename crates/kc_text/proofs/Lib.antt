@@ -4,6 +4,7 @@ mod Ends
 mod Giving
 mod Holding
 mod Known
+mod NumberLines
 mod Numbering
 mod Passing
 mod Pieces

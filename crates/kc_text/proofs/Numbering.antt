@@ -15,10 +15,10 @@ unfolding value_from
 value_last v [] d = refl
 value_last v (b ∷ bs) d = value_last (10 * v + (b - 48)) bs d
 
-digit_no_blank : (d : ℕ) → is_digit d ≡ true → is_blank d ≡ false
+pub digit_no_blank : (d : ℕ) → is_digit d ≡ true → is_blank d ≡ false
 digit_no_blank d e = grind (arith, nat_tests, e)
 
-empty_range : (line : List ℕ) (start : ℕ) → slice_range line start start ≡ []
+pub empty_range : (line : List ℕ) (start : ℕ) → slice_range line start start ≡ []
 empty_range line start = let z : start - start ≡ 0 = omega arith in rw z refl
 
 -- no digits yet
@@ -50,7 +50,7 @@ number_is bs value a b d e s =
     let z : nat_lt value (2 ^ 32) ≡ true = grind (arith, nat_tests) in
     rw (x, y, d, e, z) refl
 
-range_length : (line : List ℕ) (start end : ℕ) → start ≤ end → end ≤ length line → length (slice_range line start end) ≡ end - start
+pub range_length : (line : List ℕ) (start end : ℕ) → start ≤ end → end ≤ length line → length (slice_range line start end) ≡ end - start
 range_length line start end h l = simp (length-take, length-drop) (omega arith)
 
 -- the digits are a word

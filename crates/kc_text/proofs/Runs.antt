@@ -17,14 +17,14 @@ blanks_before (b ∷ bs) rest h =
     rw here (blanks_before bs rest (rest_all (λ x. is_blank x ≡ true) b bs h))
 
 -- a run goes into the word that has begun
-run_goes_on : (piece run rest : List ℕ) → HasNoBlank run → words_from piece (run ++ rest) ≡ words_from (piece ++ run) rest
+pub run_goes_on : (piece run rest : List ℕ) → HasNoBlank run → words_from piece (run ++ rest) ≡ words_from (piece ++ run) rest
 unfolding words_from
 run_goes_on piece [] rest h = simp append-nil refl
 run_goes_on piece (x ∷ xs) rest h =
     let here : is_blank x ≡ false = h 0 0 (omega arith) in
     rw here (rw append_assoc at (run_goes_on (piece ++ x ∷ []) xs rest (rest_all (λ y. is_blank y ≡ false) x xs h)))
 
-last_run : (run : List ℕ) → HasNoBlank run → words run ≡ closed run []
+pub last_run : (run : List ℕ) → HasNoBlank run → words run ≡ closed run []
 unfolding words_from
 last_run run h = rw append-nil at (run_goes_on [] run [] h)
 

@@ -3,6 +3,7 @@ pub mod Following
 pub mod Laws
 pub mod Lines
 pub mod Mem
+pub mod NumberLines
 pub mod Numbers
 pub mod Printing
 pub mod ReadBack

@@ -36,7 +36,7 @@ fn is_digit(byte: u8) -> bool
 
 // The value of the digits from `start` on, and where they end. None where the value is too large.
 #[tactic(auto, using(crate::proofs::Numbering::digit_steps))]
-fn pass_digits(line: &[u8], start: usize) -> Option<(u32, usize)>
+pub(crate) fn pass_digits(line: &[u8], start: usize) -> Option<(u32, usize)>
     requires { start ≤ length line.now }
     ensures { IfSome result (λ r. DigitsAt line.now start r.0 r.1) }
 {

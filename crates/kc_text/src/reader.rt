@@ -1,12 +1,12 @@
 // A reader of lines that takes a line back.
-ghost use Rattle.std.specs.Prelude.{◌≡◌, ℕ, ◌<◌, ◌≤◌, ◌+◌, ◌^◌, [], ◌∷◌, List, Option, None, true, false, IfOk, OnErr, IfSome, IfNone};
+ghost use Rattle.std.specs.Prelude.{◌≡◌, ℕ, ◌<◌, ◌≤◌, ◌+◌, ◌^◌, [], ◌∷◌, List, Option, None, is_none, ◌&&◌, true, false, IfOk, OnErr, IfSome, IfNone};
 ghost use Rattle.std.specs.Option.{option_map};
 ghost use Rattle.kc_text.specs.Causes.{ReadCause, OnReadFault};
 ghost use Rattle.kc_text.specs.Lines.{lines};
 
 use crate::line::LastLine;
 use crate::scanner::Scanner;
-use crate::{Body, Bytes, Line, LineFault, Source};
+use crate::{Body, Bytes, Line, LineFault, NumberLine, Source};
 use std::alloc::{AllocError, Global};
 use std::marker::Model;
 
@@ -65,6 +65,8 @@ fn line_of_last(last: LastLine) -> Line
 
 impl LineReader {
     ghost use Rattle.kc_text.specs.Scanning.{whole_text, whole_line};
+    ghost use Rattle.kc_text.specs.Words.{words};
+    ghost use Rattle.kc_text.specs.NumberLines.{SayNumbers};
     ghost use Rattle.kc_text.specs.Reading.{Reading, lines_of_rest, lines_left, onto, Takes, IsLast, budget, is_decided, HasWhole};
 
     /// A reader that stands before the first line. Lines of more than `line_limit` bytes are too
@@ -129,6 +131,28 @@ impl LineReader {
         }
     }
 
+    // Whether no line was put back or stays, so that the next line is the scanner's.
+    #[inline(always)]
+    fn is_scanning(&self) -> bool
+        ensures { result ≡ (is_none self.now.held && is_none self.now.last) }
+    {
+        self.held.is_none() && self.last.is_none()
+    }
+
+    /// The next line, where it lies whole in the reader's own memory, as `whole_line` has it, and is two numbers with one
+    /// blank or tab between them, or a sign, a blank and such numbers. None tells nothing of the line. `pass_line` takes the
+    /// line. Cost: one pass over the bytes of the line.
+    #[inline(always)]
+    pub fn number_line(&self) -> Option<NumberLine>
+        ensures whole { IfSome result (λ line. HasWhole line.len self.now) }
+        ensures says { IfSome result (λ line. SayNumbers (words (whole_text line.len self.now.scan)) line.sign line.first line.second) }
+    {
+        if !self.is_scanning() {
+            return None;
+        }
+        self.scanner.number_line()
+    }
+
     /// The text of the next line, and its length with a carriage return at its end, where the line lies whole in the
     /// reader's own memory, isn't too long and is within the input's limit: nothing is read or copied for it. None
     /// exactly where there is no such line; `next_line` gives the next line then. `pass_line` takes the line. Cost: the
@@ -139,7 +163,7 @@ impl LineReader {
         ensures text { IfSome result (λ r. r.0.now ≡ whole_text r.1 self.now.scan) }
         ensures none { IfNone result ((len : ℕ) → HasWhole len self.now → ⊥) }
     {
-        if self.held.is_some() || self.last.is_some() {
+        if !self.is_scanning() {
             return None;
         }
         self.scanner.whole_line()

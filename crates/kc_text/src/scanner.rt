@@ -4,8 +4,9 @@ ghost use Rattle.kc_text.specs.Causes.{Rose, ReadCause, OnReadFault};
 ghost use Rattle.kc_text.specs.Lines.{body_of, without_cr, lines};
 ghost use Rattle.kc_text.specs.private.ScannerState.{piece_of};
 
+use crate::number_line::number_line;
 use crate::window::Window;
-use crate::{Body, Bytes, Failed, Line, LineFault, Source};
+use crate::{Body, Bytes, Failed, Line, LineFault, NumberLine, Source};
 use memchr::memchr;
 use std::alloc::{AllocError, Global};
 use std::marker::Model;
@@ -133,6 +134,9 @@ fn keep(part: &mut Vec<u8>, limit: u32, taken: u32, more: &[u8]) -> Result<(), A
 impl Scanner {
     ghost use Rattle.kc_text.specs.Following.{onto, Takes, IsLast};
     ghost use Rattle.kc_text.specs.Scanning.{Scan, scan_lines, scan_budget, is_scan_decided, IsWhole, whole_text, whole_line};
+    ghost use Rattle.kc_text.specs.Words.{words};
+    ghost use Rattle.kc_text.specs.NumberLines.{SayNumbers};
+    ghost use Rattle.kc_text.specs.private.WholeLines.{Lends};
     ghost use Rattle.kc_text.specs.private.Scanning.{scan_lines_left};
     ghost use Rattle.kc_text.specs.private.ScannerSteps.{work, Gives, Absorbs};
     ghost use Rattle.std.specs.Option.{option_map};
@@ -232,6 +236,31 @@ impl Scanner {
         Ok(Some(line))
     }
 
+    // The bytes among which the next line's end is looked for: of those that were read, as many as may be a line with
+    // its end, or none where the next line has begun.
+    #[inline(always)]
+    fn ahead(&self) -> &[u8]
+        ensures { Lends result.now self.now }
+    {
+        let ready = self.window.ready();
+        if self.taken > 0 {
+            return &ready[..0];
+        }
+        let room = self.room as usize;
+        let most = ready.len().min(room).min(self.limit as usize + 1);
+        &ready[..most]
+    }
+
+    /// The next line, where it lies whole among the bytes that were read and is two numbers with one blank between
+    /// them, or a sign, a blank and such numbers. None tells nothing of the line.
+    #[inline(always)]
+    pub fn number_line(&self) -> Option<NumberLine>
+        ensures whole { IfSome result (λ line. IsWhole line.len self.now) }
+        ensures says { IfSome result (λ line. SayNumbers (words (whole_text line.len self.now)) line.sign line.first line.second) }
+    {
+        number_line(self.ahead())
+    }
+
     /// The text of the next line, and its length with a carriage return, where the line lies whole among the bytes
     /// that were read.
     #[inline(always)]
@@ -240,16 +269,11 @@ impl Scanner {
         ensures text { IfSome result (λ r. r.0.now ≡ whole_text r.1 self.now) }
         ensures none { IfNone result ((len : ℕ) → IsWhole len self.now → ⊥) }
     {
-        if self.taken > 0 {
-            return None;
-        }
-        let ready = self.window.ready();
-        let room = self.room as usize;
-        let most = ready.len().min(room).min(self.limit as usize + 1);
-        let Some(at) = memchr(b'\n', &ready[..most]) else {
+        let ahead = self.ahead();
+        let Some(at) = memchr(b'\n', ahead) else {
             return None;
         };
-        Some((strip_cr(&ready[..at]), at))
+        Some((strip_cr(&ahead[..at]), at))
     }
 
     /// Takes the line of this length that lies whole among the bytes that were read, and gives its number.

@@ -2,9 +2,9 @@
 ghost use Rattle.std.specs.Prelude.{◌≡◌, ◌<◌, IfOk};
 
 use crate::{
-    Body, Failed, Line, LineBuf, LineFault, LineReader, MemSink, MemSource, NullSink, Reason,
-    SendFault, Sink, Source, StdSink, StdSource, Words, fill_named, is_skipped, next_number,
-    next_word, put_all, read_number,
+    Body, Failed, Line, LineBuf, LineFault, LineReader, MemSink, MemSource, NullSink, NumberLine,
+    Reason, SendFault, Sign, Sink, Source, StdSink, StdSource, Words, fill_named, is_skipped,
+    next_number, next_word, put_all, read_number,
 };
 use std::alloc::Global;
 use std::io;
@@ -132,6 +132,52 @@ fn lines_over_faults(rt: HostRuntime) -> Result<(), Fail> {
         for whole in [false, true] {
             let got = told(rt.alloc(), input, piece, failing, whole)?;
             assert_eq!(rt; got.as_slice(), want, "in pieces of {piece}");
+        }
+    }
+    Ok(())
+}
+
+#[test]
+fn lines_of_two_numbers(rt: HostRuntime) -> Result<(), Fail> {
+    // the limits of a line and of the input, the input, and sign, numbers and length of its second line
+    let rows: [(u32, u32, &[u8], Option<(Option<Sign>, u32, u32, usize)>); 16] = [
+        (3, 6, b"#\n1 2\n", Some((None, 1, 2, 3))),
+        (2, 6, b"#\n1 2\n", None),
+        (3, 5, b"#\n1 2\n", None),
+        (99, 99, b"#\n1\t2\r\n", Some((None, 1, 2, 4))),
+        (99, 99, b"#\n+ 10 20\n", Some((Some(Sign::Plus), 10, 20, 7))),
+        (99, 99, b"#\n-\t0 7\nx", Some((Some(Sign::Minus), 0, 7, 5))),
+        (
+            99,
+            99,
+            b"#\n4294967295 0000000001\n",
+            Some((None, 4294967295, 1, 21)),
+        ),
+        (99, 99, b"#\n4294967296 1\n", None),
+        (99, 99, b"#\n1 00000000001\n", None),
+        (99, 99, b"#\n1 2", None),
+        (99, 99, b"#\n1\n2\n", None),
+        (99, 99, b"#\n1  2\n", None),
+        (99, 99, b"#\n1 2 \n", None),
+        (99, 99, b"#\n1 2\r\r\n", None),
+        (99, 99, b"#\n+1 2\n", None),
+        (99, 99, b"#\nx 1 2\n", None),
+    ];
+    for (line_limit, input_limit, input, want) in rows {
+        assert!(rt; line_limit < 100 && input_limit < 100);
+        let mut source = MemSource::new(rt.alloc(), input, 1000, &[])?;
+        let mut reader = LineReader::new(rt.alloc(), line_limit, input_limit)?;
+        reader.next_line(rt.alloc(), &mut source)?;
+        let got = reader.number_line();
+        let want = want.map(|(sign, first, second, len)| NumberLine {
+            sign,
+            first,
+            second,
+            len,
+        });
+        assert_eq!(rt; got, want, "at {input:?}");
+        if let Some(line) = got {
+            assert_eq!(rt; reader.pass_line(line.len), 2);
         }
     }
     Ok(())

@@ -1,5 +1,9 @@
 -- How tokens follow one another from a reader.
 use Rattle.std.specs.Prelude.{ℕ, ◌≡◌, ◌<◌, ◌≤◌, List, [], ◌∷◌, Option, Some, None, if◌then◌else◌}
+use Rattle.kc_graph.specs.declared.items.Item.{Item}
+use Rattle.kc_graph.specs.declared.items.Item.TheVariants.{Insert, Delete}
+use Rattle.kc_text.specs.declared.number_line.Sign.{Sign}
+use Rattle.kc_text.specs.declared.number_line.Sign.TheVariants.{Plus, Minus}
 use Rattle.kc_text.specs.Words.{words, is_skip}
 use Rattle.kc_text.specs.Numbers.{number_of}
 use Rattle.kc_batch.specs.declared.token.Token.{Token}
@@ -18,6 +22,12 @@ pub record AreNumbers (ws : List (List ℕ)) (u v : ℕ) : Type 0 where
 -- what a text says, unless it is skipped
 unfoldable pub kind_of_text : List ℕ → Option Kind
 kind_of_text text = if is_skip (words text) then None else Some (kind_of_words (words text))
+
+-- the item that two numbers tell, with this sign before them or with none
+abbrev pub item_of : Option Sign → ℕ → ℕ → Item
+item_of None u v = Insert u v
+item_of (Some Plus) u v = Insert u v
+item_of (Some Minus) u v = Delete u v
 
 -- the tokens that follow one of this kind: none after the end of the input or its limit
 abbrev pub behind_kind : Kind → List Token → List Token

@@ -1,24 +1,25 @@
 use Rattle.std.proofs.Common.{◌≡◌, ◌∙◌, sym, arith}
 use Rattle.kc_text.specs.Scanning.{whole_line}
+use Rattle.kc_batch.proofs.NumberLines.{number_item}
 use Rattle.kc_batch.proofs.Saying.{says, says_nothing, told_token, told_no_token}
 use Rattle.kc_batch.proofs.token.next_token.Goals as goal
 
-pub loop-ahead-preserved : goal.loop-ahead-preserved
-loop-ahead-preserved g c =
+pub loop-numbers-preserved : goal.loop-numbers-preserved
+loop-numbers-preserved g c =
     let e : c.as_slice.result.now ≡ c.in-Text.text = c.as_slice.ensures ∙ c.in-Text.text-is in
     let s = says_nothing c.in-Text.text (sym (rw e at c.in-None.ensures)) in
     let t = rw c.in-Text.is at c.in_ok-line.ensures.takes in
     record {
-      tokens = rw c.reuse.ensures (sym (told_no_token c.in_ok-line.line _ _ (rw c.in-Text.is s) c.in_ok-line.ensures.line) ∙ c.loop-ahead.invariant.tokens);
-      budget = rw c.reuse.ensures (omega (arith, t, c.loop-ahead.invariant.budget));
-      faults = c.in_ok-line.ensures.cause ∙ c.loop-ahead.invariant.faults;
+      tokens = rw c.reuse.ensures (sym (told_no_token c.in_ok-line.line _ _ (rw c.in-Text.is s) c.in_ok-line.ensures.line) ∙ c.loop-numbers.invariant.tokens);
+      budget = rw c.reuse.ensures (omega (arith, t, c.loop-numbers.invariant.budget));
+      faults = c.in_ok-line.ensures.cause ∙ c.loop-numbers.invariant.faults;
     }
 
 pub returns-in-Some-said-clause-token : goal.returns-in-Some-said-clause-token
 returns-in-Some-said-clause-token g c =
     let e : c.as_slice.result.now ≡ c.in-Text.text = c.as_slice.ensures ∙ c.in-Text.text-is in
     let s = says c.in-Text.text c.in-Some-said.kind (sym (rw e at c.in-Some-said.ensures)) in
-    rw c.reuse.ensures (sym c.loop-ahead.invariant.tokens ∙ told_token c.in_ok-line.line c.in-Some-said.kind _ _ (rw c.in-Text.is s.kept) (rw c.in-Text.is s.kind) c.in_ok-line.ensures.line)
+    rw c.reuse.ensures (sym c.loop-numbers.invariant.tokens ∙ told_token c.in_ok-line.line c.in-Some-said.kind _ _ (rw c.in-Text.is s.kept) (rw c.in-Text.is s.kind) c.in_ok-line.ensures.line)
 
 pub returns-in-Some-said-clause-last : goal.returns-in-Some-said-clause-last
 returns-in-Some-said-clause-last g c =
@@ -26,24 +27,32 @@ returns-in-Some-said-clause-last g c =
     let s = says c.in-Text.text c.in-Some-said.kind (sym (rw e at c.in-Some-said.ensures)) in
     λ l. absurd (s.goes_on.more l)
 
-pub loop-ahead-preserved-in_default-told : goal.loop-ahead-preserved-in_default-told
-loop-ahead-preserved-in_default-told g c =
+pub loop-numbers-preserved-in_default-told : goal.loop-numbers-preserved-in_default-told
+loop-numbers-preserved-in_default-told g c =
     let none = c.in_default-told.is in
-    let s = says_nothing c.in-Some.ahead.now (sym c.classify-told.ensures ∙ none) in
-    let t = rw c.in-Some.ensures.text at s in
+    let s = says_nothing c.in-Some-whole_line.ahead.now (sym c.classify-told.ensures ∙ none) in
+    let t = rw c.in-Some-whole_line.ensures.text at s in
+    let line = whole_line c.pass_line-number-in-Some-whole_line.result c.in-Some-whole_line.len c.loop-numbers.reader.scan in
     record {
-      tokens = sym (told_no_token (whole_line c.pass_line-number.result c.in-Some.len c.loop-ahead.reader.scan) _ _ t (c.pass_line-number.ensures.line _)) ∙ c.loop-ahead.invariant.tokens;
-      budget = omega (arith, c.pass_line-number.ensures.takes, c.loop-ahead.invariant.budget);
-      faults = c.loop-ahead.invariant.faults;
+      tokens = sym (told_no_token line _ _ t (c.pass_line-number-in-Some-whole_line.ensures.line _)) ∙ c.loop-numbers.invariant.tokens;
+      budget = omega (arith, c.pass_line-number-in-Some-whole_line.ensures.takes, c.loop-numbers.invariant.budget);
+      faults = c.loop-numbers.invariant.faults;
     }
+
+pub returns-in-Some-whole_line-clause-token : goal.returns-in-Some-whole_line-clause-token
+returns-in-Some-whole_line-clause-token g c =
+    let s = says c.in-Some-whole_line.ahead.now c.in-Some-told.kind (sym c.classify-told.ensures ∙ c.in-Some-told.is) in
+    let t = rw c.in-Some-whole_line.ensures.text at s in
+    let line = whole_line c.pass_line-number-in-Some-whole_line.result c.in-Some-whole_line.len c.loop-numbers.reader.scan in
+    sym c.loop-numbers.invariant.tokens ∙ told_token line c.in-Some-told.kind _ _ t.kept t.kind (c.pass_line-number-in-Some-whole_line.ensures.line _)
+
+pub returns-in-Some-whole_line-clause-last : goal.returns-in-Some-whole_line-clause-last
+returns-in-Some-whole_line-clause-last g c =
+    let s = says c.in-Some-whole_line.ahead.now c.in-Some-told.kind (sym c.classify-told.ensures ∙ c.in-Some-told.is) in
+    λ l. absurd (s.goes_on.more l)
 
 pub returns-in-Some-clause-token : goal.returns-in-Some-clause-token
 returns-in-Some-clause-token g c =
-    let s = says c.in-Some.ahead.now c.in-Some-told.kind (sym c.classify-told.ensures ∙ c.in-Some-told.is) in
-    let t = rw c.in-Some.ensures.text at s in
-    sym c.loop-ahead.invariant.tokens ∙ told_token (whole_line c.pass_line-number.result c.in-Some.len c.loop-ahead.reader.scan) c.in-Some-told.kind _ _ t.kept t.kind (c.pass_line-number.ensures.line _)
-
-pub returns-in-Some-clause-last : goal.returns-in-Some-clause-last
-returns-in-Some-clause-last g c =
-    let s = says c.in-Some.ahead.now c.in-Some-told.kind (sym c.classify-told.ensures ∙ c.in-Some-told.is) in
-    λ l. absurd (s.goes_on.more l)
+    let s = number_item _ _ _ _ c.in-Some.ensures.says in
+    let line = whole_line c.pass_line-number.result c.in-Some.numbers.len c.loop-numbers.reader.scan in
+    rw c.item_of.ensures (sym c.loop-numbers.invariant.tokens ∙ told_token line _ _ _ s.kept s.kind (c.pass_line-number.ensures.line _))

@@ -1,0 +1,53 @@
+-- Where the parts of a line of two numbers stand.
+use Rattle.std.specs.Prelude.{ℕ, ◌+◌, ◌≡◌, ◌==◌, ◌<◌, ◌≤◌, Bool, true, false, ◌||◌, List, ◌++◌, length, take, get_or, Option, Some, None, if◌then◌else◌}
+use Rattle.std.specs.List.{list_all, slice_range}
+use Rattle.kc_text.specs.declared.number_line.Sign.{Sign}
+use Rattle.kc_text.specs.declared.number_line.Sign.TheVariants.{Plus, Minus}
+use Rattle.kc_text.specs.declared.number_line.NumberLine.{NumberLine}
+use Rattle.kc_text.specs.Lines.{without_cr}
+use Rattle.kc_text.specs.Words.{words, is_blank}
+use Rattle.kc_text.specs.Numbers.{is_digit, number_of}
+use Rattle.kc_text.specs.NumberLines.{with_sign, SayNumbers}
+use Rattle.kc_text.specs.private.WholeLines.{EndsAt}
+
+-- the sign that a byte is, if it is one
+abbrev pub sign_of : ℕ → Option Sign
+sign_of b = if b == 43 then Some Plus else if b == 45 then Some Minus else None
+
+-- a line that begins with these bytes has this sign, and the rest of its words come from `start` on
+pub record BeginsAt (bytes : List ℕ) (sign : Option Sign) (start : ℕ) : Type 0 where
+  pub within : start ≤ length bytes
+  pub words_are : (rest : List ℕ) → words (take start bytes ++ rest) ≡ with_sign sign (words rest)
+  pub plain : (k : ℕ) → k < start → (get_or bytes k 0 == 10) ≡ false
+
+-- the bytes from `start` to `end` are digits that say this number
+pub record DigitsTo (bytes : List ℕ) (start value end : ℕ) : Type 0 where
+  pub after : start < end
+  pub within : end ≤ length bytes
+  pub digits : list_all is_digit (slice_range bytes start end) ≡ true
+  pub number : number_of (slice_range bytes start end) ≡ Some value
+
+-- a line feed stands at `len`, which is `end`, or behind a carriage return at `end`
+pub record ClosesAt (bytes : List ℕ) (end len : ℕ) : Type 0 where
+  pub after : end ≤ len
+  pub near : len ≤ end + 1
+  pub within : len < length bytes
+  pub here : get_or bytes len 0 ≡ 10
+  pub before : end < len → get_or bytes end 0 ≡ 13
+
+-- a digit or a blank
+abbrev pub is_plain : ℕ → Bool
+is_plain b = is_digit b || is_blank b
+
+-- the bytes from `start` on, up to a line's end, are two numbers; the line feed stands at `len`
+pub record NumbersTo (bytes : List ℕ) (start first second len : ℕ) : Type 0 where
+  pub end : ℕ
+  pub after : start < end
+  pub closes : ClosesAt bytes end len
+  pub plain : (k : ℕ) → start ≤ k → k < end → is_plain (get_or bytes k 0) ≡ true
+  pub says : SayNumbers (words (slice_range bytes start end)) None first second
+
+-- the bytes begin with this line
+pub record IsNumberLine (bytes : List ℕ) (line : NumberLine) : Type 0 where
+  pub ends : EndsAt bytes line.len
+  pub says : SayNumbers (words (without_cr (take line.len bytes))) line.sign line.first line.second
