@@ -40,6 +40,14 @@ pub enum Form {
     InputEnd,
 }
 
+/// A line by its form, which says at which of its bytes it goes on.
+#[derive(Drop)]
+pub struct FormLine<'a> {
+    pub form: Form,
+    /// The line's bytes; none where it isn't a text.
+    pub text: &'a [u8],
+}
+
 // Whether the one word at or after `from` is `1`.
 #[tactic(auto, unfolding(crate::specs::Kinds::is_version))]
 fn is_version(text: &[u8], from: usize) -> bool

@@ -6,7 +6,7 @@ ghost use Rattle.kc_audit.specs.Documents.{empty_run, first_place, read_from, af
 ghost use Rattle.kc_audit.specs.Reads.{Answers, AuditCause};
 ghost use Rattle.kc_audit.specs.declared.stage.Stage.TheVariants.{Batches};
 
-use crate::form::form_of;
+use crate::form::{FormLine, form_of};
 use crate::kept::{give_back, next_kept, text_of};
 use crate::stage::{PhasesLeft, Place, Stage, Turn, head_of, turn_at, vertices_of};
 use crate::{GroupLines, Readers, RunText};
@@ -77,7 +77,14 @@ fn read_lines<S: Source>(
         let line = next_kept(alloc, reader, src)?;
         let number = line.number;
         let form = form_of(&line);
-        match turn_at(alloc, &mut run, stage, form, text_of(&line), &mut members)? {
+        let text = text_of(&line);
+        match turn_at(
+            alloc,
+            &mut run,
+            stage,
+            &FormLine { form, text },
+            &mut members,
+        )? {
             Turn::Go(next) => stage = next,
             Turn::End => return Ok(run),
             Turn::Stop(reason) => {

@@ -9,7 +9,7 @@ ghost use Rattle.kc_audit.specs.private.Documents.{step_told};
 ghost use Rattle.kc_audit.specs.declared.run_text.RunText.{RunText};
 
 use crate::RunText;
-use crate::form::Form;
+use crate::form::{Form, FormLine};
 use crate::run_text::are_below;
 use crate::words::read_pairs;
 use kc_history::{MAX_VERTICES, Replies, Reply};
@@ -259,20 +259,15 @@ fn vertex_turn(run: &RunText, next: u32, v: u32) -> Turn
     }
 }
 
-fn readers_turn(
-    alloc: Global,
-    run: &mut RunText,
-    form: Form,
-    text: &[u8],
-) -> Result<Turn, AllocError>
-    requires { IsWithin text.now form }
-    ensures step { IfOk result (λ turn. readers_step run.old (kind_told text.now form) ≡ step_told run.new turn) }
+fn readers_turn(alloc: Global, run: &mut RunText, line: &FormLine<'_>) -> Result<Turn, AllocError>
+    requires { IsWithin line.now.text.now line.now.form }
+    ensures step { IfOk result (λ turn. readers_step run.old (kind_told line.now.text.now line.now.form) ≡ step_told run.new turn) }
     ensures sound { IsAuditable run.old → OnOk result (IsAuditable run.new) }
 {
-    match form {
-        Form::Reader { reader, from } => reader_turn(alloc, run, reader, text, from),
+    match line.form {
+        Form::Reader { reader, from } => reader_turn(alloc, run, reader, line.text, from),
         Form::Vertex(v) => Ok(vertex_turn(run, 0, v)),
-        _ => Ok(Turn::Stop(misfit(form))),
+        _ => Ok(Turn::Stop(misfit(line.form))),
     }
 }
 
@@ -280,18 +275,17 @@ fn batches_turn(
     alloc: Global,
     run: &mut RunText,
     place: Place,
-    form: Form,
-    text: &[u8],
+    line: &FormLine<'_>,
 ) -> Result<Turn, AllocError>
-    requires { IsWithin text.now form }
-    ensures step { IfOk result (λ turn. batches_step run.old place (kind_told text.now form) ≡ step_told run.new turn) }
+    requires { IsWithin line.now.text.now line.now.form }
+    ensures step { IfOk result (λ turn. batches_step run.old place (kind_told line.now.text.now line.now.form) ≡ step_told run.new turn) }
     ensures sound { IsAuditable run.old → OnOk result (IsAuditable run.new) }
 {
-    match form {
+    match line.form {
         Form::Accepted(batch) => Ok(batch_turn(place, batch, PhasesLeft::AnyPhase)),
         Form::Refused(batch) => Ok(batch_turn(place, batch, PhasesLeft::NoPhase)),
         Form::Phase { phase, add } => Ok(phase_turn(place, phase, add)),
-        _ => readers_turn(alloc, run, form, text),
+        _ => readers_turn(alloc, run, line),
     }
 }
 
@@ -300,23 +294,22 @@ fn groups_turn(
     run: &mut RunText,
     place: Place,
     low: u32,
-    form: Form,
-    text: &[u8],
+    line: &FormLine<'_>,
     members: &mut Vec<Reply>,
 ) -> Result<Turn, AllocError>
-    requires { IsWithin text.now form }
-    ensures step { IfOk result (λ turn. groups_step run.old place low (kind_told text.now form) ≡ step_told run.new turn) }
+    requires { IsWithin line.now.text.now line.now.form }
+    ensures step { IfOk result (λ turn. groups_step run.old place low (kind_told line.now.text.now line.now.form) ≡ step_told run.new turn) }
     ensures sound { IsAuditable run.old → OnOk result (IsAuditable run.new) }
 {
-    match form {
+    match line.form {
         Form::Group { phase, label, from } => {
             if phase == place.phase && low <= label {
-                members_turn(run, place, label, text, from, members)
+                members_turn(run, place, label, line.text, from, members)
             } else {
                 Ok(Turn::Stop(Reason::BadLine))
             }
         }
-        _ => batches_turn(alloc, run, place, form, text),
+        _ => batches_turn(alloc, run, place, line),
     }
 }
 
@@ -339,25 +332,24 @@ fn closed_turn(run: &RunText, form: Form) -> Turn
     }
 }
 
-/// Takes a line of this form, whose bytes are `text`: it may add a group or a reader to the run. `members` is used for the
-/// members of a group line. After a refusal the run isn't used again.
+/// Takes a line: it may add a group or a reader to the run. `members` is used for the members of a group line. After a refusal the
+/// run isn't used again.
 pub fn turn_at(
     alloc: Global,
     run: &mut RunText,
     stage: Stage,
-    form: Form,
-    text: &[u8],
+    line: &FormLine<'_>,
     members: &mut Vec<Reply>,
 ) -> Result<Turn, AllocError>
-    requires { IsWithin text.now form }
-    ensures step { IfOk result (λ turn. step_of run.old stage (kind_told text.now form) ≡ step_told run.new turn) }
+    requires { IsWithin line.now.text.now line.now.form }
+    ensures step { IfOk result (λ turn. step_of run.old stage (kind_told line.now.text.now line.now.form) ≡ step_told run.new turn) }
     ensures sound { IsAuditable run.old → OnOk result (IsAuditable run.new) }
 {
     match stage {
-        Stage::Batches(place) => batches_turn(alloc, run, place, form, text),
-        Stage::Groups { place, low } => groups_turn(alloc, run, place, low, form, text, members),
-        Stage::Readers => readers_turn(alloc, run, form, text),
-        Stage::VertexLines { next } => Ok(vertices_turn(run, next, form)),
-        Stage::Closed => Ok(closed_turn(run, form)),
+        Stage::Batches(place) => batches_turn(alloc, run, place, line),
+        Stage::Groups { place, low } => groups_turn(alloc, run, place, low, line, members),
+        Stage::Readers => readers_turn(alloc, run, line),
+        Stage::VertexLines { next } => Ok(vertices_turn(run, next, line.form)),
+        Stage::Closed => Ok(closed_turn(run, line.form)),
     }
 }

@@ -8,7 +8,7 @@ pub returns-in-End-clause-document : goal.returns-in-End-clause-document
 returns-in-End-clause-document g c =
     let line = c.in_ok-line.line in
     let run = c.turn_at.new.run in
-    let step = rw (c.text_of.ensures, c.form_of-form.ensures.kind, c.in-End.is) at c.in_ok-next.ensures.step in
+    let step = rw (c.text_of-text.ensures, c.form_of-form.ensures.kind, c.in-End.is) at c.in_ok-next.ensures.step in
     accepted_here (read_from (empty_run c.args.n) (Batches first_place)) run _ _
     (c.loop-members.invariant.same ∙ step_on (read_from c.loop-members.run c.loop-members.stage) (λ rest. Accepted run) line _ _ c.in_ok-line.ensures.line (ends c.loop-members.run c.loop-members.stage line run step))
 
@@ -16,7 +16,7 @@ pub returns-in-Stop-clause-document : goal.returns-in-Stop-clause-document
 returns-in-Stop-clause-document g c =
     let line = c.in_ok-line.line in
     let reason = c.in-Stop.reason in
-    let step = rw (c.text_of.ensures, c.form_of-form.ensures.kind, c.in-Stop.is) at c.in_ok-next.ensures.step in
+    let step = rw (c.text_of-text.ensures, c.form_of-form.ensures.kind, c.in-Stop.is) at c.in_ok-next.ensures.step in
     refused_here (read_from (empty_run c.args.n) (Batches first_place)) line reason _ _
     (c.loop-members.invariant.same ∙ step_on (read_from c.loop-members.run c.loop-members.stage) (λ rest. Refused line.number reason) line _ _ c.in_ok-line.ensures.line (stops c.loop-members.run c.loop-members.stage line reason step))
 
@@ -24,7 +24,7 @@ pub loop-members-preserved : goal.loop-members-preserved
 loop-members-preserved g c =
     let line = c.in_ok-line.line in
     let run = c.turn_at.new.run in
-    let step = rw (c.text_of.ensures, c.form_of-form.ensures.kind, c.in-Go.is) at c.in_ok-next.ensures.step in
+    let step = rw (c.text_of-text.ensures, c.form_of-form.ensures.kind, c.in-Go.is) at c.in_ok-next.ensures.step in
     record {
       same = rw c.give_back.ensures
           (c.loop-members.invariant.same ∙ step_on (read_from c.loop-members.run c.loop-members.stage) (read_from run c.in-Go.next) line _ _ c.in_ok-line.ensures.line (goes_on c.loop-members.run c.loop-members.stage line run c.in-Go.next step));
@@ -35,5 +35,5 @@ loop-members-preserved g c =
 pub loop-members-smaller : goal.loop-members-smaller
 loop-members-smaller g c =
     let line = c.in_ok-line.line in
-    let step = rw (c.text_of.ensures, c.form_of-form.ensures.kind, c.in-Go.is) at c.in_ok-next.ensures.step in
+    let step = rw (c.text_of-text.ensures, c.form_of-form.ensures.kind, c.in-Go.is) at c.in_ok-next.ensures.step in
     rw c.give_back.ensures ((fits_text c.loop-members.run c.loop-members.stage line.body c.turn_at.new.run c.in-Go.next step).takes _ _ c.in_ok-line.ensures.takes)
