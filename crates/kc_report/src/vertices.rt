@@ -25,22 +25,24 @@ fn fill_bounds(
     fill_named(alloc, buf, b" high ", estimate.hi)
 }
 
-fn fill_vertex(
-    alloc: Global,
-    buf: &mut LineBuf,
+// What the line of a vertex says.
+#[derive(Clone, Copy)]
+struct VertexLine {
     v: u32,
     level: u16,
     estimate: Estimate,
     up: u32,
     down: u32,
-) -> Result<(), AllocError>
+}
+
+fn fill_vertex(alloc: Global, buf: &mut LineBuf, line: VertexLine) -> Result<(), AllocError>
     requires { buf.old ≡ [] }
-    ensures { OnOk result (buf.new ++ 10 ∷ [] ≡ vertex_line v level estimate up down) }
+    ensures { OnOk result (buf.new ++ 10 ∷ [] ≡ vertex_line line.v line.level line.estimate line.up line.down) }
 {
-    fill_named(alloc, buf, b"vertex ", v)?;
-    fill_bounds(alloc, buf, level, estimate)?;
-    fill_named(alloc, buf, b" up ", up)?;
-    fill_named(alloc, buf, b" down ", down)
+    fill_named(alloc, buf, b"vertex ", line.v)?;
+    fill_bounds(alloc, buf, line.level, line.estimate)?;
+    fill_named(alloc, buf, b" up ", line.up)?;
+    fill_named(alloc, buf, b" down ", line.down)
 }
 
 /// Writes the line of vertex `v` (`vertex_line`): its level, the estimate and the bounds of its coreness, and how many
@@ -63,7 +65,14 @@ pub fn write_vertex<K: Sink>(
     ensures buffer { IsCleared buf.new result }
     ensures cause { WriteCause (K.faults sink.old) (K.faults sink.new) result }
 {
-    match fill_vertex(alloc, buf, v, level, estimate, up, down) {
+    let line = VertexLine {
+        v,
+        level,
+        estimate,
+        up,
+        down,
+    };
+    match fill_vertex(alloc, buf, line) {
         Ok(()) => buf.send(alloc, sink),
         Err(fault) => Err(SendFault::Memory(fault)),
     }
