@@ -17,7 +17,7 @@ use Rattle.kserve.specs.private.Fitting.{is_due, are_due}
 use Rattle.kserve.specs.Fitting.{items_of, Fit}
 use Rattle.kserve.specs.private.Clients.{ended_client, HaveEnded, AreTakenIn, AreDrained}
 use Rattle.kserve.specs.Inputs.{items_in}
-use Rattle.kserve.specs.private.Reading.{AreScripts}
+use Rattle.kserve.specs.private.Scripts.{AreScripts}
 use Rattle.kserve.proofs.Counting.{total_same, all_clients, all_lists, each_as_many}
 
 of_append : (c : ℕ) (us vs : List Update) → updates_of c (us ++ vs) ≡ updates_of c us ++ updates_of c vs

@@ -27,19 +27,14 @@ use Rattle.kserve.specs.private.Serving.{TakesBatch, GoesOn, HaveServed, Serves}
 use Rattle.kserve.proofs.Leads.{IsWithin, room_within, within_more, inside_all, lead_more, vertices_lead, updates_more, due_more, lines_more}
 
 -- where the server has gone on so far, after so many updates
-abbrev pub IsRunning : {T : Type 0} → ℕ → ℕ → EngineView → List ℕ → Result T Stop → Type 0
-IsRunning n count e buffer (Ok _) = IsOpen e × (IsWithin count e.state × (buffer ≡ []))
-IsRunning n count e buffer (Err stop) = Unit {0}
+abbrev pub IsRunning : {T : Type 0} → ℕ → EngineView → Result T Stop → Type 0
+IsRunning count e (Ok _) = IsOpen e × IsWithin count e.state
+IsRunning count e (Err stop) = Unit {0}
 
--- what is left by a batch that was taken
-abbrev pub Ended : {T : Type 0} → EngineView → List ℕ → Result T Stop → Type 0
-Ended e buffer (Ok _) = IsOpen e × (buffer ≡ [])
-Ended e buffer (Err stop) = Unit {0}
-
-pub ready : {T : Type 0} (n count : ℕ) (s0 : State) (e : EngineView) (bs : List (List Update)) (buffer : List ℕ) (before now : Option (List ℕ)) (course : Result T Stop) → s0.graph.vertices ≡ n → count ≤ MAX_ITEMS
-    → Serves n s0 bs e.state before now course → IsRunning n count e buffer course → OnOk course (IsReady n e buffer)
-ready n count s0 e bs buffer before now (Ok x) same few h r = record { open_for = r.0; vertices = vertices_lead s0 e.state bs h.lead ∙ same; room = room_within count e.state few r.1.0; empty = r.1.1 }
-ready n count s0 e bs buffer before now (Err stop) same few h r = tt
+pub ready : {T : Type 0} (n count : ℕ) (s0 : State) (e : EngineView) (bs : List (List Update)) (before now : Option (List ℕ)) (course : Result T Stop) → s0.graph.vertices ≡ n → count ≤ MAX_ITEMS
+    → Serves n s0 bs e.state before now course → IsRunning count e course → OnOk course (IsReady n e)
+ready n count s0 e bs before now (Ok x) same few h r = record { open_for = r.0; vertices = vertices_lead s0 e.state bs h.lead ∙ same; room = room_within count e.state few r.1 }
+ready n count s0 e bs before now (Err stop) same few h r = tt
 
 -- the batch after those that were served
 text_then : (before now later : Option (List ℕ)) (bs : List (List Update)) (b : List Update) (number : ℕ) → number ≡ 1 + length bs → now ≡ append_known before (batch_lines 1 bs) → later ≡ append_known now (batch_text number b) → later ≡ append_known before (batch_lines 1 (bs ++ b ∷ []))
@@ -82,16 +77,16 @@ served_more n number s0 s t bs b before now later (Ok x) result is h g = after_o
 served_more {T = T} n number s0 s t bs b before now later (Err stop) result is h g = rw g.0 (after_stop T n s0 s t bs b before now later stop g.1 h)
 
 -- and the bounds
-pub running_more : {T : Type 0} (n number count : ℕ) (s0 : State) (e f : EngineView) (bs : List (List Update)) (b : List Update) (old new : List ℕ) (before now later : Option (List ℕ)) (course result : Result T Stop) → s0.graph.vertices ≡ n → count ≤ MAX_ITEMS → 1 ≤ length b → length b ≤ CAPACITY
-    → Serves n s0 bs e.state before now course → IsRunning n count e old course → GoesOn n number b e.state f.state now later course result → Ended f new result → IsRunning n (count + length b) f new result
-running_more n number count s0 e f bs b old new before now later (Err stop) result same few some less h r g o = rw g.0 tt
-running_more n number count s0 e f bs b old new before now later (Ok x) (Err stop) same few some less h r g o = tt
-running_more n number count s0 e f bs b old new before now later (Ok x) (Ok y) same few some less h r g o =
+pub running_more : {T : Type 0} (n number count : ℕ) (s0 : State) (e f : EngineView) (bs : List (List Update)) (b : List Update) (before now later : Option (List ℕ)) (course result : Result T Stop) → s0.graph.vertices ≡ n → count ≤ MAX_ITEMS → 1 ≤ length b → length b ≤ CAPACITY
+    → Serves n s0 bs e.state before now course → IsRunning count e course → GoesOn n number b e.state f.state now later course result → OnOk result (IsOpen f) → IsRunning (count + length b) f result
+running_more n number count s0 e f bs b before now later (Err stop) result same few some less h r g o = rw g.0 tt
+running_more n number count s0 e f bs b before now later (Ok x) (Err stop) same few some less h r g o = tt
+running_more n number count s0 e f bs b before now later (Ok x) (Ok y) same few some less h r g o =
     let vertices : e.state.graph.vertices ≡ n = vertices_lead s0 e.state bs h.lead ∙ same in
     let size : length (items_of b) ≡ length b = length-map b (λ (u : Update). u.item) in
     let inside = subst (λ (m : ℕ). All (IsInside m) (items_of b)) (sym vertices) (inside_all n b g.0) in
-    let w = within_more count e.state f.state (items_of b) r.0.sound r.1.0 few inside (omega (arith, size, some)) (omega (arith, size, less)) g.1.0 in
-    (o.0, (subst (λ (m : ℕ). IsWithin m f.state) (ap (λ m. count + m) size) w, o.1))
+    let w = within_more count e.state f.state (items_of b) r.0.sound r.1 few inside (omega (arith, size, some)) (omega (arith, size, less)) g.1.0 in
+    (o, subst (λ (m : ℕ). IsWithin m f.state) (ap (λ m. count + m) size) w)
 
 -- before the first drain
 pub none_served : {T : Type 0} (n : ℕ) (s : State) (bs : List (List Update)) (t : State) (before now : Option (List ℕ)) (first : T) → bs ≡ [] → t ≡ s → now ≡ before → Serves n s bs t before now (Ok first)
@@ -146,9 +141,5 @@ pub cause_on : {T : Type 0} (n number : ℕ) (b : List Update) (s t : State) (fi
 cause_on n number b s t first now later taken0 taken1 (Ok x) result c g o = rises first now later result c g
 cause_on {T = T} n number b s t first now later taken0 taken1 (Err stop) result c g o = rw o.0 (stays T first now later stop g c)
 
-pub ended : {T : Type 0} (e : EngineView) (buffer : List ℕ) (result : Result T Stop) → OnOk result (IsOpen e) → OnOk result (buffer ≡ []) → Ended e buffer result
-ended e buffer (Ok x) open_for empty = (open_for, empty)
-ended e buffer (Err stop) open_for empty = tt
-
-pub running_as : {T : Type 0} (n count other : ℕ) (e : EngineView) (buffer : List ℕ) (course : Result T Stop) → other ≡ count → IsRunning n count e buffer course → IsRunning n other e buffer course
-running_as n count other e buffer course same r = rw same r
+pub running_as : {T : Type 0} (count other : ℕ) (e : EngineView) (course : Result T Stop) → other ≡ count → IsRunning count e course → IsRunning other e course
+running_as count other e course same r = rw same r

@@ -39,7 +39,7 @@ use Rattle.kserve.specs.declared.fault.Stop.{Stop}
 use Rattle.kserve.specs.declared.fault.Stop.TheVariants as stop
 use Rattle.kserve.specs.declared.reading.Said.{Said}
 use Rattle.kserve.specs.declared.reading.Said.TheVariants as said
-use Rattle.kserve.specs.declared.reading.Scripts.{Scripts}
+use Rattle.kserve.specs.declared.scripts.Scripts.{Scripts}
 use Rattle.kserve.specs.declared.status.ServeStatus.{ServeStatus}
 use Rattle.kserve.specs.declared.status.ServeStatus.TheVariants as status
 use Rattle.kserve.specs.declared.limits.TheConstants.{CAPACITY, LINE_LIMIT, INPUT_LIMIT}
@@ -275,10 +275,9 @@ same_cause A B w0 w1 w2 fault.WriteFault y is e cause = rw is (subst (λ (w : �
 same_cause A B w0 w1 w2 (fault.Memory m) y is e cause = rw is (cause ∙ e)
 
 -- what was drained fits the scripts, once all clients have ended and were taken in
-pub drained_scripts : (scripts shown : List (List Item)) (count : ℕ) (intake : IntakeShape) (old new : DrainerShape) (clients : List ClientShape) → shown ≡ scripts → intake.capacity ≡ CAPACITY → old.clients ≡ length shown → count ≡ items_in scripts
-    → AreDrained intake old new → HaveEnded intake shown clients → AreTakenIn new.taken clients → count ≤ length (all_updates new.taken) → Fit scripts new.taken
-drained_scripts scripts shown count intake old new clients same capacity many all d e t enough =
-    drained_fit scripts intake old new clients capacity (many ∙ ap (λ (xs : List (List Item)). length xs) same) d (subst (λ (xs : List (List Item)). HaveEnded intake xs clients) same e) t (omega (arith, enough, all))
+pub drained_scripts : (scripts : List (List Item)) (count : ℕ) (intake : IntakeShape) (old new : DrainerShape) (clients : List ClientShape) → intake.capacity ≡ CAPACITY → old.clients ≡ length scripts → count ≡ items_in scripts
+    → AreDrained intake old new → HaveEnded intake scripts clients → AreTakenIn new.taken clients → count ≤ length (all_updates new.taken) → Fit scripts new.taken
+drained_scripts scripts count intake old new clients capacity many all d e t enough = drained_fit scripts intake old new clients capacity many d e t (omega (arith, enough, all))
 
 -- the graph has as many vertices as before the batches
 pub vertices_served : (n : ℕ) (scripts : List (List Item)) (t : State) (before now : Option (List ℕ)) → HaveServedAll n scripts t before now → t.graph.vertices ≡ n

@@ -6,5 +6,6 @@ pub mod Faults
 pub mod Fitting
 pub mod Inputs
 pub mod Reading
+pub mod Scripts
 pub mod Served
 pub mod Serving

@@ -1,24 +1,19 @@
-//! One drained batch: it is applied, and then printed.
-ghost use Rattle.std.specs.Prelude.{◌≡◌, ◌≤◌, ◌+◌, true, [], length, map, None, All, IfOk, OnOk};
-ghost use Rattle.kc_text.specs.Writing.{IsPrefix};
+//! The items of a drained batch, applied.
+ghost use Rattle.std.specs.Prelude.{◌≡◌, ◌≤◌, length, None, All, IfOk, OnOk};
 ghost use Rattle.kc_graph.specs.declared.limits.TheConstants.{MAX_EDGES};
 ghost use Rattle.kc_graph.specs.Cleaning.{IsInside, cleaned};
 ghost use Rattle.kc_engine.specs.Batches.{IsAfterBatch, refusal_of};
 ghost use Rattle.kserve.specs.Batches.{start};
 ghost use Rattle.kserve.specs.private.Fitting.{is_due};
-ghost use Rattle.kserve.specs.private.Engines.{IsOpen, HasRoom};
-ghost use Rattle.kserve.specs.private.Serving.{AreItems, TakesBatch};
-ghost use Rattle.kserve.specs.private.Faults.{StopCause};
+ghost use Rattle.kserve.specs.private.Engines.{IsOpen};
+ghost use Rattle.kserve.specs.private.Serving.{AreItems};
 
-use crate::fault::Stop;
-use crate::lines::write_batch;
 use kc_batch::Items;
 use kc_engine::{Engine, EngineFault, Shape};
 use kc_graph::{Item, MAX_EDGES, MAX_ITEMS, MAX_VERTICES, clean};
 use kc_intake::Update;
 use kc_levels::Profile;
 use kc_rounds::Gate;
-use kc_text::{LineBuf, Sink};
 use std::alloc::{AllocError, Global};
 use std::thread::Threads;
 
@@ -54,8 +49,8 @@ fn is_due(n: u32, item: Item) -> bool
     }
 }
 
-// The items of updates, or None where one of them isn't due.
-fn items_of(alloc: Global, n: u32, updates: &[Update]) -> Result<Option<Items>, AllocError>
+/// The items of updates, or None where one of them isn't due.
+pub fn items_of(alloc: Global, n: u32, updates: &[Update]) -> Result<Option<Items>, AllocError>
     ensures { IfOk result (λ items. AreItems n updates.now items) }
 {
     let mut items = Vec::with_capacity(alloc, updates.len())?;
@@ -68,8 +63,8 @@ fn items_of(alloc: Global, n: u32, updates: &[Update]) -> Result<Option<Items>, 
     Ok(Some(Items::from_vec(items)))
 }
 
-// Applies items to the graph. No level is looked up meanwhile, so no phase is shown.
-fn apply<R: Threads + Sync, G: Gate + Sync>(
+/// Applies items to the graph. No level is looked up meanwhile, so no phase is shown. The error is running out of memory.
+pub fn apply<R: Threads + Sync, G: Gate + Sync>(
     rt: &R,
     alloc: Global,
     gate: &G,
@@ -94,37 +89,4 @@ fn apply<R: Threads + Sync, G: Gate + Sync>(
         Err(EngineFault::Halted | EngineFault::EdgeLimit { .. } | EngineFault::PhaseLimit { .. }) =>
             unreachable!(),
     }
-}
-
-/// Applies the updates of a drained batch to a graph of n vertices, and prints them as the batch with this number.
-///
-/// `Stray` comes exactly where one of the items isn't due; then nothing is applied or printed. After `WriteFault`, which only a failed
-/// write gives, and after `Memory` the sink took a prefix of the lines, and neither engine nor buffer is used again.
-pub fn take_batch<R: Threads + Sync, K: Sink, G: Gate + Sync>(
-    rt: &R,
-    alloc: Global,
-    gate: &G,
-    n: u32,
-    engine: &mut Engine,
-    buf: &mut LineBuf,
-    sink: &mut K,
-    number: u32,
-    updates: &[Update],
-) -> Result<(), Stop>
-    requires open { IsOpen engine.old }
-    requires vertices { engine.old.state.graph.vertices ≡ n }
-    requires few { length updates.now ≤ MAX_ITEMS }
-    requires room { HasRoom engine.old.state }
-    requires empty { buf.old ≡ [] }
-    ensures taken { TakesBatch n number updates.now engine.old.state engine.new.state (K.taken sink.old) (K.taken sink.new) result }
-    ensures open { OnOk result (IsOpen engine.new) }
-    ensures empty { OnOk result (buf.new ≡ []) }
-    ensures cause { StopCause (K.faults sink.old) (K.faults sink.new) result }
-{
-    let Some(items) = items_of(alloc, n, updates)? else {
-        return Err(Stop::Stray);
-    };
-    apply(rt, alloc, gate, engine, items.as_slice())?;
-    write_batch(alloc, buf, sink, number, updates)?;
-    Ok(())
 }

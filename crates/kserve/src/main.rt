@@ -12,11 +12,13 @@ ghost use Rattle.kserve.specs.Ending.{EndsAs, exit_number};
 
 mod applying;
 mod clients;
+mod context;
 mod fault;
 mod head;
 mod limits;
 mod lines;
 mod reading;
+mod scripts;
 mod serve;
 mod server;
 mod serving;

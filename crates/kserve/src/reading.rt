@@ -4,28 +4,18 @@ ghost use Rattle.std.specs.Option.{option_map};
 ghost use Rattle.kc_batch.specs.Batches.{batches_left};
 ghost use Rattle.kserve.specs.Inputs.{rules_for, scripts_from, input_said, has_room};
 ghost use Rattle.kserve.specs.private.Faults.{ReadingCause};
-ghost use Rattle.kserve.specs.private.Reading.{Says, IsSaid};
+ghost use Rattle.kserve.specs.private.Reading.{Says};
 
 use crate::fault::ServeFault;
 use crate::head::{Head, read_head};
 use crate::limits::{INPUT_LIMIT, LINE_LIMIT};
+use crate::scripts::Scripts;
 use kc_batch::{Items, Next, next_batch};
 use kc_graph::{MAX_ITEMS, MAX_VERTICES};
 use kc_intake::MAX_CLIENTS;
 use kc_levels::Profile;
 use kc_text::{LineReader, Reason, Source};
 use std::alloc::{AllocError, Global};
-
-/// The scripts of an input.
-#[derive(Drop, Debug)]
-pub struct Scripts {
-    /// The number of vertices, 1 to `MAX_VERTICES`.
-    pub n: u32,
-    /// The script of each client, in the order of their numbers: at most `MAX_CLIENTS`.
-    pub scripts: Vec<Items>,
-    /// How many items they have together: at most `MAX_ITEMS`.
-    pub count: u32,
-}
 
 /// What an input says.
 #[derive(Drop, Debug)]
@@ -62,7 +52,6 @@ fn read_scripts<S: Source>(
     requires some { 1 ≤ n }
     requires small { n ≤ MAX_VERTICES }
     ensures said { IfOk result (λ said. Says said (option_map (scripts_from n []) (batches_left (rules_for n) reader.old (S.left src.old)))) }
-    ensures sound { IfOk result IsSaid }
     ensures cause { ReadingCause (S.faults src.old) (S.faults src.new) result }
 {
     let mut scripts = Vec::new(alloc);
@@ -92,7 +81,6 @@ fn read_scripts<S: Source>(
 /// `ReadFault` comes only where the source's count of faults rose, and `Memory` where a line or the items found none.
 pub fn read_input<S: Source>(alloc: Global, src: &mut S) -> Result<Said, ServeFault>
     ensures said { IfOk result (λ said. Says said (option_map input_said (S.left src.old))) }
-    ensures sound { IfOk result IsSaid }
     ensures cause { ReadingCause (S.faults src.old) (S.faults src.new) result }
 {
     let mut reader = LineReader::new(alloc, LINE_LIMIT, INPUT_LIMIT)?;

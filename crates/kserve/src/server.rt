@@ -5,11 +5,13 @@ ghost use Rattle.kserve.specs.Batches.{start};
 ghost use Rattle.kserve.specs.private.Engines.{IsOpen, IsReady};
 ghost use Rattle.kserve.specs.private.Faults.{StopCause, GoesOnCause};
 ghost use Rattle.kserve.specs.private.Clients.{AreDrained};
-ghost use Rattle.kserve.specs.private.Serving.{Serves, GoesOn};
+ghost use Rattle.kserve.specs.private.Serving.{TakesBatch, Serves, GoesOn};
 
-use crate::applying::take_batch;
+use crate::applying::{apply, items_of};
+use crate::context::ServeContext;
 use crate::fault::Stop;
 use crate::limits::CAPACITY;
+use crate::lines::write_batch;
 use kc_engine::Engine;
 use kc_graph::MAX_ITEMS;
 use kc_intake::{Drainer, Intake, Update};
@@ -20,80 +22,125 @@ use std::sync::Wait;
 use std::thread;
 use std::thread::Threads;
 
-// Applies and prints the next batch, unless the server has stopped.
-fn go_on<R: Threads + Sync, K: Sink, G: Gate + Sync>(
-    rt: &R,
-    alloc: Global,
-    gate: &G,
-    n: u32,
-    engine: &mut Engine,
-    buf: &mut LineBuf,
-    sink: &mut K,
-    number: u32,
-    updates: &[Update],
-    course: Result<(), Stop>,
-) -> Result<(), Stop>
-    requires few { length updates.now ≤ MAX_ITEMS }
-    requires ready { OnOk course (IsReady n engine.old buf.old) }
-    ensures served { GoesOn n number updates.now engine.old.state engine.new.state (K.taken sink.old) (K.taken sink.new) course result }
-    ensures open { OnOk result (IsOpen engine.new) }
-    ensures empty { OnOk result (buf.new ≡ []) }
-    ensures cause { GoesOnCause (K.faults sink.old) (K.faults sink.new) course result }
-{
-    match course {
-        Ok(()) => take_batch(rt, alloc, gate, n, engine, buf, sink, number, updates),
-        Err(stop) => Err(stop),
-    }
+/// The server: the engine that applies its batches, and the line that is put together for them, empty between two calls.
+#[derive(Drop)]
+pub struct Server {
+    /// The engine that applies the batches.
+    pub engine: Engine,
+    // Keeps its memory from one line to the next.
+    buf: LineBuf,
+    ghost empty: { buf ≡ [] },
 }
 
-/// Drains an intake until at least `count` updates were drained, and tries again while it is empty. Each batch is applied to a graph of
-/// n vertices and printed before the next one is drained (`Serves`). Once one of them can't be, whose fault is answered at the end, the
-/// rest are only drained, so that no client waits for room.
-///
-/// The engine and the drainer were just opened. `count` is at most `MAX_ITEMS`. `WriteFault` comes only where a write to the sink failed
-/// in this call; after it, and after the others, neither engine nor buffer is used again. The call may wait.
-pub fn run_server<R: Threads + Wait + Sync, K: Sink, G: Gate + Sync>(
-    rt: &R,
-    alloc: Global,
-    gate: &G,
-    n: u32,
-    count: u32,
-    intake: &Intake,
-    drainer: &mut Drainer,
-    engine: &mut Engine,
-    buf: &mut LineBuf,
-    sink: &mut K,
-) -> Result<(), Stop>
-    requires few { count ≤ MAX_ITEMS }
-    requires capacity { intake.now.capacity ≡ CAPACITY }
-    requires drainer { (drainer.old.intake ≡ intake.now) × (drainer.old.taken ≡ []) }
-    requires open { IsOpen engine.old }
-    requires start { engine.old.state ≡ start n }
-    requires empty { buf.old ≡ [] }
-    ensures served { Serves n (start n) drainer.new.taken engine.new.state (K.taken sink.old) (K.taken sink.new) result }
-    ensures drained { AreDrained intake.now drainer.old drainer.new }
-    ensures all { count ≤ length (all_updates drainer.new.taken) }
-    ensures open { OnOk result (IsOpen engine.new) }
-    ensures empty { OnOk result (buf.new ≡ []) }
-    ensures cause { StopCause (K.faults sink.old) (K.faults sink.new) result }
-{
-    let mut course = Ok(());
-    let mut number = 0;
-    let mut drained = 0;
-    for _turn in rt.forever() {
-        if drained >= count {
-            return course;
+impl Server {
+    /// A server with this engine. Takes no memory.
+    pub fn new(alloc: Global, engine: Engine) -> Server
+        ensures { result.engine ≡ engine }
+    {
+        Server {
+            engine,
+            buf: LineBuf::new(alloc),
         }
-        let Ok(()) = intake.drain(rt, drainer) else {
-            thread::yield_now();
-            continue;
-        };
-        number += 1;
-        drained += drainer.batch().len() as u32;
-        let updates = drainer.batch();
-        course = go_on(
-            rt, alloc, gate, n, engine, buf, sink, number, updates, course,
-        );
     }
-    unreachable!()
+
+    /// Applies the updates of a drained batch to the graph of the scripts, and prints them as the batch with this number.
+    ///
+    /// `Stray` comes exactly where one of the items isn't due; then nothing is applied or printed. After `WriteFault`, which only a
+    /// failed write gives, and after `Memory` the sink took a prefix of the lines, and the engine isn't used again.
+    pub fn take_batch<R: Threads + Sync, K: Sink, G: Gate + Sync>(
+        &mut self,
+        context: &ServeContext<'_, R, G>,
+        sink: &mut K,
+        number: u32,
+        updates: &[Update],
+    ) -> Result<(), Stop>
+        requires few { length updates.now ≤ MAX_ITEMS }
+        requires ready { IsReady context.now.asked.now.n self.old.engine }
+        ensures taken { TakesBatch context.now.asked.now.n number updates.now self.old.engine.state self.new.engine.state (K.taken sink.old) (K.taken sink.new) result }
+        ensures open { OnOk result (IsOpen self.new.engine) }
+        ensures cause { StopCause (K.faults sink.old) (K.faults sink.new) result }
+    {
+        let ServeContext {
+            rt,
+            alloc,
+            gate,
+            asked,
+        } = context;
+        let alloc = *alloc;
+        let Some(items) = items_of(alloc, asked.n, updates)? else {
+            return Err(Stop::Stray);
+        };
+        apply(*rt, alloc, *gate, &mut self.engine, items.as_slice())?;
+        let sent = write_batch(alloc, &mut self.buf, sink, number, updates);
+        // Without memory a part of a line is left.
+        if sent.is_err() {
+            self.buf = LineBuf::new(alloc);
+        }
+        sent?;
+        Ok(())
+    }
+
+    // Applies and prints the next batch, unless the server has stopped.
+    fn go_on<R: Threads + Sync, K: Sink, G: Gate + Sync>(
+        &mut self,
+        context: &ServeContext<'_, R, G>,
+        sink: &mut K,
+        number: u32,
+        updates: &[Update],
+        course: Result<(), Stop>,
+    ) -> Result<(), Stop>
+        requires few { length updates.now ≤ MAX_ITEMS }
+        requires ready { OnOk course (IsReady context.now.asked.now.n self.old.engine) }
+        ensures served { GoesOn context.now.asked.now.n number updates.now self.old.engine.state self.new.engine.state (K.taken sink.old) (K.taken sink.new) course result }
+        ensures open { OnOk result (IsOpen self.new.engine) }
+        ensures cause { GoesOnCause (K.faults sink.old) (K.faults sink.new) course result }
+    {
+        match course {
+            Ok(()) => self.take_batch(context, sink, number, updates),
+            Err(stop) => Err(stop),
+        }
+    }
+
+    /// Drains an intake until at least as many updates were drained as the scripts have items, and tries again while it is empty. Each
+    /// batch is applied to the graph of the scripts and printed before the next one is drained (`Serves`). Once one of them can't be,
+    /// whose fault is answered at the end, the rest are only drained, so that no client waits for room.
+    ///
+    /// The engine and the drainer were just opened. `WriteFault` comes only where a write to the sink failed in this call; after it, and
+    /// after the others, the engine isn't used again. The call may wait.
+    pub fn run<R: Threads + Wait + Sync, K: Sink, G: Gate + Sync>(
+        &mut self,
+        context: &ServeContext<'_, R, G>,
+        intake: &Intake,
+        drainer: &mut Drainer,
+        sink: &mut K,
+    ) -> Result<(), Stop>
+        requires capacity { intake.now.capacity ≡ CAPACITY }
+        requires drainer { (drainer.old.intake ≡ intake.now) × (drainer.old.taken ≡ []) }
+        requires open { IsOpen self.old.engine }
+        requires start { self.old.engine.state ≡ start context.now.asked.now.n }
+        ensures served { Serves context.now.asked.now.n (start context.now.asked.now.n) drainer.new.taken self.new.engine.state (K.taken sink.old) (K.taken sink.new) result }
+        ensures drained { AreDrained intake.now drainer.old drainer.new }
+        ensures all { context.now.asked.now.count ≤ length (all_updates drainer.new.taken) }
+        ensures open { OnOk result (IsOpen self.new.engine) }
+        ensures cause { StopCause (K.faults sink.old) (K.faults sink.new) result }
+    {
+        let count = context.asked.count;
+        let mut course = Ok(());
+        let mut number = 0;
+        let mut drained = 0;
+        for _turn in context.rt.forever() {
+            if drained >= count {
+                return course;
+            }
+            let Ok(()) = intake.drain(context.rt, drainer) else {
+                thread::yield_now();
+                continue;
+            };
+            number += 1;
+            drained += drainer.batch().len() as u32;
+            let updates = drainer.batch();
+            course = self.go_on(context, sink, number, updates, course);
+        }
+        unreachable!()
+    }
 }

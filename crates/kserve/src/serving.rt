@@ -2,24 +2,23 @@
 ghost use Rattle.std.specs.Prelude.{◌≡◌, ◌≤◌, [], length, All, OnOk};
 ghost use Rattle.std.specs.Thread.{IsSync};
 ghost use Rattle.kc_intake.specs.Updates.{all_updates};
+ghost use Rattle.kserve.specs.declared.limits.TheConstants.{CAPACITY};
 ghost use Rattle.kserve.specs.Batches.{start};
 ghost use Rattle.kserve.specs.private.Clients.{AreNew, HaveEnded, AreDrained};
 ghost use Rattle.kserve.specs.private.Engines.{IsOpen};
 ghost use Rattle.kserve.specs.private.Faults.{IsFaultOf, StopCause, WritingCause};
-ghost use Rattle.kserve.specs.private.Reading.{AreRead};
 ghost use Rattle.kserve.specs.private.Served.{Writes};
 ghost use Rattle.kserve.specs.private.Serving.{Serves, ServesAll};
 
 use crate::applying::open;
 use crate::clients::{run_clients, take_in_all};
+use crate::context::ServeContext;
 use crate::fault::{ServeFault, Stop};
 use crate::limits::CAPACITY;
 use crate::lines::write_head;
-use crate::reading::Scripts;
-use crate::server::run_server;
+use crate::scripts::Scripts;
+use crate::server::Server;
 use crate::vertices::write_tail;
-use kc_batch::Items;
-use kc_engine::Engine;
 use kc_graph::MAX_ITEMS;
 use kc_intake::{Client, Drainer, Intake, MAX_CLIENTS};
 use kc_rounds::Gate;
@@ -29,47 +28,46 @@ use std::sync::Wait;
 use std::thread;
 use std::thread::Threads;
 
+// An intake as it is opened, with its drainer and its clients.
+#[derive(Drop)]
+struct Opened {
+    intake: Intake,
+    drainer: Drainer,
+    clients: Vec<Client>,
+    ghost capacity: { intake.capacity ≡ CAPACITY },
+    ghost drains: { drainer.intake ≡ intake },
+}
+
 // The server runs beside the clients.
 fn side_by_side<R: Threads + Wait + Sync, K: Sink + Send, G: Gate + Sync>(
-    rt: &R,
-    alloc: Global,
-    gate: &G,
-    n: u32,
-    count: u32,
-    scripts: &[Items],
-    intake: &Intake,
-    drainer: &mut Drainer,
-    clients: &mut Vec<Client>,
-    engine: &mut Engine,
-    buf: &mut LineBuf,
+    context: &ServeContext<'_, R, G>,
+    opened: &mut Opened,
+    server: &mut Server,
     sink: &mut K,
 ) -> Result<(), Stop>
-    requires few { count ≤ MAX_ITEMS }
-    requires capacity { intake.now.capacity ≡ CAPACITY }
-    requires drainer { (drainer.old.intake ≡ intake.now) × (drainer.old.taken ≡ []) }
-    requires open { IsOpen engine.old }
-    requires start { engine.old.state ≡ start n }
-    requires empty { buf.old ≡ [] }
-    requires clients { AreNew intake.now (length scripts.now) clients.old.items }
-    requires few_clients { length scripts.now ≤ MAX_CLIENTS }
-    requires few_items { All (λ script. length script ≤ MAX_ITEMS) scripts.now }
-    ensures served { Serves n (start n) drainer.new.taken engine.new.state (K.taken sink.old) (K.taken sink.new) result }
-    ensures drained { AreDrained intake.now drainer.old drainer.new }
-    ensures all { count ≤ length (all_updates drainer.new.taken) }
-    ensures open { OnOk result (IsOpen engine.new) }
-    ensures empty { OnOk result (buf.new ≡ []) }
-    ensures clients { HaveEnded intake.now scripts.now clients.new.items }
+    requires none { opened.old.drainer.taken ≡ [] }
+    requires clients { AreNew opened.old.intake (length context.now.asked.now.scripts.items) opened.old.clients.items }
+    requires open { IsOpen server.old.engine }
+    requires start { server.old.engine.state ≡ start context.now.asked.now.n }
+    ensures served { Serves context.now.asked.now.n (start context.now.asked.now.n) opened.new.drainer.taken server.new.engine.state (K.taken sink.old) (K.taken sink.new) result }
+    ensures intake { opened.new.intake ≡ opened.old.intake }
+    ensures drained { AreDrained opened.old.intake opened.old.drainer opened.new.drainer }
+    ensures all { context.now.asked.now.count ≤ length (all_updates opened.new.drainer.taken) }
+    ensures open { OnOk result (IsOpen server.new.engine) }
+    ensures clients { HaveEnded opened.old.intake context.now.asked.now.scripts.items opened.new.clients.items }
     ensures cause { StopCause (K.faults sink.old) (K.faults sink.new) result }
 {
+    let rt = context.rt;
+    let gate = context.gate;
+    let scripts = context.asked.scripts.as_slice();
+    let intake = &opened.intake;
+    let drainer = &mut opened.drainer;
+    let clients = &mut opened.clients;
     thread::join_mut(
         rt,
         &mut ||
-            requires { IsSync R.row × IsSync G.row × (count ≤ MAX_ITEMS) × (intake.now.capacity ≡ CAPACITY) × (drainer.now.intake ≡ intake.now) × (drainer.now.taken ≡ []) × IsOpen engine.now × (engine.now.state ≡ start n) × (buf.now ≡ []) }
-        {
-            run_server(
-                rt, alloc, gate, n, count, intake, drainer, engine, buf, sink,
-            )
-        },
+            requires { IsSync R.row × IsSync G.row × (intake.now.capacity ≡ CAPACITY) × (drainer.now.intake ≡ intake.now) × (drainer.now.taken ≡ []) × IsOpen server.now.engine × (server.now.engine.state ≡ start context.now.asked.now.n) }
+        { server.run(context, intake, drainer, sink) },
         &mut ||
             requires { IsSync R.row × IsSync G.row × AreNew intake.now (length scripts.now) clients.now.items × (length scripts.now ≤ MAX_CLIENTS) × All (λ script. length script ≤ MAX_ITEMS) scripts.now }
         { run_clients(rt, gate, intake, clients, scripts) },
@@ -91,41 +89,31 @@ fn fault_of(stop: Stop) -> ServeFault
 
 // Serves scripts, of which there is one at least, with an engine that was just opened, and prints the batches (`ServesAll`).
 fn serve_clients<R: Threads + Wait + Sync, K: Sink + Send, G: Gate + Sync>(
-    rt: &R,
-    alloc: Global,
-    gate: &G,
-    asked: &Scripts,
-    engine: &mut Engine,
-    buf: &mut LineBuf,
+    context: &ServeContext<'_, R, G>,
+    server: &mut Server,
     sink: &mut K,
 ) -> Result<(), ServeFault>
-    requires scripts { AreRead asked.now }
-    requires some { 1 ≤ length asked.now.scripts.items }
-    requires open { IsOpen engine.old }
-    requires start { engine.old.state ≡ start asked.now.n }
-    requires empty { buf.old ≡ [] }
-    ensures served { ServesAll asked.now.n asked.now.scripts.items engine.new.state (K.taken sink.old) (K.taken sink.new) result }
-    ensures open { OnOk result (IsOpen engine.new) }
-    ensures empty { OnOk result (buf.new ≡ []) }
+    requires some { 1 ≤ length context.now.asked.now.scripts.items }
+    requires open { IsOpen server.old.engine }
+    requires start { server.old.engine.state ≡ start context.now.asked.now.n }
+    ensures served { ServesAll context.now.asked.now.n context.now.asked.now.scripts.items server.new.engine.state (K.taken sink.old) (K.taken sink.new) result }
+    ensures open { OnOk result (IsOpen server.new.engine) }
     ensures cause { WritingCause (K.faults sink.old) (K.faults sink.new) result }
 {
-    let scripts = asked.scripts.as_slice();
-    let (intake, mut drainer, mut clients) = Intake::open(alloc, CAPACITY, scripts.len() as u32)?;
-    let course = side_by_side(
-        rt,
-        alloc,
-        gate,
-        asked.n,
-        asked.count,
-        scripts,
-        &intake,
-        &mut drainer,
-        &mut clients,
-        engine,
-        buf,
-        sink,
-    );
-    take_in_all(rt, &intake, &mut drainer, clients);
+    let count = context.asked.scripts.len() as u32;
+    let (intake, drainer, clients) = Intake::open(context.alloc, CAPACITY, count)?;
+    let mut opened = Opened {
+        intake,
+        drainer,
+        clients,
+    };
+    let course = side_by_side(context, &mut opened, server, sink);
+    let Opened {
+        intake,
+        mut drainer,
+        clients,
+    } = opened;
+    take_in_all(context.rt, &intake, &mut drainer, clients);
     match course {
         Ok(()) => Ok(()),
         Err(stop) => Err(fault_of(stop)),
@@ -134,48 +122,39 @@ fn serve_clients<R: Threads + Wait + Sync, K: Sink + Send, G: Gate + Sync>(
 
 // The same of any number of scripts: where there are none, there are no clients and no batches.
 fn serve_batches<R: Threads + Wait + Sync, K: Sink + Send, G: Gate + Sync>(
-    rt: &R,
-    alloc: Global,
-    gate: &G,
-    asked: &Scripts,
-    engine: &mut Engine,
-    buf: &mut LineBuf,
+    context: &ServeContext<'_, R, G>,
+    server: &mut Server,
     sink: &mut K,
 ) -> Result<(), ServeFault>
-    requires scripts { AreRead asked.now }
-    requires open { IsOpen engine.old }
-    requires start { engine.old.state ≡ start asked.now.n }
-    requires empty { buf.old ≡ [] }
-    ensures served { ServesAll asked.now.n asked.now.scripts.items engine.new.state (K.taken sink.old) (K.taken sink.new) result }
-    ensures open { OnOk result (IsOpen engine.new) }
-    ensures empty { OnOk result (buf.new ≡ []) }
+    requires open { IsOpen server.old.engine }
+    requires start { server.old.engine.state ≡ start context.now.asked.now.n }
+    ensures served { ServesAll context.now.asked.now.n context.now.asked.now.scripts.items server.new.engine.state (K.taken sink.old) (K.taken sink.new) result }
+    ensures open { OnOk result (IsOpen server.new.engine) }
     ensures cause { WritingCause (K.faults sink.old) (K.faults sink.new) result }
 {
-    if asked.scripts.is_empty() {
+    if context.asked.scripts.is_empty() {
         return Ok(());
     }
-    serve_clients(rt, alloc, gate, asked, engine, buf, sink)
+    serve_clients(context, server, sink)
 }
 
 // Serves scripts with an engine that was just opened, and writes the text of them (`Writes`).
 fn serve_opened<R: Threads + Wait + Sync, K: Sink + Send, G: Gate + Sync>(
-    rt: &R,
-    alloc: Global,
-    gate: &G,
-    asked: &Scripts,
-    engine: &mut Engine,
+    context: &ServeContext<'_, R, G>,
+    server: &mut Server,
     sink: &mut K,
 ) -> Result<(), ServeFault>
-    requires scripts { AreRead asked.now }
-    requires open { IsOpen engine.old }
-    requires start { engine.old.state ≡ start asked.now.n }
-    ensures text { Writes asked.now.n asked.now.scripts.items (K.taken sink.old) (K.taken sink.new) result }
+    requires open { IsOpen server.old.engine }
+    requires start { server.old.engine.state ≡ start context.now.asked.now.n }
+    ensures text { Writes context.now.asked.now.n context.now.asked.now.scripts.items (K.taken sink.old) (K.taken sink.new) result }
     ensures cause { WritingCause (K.faults sink.old) (K.faults sink.new) result }
 {
-    let n = asked.n;
+    let alloc = context.alloc;
+    let n = context.asked.n;
     let mut buf = LineBuf::new(alloc);
     write_head(alloc, &mut buf, sink, n)?;
-    serve_batches(rt, alloc, gate, asked, engine, &mut buf, sink)?;
+    serve_batches(context, server, sink)?;
+    let engine = &server.engine;
     let levels = engine.levels().as_slice();
     write_tail(alloc, &mut buf, sink, n, engine, levels)?;
     Ok(())
@@ -195,10 +174,16 @@ pub fn serve_scripts<R: Threads + Wait + Sync, K: Sink + Send, G: Gate + Sync>(
     sink: &mut K,
 ) -> Result<(), ServeFault>
     requires few_workers { (1 ≤ workers) × (workers ≤ 64) }
-    requires scripts { AreRead asked.now }
     ensures text { Writes asked.now.n asked.now.scripts.items (K.taken sink.old) (K.taken sink.new) result }
     ensures cause { WritingCause (K.faults sink.old) (K.faults sink.new) result }
 {
-    let mut engine = open(alloc, asked.n, workers)?;
-    serve_opened(rt, alloc, gate, asked, &mut engine, sink)
+    let engine = open(alloc, asked.n, workers)?;
+    let context = ServeContext {
+        rt,
+        alloc,
+        gate,
+        asked,
+    };
+    let mut server = Server::new(alloc, engine);
+    serve_opened(&context, &mut server, sink)
 }

@@ -24,22 +24,48 @@ fn words(alloc: Global, line: &str) -> Result<Words, AllocError> {
     Ok(words)
 }
 
-// What a command line answers for an input and has written, where the calls with these numbers fail.
+// A call of the program: its command line, its input, and which of its reads and writes fail.
+#[derive(Drop)]
+struct Call<'a> {
+    line: &'a str,
+    input: &'a [u8],
+    // How many bytes are read and taken at a time.
+    piece: u32,
+    // The numbers of the reads that fail, and of the writes.
+    failing: (&'a [u32], &'a [u32]),
+    ghost some: { 0 < piece },
+}
+
+impl<'a> Call<'a> {
+    // None of them fails, and so many bytes are read and taken at a time.
+    fn in_pieces(line: &'a str, input: &'a [u8], piece: u32) -> Self
+        requires { 0 < piece }
+    {
+        Call {
+            line,
+            input,
+            piece,
+            failing: (&[], &[]),
+        }
+    }
+
+    // None of them fails, and all is read and taken at once.
+    fn whole(line: &'a str, input: &'a [u8]) -> Self {
+        Call::in_pieces(line, input, 65_536)
+    }
+}
+
+// How a call ended, and what it has written.
 fn answer<R: Threads + Wait + Sync, G: Gate + Sync>(
     rt: &R,
     alloc: Global,
     gate: &G,
-    line: &str,
-    input: &[u8],
-    piece: u32,
-    failing: (&[u32], &[u32]),
-) -> Result<(ServeStatus, Vec<u8>), Fail>
-    requires { 0 < piece }
-{
-    let words = words(alloc, line)?;
-    let (reads, writes) = failing;
-    let mut source = MemSource::new(alloc, input, piece, reads)?;
-    let mut sink = MemSink::new(alloc, 16_777_216, piece, writes)?;
+    call: &Call<'_>,
+) -> Result<(ServeStatus, Vec<u8>), Fail> {
+    let words = words(alloc, call.line)?;
+    let (reads, writes) = call.failing;
+    let mut source = MemSource::new(alloc, call.input, call.piece, reads)?;
+    let mut sink = MemSink::new(alloc, 16_777_216, call.piece, writes)?;
     let status = serve(rt, alloc, &words, &mut source, &mut sink, gate);
     Ok((status, Vec::from_slice(alloc, sink.bytes())?))
 }

@@ -1,5 +1,5 @@
 -- What is true of the engine between two batches.
-use Rattle.std.specs.Prelude.{ℕ, ◌≡◌, ◌+◌, ◌≤◌, false, List, [], length}
+use Rattle.std.specs.Prelude.{ℕ, ◌≡◌, ◌+◌, ◌≤◌, false, length}
 use Rattle.kc_graph.specs.declared.limits.TheConstants.{MAX_EDGES, MAX_ITEMS}
 use Rattle.kc_history.specs.declared.limits.TheConstants.{MAX_PHASE}
 use Rattle.kc_engine.specs.States.{State, IsSound}
@@ -17,9 +17,8 @@ pub record HasRoom (s : State) : Type 0 where
   pub edges : length s.graph.edges + MAX_ITEMS ≤ MAX_EDGES
   pub phases : s.phases + 2 ≤ MAX_PHASE
 
--- it may take a batch of a graph of n vertices, and the line buffer is empty
-pub record IsReady (n : ℕ) (e : EngineView) (buffer : List ℕ) : Type 0 where
+-- it may take a batch of a graph of n vertices
+pub record IsReady (n : ℕ) (e : EngineView) : Type 0 where
   pub open_for : IsOpen e
   pub vertices : e.state.graph.vertices ≡ n
   pub room : HasRoom e.state
-  pub empty : buffer ≡ []

@@ -1,5 +1,5 @@
 // Reads and writes that fail. The call ends each time, and so all threads of it have ended.
-use super::answer;
+use super::{Call, answer};
 use crate::status::ServeStatus;
 use kc_rounds::OpenGate;
 use std::alloc::Global;
@@ -35,10 +35,12 @@ fn clients_wait_for_room_while_a_write_fails(rt: HostRuntime) -> Result<(), Fail
             &rt,
             alloc,
             &OpenGate::new(),
-            "2",
-            input.as_slice(),
-            65_536,
-            (&[], failing.as_slice()),
+            &Call {
+                line: "2",
+                input: input.as_slice(),
+                piece: 65_536,
+                failing: (&[], failing.as_slice()),
+            },
         )?;
         assert!(rt; status == ServeStatus::WriteFault);
         assert!(rt; written.as_slice() == text);
@@ -47,10 +49,12 @@ fn clients_wait_for_room_while_a_write_fails(rt: HostRuntime) -> Result<(), Fail
         &rt,
         alloc,
         &OpenGate::new(),
-        "2",
-        input.as_slice(),
-        65_536,
-        (&[], [5000].as_slice()),
+        &Call {
+            line: "2",
+            input: input.as_slice(),
+            piece: 65_536,
+            failing: (&[], [5000].as_slice()),
+        },
     )?;
     assert!(rt; status == ServeStatus::WriteFault);
     assert!(rt; written.as_slice().starts_with(head));
@@ -67,10 +71,12 @@ fn nothing_is_written_after_a_read_fault(rt: HostRuntime) -> Result<(), Fail> {
             &rt,
             alloc,
             &OpenGate::new(),
-            "1",
-            input,
-            6,
-            (failing.as_slice(), &[]),
+            &Call {
+                line: "1",
+                input,
+                piece: 6,
+                failing: (failing.as_slice(), &[]),
+            },
         )?;
         assert!(rt; status == ServeStatus::ReadFault);
         assert!(rt; written.is_empty());

@@ -1,7 +1,7 @@
 // Gates that hold a client until another thread has come to a place, for a bounded number of turns. A turn is one look and one yield.
 ghost use Rattle.std.specs.Prelude.{None};
 
-use super::{answer, words};
+use super::{Call, answer, words};
 use crate::serve::serve;
 use crate::status::ServeStatus;
 use kc_rounds::{Gate, OpenGate, Spot};
@@ -58,7 +58,7 @@ fn clients_run_at_once(rt: HostRuntime) -> Result<(), Fail> {
         missed: AtomicU64::new(0),
     };
     let input = b"kserve 1\nvertices 4\nbatch\n0 1\nend\nbatch\n2 3\nend\n".as_slice();
-    let (status, _written) = answer(&rt, rt.alloc(), &gate, "2", input, 65_536, (&[], &[]))?;
+    let (status, _written) = answer(&rt, rt.alloc(), &gate, &Call::whole("2", input))?;
     assert!(rt; status == ServeStatus::Done);
     assert_eq!(rt; gate.missed.load(SeqCst), 0);
     Ok(())
@@ -89,10 +89,7 @@ fn a_long_script_of_one_client(rt: HostRuntime) -> Result<(), Fail> {
         &rt,
         alloc,
         &OpenGate::new(),
-        "1",
-        input.as_slice(),
-        65_536,
-        (&[], &[]),
+        &Call::whole("1", input.as_slice()),
     )?;
     assert!(rt; status == ServeStatus::Done);
     assert_eq!(rt;

@@ -1,5 +1,5 @@
 // Inputs and the texts of them, each worked out by hand. There is one client at most, so the schedule doesn't matter.
-use super::answer;
+use super::{Call, answer};
 use crate::status::ServeStatus;
 use kc_rounds::OpenGate;
 use std::alloc::Global;
@@ -16,7 +16,12 @@ fn answers<R: Threads + Wait + Sync>(
     wanted: ServeStatus,
 ) -> Result<bool, Fail> {
     for piece in [1, 7, 65_536] {
-        let (status, written) = answer(rt, alloc, &OpenGate::new(), "3", input, piece, (&[], &[]))?;
+        let (status, written) = answer(
+            rt,
+            alloc,
+            &OpenGate::new(),
+            &Call::in_pieces("3", input, piece),
+        )?;
         if status != wanted || written.as_slice() != text {
             return Ok(false);
         }
@@ -140,20 +145,12 @@ fn there_are_too_many_scripts_or_items(rt: HostRuntime) -> Result<(), Fail> {
     ];
     for (scripts, items, more, text) in rows {
         let input = long_input(alloc, scripts, items, more)?;
-        let (status, written) = answer(
-            &rt,
-            alloc,
-            &gate,
-            "1",
-            input.as_slice(),
-            65_536,
-            (&[], &[]),
-        )?;
+        let (status, written) = answer(&rt, alloc, &gate, &Call::whole("1", input.as_slice()))?;
         assert!(rt; status == ServeStatus::Refused);
         assert!(rt; written.as_slice() == text);
     }
     let input = long_input(alloc, 64, 0, b"")?;
-    let (status, _written) = answer(&rt, alloc, &gate, "1", input.as_slice(), 65_536, (&[], &[]))?;
+    let (status, _written) = answer(&rt, alloc, &gate, &Call::whole("1", input.as_slice()))?;
     assert!(rt; status == ServeStatus::Done);
     Ok(())
 }
@@ -163,12 +160,22 @@ fn other_words_are_usage(rt: HostRuntime) -> Result<(), Fail> {
     let alloc = rt.alloc();
     let input = b"kserve 1\nvertices 1\n".as_slice();
     for line in ["", "0", "65", "1 1", "run 1", "--help", "x", "99999999999"] {
-        let (status, written) = answer(&rt, alloc, &OpenGate::new(), line, input, 64, (&[], &[]))?;
+        let (status, written) = answer(
+            &rt,
+            alloc,
+            &OpenGate::new(),
+            &Call::in_pieces(line, input, 64),
+        )?;
         assert!(rt; status == ServeStatus::Usage);
         assert!(rt; written.is_empty());
     }
     for line in ["1", "01", "64"] {
-        let (status, _written) = answer(&rt, alloc, &OpenGate::new(), line, input, 64, (&[], &[]))?;
+        let (status, _written) = answer(
+            &rt,
+            alloc,
+            &OpenGate::new(),
+            &Call::in_pieces(line, input, 64),
+        )?;
         assert!(rt; status == ServeStatus::Done);
     }
     Ok(())

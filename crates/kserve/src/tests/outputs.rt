@@ -1,5 +1,5 @@
 // Clients with scripts of their own. The updates that are printed are compared with the scripts by a plain walk.
-use super::answer;
+use super::{Call, answer};
 use crate::status::ServeStatus;
 use kc_rounds::OpenGate;
 use kc_text::{next_word, read_number};
@@ -75,10 +75,7 @@ fn serve_all<R: Threads + Wait + Sync>(
         rt,
         alloc,
         &OpenGate::new(),
-        "4",
-        input.as_slice(),
-        65_536,
-        (&[], &[]),
+        &Call::whole("4", input.as_slice()),
     )?;
     Ok(status == ServeStatus::Done && are_served(alloc, lengths, written.as_slice())?)
 }

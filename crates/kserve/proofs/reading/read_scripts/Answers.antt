@@ -6,6 +6,7 @@ use Rattle.kc_text.specs.declared.reason.Reason.TheVariants.{TooMany}
 use Rattle.kc_batch.specs.Batches.{batches_left}
 use Rattle.kserve.specs.declared.reading.Said.TheVariants as said
 use Rattle.kserve.specs.Inputs.{rules_for, items_in, has_room}
+use Rattle.kserve.specs.private.Scripts.{AreScripts}
 use Rattle.kserve.proofs.ScriptLemmas.{says, told_script, told_full, told_refused, told_end, due_script, items_more, room_told, room_as}
 use Rattle.kserve.proofs.reading.read_scripts.Goals as goal
 
@@ -27,7 +28,9 @@ returns-in-Refused-clause-said g c =
 pub returns-in-End-clause-said : goal.returns-in-End-clause-said
 returns-in-End-clause-said g c =
     let i = c.loop-scripts.invariant in
-    says (said.Accepted (record { n = c.args.n; scripts = c.loop-scripts.scripts; count = c.loop-scripts.count })) _ (batches_left (rules_for c.args.n) c.next_batch.new.reader (g.S.Source.left c.next_batch.new.src))
+    let ranges : AreScripts c.args.n c.loop-scripts.scripts.items =
+    record { some_vertices = c.requires.some; small = c.requires.small; few = i.few; few_items = omega (arith, i.count, i.few_items); due = i.due } in
+    says (said.Accepted (record { n = c.args.n; scripts = c.loop-scripts.scripts; count = c.loop-scripts.count; ranges = ranges; counted = i.count })) _ (batches_left (rules_for c.args.n) c.next_batch.new.reader (g.S.Source.left c.next_batch.new.src))
     (i.told ∙ told_end c.args.n c.loop-scripts.scripts.items _ _ (rw c.in-End.is at c.in_ok-batch.ensures.batches))
 
 pub loop-scripts-preserved : goal.loop-scripts-preserved

@@ -7,12 +7,12 @@ use Rattle.kserve.specs.private.Faults.{StopCause}
 use Rattle.kserve.specs.private.Clients.{AreDrained}
 use Rattle.kserve.specs.private.Serving.{Serves}
 use Rattle.kserve.proofs.ServerLemmas.{IsRunning}
-use Rattle.kserve.proofs.server.run_server.Given as goal
+use Rattle.kserve.proofs.server.Server.run.Given as goal
 
 abbrev pub invariant-loop-turn : goal.invariant-loop-turn
 invariant-loop-turn g l = record {
-  served : Serves l.fn.n (start l.fn.n) l.drainer.taken l.engine.state (g.K.Sink.taken l.fn.sink) (g.K.Sink.taken l.sink) l.course;
-  running : IsRunning l.fn.n l.drained l.engine l.buf l.course;
+  served : Serves l.fn.context.asked.now.n (start l.fn.context.asked.now.n) l.drainer.taken l.self.engine.state (g.K.Sink.taken l.fn.sink) (g.K.Sink.taken l.sink) l.course;
+  running : IsRunning l.drained l.self.engine l.course;
   drained : AreDrained l.intake l.fn.drainer l.drainer;
   count : l.drained ≡ length (all_updates l.drainer.taken);
   number : l.number ≡ length l.drainer.taken;
