@@ -16,7 +16,7 @@ use crate::work::PhaseWork;
 use kc_adj::{LevelAdj, Steps};
 use kc_delete::delete_phase;
 use kc_graph::{Cleaned, Edges, MAX_EDGES};
-use kc_groups::plan_moves;
+use kc_groups::{Phase, plan_moves};
 use kc_history::MAX_PHASE;
 use kc_insert::insert_phase;
 use kc_levels::Thresholds;
@@ -87,7 +87,13 @@ fn deletion_phase<R: Threads + Sync, G: Gate + Sync, L: Ledger>(
     let moves = delete_phase(&context.rounds, alloc, th, adj, deletion, edges, &mut steps)?;
     work.insertion.follow(adj, edges, &moves);
     let groups = &mut work.groups;
-    let plan = plan_moves(alloc, phase, false, edges, &moves, adj.graph(), groups)?;
+    let leaving = Phase {
+        number: phase,
+        add: false,
+        edges,
+        moves: &moves,
+    };
+    let plan = plan_moves(alloc, &leaving, adj.graph(), groups)?;
     BatchPlan::of_phase(alloc, plan, moves.len() as u32)
 }
 
@@ -137,7 +143,13 @@ fn insertion_phase<R: Threads + Sync, G: Gate + Sync, L: Ledger>(
     )?;
     work.deletion.follow(&moves);
     let groups = &mut work.groups;
-    let plan = plan_moves(alloc, phase, true, edges, &moves, adj.graph(), groups)?;
+    let coming = Phase {
+        number: phase,
+        add: true,
+        edges,
+        moves: &moves,
+    };
+    let plan = plan_moves(alloc, &coming, adj.graph(), groups)?;
     BatchPlan::of_phase(alloc, plan, moves.len() as u32)
 }
 

@@ -6,18 +6,18 @@ ghost use Rattle.kc_groups.specs.Entries.{AreEntries};
 ghost use Rattle.kc_groups.specs.Gathering.{clean, AreInOrder, AreMovesOf};
 ghost use Rattle.kc_groups.specs.WellFormed.{IsWellFormed};
 
-use crate::PhasePlan;
 use crate::dealing::{deal_edges, deal_moves, open_groups};
 use crate::linking::gather;
 use crate::moved::find_moves;
 use crate::work::{GroupWork, clear, label, number};
+use crate::{Phase, PhasePlan};
 use kc_graph::{Edge, Graph};
-use kc_history::{Entries, Entry, Moves};
+use kc_history::{Entries, Entry};
 use kc_levels::Levels;
 use std::alloc::{AllocError, Global};
 
-/// The entries of phase `phase`, whose edges come in if `add` is true and else leave, from its moves, as `AreEntries` says: by the
-/// levels before and after it, whatever they are, that the moves lead between (`AreMovesOf`), and the graph with all its edges.
+/// The entries of a phase, as `AreEntries` says: by the levels before and after it, whatever they are, that its moves lead between
+/// (`AreMovesOf`), and the graph with all its edges.
 ///
 /// `graph` is the graph after the phase, or the one before it. The edges ascend, and so do the vertices of the moves.
 ///
@@ -25,29 +25,27 @@ use std::alloc::{AllocError, Global};
 /// workspace is clean before and afterwards. Fails only if memory runs out; the workspace is then of no further use.
 pub fn plan_moves(
     alloc: Global,
-    phase: u32,
-    add: bool,
-    edges: &[Edge],
-    moves: &Moves,
+    phase: &Phase<'_>,
     graph: &Graph,
     work: &mut GroupWork,
 ) -> Result<PhasePlan, AllocError>
     requires clean { work.old ≡ clean graph.now.vertices }
-    requires order { AreInOrder graph.now.vertices moves.now }
-    requires ascending { EdgesFrom graph.now.vertices 0 0 edges.now }
+    requires order { AreInOrder graph.now.vertices phase.now.moves.now }
+    requires ascending { EdgesFrom graph.now.vertices 0 0 phase.now.edges.now }
     ensures clean { OnOk result (work.new ≡ clean graph.now.vertices) }
-    ensures entries { IfOk result (λ plan. (before after : List ℕ) → AreMovesOf graph.now.vertices before after moves.now → AreEntries phase add edges.now before after (with_edges graph.now edges.now) plan) }
+    ensures entries { IfOk result (λ plan. (before after : List ℕ) → AreMovesOf graph.now.vertices before after phase.now.moves.now → AreEntries phase.now.number phase.now.add phase.now.edges.now before after (with_edges graph.now phase.now.edges.now) plan) }
 {
     // Its contract says how many vertices there are at most.
     let _n = graph.vertices();
-    let moves = moves.as_slice();
+    let edges = phase.edges;
+    let moves = phase.moves.as_slice();
     let places = &mut work.places;
     number(moves, places);
     let parents = gather(alloc, graph, edges, moves, places)?;
     label(moves, &parents, places);
     let mut groups = Vec::new(alloc);
-    let mut quiet = Entry::new(alloc, phase, None, add);
-    open_groups(alloc, phase, add, moves, places, &mut groups)?;
+    let mut quiet = Entry::new(alloc, phase.number, None, phase.add);
+    open_groups(alloc, phase.number, phase.add, moves, places, &mut groups)?;
     deal_moves(moves, places, &mut groups)?;
     deal_edges(places, edges, &mut quiet.edges, &mut groups)?;
     clear(moves, places);
@@ -86,5 +84,11 @@ pub fn plan_phase(
     let n = graph.vertices();
     let moves = find_moves(alloc, n, before.as_slice(), after.as_slice())?;
     let mut work = GroupWork::new(alloc, n)?;
-    plan_moves(alloc, phase, add, edges, &moves, graph, &mut work)
+    let phase = Phase {
+        number: phase,
+        add,
+        edges,
+        moves: &moves,
+    };
+    plan_moves(alloc, &phase, graph, &mut work)
 }

@@ -1,4 +1,15 @@
-use kc_history::{Entries, Entry};
+use kc_graph::Edge;
+use kc_history::{Entries, Entry, Moves};
+
+/// A phase: its number, whether its edges come in (`add`) or leave, its edges, ascending, and the moves of the vertices that it
+/// moves, ascending.
+#[derive(Drop)]
+pub struct Phase<'a> {
+    pub number: u32,
+    pub add: bool,
+    pub edges: &'a [Edge],
+    pub moves: &'a Moves,
+}
 
 /// The entries of a phase.
 #[derive(Drop)]

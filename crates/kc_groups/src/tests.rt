@@ -6,7 +6,7 @@ ghost use Rattle.kc_levels.specs.LevelList.{IsBelow};
 ghost use Rattle.kc_groups.specs.Gathering.{clean};
 
 use crate::moved::find_moves;
-use crate::{GroupWork, PhasePlan, plan_moves, plan_phase};
+use crate::{GroupWork, Phase, PhasePlan, plan_moves, plan_phase};
 use kc_graph::{Edge, Graph, MAX_EDGES, MAX_VERTICES};
 use kc_history::Move;
 use kc_levels::Levels;
@@ -72,51 +72,61 @@ fn are_present(graph: &Graph, edges: &[Edge]) -> bool
     true
 }
 
-// The plan of a phase from one list of levels to another, in a graph with the phase's edges and others.
+// A phase: whether its edges come in (`add`) or leave, its edges, and the levels before and after it.
+#[derive(Drop)]
+struct Step<'a> {
+    add: bool,
+    edges: &'a [Edge],
+    before: &'a [u16],
+    after: &'a [u16],
+}
+
+// The plan of a phase, in a graph with its edges and others.
 fn plan<R: Abort>(
     rt: &R,
     alloc: Global,
-    add: bool,
-    edges: &[Edge],
+    step: &Step<'_>,
     others: &[Edge],
-    before: &[u16],
-    after: &[u16],
 ) -> Result<PhasePlan, AllocError>
-    requires positive { 1 ≤ length before.now }
-    requires small { length before.now ≤ MAX_VERTICES }
-    requires same { length after.now ≡ length before.now }
-    requires ascending { EdgesFrom (length before.now) 0 0 edges.now }
+    requires positive { 1 ≤ length step.now.before.now }
+    requires small { length step.now.before.now ≤ MAX_VERTICES }
+    requires same { length step.now.after.now ≡ length step.now.before.now }
+    requires ascending { EdgesFrom (length step.now.before.now) 0 0 step.now.edges.now }
 {
-    let n = before.len() as u32;
+    let n = step.before.len() as u32;
+    let edges = step.edges;
     let mut graph = Graph::new(alloc, n)?;
     insert_all(rt, alloc, &mut graph, edges)?;
     insert_all(rt, alloc, &mut graph, others)?;
-    let before = levels_of(alloc, before)?;
-    let after = levels_of(alloc, after)?;
+    let before = levels_of(alloc, step.before)?;
+    let after = levels_of(alloc, step.after)?;
     assert!(rt; are_present(&graph, edges));
-    assert!(rt; !add || is_below(&before, &after));
-    assert!(rt; add || is_below(&after, &before));
-    plan_phase(alloc, 7, add, edges, &before, &after, &graph)
+    assert!(rt; !step.add || is_below(&before, &after));
+    assert!(rt; step.add || is_below(&after, &before));
+    plan_phase(alloc, 7, step.add, edges, &before, &after, &graph)
 }
 
 // The plan of a phase after which the graph is this one, by a workspace that other phases use too.
 fn plan_after(
     alloc: Global,
-    add: bool,
-    edges: &[Edge],
-    before: &[u16],
-    after: &[u16],
+    step: &Step<'_>,
     graph: &Graph,
     work: &mut GroupWork,
 ) -> Result<PhasePlan, AllocError>
-    requires before { length before.now ≡ graph.now.vertices }
-    requires after { length after.now ≡ graph.now.vertices }
-    requires ascending { EdgesFrom graph.now.vertices 0 0 edges.now }
+    requires before { length step.now.before.now ≡ graph.now.vertices }
+    requires after { length step.now.after.now ≡ graph.now.vertices }
+    requires ascending { EdgesFrom graph.now.vertices 0 0 step.now.edges.now }
     requires clean { work.old ≡ clean graph.now.vertices }
     ensures { OnOk result (work.new ≡ clean graph.now.vertices) }
 {
-    let moves = find_moves(alloc, graph.vertices(), before, after)?;
-    plan_moves(alloc, 7, add, edges, &moves, graph, work)
+    let moves = find_moves(alloc, graph.vertices(), step.before, step.after)?;
+    let phase = Phase {
+        number: 7,
+        add: step.add,
+        edges: step.edges,
+        moves: &moves,
+    };
+    plan_moves(alloc, &phase, graph, work)
 }
 
 // The quiet entry has these edges, and there are so many groups.
@@ -164,11 +174,13 @@ fn a_path_rises_together(rt: HostRuntime) -> Result<(), Fail> {
     let plan = plan(
         &rt,
         rt.alloc(),
-        true,
-        &path,
+        &Step {
+            add: true,
+            edges: &path,
+            before: &[0, 0, 0, 0, 0],
+            after: &[1, 1, 1, 0, 0],
+        },
         &[],
-        &[0, 0, 0, 0, 0],
-        &[1, 1, 1, 0, 0],
     )?;
     check_quiet(&rt, &plan, true, &[], 1);
     check_group(&rt, &plan, 0, 0, &[(0, 0, 1), (1, 0, 1), (2, 0, 1)], &path);
@@ -190,11 +202,13 @@ fn a_neighbour_that_stays_is_in_no_group(rt: HostRuntime) -> Result<(), Fail> {
     let plan = plan(
         &rt,
         rt.alloc(),
-        true,
-        &added,
+        &Step {
+            add: true,
+            edges: &added,
+            before: &[6, 6, 6, 6, 0],
+            after: &[6, 6, 6, 6, 1],
+        },
         &four,
-        &[6, 6, 6, 6, 0],
-        &[6, 6, 6, 6, 1],
     )?;
     check_quiet(&rt, &plan, true, &[], 1);
     check_group(&rt, &plan, 0, 4, &[(4, 0, 1)], &added);
@@ -209,11 +223,13 @@ fn an_edge_between_vertices_that_stay_is_quiet(rt: HostRuntime) -> Result<(), Fa
     let plan = plan(
         &rt,
         rt.alloc(),
-        false,
-        &removed,
+        &Step {
+            add: false,
+            edges: &removed,
+            before: &[6, 6, 6, 6, 1, 1],
+            after: &[6, 6, 6, 6, 0, 0],
+        },
         &others,
-        &[6, 6, 6, 6, 1, 1],
-        &[6, 6, 6, 6, 0, 0],
     )?;
     check_quiet(&rt, &plan, false, &[edge(0, 1)], 1);
     check_group(&rt, &plan, 0, 4, &[(4, 1, 0), (5, 1, 0)], &[edge(4, 5)]);
@@ -226,11 +242,13 @@ fn two_groups_rise(rt: HostRuntime) -> Result<(), Fail> {
     let plan = plan(
         &rt,
         rt.alloc(),
-        true,
-        &added,
+        &Step {
+            add: true,
+            edges: &added,
+            before: &[0, 0, 0, 0, 0, 0],
+            after: &[1, 1, 1, 1, 0, 0],
+        },
         &[],
-        &[0, 0, 0, 0, 0, 0],
-        &[1, 1, 1, 1, 0, 0],
     )?;
     check_quiet(&rt, &plan, true, &[], 2);
     check_group(&rt, &plan, 0, 0, &[(0, 0, 1), (1, 0, 1)], &[edge(0, 1)]);
@@ -246,11 +264,13 @@ fn a_rise_that_sets_off_another_is_in_its_group(rt: HostRuntime) -> Result<(), F
     let plan = plan(
         &rt,
         rt.alloc(),
-        true,
-        &added,
+        &Step {
+            add: true,
+            edges: &added,
+            before: &[1, 1, 1, 0, 0],
+            after: &[2, 1, 1, 1, 0],
+        },
         &star,
-        &[1, 1, 1, 0, 0],
-        &[2, 1, 1, 1, 0],
     )?;
     check_quiet(&rt, &plan, true, &[], 1);
     check_group(&rt, &plan, 0, 0, &[(0, 1, 2), (3, 0, 1)], &added);
@@ -266,7 +286,17 @@ fn groups_far_apart_rise(rt: HostRuntime) -> Result<(), Fail> {
     after[32] = 1;
     after[63] = 1;
     after[69] = 1;
-    let plan = plan(&rt, rt.alloc(), true, &added, &[], &[0; 70], &after)?;
+    let plan = plan(
+        &rt,
+        rt.alloc(),
+        &Step {
+            add: true,
+            edges: &added,
+            before: &[0; 70],
+            after: &after,
+        },
+        &[],
+    )?;
     check_quiet(&rt, &plan, true, &[], 2);
     check_group(
         &rt,
@@ -295,10 +325,12 @@ fn a_workspace_is_clean_after_each_phase(rt: HostRuntime) -> Result<(), Fail> {
     let path = [edge(0, 2), edge(1, 2)];
     let fallen = plan_after(
         rt.alloc(),
-        false,
-        &path,
-        &[1, 1, 1, 0, 0, 0],
-        &[0, 0, 0, 0, 0, 0],
+        &Step {
+            add: false,
+            edges: &path,
+            before: &[1, 1, 1, 0, 0, 0],
+            after: &[0, 0, 0, 0, 0, 0],
+        },
         &graph,
         &mut work,
     )?;
@@ -313,10 +345,12 @@ fn a_workspace_is_clean_after_each_phase(rt: HostRuntime) -> Result<(), Fail> {
     );
     let risen = plan_after(
         rt.alloc(),
-        true,
-        &[edge(1, 2), edge(3, 5)],
-        &[0, 0, 0, 0, 0, 0],
-        &[0, 0, 0, 1, 0, 1],
+        &Step {
+            add: true,
+            edges: &[edge(1, 2), edge(3, 5)],
+            before: &[0, 0, 0, 0, 0, 0],
+            after: &[0, 0, 0, 1, 0, 1],
+        },
         &graph,
         &mut work,
     )?;

@@ -5,5 +5,5 @@ use Rattle.kc_groups.proofs.tests.plan_after.Goals as goal
 
 pub plan_moves-requires-clause-order : goal.plan_moves-requires-clause-order
 plan_moves-requires-clause-order c =
-    between_in_order c.args.graph.now.vertices c.args.before.now c.args.after.now c.in_ok-moves.moves
-    (c.in_ok-moves.ensures ∙ ap (λ k. moves_between k c.args.before.now c.args.after.now) c.vertices.ensures.count)
+    between_in_order c.args.graph.now.vertices c.args.step.now.before.now c.args.step.now.after.now c.in_ok-moves.moves
+    (c.in_ok-moves.ensures ∙ ap (λ k. moves_between k c.args.step.now.before.now c.args.step.now.after.now) c.vertices.ensures.count)
