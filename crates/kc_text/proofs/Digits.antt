@@ -21,7 +21,7 @@ unfolding number_from
 number_end v i bs h = rw drop_of_length-le refl
 
 -- a value never falls
-value_rises : (v : ℕ) (ds : List ℕ) → v ≤ value_from v ds
+pub value_rises : (v : ℕ) (ds : List ℕ) → v ≤ value_from v ds
 unfolding value_from
 value_rises v [] = omega arith
 value_rises v (d ∷ ds) = omega (arith, value_rises (10 * v + (d - 48)) ds)

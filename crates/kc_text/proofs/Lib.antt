@@ -1,4 +1,5 @@
 pub mod lemmas
+mod DigitRuns
 mod Digits
 mod Ends
 mod Giving

@@ -1,10 +1,10 @@
 -- Lines of two numbers that are read in one pass.
-use Rattle.std.proofs.Common.{ℕ, zero, suc, ◌+◌, ◌-◌, ◌<◌, ◌≤◌, ◌≡◌, ◌^◌, Bool, true, false, List, [], ◌∷◌, ◌++◌, length, take, drop, refl, ap, ◌∙◌, arith, get_or, inl, inr}
-use Rattle.std.specs.Prelude.{Option, Some, None, is_some, ◌==◌, if◌then◌else◌}
+use Rattle.std.proofs.Common.{ℕ, zero, suc, ◌+◌, ◌-◌, ◌<◌, ◌≤◌, ◌≡◌, Bool, true, false, List, [], ◌∷◌, ◌++◌, length, take, drop, refl, sym, ap, subst, ◌∙◌, arith, get_or, inl, inr}
+use Rattle.std.specs.Prelude.{Option, Some, None, IfNone, min, is_some, ◌==◌, if◌then◌else◌}
 use Rattle.std.specs.List.{list_all, slice_range}
 use Rattle.std.proofs.lemmas.Bool.{cases_lt}
 use Rattle.std.proofs.lemmas.Bool.Decides.{nat_tests}
-use Rattle.std.proofs.lemmas.List.{length-take-le, get_or-take, get_or-drop, drop-drop}
+use Rattle.std.proofs.lemmas.List.{length-take-le, length-take, length-drop, get_or-take, get_or_past, drop-take}
 use Rattle.std.proofs.lemmas.Option.{same_Some}
 use Rattle.std.proofs.lemmas.List.Sums.{AllPass-from_list_all}
 use Rattle.std.proofs.Math.Seq.{take-add, take-take}
@@ -13,31 +13,21 @@ use Rattle.kc_text.specs.declared.number_line.Sign.TheVariants.{Plus, Minus}
 use Rattle.kc_text.specs.Lines.{without_cr}
 use Rattle.kc_text.specs.Words.{words, words_from, is_blank}
 use Rattle.kc_text.specs.Laws.{HasNoBlank}
-use Rattle.kc_text.specs.Numbers.{is_digit}
-use Rattle.kc_text.specs.NumberLines.{with_sign}
-use Rattle.kc_text.specs.private.Numbers.{DigitsAt}
-use Rattle.kc_text.specs.private.NumberLines.{sign_of, BeginsAt, DigitsTo, ClosesAt, NumbersTo, IsNumberLine, is_plain}
-use Rattle.kc_text.proofs.Numbering.{number_is, range_length, empty_range, digit_no_blank}
+use Rattle.kc_text.specs.Numbers.{is_digit, number_of}
+use Rattle.kc_text.specs.NumberLines.{with_sign, IsFront, IsTwoNumbers}
+use Rattle.kc_text.specs.private.WholeLines.{EndsAt}
+use Rattle.kc_text.specs.private.Numbers.{DigitsTo, StopsAt, HasNoNumber}
+use Rattle.kc_text.specs.private.NumberLines.{sign_of, BeginsAt, FrontStands, ClosesAt, NumbersStand, HaveNoNumbers, HaveNoNumberLine, NumbersTo, IsNumberLine, is_plain}
+use Rattle.kc_text.proofs.DigitRuns.{range_split, digit_in, same_end, number_has, differ}
+use Rattle.kc_text.proofs.Numbering.{range_length, empty_range, digit_no_blank}
 use Rattle.kc_text.proofs.Runs.{run_goes_on, last_run}
 use Rattle.kc_text.proofs.Wording.{range_more, closed_some}
-
--- a part of a list is two parts of it
-range_split : (xs : List ℕ) (a b c : ℕ) → a ≤ b → b ≤ c → slice_range xs a c ≡ slice_range xs a b ++ slice_range xs b c
-range_split xs a b c h l =
-    let e : c - a ≡ (b - a) + (c - b) = omega arith in
-    let j : a + (b - a) ≡ b = omega arith in
-    rw (e, take-add (b - a) (c - b) (drop a xs), drop-drop, j) refl
 
 -- a byte, and the part after it
 range_first : (xs : List ℕ) (a c : ℕ) → a < c → a < length xs → slice_range xs a c ≡ get_or xs a 0 ∷ slice_range xs (a + 1) c
 range_first xs a c h l =
     let one : slice_range xs a (a + 1) ≡ get_or xs a 0 ∷ [] = rw (range_more xs a a (omega arith) l, empty_range xs a) refl in
     range_split xs a (a + 1) c (omega arith) (omega arith) ∙ ap (λ ys. ys ++ slice_range xs (a + 1) c) one
-
-range_at : (xs : List ℕ) (a b k : ℕ) → a ≤ k → k < b → get_or (slice_range xs a b) (k - a) 0 ≡ get_or xs k 0
-range_at xs a b k h l =
-    let j : a + (k - a) ≡ k = omega arith in
-    rw (get_or-take (b - a) (drop a xs) (k - a) 0 (omega arith), get_or-drop, j) refl
 
 -- a line's sign
 pub begins_bare : (bytes : List ℕ) → BeginsAt bytes None 0
@@ -73,19 +63,6 @@ begins_signed (x ∷ y ∷ more) (Some sign) h e s b = begins sign x y more (sig
 
 pub ruleset begin_steps = (begins_bare, begins_signed, nat_tests)
 
--- digits, as many as a number has
-pub digits_end : (bytes : List ℕ) (start value end : ℕ) → DigitsAt bytes start value end → start < end → end - start ≤ 10 → value < 2 ^ 32 → DigitsTo bytes start value end
-digits_end bytes start value end d h l s =
-    let n = range_length bytes start end d.after d.within in
-    record {
-      after = h;
-      within = d.within;
-      digits = d.digits;
-      number = number_is (slice_range bytes start end) value (omega (arith, n)) (omega (arith, n)) d.digits d.value_is s;
-    }
-
-pub ruleset digit_steps = (digits_end, nat_tests)
-
 -- a line's end
 pub closes_here : (bytes : List ℕ) (end : ℕ) → end < length bytes → get_or bytes end 0 ≡ 10 → ClosesAt bytes end end
 closes_here bytes end h e = record { after = omega arith; near = omega arith; within = h; here = e; before = λ l. absurd (omega arith) }
@@ -108,9 +85,7 @@ digits_run run e = let all = AllPass-from_list_all is_digit run e in λ k d lt. 
 -- each byte of a number is a digit
 digit_there : (bytes : List ℕ) (start value end k : ℕ) → DigitsTo bytes start value end → start ≤ k → k < end → is_plain (get_or bytes k 0) ≡ true
 digit_there bytes start value end k d h l =
-    let n = range_length bytes start end (omega (arith, d.after)) d.within in
-    let all = AllPass-from_list_all is_digit (slice_range bytes start end) d.digits (k - start) 0 (omega (arith, n)) in
-    let here = rw (range_at bytes start end k h l) at all in
+    let here = digit_in bytes start end k d.within d.digits h l in
     rw here refl
 
 blank_there : (b : ℕ) → is_blank b ≡ true → is_plain b ≡ true
@@ -142,7 +117,43 @@ numbers bytes start first middle second end len d b e c =
       };
     }
 
-pub ruleset number_steps = (numbers, nat_tests)
+blank_stops : (b : ℕ) → is_blank b ≡ true → is_digit b ≡ false
+blank_stops b e = grind (arith, nat_tests, e)
+
+close_stops : (bytes : List ℕ) (end len : ℕ) → ClosesAt bytes end len → StopsAt bytes end
+close_stops bytes end len c = elim (cases_lt end len) [
+  | inl more ↦ rw (c.before more) refl
+  | inr none ↦ let at : end ≡ len = omega (arith, c.after) in rw (at, c.here) refl
+]
+
+-- the first number stands where digits were found
+there : (bytes : List ℕ) (start value middle first second len : ℕ) → DigitsTo bytes start value middle → StopsAt bytes middle → (s : NumbersStand bytes start first second len) → s.middle ≡ middle
+there bytes start value middle first second len d e s = same_end bytes start first s.middle value middle s.one (blank_stops (get_or bytes s.middle 0) s.blank) d e
+
+-- where two numbers don't stand
+pub no_first : (bytes : List ℕ) (start : ℕ) → HasNoNumber bytes start → HaveNoNumbers bytes start
+no_first bytes start h = λ first second len s. h first s.middle s.one (blank_stops (get_or bytes s.middle 0) s.blank)
+
+pub no_more : (bytes : List ℕ) (start value middle : ℕ) → DigitsTo bytes start value middle → StopsAt bytes middle → length bytes ≤ middle → HaveNoNumbers bytes start
+no_more bytes start value middle d e h = λ first second len s.
+    omega (arith, there bytes start value middle first second len d e s, h, s.two.after, s.two.within)
+
+pub no_blank : (bytes : List ℕ) (start value middle : ℕ) → DigitsTo bytes start value middle → StopsAt bytes middle → is_blank (get_or bytes middle 0) ≡ false → HaveNoNumbers bytes start
+no_blank bytes start value middle d e h = λ first second len s.
+    differ _ (subst (λ m. is_blank (get_or bytes m 0) ≡ true) (there bytes start value middle first second len d e s) s.blank) h
+
+pub no_second : (bytes : List ℕ) (start value middle : ℕ) → DigitsTo bytes start value middle → StopsAt bytes middle → HasNoNumber bytes (middle + 1) → HaveNoNumbers bytes start
+no_second bytes start value middle d e h = λ first second len s.
+    h second s.end (subst (λ m. DigitsTo bytes (m + 1) second s.end) (there bytes start value middle first second len d e s) s.two) (close_stops bytes s.end len s.closes)
+
+pub no_close : (bytes : List ℕ) (start value middle other end : ℕ) → DigitsTo bytes start value middle → StopsAt bytes middle → DigitsTo bytes (middle + 1) other end → StopsAt bytes end
+    → ((len : ℕ) → ClosesAt bytes end len → ⊥) → HaveNoNumbers bytes start
+no_close bytes start value middle other end d e f t h = λ first second len s.
+    let two = subst (λ m. DigitsTo bytes (m + 1) second s.end) (there bytes start value middle first second len d e s) s.two in
+    let at = same_end bytes (middle + 1) second s.end other end two (close_stops bytes s.end len s.closes) f t in
+    h len (subst (λ k. ClosesAt bytes k len) at s.closes)
+
+pub ruleset number_steps = (numbers, no_first, nat_tests)
 
 plain_no_end : (b : ℕ) → is_plain b ≡ true → (b == 10) ≡ false
 plain_no_end b e = grind (arith, nat_tests, e)
@@ -195,3 +206,105 @@ number_line bytes sign start first second len b n =
         two_is = n.says.two_is;
       };
     }
+
+-- the bytes of a line before its end
+record Text (bytes : List ℕ) (len : ℕ) : Type 0 where
+  end : ℕ
+  closes : ClosesAt bytes end len
+  is : without_cr (take len bytes) ≡ take end bytes
+
+nothing_taken : (bytes : List ℕ) → (get_or (take 0 bytes) (0 - 1) 0 == 13) ≡ true → ⊥
+nothing_taken bytes e = cc
+
+text_with : (bytes : List ℕ) (len : ℕ) (cr : Bool) → len < length bytes → get_or bytes len 0 ≡ 10 → (get_or (take len bytes) (len - 1) 0 == 13) ≡ cr → Text bytes len
+text_with bytes len false l h e = record { end = len; closes = closes_here bytes len l h; is = rw (length-take-le len bytes (omega arith), e) refl }
+text_with bytes len true l h e = elim (cases_lt 0 len) [
+  | inl some ↦
+      let at : len ≡ len - 1 + 1 = omega (arith, some) in
+      let t = rw (get_or-take len bytes (len - 1) 0 (omega (arith, some))) at e in
+      let here : get_or bytes (len - 1) 0 ≡ 13 = grind (arith, nat_tests, t) in
+      record {
+        end = len - 1;
+        closes = subst (λ k. ClosesAt bytes (len - 1) k) (sym at) (closes_behind bytes (len - 1) (omega (arith, at, l)) here (subst (λ k. get_or bytes k 0 ≡ 10) at h));
+        is = ap (λ k. without_cr (take k bytes)) at ∙ goes bytes (len - 1) (omega (arith, at, l)) here;
+      }
+  | inr none ↦ absurd (nothing_taken bytes (let at : len ≡ 0 = omega (arith, none) in subst (λ k. (get_or (take k bytes) (k - 1) 0 == 13) ≡ true) at e))
+]
+
+-- a part of a list's beginning
+range_take : (n : ℕ) (xs : List ℕ) (a b : ℕ) → a ≤ b → b ≤ n → slice_range (take n xs) a b ≡ slice_range xs a b
+range_take n xs a b h l =
+    let e : n ≡ a + (n - a) = omega arith in
+    let cut : drop a (take n xs) ≡ take (n - a) (drop a xs) = ap (λ k. drop a (take k xs)) e ∙ drop-take a (n - a) xs in
+    ap (take (b - a)) cut ∙ take-take (b - a) (n - a) (drop a xs) (omega arith)
+
+drop_range : (n : ℕ) (xs : List ℕ) (a : ℕ) → a ≤ n → drop a (take n xs) ≡ slice_range xs a n
+drop_range n xs a h =
+    let e : n ≡ a + (n - a) = omega arith in
+    ap (λ k. drop a (take k xs)) e ∙ drop-take a (n - a) xs
+
+digits_of : (bytes : List ℕ) (start end value : ℕ) → start ≤ end → end ≤ length bytes → number_of (slice_range bytes start end) ≡ Some value → DigitsTo bytes start value end
+digits_of bytes start end value h l e =
+    let w = number_has (slice_range bytes start end) value e in
+    record { after = omega (arith, w.some, range_length bytes start end h l); within = l; digits = w.digits; number = e }
+
+front_of : (n : ℕ) (bytes : List ℕ) (sign : Option Sign) (start : ℕ) → 2 ≤ n → IsFront (take n bytes) sign start → IsFront bytes sign start
+front_of n bytes None start h f = f
+front_of n bytes (Some Plus) start h f = (f.0, (rw (get_or-take n bytes 0 0 (omega arith)) at f.1.0, rw (get_or-take n bytes 1 0 (omega arith)) at f.1.1))
+front_of n bytes (Some Minus) start h f = (f.0, (rw (get_or-take n bytes 0 0 (omega arith)) at f.1.0, rw (get_or-take n bytes 1 0 (omega arith)) at f.1.1))
+
+no_blank_past : (b : ℕ) → b ≡ 0 → is_blank b ≡ true → ⊥
+no_blank_past b z e = differ (is_blank b) e (rw z refl)
+
+-- where the parts of a line of two numbers stand
+record Stands (bytes : List ℕ) (sign : Option Sign) (first second len : ℕ) : Type 0 where
+  start : ℕ
+  front : FrontStands bytes sign start
+  numbers : NumbersStand bytes start first second len
+
+stands_in : (bytes : List ℕ) (end len : ℕ) (sign : Option Sign) (first second : ℕ) → ClosesAt bytes end len → IsTwoNumbers (take end bytes) sign first second → Stands bytes sign first second len
+stands_in bytes end len sign first second c t =
+    let l = length-take-le end bytes (omega (arith, c.after, c.within)) in
+    let w = number_has (slice_range (take end bytes) t.start t.middle) first t.one in
+    let n : length (slice_range (take end bytes) t.start t.middle) ≡ min (t.middle - t.start) (length (take end bytes) - t.start) = simp (length-take, length-drop) refl in
+    let some : t.start < t.middle = omega (arith, w.some, n) in
+    let inside : t.middle < end = elim (cases_lt t.middle end) [
+      | inl less ↦ less
+      | inr past ↦ absurd (no_blank_past _ (get_or_past (take end bytes) t.middle 0 (omega (arith, l, past))) t.blank)
+    ] in
+    let one = digits_of bytes t.start t.middle first (omega (arith, some)) (omega (arith, inside, c.after, c.within)) (rw (range_take end bytes t.start t.middle (omega (arith, some)) (omega (arith, inside))) at t.one) in
+    let two = digits_of bytes (t.middle + 1) end second (omega (arith, inside)) (omega (arith, c.after, c.within)) (rw (drop_range end bytes (t.middle + 1) (omega (arith, inside))) at t.two) in
+    record {
+      start = t.start;
+      front = record {
+        more = omega (arith, some, inside, c.after, c.within);
+        front = front_of end bytes sign t.start (omega (arith, some, inside)) t.front;
+        digit = digit_in bytes t.start t.middle t.start one.within one.digits (omega arith) some;
+      };
+      numbers = record {
+        middle = t.middle;
+        end = end;
+        one = one;
+        blank = rw (get_or-take end bytes t.middle 0 inside) at t.blank;
+        two = two;
+        closes = c;
+      };
+    }
+
+stands : (bytes : List ℕ) (len : ℕ) (sign : Option Sign) (first second : ℕ) → EndsAt bytes len → IsTwoNumbers (without_cr (take len bytes)) sign first second → Stands bytes sign first second len
+stands bytes len sign first second e t =
+    let text = text_with bytes len _ e.within e.here refl in
+    stands_in bytes text.end len sign first second text.closes (subst (λ x. IsTwoNumbers x sign first second) text.is t)
+
+-- no line of two numbers begins the bytes, where its front or its numbers don't stand there
+pub no_front : (bytes : List ℕ) → ((sign : Option Sign) (start : ℕ) → FrontStands bytes sign start → ⊥) → HaveNoNumberLine bytes
+no_front bytes h = λ len e sign first second t. let s = stands bytes len sign first second e t in h sign s.start s.front
+
+pub no_numbers : (bytes : List ℕ) (start : ℕ) → ((sign : Option Sign) (other : ℕ) → FrontStands bytes sign other → other ≡ start) → HaveNoNumbers bytes start → HaveNoNumberLine bytes
+no_numbers bytes start same h = λ len e sign first second t.
+    let s = stands bytes len sign first second e t in
+    h first second len (subst (λ k. NumbersStand bytes k first second len) (same sign s.start s.front) s.numbers)
+
+pub none_weaker : {T P Q : Type 0} (r : Option T) → (P → Q) → IfNone r P → IfNone r Q
+none_weaker None f p = f p
+none_weaker (Some x) f p = p

@@ -1,7 +1,9 @@
 -- Lines of two numbers.
-use Rattle.std.specs.Prelude.{ℕ, ◌≡◌, List, [], ◌∷◌, Option, Some, None, codes}
+use Rattle.std.specs.Prelude.{ℕ, ◌+◌, ◌≡◌, true, List, [], ◌∷◌, drop, get_or, Option, Some, None, codes}
+use Rattle.std.specs.List.{slice_range}
 use Rattle.kc_text.specs.declared.number_line.Sign.{Sign}
 use Rattle.kc_text.specs.declared.number_line.Sign.TheVariants.{Plus, Minus}
+use Rattle.kc_text.specs.Words.{is_blank}
 use Rattle.kc_text.specs.Numbers.{number_of}
 
 -- words with the word of a sign before them, if there is one
@@ -17,3 +19,22 @@ pub record SayNumbers (ws : List (List ℕ)) (sign : Option Sign) (first second 
   pub words_are : ws ≡ with_sign sign (one ∷ two ∷ [])
   pub one_is : number_of one ≡ Some first
   pub two_is : number_of two ≡ Some second
+
+-- nothing before `start`, or a sign and a blank
+abbrev pub IsFront : List ℕ → Option Sign → ℕ → Type 0
+IsFront text None start = start ≡ 0
+IsFront text (Some Plus) start = (start ≡ 2) × ((get_or text 0 0 ≡ 43) × (is_blank (get_or text 1 0) ≡ true))
+IsFront text (Some Minus) start = (start ≡ 2) × ((get_or text 0 0 ≡ 45) × (is_blank (get_or text 1 0) ≡ true))
+
+-- a text of two numbers with one blank between them, or of a sign, a blank and such numbers
+pub record IsTwoNumbers (text : List ℕ) (sign : Option Sign) (first second : ℕ) : Type 0 where
+  pub start : ℕ
+  pub middle : ℕ
+  pub front : IsFront text sign start
+  pub one : number_of (slice_range text start middle) ≡ Some first
+  pub blank : is_blank (get_or text middle 0) ≡ true
+  pub two : number_of (drop (middle + 1) text) ≡ Some second
+
+-- a text that isn't so
+abbrev pub IsNoNumberLine : List ℕ → Type 0
+IsNoNumberLine text = (sign : Option Sign) (first second : ℕ) → IsTwoNumbers text sign first second → ⊥

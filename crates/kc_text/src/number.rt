@@ -1,7 +1,7 @@
 // Numbers of a text.
 ghost use Rattle.std.specs.Prelude.{◌≡◌, ◌<◌, ◌≤◌, length, drop, slice_index, true, IfSome, IfNone};
 ghost use Rattle.kc_text.specs.Numbers.{number_of, is_digit, NumberAt, IsNoNumber};
-ghost use Rattle.kc_text.specs.private.Numbers.{DigitsAt};
+ghost use Rattle.kc_text.specs.private.Numbers.{DigitsAt, StopsAt, HasNoNumber};
 ghost use Rattle.kc_text.specs.Words.{words};
 
 use crate::word::{next_word, parts_words, pass_blanks};
@@ -38,7 +38,9 @@ fn is_digit(byte: u8) -> bool
 #[tactic(auto, using(crate::proofs::Numbering::digit_steps))]
 pub(crate) fn pass_digits(line: &[u8], start: usize) -> Option<(u32, usize)>
     requires { start ≤ length line.now }
-    ensures { IfSome result (λ r. DigitsAt line.now start r.0 r.1) }
+    ensures digits { IfSome result (λ r. DigitsAt line.now start r.0 r.1) }
+    ensures stop { IfSome result (λ r. StopsAt line.now r.1) }
+    ensures none { IfNone result (HasNoNumber line.now start) }
 {
     let mut value: u64 = 0;
     let mut at = start;

@@ -1,6 +1,7 @@
 // Lines of two numbers, read in one pass over their bytes.
-ghost use Rattle.std.specs.Prelude.{◌≡◌, ◌≤◌, length, IfSome};
-ghost use Rattle.kc_text.specs.private.NumberLines.{sign_of, BeginsAt, ClosesAt, DigitsTo, NumbersTo, IsNumberLine};
+ghost use Rattle.std.specs.Prelude.{◌≡◌, ◌≤◌, ℕ, Option, length, IfSome, IfNone};
+ghost use Rattle.kc_text.specs.private.Numbers.{DigitsTo, StopsAt, HasNoNumber};
+ghost use Rattle.kc_text.specs.private.NumberLines.{sign_of, BeginsAt, FrontStands, ClosesAt, NumbersTo, HaveNoNumbers, IsNumberLine, HaveNoNumberLine};
 
 use crate::number::pass_digits;
 use crate::word::parts_words;
@@ -38,7 +39,9 @@ fn sign_of(byte: u8) -> Option<Sign>
 // The sign with which a line begins, and where the rest of the line begins. None where a sign doesn't stand alone.
 #[tactic(auto, using(crate::proofs::NumberLines::begin_steps))]
 fn pass_sign(bytes: &[u8]) -> Option<(Option<Sign>, usize)>
-    ensures { IfSome result (λ r. BeginsAt bytes.now r.0 r.1) }
+    ensures begins { IfSome result (λ r. BeginsAt bytes.now r.0 r.1) }
+    ensures front { IfSome result (λ r. (sign : Option Sign) (start : ℕ) → FrontStands bytes.now sign start → start ≡ r.1) }
+    ensures none { IfNone result ((sign : Option Sign) (start : ℕ) → FrontStands bytes.now sign start → ⊥) }
 {
     if bytes.len() < 2 {
         return None;
@@ -54,10 +57,12 @@ fn pass_sign(bytes: &[u8]) -> Option<(Option<Sign>, usize)>
 }
 
 // The number that one to ten digits at `start` say, and where they end.
-#[tactic(auto, using(crate::proofs::NumberLines::digit_steps))]
+#[tactic(auto, using(crate::proofs::DigitRuns::digit_steps))]
 fn digits_to(bytes: &[u8], start: usize) -> Option<(u32, usize)>
     requires { start ≤ length bytes.now }
-    ensures { IfSome result (λ r. DigitsTo bytes.now start r.0 r.1) }
+    ensures digits { IfSome result (λ r. DigitsTo bytes.now start r.0 r.1) }
+    ensures stop { IfSome result (λ r. StopsAt bytes.now r.1) }
+    ensures none { IfNone result (HasNoNumber bytes.now start) }
 {
     let (value, end) = pass_digits(bytes, start)?;
     if end == start || end - start > 10 {
@@ -70,7 +75,8 @@ fn digits_to(bytes: &[u8], start: usize) -> Option<(u32, usize)>
 #[tactic(auto, using(crate::proofs::NumberLines::close_steps))]
 fn pass_cr(bytes: &[u8], end: usize) -> Option<usize>
     requires { end ≤ length bytes.now }
-    ensures { IfSome result (λ len. ClosesAt bytes.now end len) }
+    ensures closes { IfSome result (λ len. ClosesAt bytes.now end len) }
+    ensures none { IfNone result ((len : ℕ) → ClosesAt bytes.now end len → ⊥) }
 {
     if end == bytes.len() {
         return None;
@@ -88,25 +94,40 @@ fn pass_cr(bytes: &[u8], end: usize) -> Option<usize>
 #[tactic(auto, using(crate::proofs::NumberLines::number_steps))]
 fn numbers_to(bytes: &[u8], start: usize) -> Option<(u32, u32, usize)>
     requires { start ≤ length bytes.now }
-    ensures { IfSome result (λ r. NumbersTo bytes.now start r.0 r.1 r.2) }
+    ensures numbers { IfSome result (λ r. NumbersTo bytes.now start r.0 r.1 r.2) }
+    ensures none { IfNone result (HaveNoNumbers bytes.now start) }
 {
-    let (first, middle) = digits_to(bytes, start)?;
-    if middle == bytes.len() || !parts_words(bytes[middle]) {
+    let Some((first, middle)) = digits_to(bytes, start) else {
+        return None;
+    };
+    if middle == bytes.len() {
         return None;
     }
-    let (second, end) = digits_to(bytes, middle + 1)?;
-    let len = pass_cr(bytes, end)?;
+    if !parts_words(bytes[middle]) {
+        return None;
+    }
+    let Some((second, end)) = digits_to(bytes, middle + 1) else {
+        return None;
+    };
+    let Some(len) = pass_cr(bytes, end) else {
+        return None;
+    };
     Some((first, second, len))
 }
 
 // The line with which the bytes begin, where its line feed is among them and it is two numbers with one blank between
-// them, or a sign, a blank and such numbers. None tells nothing of the line.
+// them, or a sign, a blank and such numbers. None where they don't begin with such a line.
 #[tactic(auto, using(crate::proofs::NumberLines::number_line))]
 pub(crate) fn number_line(bytes: &[u8]) -> Option<NumberLine>
-    ensures { IfSome result (λ line. IsNumberLine bytes.now line) }
+    ensures line { IfSome result (λ line. IsNumberLine bytes.now line) }
+    ensures none { IfNone result (HaveNoNumberLine bytes.now) }
 {
-    let (sign, start) = pass_sign(bytes)?;
-    let (first, second, len) = numbers_to(bytes, start)?;
+    let Some((sign, start)) = pass_sign(bytes) else {
+        return None;
+    };
+    let Some((first, second, len)) = numbers_to(bytes, start) else {
+        return None;
+    };
     Some(NumberLine {
         sign,
         first,

@@ -66,7 +66,7 @@ fn line_of_last(last: LastLine) -> Line
 impl LineReader {
     ghost use Rattle.kc_text.specs.Scanning.{whole_text, whole_line};
     ghost use Rattle.kc_text.specs.Words.{words};
-    ghost use Rattle.kc_text.specs.NumberLines.{SayNumbers};
+    ghost use Rattle.kc_text.specs.NumberLines.{SayNumbers, IsNoNumberLine};
     ghost use Rattle.kc_text.specs.Reading.{Reading, lines_of_rest, lines_left, onto, Takes, IsLast, budget, is_decided, HasWhole};
 
     /// A reader that stands before the first line. Lines of more than `line_limit` bytes are too
@@ -140,12 +140,13 @@ impl LineReader {
     }
 
     /// The next line, where it lies whole in the reader's own memory, as `whole_line` has it, and is two numbers with one
-    /// blank or tab between them, or a sign, a blank and such numbers. None tells nothing of the line. `pass_line` takes the
-    /// line. Cost: one pass over the bytes of the line.
+    /// blank or tab between them, or a sign, a blank and such numbers. None only where there is no such line. `pass_line`
+    /// takes the line. Cost: one pass over the bytes of the line.
     #[inline(always)]
     pub fn number_line(&self) -> Option<NumberLine>
         ensures whole { IfSome result (λ line. HasWhole line.len self.now) }
         ensures says { IfSome result (λ line. SayNumbers (words (whole_text line.len self.now.scan)) line.sign line.first line.second) }
+        ensures none { IfNone result ((len : ℕ) → HasWhole len self.now → IsNoNumberLine (whole_text len self.now.scan)) }
     {
         if !self.is_scanning() {
             return None;

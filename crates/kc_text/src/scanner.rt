@@ -135,7 +135,7 @@ impl Scanner {
     ghost use Rattle.kc_text.specs.Following.{onto, Takes, IsLast};
     ghost use Rattle.kc_text.specs.Scanning.{Scan, scan_lines, scan_budget, is_scan_decided, IsWhole, whole_text, whole_line};
     ghost use Rattle.kc_text.specs.Words.{words};
-    ghost use Rattle.kc_text.specs.NumberLines.{SayNumbers};
+    ghost use Rattle.kc_text.specs.NumberLines.{SayNumbers, IsNoNumberLine};
     ghost use Rattle.kc_text.specs.private.WholeLines.{Lends};
     ghost use Rattle.kc_text.specs.private.Scanning.{scan_lines_left};
     ghost use Rattle.kc_text.specs.private.ScannerSteps.{work, Gives, Absorbs};
@@ -252,11 +252,12 @@ impl Scanner {
     }
 
     /// The next line, where it lies whole among the bytes that were read and is two numbers with one blank between
-    /// them, or a sign, a blank and such numbers. None tells nothing of the line.
+    /// them, or a sign, a blank and such numbers.
     #[inline(always)]
     pub fn number_line(&self) -> Option<NumberLine>
         ensures whole { IfSome result (λ line. IsWhole line.len self.now) }
         ensures says { IfSome result (λ line. SayNumbers (words (whole_text line.len self.now)) line.sign line.first line.second) }
+        ensures none { IfNone result ((len : ℕ) → IsWhole len self.now → IsNoNumberLine (whole_text len self.now)) }
     {
         number_line(self.ahead())
     }

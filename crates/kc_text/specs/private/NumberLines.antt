@@ -1,13 +1,14 @@
 -- Where the parts of a line of two numbers stand.
 use Rattle.std.specs.Prelude.{ℕ, ◌+◌, ◌≡◌, ◌==◌, ◌<◌, ◌≤◌, Bool, true, false, ◌||◌, List, ◌++◌, length, take, get_or, Option, Some, None, if◌then◌else◌}
-use Rattle.std.specs.List.{list_all, slice_range}
+use Rattle.std.specs.List.{slice_range}
 use Rattle.kc_text.specs.declared.number_line.Sign.{Sign}
 use Rattle.kc_text.specs.declared.number_line.Sign.TheVariants.{Plus, Minus}
 use Rattle.kc_text.specs.declared.number_line.NumberLine.{NumberLine}
 use Rattle.kc_text.specs.Lines.{without_cr}
 use Rattle.kc_text.specs.Words.{words, is_blank}
-use Rattle.kc_text.specs.Numbers.{is_digit, number_of}
-use Rattle.kc_text.specs.NumberLines.{with_sign, SayNumbers}
+use Rattle.kc_text.specs.Numbers.{is_digit}
+use Rattle.kc_text.specs.NumberLines.{with_sign, SayNumbers, IsFront, IsNoNumberLine}
+use Rattle.kc_text.specs.private.Numbers.{DigitsTo}
 use Rattle.kc_text.specs.private.WholeLines.{EndsAt}
 
 -- the sign that a byte is, if it is one
@@ -19,13 +20,6 @@ pub record BeginsAt (bytes : List ℕ) (sign : Option Sign) (start : ℕ) : Type
   pub within : start ≤ length bytes
   pub words_are : (rest : List ℕ) → words (take start bytes ++ rest) ≡ with_sign sign (words rest)
   pub plain : (k : ℕ) → k < start → (get_or bytes k 0 == 10) ≡ false
-
--- the bytes from `start` to `end` are digits that say this number
-pub record DigitsTo (bytes : List ℕ) (start value end : ℕ) : Type 0 where
-  pub after : start < end
-  pub within : end ≤ length bytes
-  pub digits : list_all is_digit (slice_range bytes start end) ≡ true
-  pub number : number_of (slice_range bytes start end) ≡ Some value
 
 -- a line feed stands at `len`, which is `end`, or behind a carriage return at `end`
 pub record ClosesAt (bytes : List ℕ) (end len : ℕ) : Type 0 where
@@ -39,7 +33,20 @@ pub record ClosesAt (bytes : List ℕ) (end len : ℕ) : Type 0 where
 abbrev pub is_plain : ℕ → Bool
 is_plain b = is_digit b || is_blank b
 
--- the bytes from `start` on, up to a line's end, are two numbers; the line feed stands at `len`
+-- the bytes from `start` on, up to a line's end, are two numbers and one blank between them; the line feed stands at `len`
+pub record NumbersStand (bytes : List ℕ) (start first second len : ℕ) : Type 0 where
+  pub middle : ℕ
+  pub end : ℕ
+  pub one : DigitsTo bytes start first middle
+  pub blank : is_blank (get_or bytes middle 0) ≡ true
+  pub two : DigitsTo bytes (middle + 1) second end
+  pub closes : ClosesAt bytes end len
+
+-- no two numbers with one blank between them stand from `start` on, up to a line's end
+abbrev pub HaveNoNumbers : List ℕ → ℕ → Type 0
+HaveNoNumbers bytes start = (first second len : ℕ) → NumbersStand bytes start first second len → ⊥
+
+-- the bytes from `start` on, up to a line's end, say two numbers; the line feed stands at `len`
 pub record NumbersTo (bytes : List ℕ) (start first second len : ℕ) : Type 0 where
   pub end : ℕ
   pub after : start < end
@@ -47,7 +54,17 @@ pub record NumbersTo (bytes : List ℕ) (start first second len : ℕ) : Type 0 
   pub plain : (k : ℕ) → start ≤ k → k < end → is_plain (get_or bytes k 0) ≡ true
   pub says : SayNumbers (words (slice_range bytes start end)) None first second
 
+-- a line that begins with these bytes has this sign, or none, and its numbers begin at `start`
+pub record FrontStands (bytes : List ℕ) (sign : Option Sign) (start : ℕ) : Type 0 where
+  pub more : 2 ≤ length bytes
+  pub front : IsFront bytes sign start
+  pub digit : is_digit (get_or bytes start 0) ≡ true
+
 -- the bytes begin with this line
 pub record IsNumberLine (bytes : List ℕ) (line : NumberLine) : Type 0 where
   pub ends : EndsAt bytes line.len
   pub says : SayNumbers (words (without_cr (take line.len bytes))) line.sign line.first line.second
+
+-- the bytes don't begin with a line of two numbers and nothing else
+abbrev pub HaveNoNumberLine : List ℕ → Type 0
+HaveNoNumberLine bytes = (len : ℕ) → EndsAt bytes len → IsNoNumberLine (without_cr (take len bytes))
