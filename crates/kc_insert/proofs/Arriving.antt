@@ -10,19 +10,17 @@ use Rattle.kc_graph.specs.Numbers.{has_number}
 use Rattle.kc_graph.specs.Shape.{GraphShape, Pair, IsGraph, neighbours_of, has_edge}
 use Rattle.kc_graph.proofs.lemmas.Neighbours.{fewer_neighbours, neighbours_rise, neighbours_both, neighbour_below}
 use Rattle.kc_insert.specs.private.Meetings.{AreApart}
-use Rattle.kc_insert.specs.private.Counting.{is_next, sees_arrived, AreSeen, MeetOn, AreWaiting, StillWait, AreNoted}
+use Rattle.kc_insert.specs.private.Counting.{is_next, sees_arrived, AreSeen, MeetOn, IsNoting}
 use Rattle.kc_insert.proofs.Buckets.{placed, pushed_is, still_there, now_there, all_inside}
 use Rattle.kc_insert.proofs.Flips.{count_agree, count_less}
 
--- who waits waits on its level, who waited at first waits still, and who counts more than `most` on level k waits
-pub record IsNoting (n : ℕ) (x : List ℕ) (k most : ℕ) (counts : List ℕ) (first queue : List (List ℕ)) : Type 0 where
-  pub sized : length queue ≡ length first
-  pub waiting : AreWaiting n x k queue
-  pub still : StillWait first queue
-  pub noted : AreNoted n x k most counts queue
+-- the queue from now on
+pub noting_anew : (n : ℕ) (x : List ℕ) (k most : ℕ) (counts : List ℕ) (first queue : List (List ℕ)) → IsNoting n x k most counts first queue → IsNoting n x k most counts queue queue
+noting_anew n x k most counts first queue s = record { sized = refl; waiting = s.waiting; still = λ j u there. there; noted = s.noted }
 
-pub noting_first : (n : ℕ) (x : List ℕ) (k most : ℕ) (counts : List ℕ) (queue : List (List ℕ)) → AreWaiting n x k queue → AreNoted n x k most counts queue → IsNoting n x k most counts queue queue
-noting_first n x k most counts queue w s = record { sized = refl; waiting = w; still = λ k u there. there; noted = s }
+-- the queue went on
+pub noting_then : (n : ℕ) (x : List ℕ) (k most : ℕ) (counts after : List ℕ) (first queue then : List (List ℕ)) → IsNoting n x k most counts first queue → IsNoting n x k most after queue then → IsNoting n x k most after first then
+noting_then n x k most counts after first queue then s r = record { sized = r.sized ∙ s.sized; waiting = r.waiting; still = λ j u there. r.still j u (s.still j u there); noted = r.noted }
 
 -- w, on the level k, counts one more
 pub noting_met : (n : ℕ) (x : List ℕ) (k most w : ℕ) (counts : List ℕ) (first queue : List (List ℕ)) → w < n → w < length counts → get_or x w 0 ≡ k → k < length first → IsNoting n x k most counts first queue → IsNoting n x k most (set counts w (get_or counts w 0 + 1)) first (cond (eqb (get_or counts w 0) most) (set queue k (get_or queue k [] ++ w ∷ [])) queue)

@@ -13,11 +13,11 @@ use Rattle.kc_graph.proofs.lemmas.Neighbours.{fewer_neighbours, neighbour_below,
 use Rattle.kc_levels.specs.LevelList.{at_least}
 use Rattle.kc_levels.specs.Following.{AreDistinct}
 use Rattle.kc_insert.specs.private.Meetings.{AreApart, IsMeeting, AreMeetings}
-use Rattle.kc_insert.specs.private.Counting.{is_next, sees_unlisted, degrees, stood_above, AreSeen, AreWaiting, StillWait, AreNoted, HasBegun, HaveBegun, meetings_on}
+use Rattle.kc_insert.specs.private.Counting.{is_next, sees_unlisted, degrees, stood_above, AreSeen, IsNoting, AreBeginners, HasBegun, HaveBegun, meetings_on}
 use Rattle.kc_insert.proofs.Flips.{count_agree, count_less}
 use Rattle.kc_insert.proofs.Buckets.{has_number-filter}
 use Rattle.kc_insert.proofs.Starting.{rises_filter, passes_at}
-use Rattle.kc_insert.proofs.Arriving.{IsNoting, noting_first, noting_met, noting_other}
+use Rattle.kc_insert.proofs.Arriving.{noting_anew, noting_then, noting_met, noting_other}
 
 -- all of `items` that are on the level l + 1 count one more, but for those in `rest`
 pub record CountMore (g : GraphShape) (x : List ℕ) (l : ℕ) (items rest before counts : List ℕ) : Type 0 where
@@ -426,12 +426,12 @@ pub record AreBeginning (g : GraphShape) (x z : List ℕ) (l most : ℕ) (risers
   pub places : length new ≡ length old
   pub filing : HaveFiledBut g x l risers rest old new
 
-pub are_beginning_first : (g : GraphShape) (x z : List ℕ) (l most : ℕ) (risers before : List ℕ) (first : List (List ℕ)) (old : List (List Pair)) → AreDistinct risers → AreSeen g (is_next x l) (sees_unlisted z l risers) before before → AreWaiting g.vertices x (l + 1) first → AreNoted g.vertices x (l + 1) most before first → AreBeginning g x z l most risers risers before before first first old old
-are_beginning_first g x z l most risers before first old distinct s waiting noted = record {
-  distinct = distinct;
+pub are_beginning_first : (g : GraphShape) (x z : List ℕ) (l most : ℕ) (risers before : List ℕ) (first : List (List ℕ)) (old : List (List Pair)) → AreBeginners g.vertices x z l risers → AreSeen g (is_next x l) (sees_unlisted z l risers) before before → IsNoting g.vertices x (l + 1) most before first first → AreBeginning g x z l most risers risers before before first first old old
+are_beginning_first g x z l most risers before first old begin s noting = record {
+  distinct = begin.distinct;
   listed = λ u there. there;
   begun_but = begun_but_first g x z l risers before s;
-  noting = noting_first g.vertices x (l + 1) most before first waiting noted;
+  noting = noting;
   places = refl;
   filing = λ rises meet none. meetings_agree g x (l + 1) rises (λ v. rises v || (has_number v risers && not (has_number v risers))) old (λ v. same (rises v) (has_number v risers)) meet;
 }
@@ -440,7 +440,7 @@ are_beginning_first g x z l most risers before first old distinct s waiting note
     same a b = grind (arith, nat_tests)
 
 -- the step of a loop at place i
-module _ (g : GraphShape) (x z : List ℕ) (l most i : ℕ) (risers before counts : List ℕ) (first queue : List (List ℕ)) (old new : List (List Pair)) (graph : IsGraph g) (begins : (u : ℕ) → has_number u risers ≡ true → get_or x u 0 ≡ l) (at : i < length risers) (s : AreBeginning g x z l most risers (drop i risers) before counts first queue old new) where
+module _ (g : GraphShape) (x z : List ℕ) (l most i : ℕ) (risers before counts : List ℕ) (first queue : List (List ℕ)) (old new : List (List Pair)) (graph : IsGraph g) (begin : AreBeginners g.vertices x z l risers) (at : i < length risers) (s : AreBeginning g x z l most risers (drop i risers) before counts first queue old new) where
   pub riser_listed : has_number (get_or risers i 0) risers ≡ true
   riser_listed = has_number_at (get_or risers i 0) risers i at refl
 
@@ -454,14 +454,20 @@ module _ (g : GraphShape) (x z : List ℕ) (l most i : ℕ) (risers before count
   pub degrees_next : degrees g (drop i risers) ≡ length (neighbours_of (get_or risers i 0) g.edges) + degrees g (drop (i + 1) risers)
   degrees_next = rw (add-one, drop-cons risers i 0 at) refl
 
-  pub are_beginning_next : (after : List ℕ) (queued : List (List ℕ)) (filed : List (List Pair)) → get_or z (get_or risers i 0) 0 ≡ l + 1 → HasBegun g x l (get_or risers i 0) (at_least g z (get_or risers i 0) (l + 1)) counts after → length queued ≡ length queue → AreWaiting g.vertices x (l + 1) queued → StillWait queue queued → AreNoted g.vertices x (l + 1) most after queued → length filed ≡ length new → ((k : ℕ) → get_or filed k [] ≡ get_or new k [] ++ meetings_on g x l (get_or risers i 0) k (neighbours_of (get_or risers i 0) g.edges)) → AreBeginning g x z l most risers (drop (i + 1) risers) before after first queued old filed
-  are_beginning_next after queued filed up one sized waiting still noted places pushed = rw (add-one i) (record {
+  pub riser_at : (get_or risers i 0 < g.vertices) × (get_or x (get_or risers i 0) 0 ≡ l)
+  riser_at = (begin.vertex (get_or risers i 0) riser_listed, begin.from (get_or risers i 0) riser_listed)
+
+  pub noting_at : IsNoting g.vertices x (l + 1) most counts queue queue
+  noting_at = noting_anew g.vertices x (l + 1) most counts first queue s.noting
+
+  pub are_beginning_next : (after : List ℕ) (queued : List (List ℕ)) (filed : List (List Pair)) → HasBegun g x l (get_or risers i 0) (at_least g z (get_or risers i 0) (l + 1)) counts after → IsNoting g.vertices x (l + 1) most after queue queued → length filed ≡ length new → ((k : ℕ) → get_or filed k [] ≡ get_or new k [] ++ meetings_on g x l (get_or risers i 0) k (neighbours_of (get_or risers i 0) g.edges)) → AreBeginning g x z l most risers (drop (i + 1) risers) before after first queued old filed
+  are_beginning_next after queued filed one noting places pushed = rw (add-one i) (record {
     distinct = next_all.distinct.1;
     listed = λ u there. next_all.listed u (grind (arith, nat_tests, there));
-    begun_but = begun_but_next g x z l (get_or risers i 0) risers (drop (suc i) risers) before counts after graph riser_listed begins up next_all.distinct.0 one next_all.begun_but;
-    noting = record { sized = sized ∙ s.noting.sized; waiting = waiting; still = λ k u there. still k u (s.noting.still k u there); noted = noted };
+    begun_but = begun_but_next g x z l (get_or risers i 0) risers (drop (suc i) risers) before counts after graph riser_listed begin.from (begin.to (get_or risers i 0) riser_listed) next_all.distinct.0 one next_all.begun_but;
+    noting = noting_then g.vertices x (l + 1) most counts after first queue queued s.noting noting;
     places = places ∙ s.places;
-    filing = λ rises meet none. meetings_more g x l (get_or risers i 0) (λ u. rises u || (has_number u risers && not (has_number u (get_or risers i 0 ∷ drop (suc i) risers)))) (λ u. rises u || (has_number u risers && not (has_number u (drop (suc i) risers)))) new filed graph (begins (get_or risers i 0) riser_listed) pushed
+    filing = λ rises meet none. meetings_more g x l (get_or risers i 0) (λ u. rises u || (has_number u risers && not (has_number u (get_or risers i 0 ∷ drop (suc i) risers)))) (λ u. rises u || (has_number u risers && not (has_number u (drop (suc i) risers)))) new filed graph (begin.from (get_or risers i 0) riser_listed) pushed
         (hidden (rises (get_or risers i 0)) (has_number (get_or risers i 0) risers) (has_number (get_or risers i 0) (get_or risers i 0 ∷ drop (suc i) risers)) (none (get_or risers i 0) riser_listed) (grind (arith, nat_tests)))
         (shown (rises (get_or risers i 0)) (has_number (get_or risers i 0) risers) (has_number (get_or risers i 0) (drop (suc i) risers)) riser_listed next_all.distinct.0)
         (λ u ne. ap (λ b. rises u || (has_number u risers && not b)) (other_number u ne))

@@ -19,12 +19,12 @@ use Rattle.kc_insert.specs.Effort.{effort}
 use Rattle.kc_insert.specs.private.Round.{is_over}
 use Rattle.kc_levels.specs.Following.{AreDistinct}
 use Rattle.kc_insert.specs.private.Meetings.{IsMeeting, AreApart, AreMeetings}
-use Rattle.kc_insert.specs.private.Counting.{goes_on, is_next, AreSeen, sees_met, sees_listed, sees_arrived, sees_unlisted, HaveBegun, MeetOn, AreWaiting, StillWait, AreNoted, degrees, steps_on, settled_at}
-use Rattle.kc_insert.specs.private.Sweeping.{all_at, IsFound, IsSweeping, HaveCome}
+use Rattle.kc_insert.specs.private.Counting.{goes_on, is_next, stays_on, AreSeen, sees_met, sees_listed, sees_arrived, sees_unlisted, HaveBegun, MeetOn, AreWaiting, StillWait, AreNoted, IsNoting, AreBeginners, degrees, steps_on, settled_at}
+use Rattle.kc_insert.specs.private.Sweeping.{all_at, Sweeping, IsFound, IsSweeping, HaveCome}
 use Rattle.kc_insert.proofs.Flips.{count_agree}
 use Rattle.kc_insert.proofs.Buckets.{has_number-filter}
 use Rattle.kc_insert.proofs.Efforts.{effort_up, degrees-append, distinct_append, distinct_filter, fee_parts}
-use Rattle.kc_insert.proofs.Parting.{length-settled_at, settled_at-get, settled_at-there}
+use Rattle.kc_insert.proofs.Parting.{length-settled_at, settled_at-get, settled_at-there, seen_stay, settled_stay, steps_stay}
 use Rattle.kc_insert.proofs.Lifting.{length-all_at, all_at_here, all_at_other}
 
 pub first_of : (a b : Bool) → a && b ≡ true → a ≡ true
@@ -79,63 +79,76 @@ pub record IsStaying (y z up begun : List ℕ) (v : ℕ) : Type 0 where
 abbrev pub IsCase : (n : ℕ) (x y z c up begun : List ℕ) (l most v : ℕ) → Type 0
 IsCase n x y z c up begun l most v = ((has_number v up ≡ true) × IsGoing n x y z c l most v) ⊎ (((has_number v begun ≡ true) × IsBeginning n x y z c l most v) ⊎ IsStaying y z up begun v)
 
-module _ (p : Profile) (g : GraphShape) (x y c rising risen : List ℕ) (queue : List (List ℕ)) (meetings : List (List Pair)) (l most : ℕ) (up begun z : List ℕ) (s : IsSweeping p g x l y c rising risen queue meetings) (up_is : (v : ℕ) → has_number v up ≡ has_number v rising && is_over c most v) (begun_is : (v : ℕ) → has_number v begun ≡ has_number v (get_or queue l []) && is_over c most v) (z_is : z ≡ all_at (all_at y up (l + 1)) begun (l + 1)) where
-  -- a vertex that waits on l is there
-  pub waits_here : (v : ℕ) → has_number v (get_or queue l []) ≡ true → (v < g.vertices) × (get_or x v 0 ≡ l) × (get_or y v 0 ≡ l)
+-- who goes on from the level of a sweep, who begins there, and the levels after the step
+pub record IsStep (sweep : Sweeping) (most : ℕ) (up begun z : List ℕ) : Type 0 where
+  pub up_is : (v : ℕ) → has_number v up ≡ has_number v sweep.rising && is_over sweep.counts most v
+  pub begun_is : (v : ℕ) → has_number v begun ≡ has_number v (get_or sweep.queue sweep.level []) && is_over sweep.counts most v
+  pub z_is : z ≡ all_at (all_at sweep.levels up (sweep.level + 1)) begun (sweep.level + 1)
+
+-- the sweep after the step
+abbrev pub after_step : Sweeping → List ℕ → List ℕ → List ℕ → List ℕ → List (List ℕ) → List (List Pair) → Sweeping
+after_step sweep z after up begun queue meetings = record { level = sweep.level + 1; levels = z; counts = after; rising = up ++ begun; risen = sweep.risen ++ begun; queue = queue; meetings = meetings }
+
+module _ (p : Profile) (g : GraphShape) (x : List ℕ) (sweep : Sweeping) (most : ℕ) (up begun z : List ℕ) (s : IsSweeping p g x sweep) (step : IsStep sweep most up begun z) where
+  pub long : length z ≡ g.vertices
+  long = ap (λ t. length t) step.z_is ∙ length-all_at (all_at sweep.levels up (sweep.level + 1)) begun (sweep.level + 1) ∙ length-all_at sweep.levels up (sweep.level + 1) ∙ s.sized
+
+  -- a vertex that waits on the level is there
+  pub waits_here : (v : ℕ) → has_number v (get_or sweep.queue sweep.level []) ≡ true → (v < g.vertices) × (get_or x v 0 ≡ sweep.level) × (get_or sweep.levels v 0 ≡ sweep.level)
   waits_here v waits =
-      let vertex : v < g.vertices = s.waiting.vertex l v waits in
-      let before : get_or x v 0 ≡ l = s.waiting.level l v (omega arith) waits in (
+      let vertex : v < g.vertices = s.waiting.vertex sweep.level v waits in
+      let before : get_or x v 0 ≡ sweep.level = s.waiting.level sweep.level v (omega arith) waits in (
         vertex,
         before,
-        elim (cases_lt l (get_or y v 0)) [
+        elim (cases_lt sweep.level (get_or sweep.levels v 0)) [
           | inl lt ↦ s.still v lt ∙ before
           | inr ge ↦ omega (arith, ge, before, s.under v vertex)
         ],
       )
 
-  pub case_of : (v : ℕ) → IsCase g.vertices x y z c up begun l most v
+  pub case_of : (v : ℕ) → IsCase g.vertices x sweep.levels z sweep.counts up begun sweep.level most v
   case_of v = elim (cases_Bool (has_number v begun)) [
     | inl there ↦
-        let here = waits_here v (first_of _ _ (sym (begun_is v) ∙ there)) in
+        let here = waits_here v (first_of _ _ (sym (step.begun_is v) ∙ there)) in
         inr (inl (
           there,
           record {
             vertex = here.0;
             from = here.2;
             before = here.1;
-            to = ap (λ t. get_or t v 0) z_is ∙ all_at_here (all_at y up (l + 1)) begun (l + 1) v (rw (length-all_at y up (l + 1)) (omega (arith, here.0, s.sized))) there;
-            over = lt_of _ _ (second_of _ _ (sym (begun_is v) ∙ there));
+            to = ap (λ t. get_or t v 0) step.z_is ∙ all_at_here (all_at sweep.levels up (sweep.level + 1)) begun (sweep.level + 1) v (rw (length-all_at sweep.levels up (sweep.level + 1)) (omega (arith, here.0, s.sized))) there;
+            over = lt_of _ _ (second_of _ _ (sym (step.begun_is v) ∙ there));
           },
         ))
     | inr none ↦ elim (cases_Bool (has_number v up)) [
       | inl there ↦
-          let came = s.came v (first_of _ _ (sym (up_is v) ∙ there)) in
+          let came = s.came v (first_of _ _ (sym (step.up_is v) ∙ there)) in
           inl (
             there,
             record {
               vertex = came.0;
               from = came.1;
               before = came.2;
-              to = ap (λ t. get_or t v 0) z_is ∙ all_at_other (all_at y up (l + 1)) begun (l + 1) v none ∙ all_at_here y up (l + 1) v (omega (arith, came.0, s.sized)) there;
-              over = lt_of _ _ (second_of _ _ (sym (up_is v) ∙ there));
+              to = ap (λ t. get_or t v 0) step.z_is ∙ all_at_other (all_at sweep.levels up (sweep.level + 1)) begun (sweep.level + 1) v none ∙ all_at_here sweep.levels up (sweep.level + 1) v (omega (arith, came.0, s.sized)) there;
+              over = lt_of _ _ (second_of _ _ (sym (step.up_is v) ∙ there));
             },
           )
       | inr gone ↦ inr (inr (record {
         no_up = gone;
         no_begun = none;
-        same = ap (λ t. get_or t v 0) z_is ∙ all_at_other (all_at y up (l + 1)) begun (l + 1) v none ∙ all_at_other y up (l + 1) v gone;
+        same = ap (λ t. get_or t v 0) step.z_is ∙ all_at_other (all_at sweep.levels up (sweep.level + 1)) begun (sweep.level + 1) v none ∙ all_at_other sweep.levels up (sweep.level + 1) v gone;
       }))
     ]
   ]
 
-  under : (u : ℕ) → get_or x u 0 ≤ get_or y u 0
-  under u = below_everywhere g.vertices x y u s.start s.under
+  under : (u : ℕ) → get_or x u 0 ≤ get_or sweep.levels u 0
+  under u = below_everywhere g.vertices x sweep.levels u s.start s.under
 
   -- who is counted as one that goes on does
-  pub going : (v : ℕ) → goes_on x z l v ≡ true → (has_number v up ≡ true) × IsGoing g.vertices x y z c l most v
+  pub going : (v : ℕ) → goes_on x z sweep.level v ≡ true → (has_number v up ≡ true) × IsGoing g.vertices x sweep.levels z sweep.counts sweep.level most v
   going v asked =
-      let to : get_or z v 0 ≡ l + 1 = eq_of (get_or z v 0) (l + 1) (first_of (eqb (get_or z v 0) (l + 1)) (ltb (get_or x v 0) l) asked) in
-      let before : get_or x v 0 < l = lt_of (get_or x v 0) l (second_of (eqb (get_or z v 0) (l + 1)) (ltb (get_or x v 0) l) asked) in
+      let to : get_or z v 0 ≡ sweep.level + 1 = eq_of (get_or z v 0) (sweep.level + 1) (first_of (eqb (get_or z v 0) (sweep.level + 1)) (ltb (get_or x v 0) sweep.level) asked) in
+      let before : get_or x v 0 < sweep.level = lt_of (get_or x v 0) sweep.level (second_of (eqb (get_or z v 0) (sweep.level + 1)) (ltb (get_or x v 0) sweep.level) asked) in
       elim (case_of v) [
         | inl it ↦ it
         | inr (inl it) ↦ absurd (omega (arith, before, it.1.before))
@@ -143,9 +156,9 @@ module _ (p : Profile) (g : GraphShape) (x y c rising risen : List ℕ) (queue :
       ]
 
   -- who was on the next level before is there
-  pub next_stays : (w : ℕ) → get_or x w 0 ≡ l + 1 → (get_or y w 0 ≡ l + 1) × (get_or z w 0 ≡ l + 1)
+  pub next_stays : (w : ℕ) → get_or x w 0 ≡ sweep.level + 1 → (get_or sweep.levels w 0 ≡ sweep.level + 1) × (get_or z w 0 ≡ sweep.level + 1)
   next_stays w on =
-      let old : get_or y w 0 ≡ l + 1 = s.still w (omega (arith, on, under w)) ∙ on in (
+      let old : get_or sweep.levels w 0 ≡ sweep.level + 1 = s.still w (omega (arith, on, under w)) ∙ on in (
         old,
         elim (case_of w) [
           | inl it ↦ absurd (omega (arith, on, it.1.before))
@@ -154,52 +167,52 @@ module _ (p : Profile) (g : GraphShape) (x y c rising risen : List ℕ) (queue :
         ],
       )
 
-  pub not_going : (w : ℕ) → get_or x w 0 ≡ l + 1 → goes_on x z l w ≡ false
+  pub not_going : (w : ℕ) → get_or x w 0 ≡ sweep.level + 1 → goes_on x z sweep.level w ≡ false
   not_going w on = grind (arith, nat_tests, on)
 
-  count_is : (v k : ℕ) → v < g.vertices → get_or y v 0 ≡ k → get_or c v 0 ≡ count_by (λ u. leb k (get_or y u 0)) (neighbours_of v g.edges)
+  count_is : (v k : ℕ) → v < g.vertices → get_or sweep.levels v 0 ≡ k → get_or sweep.counts v 0 ≡ count_by (λ u. leb k (get_or sweep.levels u 0)) (neighbours_of v g.edges)
   unfolding at_least
-  count_is v k h on = s.counted.values v h ∙ ap (λ j. count_by (λ u. leb j (get_or y u 0)) (neighbours_of v g.edges)) (omega (arith, on))
+  count_is v k h on = s.counted.values v h ∙ ap (λ j. count_by (λ u. leb j (get_or sweep.levels u 0)) (neighbours_of v g.edges)) (omega (arith, on))
 
-  -- before the meetings on l are looked at
-  pub met_seen : AreSeen g (goes_on x z l) (sees_met x z l (get_or meetings l [])) c c
+  -- before the meetings on the level are looked at
+  pub met_seen : AreSeen g (goes_on x z sweep.level) (sees_met x z sweep.level (get_or sweep.meetings sweep.level [])) sweep.counts sweep.counts
   met_seen = record {
     sized = s.counted.sized;
-    seen = λ v h asked. count_is v l h (going v asked).1.from ∙ count_agree (λ u. leb l (get_or y u 0)) (sees_met x z l (get_or meetings l []) v) (neighbours_of v g.edges) (λ u near. agree v u (going v asked).1 near (case_of u));
+    seen = λ v h asked. count_is v sweep.level h (going v asked).1.from ∙ count_agree (λ u. leb sweep.level (get_or sweep.levels u 0)) (sees_met x z sweep.level (get_or sweep.meetings sweep.level []) v) (neighbours_of v g.edges) (λ u near. agree v u (going v asked).1 near (case_of u));
     others = λ v none. refl;
   }
     where
-      agree : (v u : ℕ) → IsGoing g.vertices x y z c l most v → has_number u (neighbours_of v g.edges) ≡ true → IsCase g.vertices x y z c up begun l most u → leb l (get_or y u 0) ≡ sees_met x z l (get_or meetings l []) v u
+      agree : (v u : ℕ) → IsGoing g.vertices x sweep.levels z sweep.counts sweep.level most v → has_number u (neighbours_of v g.edges) ≡ true → IsCase g.vertices x sweep.levels z sweep.counts up begun sweep.level most u → leb sweep.level (get_or sweep.levels u 0) ≡ sees_met x z sweep.level (get_or sweep.meetings sweep.level []) v u
       agree v u it near (inl that) = grind (arith, nat_tests, that.1.from, that.1.to)
       agree v u it near (inr (inl that)) = grind (arith, nat_tests, that.1.from, that.1.to)
-      agree v u it near (inr (inr that)) = elim (cases_eq (get_or y u 0) l) [
+      agree v u it near (inr (inr that)) = elim (cases_eq (get_or sweep.levels u 0) sweep.level) [
         | inr off ↦ grind (arith, nat_tests, that.same, off)
-        | inl on ↦ elim (cases_lt (get_or x u 0) l) [
+        | inl on ↦ elim (cases_lt (get_or x u 0) sweep.level) [
           | inl lt ↦ grind (arith, nat_tests, that.same, on, lt)
           | inr ge ↦
-              let level : get_or x u 0 ≡ l = omega (arith, ge, on, under u) in
-              let risen_v : has_number v risen ≡ true = s.risen_all v (omega (arith, it.before, it.from)) in
-              let edge : has_edge (v, u) (get_or meetings l []) ≡ true = s.meet.each l v u (omega arith) risen_v (record { near = near; level = level; below = it.before }) in
+              let level : get_or x u 0 ≡ sweep.level = omega (arith, ge, on, under u) in
+              let risen_v : has_number v sweep.risen ≡ true = s.risen_all v (omega (arith, it.before, it.from)) in
+              let edge : has_edge (v, u) (get_or sweep.meetings sweep.level []) ≡ true = s.meet.each sweep.level v u (omega arith) risen_v (record { near = near; level = level; below = it.before }) in
               grind (arith, nat_tests, that.same, on, level, edge)
         ]
       ]
 
-  -- before those who came to l are looked at
-  pub listed_seen : (d : List ℕ) → AreSeen g (goes_on x z l) (sees_met x z l []) c d → AreSeen g (goes_on x z l) (sees_listed z l rising) d d
+  -- before those who came to the level are looked at
+  listed_seen : (d : List ℕ) → AreSeen g (goes_on x z sweep.level) (sees_met x z sweep.level []) sweep.counts d → AreSeen g (goes_on x z sweep.level) (sees_listed z sweep.level sweep.rising) d d
   listed_seen d r = record {
     sized = r.sized;
-    seen = λ v h asked. r.seen v h asked ∙ count_agree (sees_met x z l [] v) (sees_listed z l rising v) (neighbours_of v g.edges) (λ u near. agree v u (case_of u));
+    seen = λ v h asked. r.seen v h asked ∙ count_agree (sees_met x z sweep.level [] v) (sees_listed z sweep.level sweep.rising v) (neighbours_of v g.edges) (λ u near. agree v u (case_of u));
     others = λ v none. refl;
   }
     where
-      agree : (v u : ℕ) → IsCase g.vertices x y z c up begun l most u → sees_met x z l [] v u ≡ sees_listed z l rising v u
+      agree : (v u : ℕ) → IsCase g.vertices x sweep.levels z sweep.counts up begun sweep.level most u → sees_met x z sweep.level [] v u ≡ sees_listed z sweep.level sweep.rising v u
       agree v u (inl that) = grind (arith, nat_tests, that.1.to)
       agree v u (inr (inl that)) = grind (arith, nat_tests, that.1.to)
-      agree v u (inr (inr that)) = elim (cases_eq (get_or y u 0) l) [
+      agree v u (inr (inr that)) = elim (cases_eq (get_or sweep.levels u 0) sweep.level) [
         | inr off ↦ grind (arith, nat_tests, that.same, off)
-        | inl on ↦ elim (cases_lt (get_or x u 0) l) [
+        | inl on ↦ elim (cases_lt (get_or x u 0) sweep.level) [
           | inl lt ↦ grind (arith, nat_tests, that.same, on, lt, s.all u on lt)
-          | inr ge ↦ elim (cases_Bool (has_number u rising)) [
+          | inr ge ↦ elim (cases_Bool (has_number u sweep.rising)) [
             | inl there ↦ absurd (omega (arith, ge, (s.came u there).2))
             | inr none ↦ grind (arith, nat_tests, that.same, on, ge, none)
           ]
@@ -207,102 +220,130 @@ module _ (p : Profile) (g : GraphShape) (x y c rising risen : List ℕ) (queue :
       ]
 
   -- the counts on the next level stayed as they were so far
-  next_kept : (d e : List ℕ) → AreSeen g (goes_on x z l) (sees_met x z l []) c d → AreSeen g (goes_on x z l) (sees_listed z l []) d e → (w : ℕ) → get_or x w 0 ≡ l + 1 → get_or e w 0 ≡ get_or c w 0
+  next_kept : (d e : List ℕ) → AreSeen g (goes_on x z sweep.level) (sees_met x z sweep.level []) sweep.counts d → AreSeen g (goes_on x z sweep.level) (sees_listed z sweep.level []) d e → (w : ℕ) → get_or x w 0 ≡ sweep.level + 1 → get_or e w 0 ≡ get_or sweep.counts w 0
   next_kept d e r q w on = q.others w (not_going w on) ∙ r.others w (not_going w on)
 
-  count_at : (v : ℕ) → v < g.vertices → get_or c v 0 ≡ at_least g y v (get_or y v 0)
-  count_at v h = s.counted.values v h ∙ ap (λ k. at_least g y v k) (omega arith)
+  count_at : (v : ℕ) → v < g.vertices → get_or sweep.counts v 0 ≡ at_least g sweep.levels v (get_or sweep.levels v 0)
+  count_at v h = s.counted.values v h ∙ ap (λ k. at_least g sweep.levels v k) (omega arith)
 
   -- those who begin
-  pub begins : (v : ℕ) → has_number v begun ≡ true → (v < g.vertices) × (get_or y v 0 ≡ l) × (get_or x v 0 ≡ l) × (get_or z v 0 ≡ l + 1)
+  pub begins : (v : ℕ) → has_number v begun ≡ true → (v < g.vertices) × (get_or sweep.levels v 0 ≡ sweep.level) × (get_or x v 0 ≡ sweep.level) × (get_or z v 0 ≡ sweep.level + 1)
   begins v there =
-      let here = waits_here v (first_of _ _ (sym (begun_is v) ∙ there)) in
+      let here = waits_here v (first_of _ _ (sym (step.begun_is v) ∙ there)) in
       elim (case_of v) [
         | inl it ↦ absurd (omega (arith, it.1.before, here.1))
         | inr (inl it) ↦ (here.0, here.2, here.1, it.1.to)
         | inr (inr it) ↦ absurd (true≢false (sym there ∙ it.no_begun))
       ]
 
-  pub begun_fresh : (v : ℕ) → has_number v begun ≡ true → has_number v risen ≡ false
-  begun_fresh v there = elim (cases_Bool (has_number v risen)) [
+  pub begun_fresh : (v : ℕ) → has_number v begun ≡ true → has_number v sweep.risen ≡ false
+  begun_fresh v there = elim (cases_Bool (has_number v sweep.risen)) [
     | inr none ↦ none
     | inl rose ↦ absurd (omega (arith, (begins v there).2, (s.risen_in v rose).1))
   ]
 
   -- those who go on
-  pub goers : (v : ℕ) → has_number v up ≡ true → (v < g.vertices) × (get_or y v 0 ≡ l) × (get_or x v 0 < l) × (get_or z v 0 ≡ l + 1)
+  pub goers : (v : ℕ) → has_number v up ≡ true → (v < g.vertices) × (get_or sweep.levels v 0 ≡ sweep.level) × (get_or x v 0 < sweep.level) × (get_or z v 0 ≡ sweep.level + 1)
   goers v there = elim (case_of v) [
     | inl it ↦ (it.1.vertex, it.1.from, it.1.before, it.1.to)
-    | inr (inl it) ↦ absurd (omega (arith, it.1.before, (s.came v (first_of _ _ (sym (up_is v) ∙ there))).2))
+    | inr (inl it) ↦ absurd (omega (arith, it.1.before, (s.came v (first_of _ _ (sym (step.up_is v) ∙ there))).2))
     | inr (inr it) ↦ absurd (true≢false (sym there ∙ it.no_up))
   ]
 
   -- the meetings on the level
-  pub meet_here : MeetOn g x l (get_or meetings l [])
+  pub meet_here : MeetOn g x sweep.level (get_or sweep.meetings sweep.level [])
   meet_here v w there =
-      let it = s.meet.only l v w (omega arith) there in
+      let it = s.meet.only sweep.level v w (omega arith) there in
       ((s.risen_in v it.0).0, it.1)
 
   -- no riser that had come to the level is above it in the graph
-  pub came_below : (v : ℕ) → has_number v rising ≡ true → get_or x v 0 ≤ l
+  came_below : (v : ℕ) → has_number v sweep.rising ≡ true → get_or x v 0 ≤ sweep.level
   came_below v there = omega (arith, (s.came v there).2)
 
   -- the meetings on the next level are those that were there
-  pub next_meetings : get_or (set meetings l []) (l + 1) [] ≡ get_or meetings (l + 1) []
-  next_meetings = get_or-set_other meetings l (l + 1) [] [] (λ e. absurd (omega (arith, e)))
+  pub next_meetings : get_or (set sweep.meetings sweep.level []) (sweep.level + 1) [] ≡ get_or sweep.meetings (sweep.level + 1) []
+  next_meetings = get_or-set_other sweep.meetings sweep.level (sweep.level + 1) [] [] (λ e. absurd (omega (arith, e)))
 
   -- the number of neighbours from a level on is the same in both lists, but for the level that some come to
-  same_count : (v k : ℕ) → k ≢ l + 1 → at_least g y v k ≡ at_least g z v k
+  same_count : (v k : ℕ) → k ≢ sweep.level + 1 → at_least g sweep.levels v k ≡ at_least g z v k
   unfolding at_least
-  same_count v k ne = count_agree (λ u. leb k (get_or y u 0)) (λ u. leb k (get_or z u 0)) (neighbours_of v g.edges) (λ u near. agree u (case_of u))
+  same_count v k ne = count_agree (λ u. leb k (get_or sweep.levels u 0)) (λ u. leb k (get_or z u 0)) (neighbours_of v g.edges) (λ u near. agree u (case_of u))
     where
-      agree : (u : ℕ) → IsCase g.vertices x y z c up begun l most u → leb k (get_or y u 0) ≡ leb k (get_or z u 0)
+      agree : (u : ℕ) → IsCase g.vertices x sweep.levels z sweep.counts up begun sweep.level most u → leb k (get_or sweep.levels u 0) ≡ leb k (get_or z u 0)
       agree u (inl it) = grind (arith, nat_tests, it.1.from, it.1.to, ne)
       agree u (inr (inl it)) = grind (arith, nat_tests, it.1.from, it.1.to, ne)
       agree u (inr (inr it)) = ap (λ j. leb k j) (sym it.same)
 
+  -- those who stay on the level, of those who had come to it
+  module _ (stay : List ℕ) (stay_is : stay ≡ filter (stays_on z sweep.level) sweep.rising) where
+    stay_came : (v : ℕ) → has_number v stay ≡ true → (has_number v sweep.rising ≡ true) × (get_or z v 0 ≡ sweep.level)
+    stay_came v there =
+        let both : has_number v sweep.rising && eqb (get_or z v 0) sweep.level ≡ true = sym (has_number-filter v (stays_on z sweep.level) sweep.rising) ∙ ap (has_number v) (sym stay_is) ∙ there in
+        (first_of _ _ both, eq_of _ _ (second_of _ _ both))
+
+    pub stay_inside : (v : ℕ) → has_number v stay ≡ true → v < g.vertices
+    stay_inside v there = (s.came v (stay_came v there).0).0
+
+    pub stay_below : (v : ℕ) → has_number v stay ≡ true → get_or x v 0 ≤ sweep.level
+    stay_below v there = came_below v (stay_came v there).0
+
+    pub stay_here : (v : ℕ) → has_number v stay ≡ true → get_or z v 0 ≡ sweep.level
+    stay_here v there = (stay_came v there).1
+
+    pub stay_distinct : AreDistinct stay
+    stay_distinct = subst AreDistinct (sym stay_is) (distinct_filter (stays_on z sweep.level) sweep.rising s.distinct)
+
+    pub stay_seen : (d : List ℕ) → AreSeen g (goes_on x z sweep.level) (sees_met x z sweep.level []) sweep.counts d → AreSeen g (goes_on x z sweep.level) (sees_listed z sweep.level stay) d d
+    stay_seen d r = subst (λ vs. AreSeen g (goes_on x z sweep.level) (sees_listed z sweep.level vs) d d) (sym stay_is) (seen_stay z sweep.level g (goes_on x z sweep.level) sweep.rising d d (listed_seen d r))
+
+    pub stay_settled : settled_at x z sweep.level stay ≡ settled_at x z sweep.level sweep.rising
+    stay_settled = ap (settled_at x z sweep.level) stay_is ∙ settled_stay z sweep.level x sweep.rising
+
+    pub stay_steps : steps_on g z sweep.level stay ≡ steps_on g z sweep.level sweep.rising
+    stay_steps = ap (steps_on g z sweep.level) stay_is ∙ steps_stay z sweep.level g sweep.rising
+
   -- the levels in the graph after those who stay on the level were put there
-  module _ (x' : List ℕ) (x'_is : x' ≡ settled_at x z l rising) where
-    pub settled_or_same : (u : ℕ) → (get_or x' u 0 ≡ get_or x u 0) ⊎ ((get_or y u 0 ≡ l) × (get_or z u 0 ≡ l) × (get_or x u 0 < l) × (get_or x' u 0 ≡ l))
-    settled_or_same u = elim (settled_at-get x z l rising u (λ v there. rw s.start (s.came v there).0)) [
+  module _ (x' : List ℕ) (x'_is : x' ≡ settled_at x z sweep.level sweep.rising) where
+    pub settled_or_same : (u : ℕ) → (get_or x' u 0 ≡ get_or x u 0) ⊎ ((get_or sweep.levels u 0 ≡ sweep.level) × (get_or z u 0 ≡ sweep.level) × (get_or x u 0 < sweep.level) × (get_or x' u 0 ≡ sweep.level))
+    settled_or_same u = elim (settled_at-get x z sweep.level sweep.rising u (λ v there. rw s.start (s.came v there).0)) [
       | inl same ↦ inl (ap (λ t. get_or t u 0) x'_is ∙ same)
       | inr it ↦ let came = s.came u it.0 in inr (came.1, it.1, came.2, ap (λ t. get_or t u 0) x'_is ∙ it.2)
     ]
 
-    settled_here : (u : ℕ) → get_or y u 0 ≡ l → get_or z u 0 ≡ l → get_or x u 0 < l → get_or x' u 0 ≡ l
-    settled_here u on stays below = ap (λ t. get_or t u 0) x'_is ∙ settled_at-there x z l rising u (λ v there. rw s.start (s.came v there).0) (s.all u on below) stays
+    settled_here : (u : ℕ) → get_or sweep.levels u 0 ≡ sweep.level → get_or z u 0 ≡ sweep.level → get_or x u 0 < sweep.level → get_or x' u 0 ≡ sweep.level
+    settled_here u on stays below = ap (λ t. get_or t u 0) x'_is ∙ settled_at-there x z sweep.level sweep.rising u (λ v there. rw s.start (s.came v there).0) (s.all u on below) stays
 
-    -- who is on another level than l afterwards is in the graph as before
-    graph_kept : (u : ℕ) → get_or z u 0 ≢ l → get_or x' u 0 ≡ get_or x u 0
+    -- who is on another level than that of the sweep afterwards is in the graph as before
+    graph_kept : (u : ℕ) → get_or z u 0 ≢ sweep.level → get_or x' u 0 ≡ get_or x u 0
     graph_kept u off = elim (settled_or_same u) [ inl same ↦ same | inr it ↦ absurd (off it.1) ]
 
-    next_on : (w : ℕ) → get_or x' w 0 ≡ l + 1 → get_or x w 0 ≡ l + 1
+    next_on : (w : ℕ) → get_or x' w 0 ≡ sweep.level + 1 → get_or x w 0 ≡ sweep.level + 1
     next_on w on = elim (settled_or_same w) [ inl same ↦ sym same ∙ on | inr it ↦ absurd (omega (arith, it.3, on)) ]
 
-    next_here : (w : ℕ) → get_or x w 0 ≡ l + 1 → get_or x' w 0 ≡ l + 1
+    next_here : (w : ℕ) → get_or x w 0 ≡ sweep.level + 1 → get_or x' w 0 ≡ sweep.level + 1
     next_here w on = elim (settled_or_same w) [ inl same ↦ same ∙ on | inr it ↦ absurd (omega (arith, it.2, on)) ]
 
     -- before the meetings on the next level are looked at
-    pub arrived_seen : (d e : List ℕ) → AreSeen g (goes_on x z l) (sees_met x z l []) c d → AreSeen g (goes_on x z l) (sees_listed z l []) d e → AreSeen g (is_next x' l) (sees_arrived x' z l (get_or meetings (l + 1) [])) e e
+    pub arrived_seen : (d e : List ℕ) → AreSeen g (goes_on x z sweep.level) (sees_met x z sweep.level []) sweep.counts d → AreSeen g (goes_on x z sweep.level) (sees_listed z sweep.level []) d e → AreSeen g (is_next x' sweep.level) (sees_arrived x' z sweep.level (get_or sweep.meetings (sweep.level + 1) [])) e e
     arrived_seen d e r q = record {
       sized = q.sized;
       seen = λ w h asked.
-          let on : get_or x w 0 ≡ l + 1 = next_on w (eq_of _ _ asked) in
-          next_kept d e r q w on ∙ count_is w (l + 1) h (next_stays w on).0
-          ∙ count_agree (λ u. leb (l + 1) (get_or y u 0)) (sees_arrived x' z l (get_or meetings (l + 1) []) w) (neighbours_of w g.edges) (λ u near. agree w u on (neighbours_both u w g.edges ∙ near) (case_of u));
+          let on : get_or x w 0 ≡ sweep.level + 1 = next_on w (eq_of _ _ asked) in
+          next_kept d e r q w on ∙ count_is w (sweep.level + 1) h (next_stays w on).0
+          ∙ count_agree (λ u. leb (sweep.level + 1) (get_or sweep.levels u 0)) (sees_arrived x' z sweep.level (get_or sweep.meetings (sweep.level + 1) []) w) (neighbours_of w g.edges) (λ u near. agree w u on (neighbours_both u w g.edges ∙ near) (case_of u));
       others = λ w none. refl;
     }
       where
-        agree : (w u : ℕ) → get_or x w 0 ≡ l + 1 → has_number w (neighbours_of u g.edges) ≡ true → IsCase g.vertices x y z c up begun l most u → leb (l + 1) (get_or y u 0) ≡ sees_arrived x' z l (get_or meetings (l + 1) []) w u
+        agree : (w u : ℕ) → get_or x w 0 ≡ sweep.level + 1 → has_number w (neighbours_of u g.edges) ≡ true → IsCase g.vertices x sweep.levels z sweep.counts up begun sweep.level most u → leb (sweep.level + 1) (get_or sweep.levels u 0) ≡ sees_arrived x' z sweep.level (get_or sweep.meetings (sweep.level + 1) []) w u
         agree w u on near (inl that) =
-            let risen_u : has_number u risen ≡ true = s.risen_all u (omega (arith, that.1.before, that.1.from)) in
-            let edge : has_edge (u, w) (get_or meetings (l + 1) []) ≡ true = s.meet.each (l + 1) u w (omega arith) risen_u (record { near = near; level = on; below = omega (arith, that.1.before) }) in
+            let risen_u : has_number u sweep.risen ≡ true = s.risen_all u (omega (arith, that.1.before, that.1.from)) in
+            let edge : has_edge (u, w) (get_or sweep.meetings (sweep.level + 1) []) ≡ true = s.meet.each (sweep.level + 1) u w (omega arith) risen_u (record { near = near; level = on; below = omega (arith, that.1.before) }) in
             let kept = graph_kept u (λ q. absurd (omega (arith, q, that.1.to))) in
             grind (arith, nat_tests, that.1.from, that.1.to, that.1.before, edge, kept)
         agree w u on near (inr (inl that)) =
             let kept = graph_kept u (λ q. absurd (omega (arith, q, that.1.to))) in
             grind (arith, nat_tests, that.1.from, that.1.to, that.1.before, kept)
-        agree w u on near (inr (inr that)) = elim (cases_lt l (get_or y u 0)) [
+        agree w u on near (inr (inr that)) = elim (cases_lt sweep.level (get_or sweep.levels u 0)) [
           | inl lt ↦
               let kept = graph_kept u (λ q. absurd (omega (arith, q, that.same, lt))) in
               grind (arith, nat_tests, that.same, lt, s.still u lt, kept)
@@ -310,14 +351,14 @@ module _ (p : Profile) (g : GraphShape) (x y c rising risen : List ℕ) (queue :
         ]
 
     -- before those who begin are looked at
-    pub unlisted_seen : (e f : List ℕ) → AreSeen g (is_next x' l) (sees_arrived x' z l []) e f → AreSeen g (is_next x' l) (sees_unlisted z l begun) f f
+    pub unlisted_seen : (e f : List ℕ) → AreSeen g (is_next x' sweep.level) (sees_arrived x' z sweep.level []) e f → AreSeen g (is_next x' sweep.level) (sees_unlisted z sweep.level begun) f f
     unlisted_seen e f r = record {
       sized = r.sized;
-      seen = λ w h asked. r.seen w h asked ∙ count_agree (sees_arrived x' z l [] w) (sees_unlisted z l begun w) (neighbours_of w g.edges) (λ u near. agree w u (case_of u));
+      seen = λ w h asked. r.seen w h asked ∙ count_agree (sees_arrived x' z sweep.level [] w) (sees_unlisted z sweep.level begun w) (neighbours_of w g.edges) (λ u near. agree w u (case_of u));
       others = λ w none. refl;
     }
       where
-        agree : (w u : ℕ) → IsCase g.vertices x y z c up begun l most u → sees_arrived x' z l [] w u ≡ sees_unlisted z l begun w u
+        agree : (w u : ℕ) → IsCase g.vertices x sweep.levels z sweep.counts up begun sweep.level most u → sees_arrived x' z sweep.level [] w u ≡ sees_unlisted z sweep.level begun w u
         agree w u (inl that) = elim (cases_Bool (has_number u begun)) [
           | inl there ↦ absurd (omega (arith, that.1.before, (begins u there).2))
           | inr none ↦
@@ -327,7 +368,7 @@ module _ (p : Profile) (g : GraphShape) (x y c rising risen : List ℕ) (queue :
         agree w u (inr (inl that)) =
             let kept = graph_kept u (λ q. absurd (omega (arith, q, that.1.to))) in
             grind (arith, nat_tests, that.1.to, that.1.before, that.0, kept)
-        agree w u (inr (inr that)) = elim (cases_lt l (get_or y u 0)) [
+        agree w u (inr (inr that)) = elim (cases_lt sweep.level (get_or sweep.levels u 0)) [
           | inl lt ↦
               let kept = graph_kept u (λ q. absurd (omega (arith, q, that.same, lt))) in
               grind (arith, nat_tests, that.same, that.no_begun, lt, s.still u lt, kept)
@@ -335,33 +376,33 @@ module _ (p : Profile) (g : GraphShape) (x y c rising risen : List ℕ) (queue :
         ]
 
     -- a meeting beyond the level is one still
-    meets_on : (k v w : ℕ) → l < k → IsMeeting g x k v w → IsMeeting g x' k v w
+    meets_on : (k v w : ℕ) → sweep.level < k → IsMeeting g x k v w → IsMeeting g x' k v w
     meets_on k v w beyond it = record {
       near = it.near;
       level = elim (settled_or_same w) [ inl same ↦ same ∙ it.level | inr that ↦ absurd (omega (arith, it.level, that.2, beyond)) ];
       below = elim (settled_or_same v) [ inl same ↦ omega (arith, same, it.below) | inr that ↦ omega (arith, that.3, beyond) ];
     }
 
-    met_on : (k v w : ℕ) → l < k → IsMeeting g x' k v w → IsMeeting g x k v w
+    met_on : (k v w : ℕ) → sweep.level < k → IsMeeting g x' k v w → IsMeeting g x k v w
     met_on k v w beyond it = record {
       near = it.near;
       level = elim (settled_or_same w) [ inl same ↦ sym same ∙ it.level | inr that ↦ absurd (omega (arith, it.level, that.3, beyond)) ];
       below = elim (settled_or_same v) [ inl same ↦ omega (arith, same, it.below) | inr that ↦ omega (arith, that.2, beyond) ];
     }
 
-    pub meet_next : MeetOn g x' (l + 1) (get_or meetings (l + 1) [])
+    pub meet_next : MeetOn g x' (sweep.level + 1) (get_or sweep.meetings (sweep.level + 1) [])
     meet_next v w there =
-        let it = s.meet.only (l + 1) v w (omega arith) there in
-        ((s.risen_in v it.0).0, meets_on (l + 1) v w (omega arith) it.1)
+        let it = s.meet.only (sweep.level + 1) v w (omega arith) there in
+        ((s.risen_in v it.0).0, meets_on (sweep.level + 1) v w (omega arith) it.1)
 
-    pub met_before : (v w : ℕ) → has_edge (v, w) (get_or meetings (l + 1) []) ≡ true → get_or z v 0 ≡ l + 1 → get_or x' v 0 < l
+    pub met_before : (v w : ℕ) → has_edge (v, w) (get_or sweep.meetings (sweep.level + 1) []) ≡ true → get_or z v 0 ≡ sweep.level + 1 → get_or x' v 0 < sweep.level
     met_before v w there up_now =
-        let it = s.meet.only (l + 1) v w (omega arith) there in
+        let it = s.meet.only (sweep.level + 1) v w (omega arith) there in
         let kept = graph_kept v (λ q. absurd (omega (arith, q, up_now))) in
         omega (arith, kept, (s.risen_in v it.0).1)
 
     -- the meetings from the next level on
-    pub left_meetings : AreMeetings g x' (l + 1) (λ v. has_number v risen) (set meetings l [])
+    pub left_meetings : AreMeetings g x' (sweep.level + 1) (λ v. has_number v sweep.risen) (set sweep.meetings sweep.level [])
     left_meetings = record {
       only = λ k v w at there.
           let old = s.meet.only k v w (omega (arith, at)) (ap (has_edge (v, w)) (sym (same k at)) ∙ there) in
@@ -370,25 +411,25 @@ module _ (p : Profile) (g : GraphShape) (x y c rising risen : List ℕ) (queue :
       each = λ k v w at rises it. ap (has_edge (v, w)) (same k at) ∙ s.meet.each k v w (omega (arith, at)) rises (met_on k v w (omega (arith, at)) it);
     }
       where
-        same : (k : ℕ) → l + 1 ≤ k → get_or (set meetings l []) k [] ≡ get_or meetings k []
-        same k at = get_or-set_other meetings l k [] [] (λ e. absurd (omega (arith, e, at)))
+        same : (k : ℕ) → sweep.level + 1 ≤ k → get_or (set sweep.meetings sweep.level []) k [] ≡ get_or sweep.meetings k []
+        same k at = get_or-set_other sweep.meetings sweep.level k [] [] (λ e. absurd (omega (arith, e, at)))
 
-        here : (k : ℕ) → k ≡ l → get_or (set meetings l []) k [] ≡ []
+        here : (k : ℕ) → k ≡ sweep.level → get_or (set sweep.meetings sweep.level []) k [] ≡ []
         here k e =
-            ap (λ j. get_or (set meetings l []) j []) e
-            ∙ elim (cases_lt l (length meetings)) [
-              | inl inside ↦ get_or-set_same meetings l [] [] inside
-              | inr past ↦ get_or_past (set meetings l []) l [] (rw (length-set meetings l []) past)
+            ap (λ j. get_or (set sweep.meetings sweep.level []) j []) e
+            ∙ elim (cases_lt sweep.level (length sweep.meetings)) [
+              | inl inside ↦ get_or-set_same sweep.meetings sweep.level [] [] inside
+              | inr past ↦ get_or_past (set sweep.meetings sweep.level []) sweep.level [] (rw (length-set sweep.meetings sweep.level []) past)
             ]
 
-        apart : (k : ℕ) → AreApart (get_or (set meetings l []) k [])
-        apart k = elim (cases_eq k l) [
+        apart : (k : ℕ) → AreApart (get_or (set sweep.meetings sweep.level []) k [])
+        apart k = elim (cases_eq k sweep.level) [
           | inl e ↦ subst AreApart (sym (here k e)) (record {})
-          | inr ne ↦ subst AreApart (sym (get_or-set_other meetings l k [] [] ne)) (s.meet.once k)
+          | inr ne ↦ subst AreApart (sym (get_or-set_other sweep.meetings sweep.level k [] [] ne)) (s.meet.once k)
         ]
 
     -- those who wait from the next level on
-    pub others_wait : AreWaiting g.vertices x' (l + 1) (set queue l [])
+    others_wait : AreWaiting g.vertices x' (sweep.level + 1) (set sweep.queue sweep.level [])
     others_wait = record {
       vertex = λ k u there. s.waiting.vertex k u (back k u there);
       level = λ k u at there.
@@ -396,70 +437,78 @@ module _ (p : Profile) (g : GraphShape) (x y c rising risen : List ℕ) (queue :
           elim (settled_or_same u) [ inl same ↦ same ∙ old | inr that ↦ absurd (omega (arith, that.2, old, at)) ];
     }
       where
-        back : (k u : ℕ) → has_number u (get_or (set queue l []) k []) ≡ true → has_number u (get_or queue k []) ≡ true
-        back k u there = elim (cases_eq k l) [
-          | inr ne ↦ ap (has_number u) (sym (get_or-set_other queue l k [] [] ne)) ∙ there
-          | inl e ↦ elim (cases_lt l (length queue)) [
-            | inl inside ↦ absurd (true≢false (sym there ∙ ap (λ j. has_number u (get_or (set queue l []) j [])) e ∙ ap (has_number u) (get_or-set_same queue l [] [] inside)))
-            | inr past ↦ absurd (true≢false (sym there ∙ ap (has_number u) (get_or_past (set queue l []) k [] (rw (length-set queue l []) (omega (arith, e, past))))))
+        back : (k u : ℕ) → has_number u (get_or (set sweep.queue sweep.level []) k []) ≡ true → has_number u (get_or sweep.queue k []) ≡ true
+        back k u there = elim (cases_eq k sweep.level) [
+          | inr ne ↦ ap (has_number u) (sym (get_or-set_other sweep.queue sweep.level k [] [] ne)) ∙ there
+          | inl e ↦ elim (cases_lt sweep.level (length sweep.queue)) [
+            | inl inside ↦ absurd (true≢false (sym there ∙ ap (λ j. has_number u (get_or (set sweep.queue sweep.level []) j [])) e ∙ ap (has_number u) (get_or-set_same sweep.queue sweep.level [] [] inside)))
+            | inr past ↦ absurd (true≢false (sym there ∙ ap (has_number u) (get_or_past (set sweep.queue sweep.level []) k [] (rw (length-set sweep.queue sweep.level []) (omega (arith, e, past))))))
           ]
         ]
 
     -- those who count too many on the next level wait there
-    pub next_noted : (above : ℕ) (d e : List ℕ) → above ≡ high p (group_of p g.vertices (l + 1)) → AreSeen g (goes_on x z l) (sees_met x z l []) c d → AreSeen g (goes_on x z l) (sees_listed z l []) d e → AreNoted g.vertices x' (l + 1) above e (set queue l [])
+    next_noted : (above : ℕ) (d e : List ℕ) → above ≡ high p (group_of p g.vertices (sweep.level + 1)) → AreSeen g (goes_on x z sweep.level) (sees_met x z sweep.level []) sweep.counts d → AreSeen g (goes_on x z sweep.level) (sees_listed z sweep.level []) d e → AreNoted g.vertices x' (sweep.level + 1) above e (set sweep.queue sweep.level [])
     unfolding at_least
     next_noted above d e above_is r q w h now over =
-        let on : get_or x w 0 ≡ l + 1 = next_on w now in
-        let level : get_or y w 0 ≡ l + 1 = (next_stays w on).0 in
-        let count : get_or c w 0 ≡ count_by (λ u. leb (l + 1) (get_or y u 0)) (neighbours_of w g.edges) = count_is w (l + 1) h level in
-        let many : above < count_by (λ u. leb (l + 1) (get_or y u 0)) (neighbours_of w g.edges) = omega (arith, over, next_kept d e r q w on, count) in
+        let on : get_or x w 0 ≡ sweep.level + 1 = next_on w now in
+        let level : get_or sweep.levels w 0 ≡ sweep.level + 1 = (next_stays w on).0 in
+        let count : get_or sweep.counts w 0 ≡ count_by (λ u. leb (sweep.level + 1) (get_or sweep.levels u 0)) (neighbours_of w g.edges) = count_is w (sweep.level + 1) h level in
+        let many : above < count_by (λ u. leb (sweep.level + 1) (get_or sweep.levels u 0)) (neighbours_of w g.edges) = omega (arith, over, next_kept d e r q w on, count) in
         elim (s.found w h) [
           | inl meets ↦
-              let few : count_by (λ u. leb (l + 1) (get_or y u 0)) (neighbours_of w g.edges) ≤ high p (group_of p g.vertices (l + 1)) = subst (λ k. count_by (λ u. leb k (get_or y u 0)) (neighbours_of w g.edges) ≤ high p (group_of p g.vertices k)) level meets in
+              let few : count_by (λ u. leb (sweep.level + 1) (get_or sweep.levels u 0)) (neighbours_of w g.edges) ≤ high p (group_of p g.vertices (sweep.level + 1)) = subst (λ k. count_by (λ u. leb k (get_or sweep.levels u 0)) (neighbours_of w g.edges) ≤ high p (group_of p g.vertices k)) level meets in
               absurd (omega (arith, few, many, above_is))
           | inr (inl came) ↦ absurd (omega (arith, level, came.0))
-          | inr (inr waits) ↦ ap (has_number w) (get_or-set_other queue l (l + 1) [] [] (λ e. absurd (omega (arith, e)))) ∙ ap (λ k. has_number w (get_or queue k [])) (sym level) ∙ waits.2
+          | inr (inr waits) ↦ ap (has_number w) (get_or-set_other sweep.queue sweep.level (sweep.level + 1) [] [] (λ e. absurd (omega (arith, e)))) ∙ ap (λ k. has_number w (get_or sweep.queue k [])) (sym level) ∙ waits.2
         ]
 
-    pub begin_there : (v : ℕ) → has_number v begun ≡ true → get_or x' v 0 ≡ l
+    pub next_noting : (above : ℕ) (d e : List ℕ) → above ≡ high p (group_of p g.vertices (sweep.level + 1)) → AreSeen g (goes_on x z sweep.level) (sees_met x z sweep.level []) sweep.counts d → AreSeen g (goes_on x z sweep.level) (sees_listed z sweep.level []) d e → IsNoting g.vertices x' (sweep.level + 1) above e (set sweep.queue sweep.level []) (set sweep.queue sweep.level [])
+    next_noting above d e above_is r q = record { sized = refl; waiting = others_wait; still = λ k u there. there; noted = next_noted above d e above_is r q }
+
+    begin_there : (v : ℕ) → has_number v begun ≡ true → get_or x' v 0 ≡ sweep.level
     begin_there v there = let it = begins v there in graph_kept v (λ q. absurd (omega (arith, q, it.3))) ∙ it.2
 
+    pub are_beginners : AreDistinct begun → AreBeginners g.vertices x' z sweep.level begun
+    are_beginners once = record {
+      vertex = λ v there. (begins v there).0;
+      from = begin_there;
+      to = λ v there. (begins v there).3;
+      distinct = once;
+    }
+
     -- there are meetings for each level in the graph
-    pub places_on : l < top_level p g.vertices → (u : ℕ) → u < g.vertices → get_or x' u 0 < length (set meetings l [])
-    places_on room u h = rw (length-set meetings l []) (elim (settled_or_same u) [
+    pub places_on : sweep.level < top_level p g.vertices → (u : ℕ) → u < g.vertices → get_or x' u 0 < length (set sweep.meetings sweep.level [])
+    places_on room u h = rw (length-set sweep.meetings sweep.level []) (elim (settled_or_same u) [
       | inl same ↦ omega (arith, same, s.under u h, s.capped u h, s.places)
       | inr it ↦ omega (arith, it.3, room, s.places)
     ])
 
-    module _ (graph : IsGraph g) (room : l < top_level p g.vertices) (most_is : most ≡ high p (group_of p g.vertices l)) (above : ℕ) (above_is : above ≡ high p (group_of p g.vertices (l + 1))) (d e f after : List ℕ) (a1 : AreSeen g (goes_on x z l) (sees_met x z l []) c d) (a2 : AreSeen g (goes_on x z l) (sees_listed z l []) d e) (a3 : AreSeen g (is_next x' l) (sees_arrived x' z l []) e f) (a4 : HaveBegun g x' z l begun f after) where
-      breach : (v : ℕ) → v < g.vertices → get_or y v 0 ≡ l → most < get_or c v 0 → ¬ (MeetsUpper p g y v)
+    module _ (graph : IsGraph g) (room : sweep.level < top_level p g.vertices) (most_is : most ≡ high p (group_of p g.vertices sweep.level)) (above : ℕ) (above_is : above ≡ high p (group_of p g.vertices (sweep.level + 1))) (d e f after : List ℕ) (a1 : AreSeen g (goes_on x z sweep.level) (sees_met x z sweep.level []) sweep.counts d) (a2 : AreSeen g (goes_on x z sweep.level) (sees_listed z sweep.level []) d e) (a3 : AreSeen g (is_next x' sweep.level) (sees_arrived x' z sweep.level []) e f) (a4 : HaveBegun g x' z sweep.level begun f after) where
+      breach : (v : ℕ) → v < g.vertices → get_or sweep.levels v 0 ≡ sweep.level → most < get_or sweep.counts v 0 → ¬ (MeetsUpper p g sweep.levels v)
       breach v h on over meets =
-          let few : at_least g y v (get_or y v 0) ≤ high p (group_of p g.vertices l) = subst (λ k. at_least g y v (get_or y v 0) ≤ high p (group_of p g.vertices k)) on meets in
+          let few : at_least g sweep.levels v (get_or sweep.levels v 0) ≤ high p (group_of p g.vertices sweep.level) = subst (λ k. at_least g sweep.levels v (get_or sweep.levels v 0) ≤ high p (group_of p g.vertices k)) on meets in
           absurd (omega (arith, few, over, most_is, count_at v h))
 
-      long : length z ≡ g.vertices
-      long = ap (λ t. length t) z_is ∙ length-all_at (all_at y up (l + 1)) begun (l + 1) ∙ length-all_at y up (l + 1) ∙ s.sized
-
       -- the count of one who is not looked at in the step
-      kept_count : (v : ℕ) → get_or x v 0 ≢ l + 1 → goes_on x z l v ≡ false → has_number v begun ≡ false → get_or after v 0 ≡ get_or c v 0
+      kept_count : (v : ℕ) → get_or x v 0 ≢ sweep.level + 1 → goes_on x z sweep.level v ≡ false → has_number v begun ≡ false → get_or after v 0 ≡ get_or sweep.counts v 0
       kept_count v off stays none =
-          let off' : get_or x' v 0 ≢ l + 1 = λ q. off (next_on v q) in
+          let off' : get_or x' v 0 ≢ sweep.level + 1 = λ q. off (next_on v q) in
           a4.others v off' none ∙ a3.others v (eq_not _ _ off') ∙ a2.others v stays ∙ a1.others v stays
 
-      count_on : (v : ℕ) → v < g.vertices → IsCase g.vertices x y z c up begun l most v → get_or after v 0 ≡ at_least g z v (get_or z v 0)
+      count_on : (v : ℕ) → v < g.vertices → IsCase g.vertices x sweep.levels z sweep.counts up begun sweep.level most v → get_or after v 0 ≡ at_least g z v (get_or z v 0)
       unfolding at_least
       count_on v h (inl it) =
-          let off : get_or x' v 0 ≢ l + 1 = λ q. absurd (omega (arith, next_on v q, it.1.before)) in
+          let off : get_or x' v 0 ≢ sweep.level + 1 = λ q. absurd (omega (arith, next_on v q, it.1.before)) in
           let none : has_number v begun ≡ false = elim (cases_Bool (has_number v begun)) [ inr gone ↦ gone | inl there ↦ absurd (omega (arith, it.1.before, (begins v there).2)) ] in
-          let goes : goes_on x z l v ≡ true = both_of _ _ (eq_is _ _ it.1.to) (lt_is _ _ it.1.before) in
-          a4.others v off none ∙ a3.others v (eq_not _ _ off) ∙ a2.seen v h goes ∙ count_agree (sees_listed z l [] v) (λ u. leb (l + 1) (get_or z u 0)) (neighbours_of v g.edges) (λ u near. grind (arith, nat_tests)) ∙ ap (λ k. count_by (λ u. leb k (get_or z u 0)) (neighbours_of v g.edges)) (sym it.1.to)
+          let goes : goes_on x z sweep.level v ≡ true = both_of _ _ (eq_is _ _ it.1.to) (lt_is _ _ it.1.before) in
+          a4.others v off none ∙ a3.others v (eq_not _ _ off) ∙ a2.seen v h goes ∙ count_agree (sees_listed z sweep.level [] v) (λ u. leb (sweep.level + 1) (get_or z u 0)) (neighbours_of v g.edges) (λ u near. grind (arith, nat_tests)) ∙ ap (λ k. count_by (λ u. leb k (get_or z u 0)) (neighbours_of v g.edges)) (sym it.1.to)
       count_on v h (inr (inl it)) = a4.own v h it.0 ∙ ap (λ k. count_by (λ u. leb k (get_or z u 0)) (neighbours_of v g.edges)) (sym it.1.to)
-      count_on v h (inr (inr it)) = elim (cases_eq (get_or z v 0) (l + 1)) [
+      count_on v h (inr (inr it)) = elim (cases_eq (get_or z v 0) (sweep.level + 1)) [
         | inl on ↦ a4.seen v h (next_here v (sym (s.still v (omega (arith, on, it.same))) ∙ sym it.same ∙ on)) ∙ ap (λ k. count_by (λ u. leb k (get_or z u 0)) (neighbours_of v g.edges)) (sym on)
         | inr ne ↦
-            let off : get_or x v 0 ≢ l + 1 = λ q. ne (next_stays v q).1 in
-            let stays : goes_on x z l v ≡ false = ap (λ b. b && ltb (get_or x v 0) l) (eq_not _ _ ne) in
-            kept_count v off stays it.no_begun ∙ count_at v h ∙ same_count v (get_or y v 0) (λ q. ne (it.same ∙ q)) ∙ ap (λ k. count_by (λ u. leb k (get_or z u 0)) (neighbours_of v g.edges)) (sym it.same)
+            let off : get_or x v 0 ≢ sweep.level + 1 = λ q. ne (next_stays v q).1 in
+            let stays : goes_on x z sweep.level v ≡ false = ap (λ b. b && ltb (get_or x v 0) sweep.level) (eq_not _ _ ne) in
+            kept_count v off stays it.no_begun ∙ count_at v h ∙ same_count v (get_or sweep.levels v 0) (λ q. ne (it.same ∙ q)) ∙ ap (λ k. count_by (λ u. leb k (get_or z u 0)) (neighbours_of v g.edges)) (sym it.same)
       ]
 
       pub counted_on : IsCounted g z 0 after
@@ -469,11 +518,11 @@ module _ (p : Profile) (g : GraphShape) (x y c rising risen : List ℕ) (queue :
       }
 
       -- who may have to rise from the next level on
-      pub found_on : (queue2 queue' : List (List ℕ)) → StillWait (set queue l []) queue2 → StillWait queue2 queue' → AreNoted g.vertices x' (l + 1) above after queue' → (v : ℕ) → v < g.vertices → IsFound p g x' z (l + 1) (up ++ begun) queue' v
-      found_on queue2 queue' first then noted v h = elim (case_of v) [
+      pub found_on : (queue2 queue' : List (List ℕ)) (meetings' : List (List Pair)) → StillWait (set sweep.queue sweep.level []) queue2 → StillWait queue2 queue' → AreNoted g.vertices x' (sweep.level + 1) above after queue' → (v : ℕ) → v < g.vertices → IsFound p g x' (after_step sweep z after up begun queue' meetings') v
+      found_on queue2 queue' meetings' first then noted v h = elim (case_of v) [
         | inl it ↦ inr (inl (it.1.to, has_number-append v up begun ∙ ap (λ b. b || has_number v begun) it.0))
         | inr (inl it) ↦ inr (inl (it.1.to, has_number-append v up begun ∙ ap (λ b. has_number v up || b) it.0 ∙ grind (arith, nat_tests)))
-        | inr (inr it) ↦ elim (cases_eq (get_or z v 0) (l + 1)) [
+        | inr (inr it) ↦ elim (cases_eq (get_or z v 0) (sweep.level + 1)) [
           | inl on ↦
               let was : get_or z v 0 ≡ get_or x' v 0 = it.same ∙ s.still v (omega (arith, on, it.same)) ∙ sym (graph_kept v (λ q. absurd (omega (arith, q, on)))) in
               elim (cases_lt above (get_or after v 0)) [
@@ -483,34 +532,34 @@ module _ (p : Profile) (g : GraphShape) (x y c rising risen : List ℕ) (queue :
           | inr ne ↦ elim (s.found v h) [
             | inl meets ↦ inl (meets_still it ne meets)
             | inr (inl came) ↦
-                let few : is_over c most v ≡ false = ap (λ b. b && is_over c most v) (sym came.1) ∙ sym (up_is v) ∙ it.no_up in
+                let few : is_over sweep.counts most v ≡ false = ap (λ b. b && is_over sweep.counts most v) (sym came.1) ∙ sym (step.up_is v) ∙ it.no_up in
                 inl (meets_still it ne (not_over came.0 few))
-            | inr (inr waits) ↦ elim (cases_eq (get_or y v 0) l) [
+            | inr (inr waits) ↦ elim (cases_eq (get_or sweep.levels v 0) sweep.level) [
               | inl on ↦
-                  let there : has_number v (get_or queue l []) ≡ true = ap (λ k. has_number v (get_or queue k [])) (sym on) ∙ waits.2 in
-                  let few : is_over c most v ≡ false = ap (λ b. b && is_over c most v) (sym there) ∙ sym (begun_is v) ∙ it.no_begun in
+                  let there : has_number v (get_or sweep.queue sweep.level []) ≡ true = ap (λ k. has_number v (get_or sweep.queue k [])) (sym on) ∙ waits.2 in
+                  let few : is_over sweep.counts most v ≡ false = ap (λ b. b && is_over sweep.counts most v) (sym there) ∙ sym (step.begun_is v) ∙ it.no_begun in
                   inl (meets_still it ne (not_over on few))
               | inr off ↦
-                  let old : has_number v (get_or (set queue l []) (get_or z v 0) []) ≡ true = ap (λ k. has_number v (get_or (set queue l []) k [])) it.same ∙ ap (has_number v) (get_or-set_other queue l (get_or y v 0) [] [] off) ∙ waits.2 in
+                  let old : has_number v (get_or (set sweep.queue sweep.level []) (get_or z v 0) []) ≡ true = ap (λ k. has_number v (get_or (set sweep.queue sweep.level []) k [])) it.same ∙ ap (has_number v) (get_or-set_other sweep.queue sweep.level (get_or sweep.levels v 0) [] [] off) ∙ waits.2 in
                   inr (inr (omega (arith, it.same, waits.0, off), it.same ∙ waits.1 ∙ sym (graph_kept v (λ q. off (sym it.same ∙ q))), then (get_or z v 0) v (first (get_or z v 0) v old)))
             ]
           ]
         ]
       ]
         where
-          meets_still : IsStaying y z up begun v → get_or z v 0 ≢ l + 1 → MeetsUpper p g y v → MeetsUpper p g z v
+          meets_still : IsStaying sweep.levels z up begun v → get_or z v 0 ≢ sweep.level + 1 → MeetsUpper p g sweep.levels v → MeetsUpper p g z v
           meets_still it ne meets =
-              let same = same_count v (get_or y v 0) (λ q. ne (it.same ∙ q)) in
+              let same = same_count v (get_or sweep.levels v 0) (λ q. ne (it.same ∙ q)) in
               subst (λ k. at_least g z v k ≤ high p (group_of p g.vertices k)) (sym it.same) (omega (arith, meets, same))
 
-          not_over : get_or y v 0 ≡ l → is_over c most v ≡ false → MeetsUpper p g y v
+          not_over : get_or sweep.levels v 0 ≡ sweep.level → is_over sweep.counts most v ≡ false → MeetsUpper p g sweep.levels v
           not_over on few =
-              let count : get_or c v 0 ≤ most = grind (arith, nat_tests, few) in
-              subst (λ k. at_least g y v (get_or y v 0) ≤ high p (group_of p g.vertices k)) (sym on) (omega (arith, count, most_is, count_at v h))
+              let count : get_or sweep.counts v 0 ≤ most = grind (arith, nat_tests, few) in
+              subst (λ k. at_least g sweep.levels v (get_or sweep.levels v 0) ≤ high p (group_of p g.vertices k)) (sym on) (omega (arith, count, most_is, count_at v h))
 
-      pub stepped : (queue2 queue' : List (List ℕ)) (meetings' : List (List Pair)) → AreDistinct up → AreDistinct begun → StillWait (set queue l []) queue2 → StillWait queue2 queue' → length queue' ≡ length queue → AreWaiting g.vertices x' (l + 1) queue' → AreNoted g.vertices x' (l + 1) above after queue' → length meetings' ≡ length meetings → AreMeetings g x' (l + 1) (λ v. has_number v risen || has_number v begun) meetings' → IsSweeping p g x' (l + 1) z after (up ++ begun) (risen ++ begun) queue' meetings'
-      stepped queue2 queue' meetings' ups begins_once first then buckets waiting noted places meet = record {
-        start = ap (λ t. length t) x'_is ∙ length-settled_at x z l rising ∙ s.start;
+      pub stepped : (queue2 queue' : List (List ℕ)) (meetings' : List (List Pair)) → AreDistinct up → AreDistinct begun → IsNoting g.vertices x' (sweep.level + 1) above f (set sweep.queue sweep.level []) queue2 → IsNoting g.vertices x' (sweep.level + 1) above after queue2 queue' → length meetings' ≡ length sweep.meetings → AreMeetings g x' (sweep.level + 1) (λ v. has_number v sweep.risen || has_number v begun) meetings' → IsSweeping p g x' (after_step sweep z after up begun queue' meetings')
+      stepped queue2 queue' meetings' ups begins_once first then places meet = record {
+        start = ap (λ t. length t) x'_is ∙ length-settled_at x z sweep.level sweep.rising ∙ s.start;
         sized = long;
         under = λ v h. elim (settled_or_same v) [
           | inr that ↦ omega (arith, that.3, that.1)
@@ -534,11 +583,11 @@ module _ (p : Profile) (g : GraphShape) (x y c rising risen : List ℕ) (queue :
         settled = λ v below. elim (case_of v) [
           | inl it ↦ absurd (omega (arith, below, it.1.to))
           | inr (inl it) ↦ absurd (omega (arith, below, it.1.to))
-          | inr (inr it) ↦ elim (cases_lt (get_or y v 0) l) [
+          | inr (inr it) ↦ elim (cases_lt (get_or sweep.levels v 0) sweep.level) [
             | inl lt ↦ it.same ∙ s.settled v lt ∙ sym (graph_kept v (λ q. absurd (omega (arith, q, it.same, lt))))
             | inr ge ↦
-                let on : get_or y v 0 ≡ l = omega (arith, ge, below, it.same) in
-                elim (cases_lt (get_or x v 0) l) [
+                let on : get_or sweep.levels v 0 ≡ sweep.level = omega (arith, ge, below, it.same) in
+                elim (cases_lt (get_or x v 0) sweep.level) [
                   | inl low ↦ it.same ∙ on ∙ sym (settled_here v on (it.same ∙ on) low)
                   | inr high_ ↦ elim (settled_or_same v) [
                     | inl same ↦ omega (arith, same, it.same, on, high_, under v)
@@ -563,36 +612,36 @@ module _ (p : Profile) (g : GraphShape) (x y c rising risen : List ℕ) (queue :
         risen_in = λ v there. elim (cases_Bool (has_number v begun)) [
           | inl new ↦ ((begins v new).0, omega (arith, begin_there v new))
           | inr none ↦
-              let it = s.risen_in v (grind (arith, nat_tests, has_number-append v risen begun, there, none)) in
+              let it = s.risen_in v (grind (arith, nat_tests, has_number-append v sweep.risen begun, there, none)) in
               (it.0, elim (settled_or_same v) [ inl same ↦ omega (arith, same, it.1) | inr that ↦ omega (arith, that.3) ])
         ];
-        risen_all = λ v rose. has_number-append v risen begun ∙ elim (case_of v) [
+        risen_all = λ v rose. has_number-append v sweep.risen begun ∙ elim (case_of v) [
           | inl it ↦ ap (λ b. b || has_number v begun) (s.risen_all v (omega (arith, it.1.before, it.1.from)))
-          | inr (inl it) ↦ ap (λ b. has_number v risen || b) it.0 ∙ grind (arith, nat_tests)
+          | inr (inl it) ↦ ap (λ b. has_number v sweep.risen || b) it.0 ∙ grind (arith, nat_tests)
           | inr (inr it) ↦ elim (settled_or_same v) [
             | inl same ↦ ap (λ b. b || has_number v begun) (s.risen_all v (omega (arith, rose, it.same, same)))
             | inr that ↦ absurd (omega (arith, rose, that.3, that.1))
           ]
         ];
-        once = distinct_append risen begun s.once begins_once (λ v there. elim (cases_Bool (has_number v begun)) [
+        once = distinct_append sweep.risen begun s.once begins_once (λ v there. elim (cases_Bool (has_number v begun)) [
           | inr none ↦ none
           | inl new ↦ absurd (true≢false (sym there ∙ begun_fresh v new))
         ]);
-        buckets = buckets ∙ s.buckets;
-        waiting = waiting;
-        found = found_on queue2 queue' first then noted;
+        buckets = then.sized ∙ first.sized ∙ length-set sweep.queue sweep.level [] ∙ s.buckets;
+        waiting = then.waiting;
+        found = found_on queue2 queue' meetings' first.still then.still then.noted;
         places = places ∙ s.places;
         meet = record {
-          only = λ k v w at there. let it = meet.only k v w at there in (has_number-append v risen begun ∙ it.0, it.1);
+          only = λ k v w at there. let it = meet.only k v w at there in (has_number-append v sweep.risen begun ∙ it.0, it.1);
           once = meet.once;
-          each = λ k v w at rises it. meet.each k v w at (sym (has_number-append v risen begun) ∙ rises) it;
+          each = λ k v w at rises it. meet.each k v w at (sym (has_number-append v sweep.risen begun) ∙ rises) it;
         };
       }
 
       -- what the sweep has come to since it began with the list x0
-      pub have_come : (x0 : List ℕ) (s0 t0 t1 t2 : ℕ) → AreDistinct up → AreDistinct begun → up ≡ filter (is_over c most) rising → t1 ≡ t0 + steps_on g z l rising → t2 ≡ t1 + degrees g begun → HaveCome p g x0 l x y rising risen s0 t0 → HaveCome p g x0 (l + 1) x' z (up ++ begun) (risen ++ begun) s0 t2
-      have_come x0 s0 t0 t1 t2 ups begins_once kept e1 e2 r = record {
-        raising = raising_many p g x0 y z graph r.raising long (λ v h. elim (case_of v) [
+      pub have_come : (queue' : List (List ℕ)) (meetings' : List (List Pair)) (x0 : List ℕ) (s0 t0 t1 t2 : ℕ) → AreDistinct up → AreDistinct begun → up ≡ filter (is_over sweep.counts most) sweep.rising → t1 ≡ t0 + steps_on g z sweep.level sweep.rising → t2 ≡ t1 + degrees g begun → HaveCome p g x0 x sweep s0 t0 → HaveCome p g x0 x' (after_step sweep z after up begun queue' meetings') s0 t2
+      have_come queue' meetings' x0 s0 t0 t1 t2 ups begins_once kept e1 e2 r = record {
+        raising = raising_many p g x0 sweep.levels z graph r.raising long (λ v h. elim (case_of v) [
           | inl it ↦ inr (omega (arith, it.1.to, it.1.from), breach v h it.1.from it.1.over)
           | inr (inl it) ↦ inr (omega (arith, it.1.to, it.1.from), breach v h it.1.from it.1.over)
           | inr (inr it) ↦ inl it.same
@@ -615,25 +664,25 @@ module _ (p : Profile) (g : GraphShape) (x y c rising risen : List ℕ) (queue :
         cost = cost_is;
       }
         where
-          long_half : length (all_at y up (l + 1)) ≡ g.vertices
-          long_half = length-all_at y up (l + 1) ∙ s.sized
+          long_half : length (all_at sweep.levels up (sweep.level + 1)) ≡ g.vertices
+          long_half = length-all_at sweep.levels up (sweep.level + 1) ∙ s.sized
 
-          goers_from : (v : ℕ) → has_number v up ≡ true → (v < g.vertices) × (get_or y v 0 ≡ l) × (get_or x0 v 0 < l)
+          goers_from : (v : ℕ) → has_number v up ≡ true → (v < g.vertices) × (get_or sweep.levels v 0 ≡ sweep.level) × (get_or x0 v 0 < sweep.level)
           goers_from v there =
               let it = goers v there in
               (it.0, it.1, elim (r.either v) [ inl old ↦ omega (arith, old, it.2) | inr new ↦ omega (arith, new.0, it.2) ])
 
-          half : (v : ℕ) → has_number v begun ≡ true → (v < g.vertices) × (v < length (all_at y up (l + 1))) × (get_or (all_at y up (l + 1)) v 0 ≡ l) × (get_or x0 v 0 ≡ l)
+          half : (v : ℕ) → has_number v begun ≡ true → (v < g.vertices) × (v < length (all_at sweep.levels up (sweep.level + 1))) × (get_or (all_at sweep.levels up (sweep.level + 1)) v 0 ≡ sweep.level) × (get_or x0 v 0 ≡ sweep.level)
           half v new =
               let it = begins v new in
               let none : has_number v up ≡ false = elim (cases_Bool (has_number v up)) [ inr gone ↦ gone | inl there ↦ absurd (omega (arith, (goers v there).2, it.2)) ] in
-              (it.0, rw long_half it.0, all_at_other y up (l + 1) v none ∙ it.1, elim (r.either v) [ inl old ↦ sym old ∙ it.2 | inr late ↦ absurd (omega (arith, late.2, it.1)) ])
+              (it.0, rw long_half it.0, all_at_other sweep.levels up (sweep.level + 1) v none ∙ it.1, elim (r.either v) [ inl old ↦ sym old ∙ it.2 | inr late ↦ absurd (omega (arith, late.2, it.1)) ])
 
-          moved_is : (v : ℕ) → has_number v (risen ++ begun) ≡ is_moved x0 z v
-          moved_is v = has_number-append v risen begun ∙ elim (case_of v) [
-            | inl it ↦ both_true _ _ (r.moved v ∙ differs y l it.1.from (omega (arith, (goers_from v it.0).2))) (differs z (l + 1) it.1.to (omega (arith, (goers_from v it.0).2)))
-            | inr (inl it) ↦ ap (λ b. has_number v risen || b) it.0 ∙ or_true (has_number v risen) ∙ sym (differs z (l + 1) it.1.to (omega (arith, (half v it.0).3)))
-            | inr (inr it) ↦ ap (λ b. has_number v risen || b) it.no_begun ∙ or_false (has_number v risen) ∙ r.moved v ∙ ap (λ k. not (eqb (get_or x0 v 0) k)) (sym it.same)
+          moved_is : (v : ℕ) → has_number v (sweep.risen ++ begun) ≡ is_moved x0 z v
+          moved_is v = has_number-append v sweep.risen begun ∙ elim (case_of v) [
+            | inl it ↦ both_true _ _ (r.moved v ∙ differs sweep.levels sweep.level it.1.from (omega (arith, (goers_from v it.0).2))) (differs z (sweep.level + 1) it.1.to (omega (arith, (goers_from v it.0).2)))
+            | inr (inl it) ↦ ap (λ b. has_number v sweep.risen || b) it.0 ∙ or_true (has_number v sweep.risen) ∙ sym (differs z (sweep.level + 1) it.1.to (omega (arith, (half v it.0).3)))
+            | inr (inr it) ↦ ap (λ b. has_number v sweep.risen || b) it.no_begun ∙ or_false (has_number v sweep.risen) ∙ r.moved v ∙ ap (λ k. not (eqb (get_or x0 v 0) k)) (sym it.same)
           ]
             where
               differs : (t : List ℕ) (k : ℕ) → get_or t v 0 ≡ k → get_or x0 v 0 < k → is_moved x0 t v ≡ true
@@ -650,37 +699,34 @@ module _ (p : Profile) (g : GraphShape) (x y c rising risen : List ℕ) (queue :
 
           cost_is : t2 + (2 * degrees g (up ++ begun) + length (up ++ begun)) ≤ s0 + effort g x0 z g.vertices
           cost_is =
-              let one = effort_up g x0 y up l g.vertices ups (λ v there. let it = goers_from v there in (it.0, rw s.sized it.0, it.1, omega (arith, it.2))) in
-              let two = effort_up g x0 (all_at y up (l + 1)) begun l g.vertices begins_once (λ v new. let it = half v new in (it.0, it.1, it.2, omega (arith, it.3))) in
-              let three : effort g x0 z g.vertices ≡ effort g x0 (all_at (all_at y up (l + 1)) begun (l + 1)) g.vertices = ap (λ t. effort g x0 t g.vertices) z_is in
-              let parts = fee_parts g z c rising l most (λ v there over. (goers v (up_is v ∙ both_of _ _ there over)).3) in
-              let same : degrees g up ≡ degrees g (filter (is_over c most) rising) = ap (λ vs. degrees g vs) kept in
-              let many : length up ≡ length (filter (is_over c most) rising) = ap (λ vs. length vs) kept in
+              let one = effort_up g x0 sweep.levels up sweep.level g.vertices ups (λ v there. let it = goers_from v there in (it.0, rw s.sized it.0, it.1, omega (arith, it.2))) in
+              let two = effort_up g x0 (all_at sweep.levels up (sweep.level + 1)) begun sweep.level g.vertices begins_once (λ v new. let it = half v new in (it.0, it.1, it.2, omega (arith, it.3))) in
+              let three : effort g x0 z g.vertices ≡ effort g x0 (all_at (all_at sweep.levels up (sweep.level + 1)) begun (sweep.level + 1)) g.vertices = ap (λ t. effort g x0 t g.vertices) step.z_is in
+              let parts = fee_parts g z sweep.counts sweep.rising sweep.level most (λ v there over. (goers v (step.up_is v ∙ both_of _ _ there over)).3) in
+              let same : degrees g up ≡ degrees g (filter (is_over sweep.counts most) sweep.rising) = ap (λ vs. degrees g vs) kept in
+              let many : length up ≡ length (filter (is_over sweep.counts most) sweep.rising) = ap (λ vs. length vs) kept in
               omega (arith, one, two, three, parts, same, many, e1, e2, r.cost, length-append up begun, degrees-append g up begun)
 
--- who goes on, who begins, and the levels after the step
-pub record IsStep (y c rising : List ℕ) (queue : List (List ℕ)) (l most : ℕ) (up begun z : List ℕ) : Type 0 where
-  pub up_is : (v : ℕ) → has_number v up ≡ has_number v rising && is_over c most v
-  pub begun_is : (v : ℕ) → has_number v begun ≡ has_number v (get_or queue l []) && is_over c most v
-  pub z_is : z ≡ all_at (all_at y up (l + 1)) begun (l + 1)
-
-pub step_from : (y c rising : List ℕ) (queue : List (List ℕ)) (l most : ℕ) (up begun starting waiting half z asked_up asked lifting lifting_off : List ℕ) → up ≡ filter (is_over c most) asked_up → asked_up ≡ rising → starting ≡ filter (is_over c most) asked → asked ≡ waiting → waiting ≡ get_or queue l [] → half ≡ all_at y lifting (l + 1) → lifting ≡ up → z ≡ all_at half begun (l + 1) → ((v : ℕ) → has_number v begun ≡ has_number v lifting_off) → lifting_off ≡ starting → IsStep y c rising queue l most up begun z
-step_from y c rising queue l most up begun starting waiting half z asked_up asked lifting lifting_off f1 f2 f3 f4 f5 f6 f7 f8 f9 f10 = record {
-  up_is = λ v. ap (has_number v) (f1 ∙ ap (filter (is_over c most)) f2) ∙ has_number-filter v (is_over c most) rising;
-  begun_is = λ v. f9 v ∙ ap (has_number v) (f10 ∙ f3 ∙ ap (filter (is_over c most)) (f4 ∙ f5)) ∙ has_number-filter v (is_over c most) (get_or queue l []);
-  z_is = f8 ∙ ap (λ t. all_at t begun (l + 1)) (f6 ∙ ap (λ vs. all_at y vs (l + 1)) f7);
+pub step_from : (p : Profile) (g : GraphShape) (x : List ℕ) (sweep : Sweeping) (s : IsSweeping p g x sweep) (most : ℕ) (up begun starting waiting half z asked_up asked lifting lifting_off : List ℕ) → up ≡ filter (is_over sweep.counts most) asked_up → asked_up ≡ sweep.rising → starting ≡ filter (is_over sweep.counts most) asked → asked ≡ waiting → waiting ≡ get_or sweep.queue sweep.level [] → half ≡ all_at sweep.levels lifting (sweep.level + 1) → lifting ≡ up → z ≡ all_at half begun (sweep.level + 1) → ((v : ℕ) → has_number v begun ≡ has_number v lifting_off) → lifting_off ≡ starting → IsStep sweep most up begun z
+step_from p g x sweep s most up begun starting waiting half z asked_up asked lifting lifting_off f1 f2 f3 f4 f5 f6 f7 f8 f9 f10 = record {
+  up_is = λ v. ap (has_number v) (f1 ∙ ap (filter (is_over sweep.counts most)) f2) ∙ has_number-filter v (is_over sweep.counts most) sweep.rising;
+  begun_is = λ v. f9 v ∙ ap (has_number v) (f10 ∙ f3 ∙ ap (filter (is_over sweep.counts most)) (f4 ∙ f5)) ∙ has_number-filter v (is_over sweep.counts most) (get_or sweep.queue sweep.level []);
+  z_is = f8 ∙ ap (λ t. all_at t begun (sweep.level + 1)) (f6 ∙ ap (λ vs. all_at sweep.levels vs (sweep.level + 1)) f7);
 }
 
+pub staying : (z : List ℕ) (l : ℕ) (listed stay asked rising : List ℕ) → listed ≡ stay → stay ≡ filter (stays_on z l) asked → asked ≡ rising → listed ≡ filter (stays_on z l) rising
+staying z l listed stay asked rising f1 f2 f3 = f1 ∙ f2 ∙ ap (filter (stays_on z l)) f3
+
 -- the candidates of the round
-pub came_inside : (p : Profile) (g : GraphShape) (x y c rising risen : List ℕ) (queue : List (List ℕ)) (meetings : List (List Pair)) (l : ℕ) (asked : List ℕ) → IsSweeping p g x l y c rising risen queue meetings → asked ≡ rising → (k d : ℕ) → k < length asked → get_or asked k d < length c
-came_inside p g x y c rising risen queue meetings l asked s is k d h =
-    let there : has_number (get_or asked k d) rising ≡ true = ap (has_number (get_or asked k d)) (sym is) ∙ has_number_at (get_or asked k d) asked k h (get_or_default asked k 0 d h) in
+pub came_inside : (p : Profile) (g : GraphShape) (x : List ℕ) (sweep : Sweeping) (asked : List ℕ) → IsSweeping p g x sweep → asked ≡ sweep.rising → (k d : ℕ) → k < length asked → get_or asked k d < length sweep.counts
+came_inside p g x sweep asked s is k d h =
+    let there : has_number (get_or asked k d) sweep.rising ≡ true = ap (has_number (get_or asked k d)) (sym is) ∙ has_number_at (get_or asked k d) asked k h (get_or_default asked k 0 d h) in
     rw s.counted.sized (s.came (get_or asked k d) there).0
 
-pub waiting_inside : (p : Profile) (g : GraphShape) (x y c rising risen : List ℕ) (queue : List (List ℕ)) (meetings : List (List Pair)) (l : ℕ) (asked waiting : List ℕ) → IsSweeping p g x l y c rising risen queue meetings → asked ≡ waiting → waiting ≡ get_or queue l [] → (k d : ℕ) → k < length asked → get_or asked k d < length c
-waiting_inside p g x y c rising risen queue meetings l asked waiting s is taken k d h =
-    let there : has_number (get_or asked k d) (get_or queue l []) ≡ true = ap (has_number (get_or asked k d)) (sym (is ∙ taken)) ∙ has_number_at (get_or asked k d) asked k h (get_or_default asked k 0 d h) in
-    rw s.counted.sized (s.waiting.vertex l (get_or asked k d) there)
+pub waiting_inside : (p : Profile) (g : GraphShape) (x : List ℕ) (sweep : Sweeping) (asked waiting : List ℕ) → IsSweeping p g x sweep → asked ≡ waiting → waiting ≡ get_or sweep.queue sweep.level [] → (k d : ℕ) → k < length asked → get_or asked k d < length sweep.counts
+waiting_inside p g x sweep asked waiting s is taken k d h =
+    let there : has_number (get_or asked k d) (get_or sweep.queue sweep.level []) ≡ true = ap (has_number (get_or asked k d)) (sym (is ∙ taken)) ∙ has_number_at (get_or asked k d) asked k h (get_or_default asked k 0 d h) in
+    rw s.counted.sized (s.waiting.vertex sweep.level (get_or asked k d) there)
 
 -- one of those who go on had come to the level
 pub going_listed : (up c : List ℕ) (most : ℕ) (asked rising lifting : List ℕ) → up ≡ filter (is_over c most) asked → asked ≡ rising → lifting ≡ up → (v : ℕ) → has_number v lifting ≡ true → has_number v rising ≡ true
@@ -691,16 +737,16 @@ pub starting_waits : (starting : List ℕ) (queue : List (List ℕ)) (l : ℕ) (
 starting_waits starting queue l c most asked waiting lifting f1 f2 f3 f4 v there = first_of _ _ (sym (has_number-filter v (is_over c most) (get_or queue l [])) ∙ ap (has_number v) (sym (f4 ∙ f1 ∙ ap (filter (is_over c most)) (f2 ∙ f3))) ∙ there)
 
 -- one who waits is on the level still after those who had come to it went on
-pub still_here : (p : Profile) (g : GraphShape) (x y c rising risen : List ℕ) (queue : List (List ℕ)) (meetings : List (List Pair)) (l : ℕ) (half lifting : List ℕ) → IsSweeping p g x l y c rising risen queue meetings → half ≡ all_at y lifting (l + 1) → ((u : ℕ) → has_number u lifting ≡ true → has_number u rising ≡ true) → (v : ℕ) → has_number v (get_or queue l []) ≡ true → get_or half v 0 ≡ l
-still_here p g x y c rising risen queue meetings l half lifting s is listed v waits =
-    let vertex : v < g.vertices = s.waiting.vertex l v waits in
-    let before : get_or x v 0 ≡ l = s.waiting.level l v (omega arith) waits in
+pub still_here : (p : Profile) (g : GraphShape) (x : List ℕ) (sweep : Sweeping) (half lifting : List ℕ) → IsSweeping p g x sweep → half ≡ all_at sweep.levels lifting (sweep.level + 1) → ((u : ℕ) → has_number u lifting ≡ true → has_number u sweep.rising ≡ true) → (v : ℕ) → has_number v (get_or sweep.queue sweep.level []) ≡ true → get_or half v 0 ≡ sweep.level
+still_here p g x sweep half lifting s is listed v waits =
+    let vertex : v < g.vertices = s.waiting.vertex sweep.level v waits in
+    let before : get_or x v 0 ≡ sweep.level = s.waiting.level sweep.level v (omega arith) waits in
     let none : has_number v lifting ≡ false = elim (cases_Bool (has_number v lifting)) [
       | inr gone ↦ gone
       | inl there ↦ absurd (omega (arith, before, (s.came v (listed v there)).2))
     ] in
-    let here : get_or y v 0 ≡ l = elim (cases_lt l (get_or y v 0)) [ inl lt ↦ s.still v lt ∙ before | inr ge ↦ omega (arith, ge, before, s.under v vertex) ] in
-    ap (λ t. get_or t v 0) is ∙ all_at_other y lifting (l + 1) v none ∙ here
+    let here : get_or sweep.levels v 0 ≡ sweep.level = elim (cases_lt sweep.level (get_or sweep.levels v 0)) [ inl lt ↦ s.still v lt ∙ before | inr ge ↦ omega (arith, ge, before, s.under v vertex) ] in
+    ap (λ t. get_or t v 0) is ∙ all_at_other sweep.levels lifting (sweep.level + 1) v none ∙ here
 
 pub going_distinct : (up c : List ℕ) (most : ℕ) (asked rising : List ℕ) → up ≡ filter (is_over c most) asked → asked ≡ rising → AreDistinct rising → AreDistinct up
 going_distinct up c most asked rising f1 f2 once = subst AreDistinct (sym (f1 ∙ ap (filter (is_over c most)) f2)) (distinct_filter (is_over c most) rising once)

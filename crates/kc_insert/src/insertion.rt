@@ -77,15 +77,16 @@ pub fn insert_phase<R: Threads + Sync, G: Gate + Sync, L: Ledger>(
     let _levels = adj.levels();
     let _top = th.top();
     link_edges(alloc, adj, added, steps)?;
+    let sweep = &mut work.sweep;
     file_ends(
         th,
         adj.levels(),
         adj.own_counts(),
-        &mut work.sweep.queue,
-        &mut work.sweep.counts,
+        &mut sweep.counted.queue,
+        &mut sweep.counted.counts,
         added,
     )?;
-    raise_queued(rounds, alloc, th, adj, &mut work.sweep, steps)?;
+    raise_queued(rounds, alloc, th, adj, sweep, steps)?;
     let moves = work.take_moves(alloc)?;
     Ok(moves)
 }

@@ -18,32 +18,43 @@ ghost use Rattle.kc_insert.specs.private.Round.{is_over};
 ghost use Rattle.kc_insert.specs.private.Sweeping.{all_at, IsSweeping, HaveCome};
 ghost use Rattle.kc_insert.specs.private.Together.{IsFree};
 
-use crate::counting::{begin, come_up, leave_behind, part};
+use crate::counting::{Counted, Step, begin, come_up, leave_behind, part, who_stay};
 use crate::meetings::Meeting;
 use kc_adj::{LevelAdj, LevelLists, Steps};
 use kc_levels::{Levels, Thresholds};
 use kc_rounds::{FirstRound, Gate, RoundTest, Rounds};
 use std::alloc::{AllocError, Global};
+use std::marker::Model;
 use std::sync::ledger::Ledger;
 use std::thread::Threads;
 
-/// How far a sweep has come.
+/// How far a sweep has come. Contracts see it as a `Sweeping`.
 #[derive(Drop)]
 pub struct Sweep {
+    /// The level that it is at.
+    pub level: u16,
     /// The levels by now. In the graph a vertex is put on its new level when it stays on it.
     pub levels: Levels,
-    /// For each vertex, how many of its neighbours are on its level or above.
-    pub counts: Vec<u32>,
+    /// What each vertex counts, and who waits.
+    pub counted: Counted,
     /// Those who came up to the level that the sweep is at.
     pub rising: Vec<u32>,
     /// All who rose.
     pub risen: Vec<u32>,
-    /// Those who may have to rise from the level on which they stood before.
-    pub queue: LevelLists<u32>,
     /// Whom those who rise are still to meet.
     pub meetings: LevelLists<Meeting>,
+    /// Room for those who stay on a level that they had come to.
+    pub stay: Vec<u32>,
     /// Whether no round with candidates has been yet.
     pub first: FirstRound,
+}
+
+impl Model for Sweep {
+    ghost use Rattle.kc_insert.specs.private.Sweeping.{Sweeping};
+
+    ghost Value = { Sweeping };
+
+    ghost view = { λ s. record { level = s.level; levels = s.levels; counts = s.counted.counts.items; rising = s.rising.items; risen = s.risen.items; queue = s.counted.queue; meetings = s.meetings } };
 }
 
 // Tests whether a vertex counts more than `most` neighbours.
@@ -126,21 +137,25 @@ fn lesser(a: u16, b: u16) -> u16
     if a < b { a } else { b }
 }
 
-// The furthest level below the top up to which those who came to this one may rise together: on the levels on the way nobody
-// waits or is to be met. This one where there is none beyond it.
-fn free_level(th: &Thresholds, sweep: &Sweep, level: u16) -> u16
-    requires room { level < top_level th.now.profile th.now.vertices }
-    requires waiting { level ≤ length sweep.now.queue }
-    requires met { level ≤ length sweep.now.meetings }
-    ensures from { level ≤ result }
+// The furthest level below the top up to which those who came to the level of the sweep may rise together: on the levels on the way
+// nobody waits or is to be met. That level itself where there is none beyond it.
+fn free_level(th: &Thresholds, sweep: &Sweep) -> u16
+    requires room { sweep.now.level < top_level th.now.profile th.now.vertices }
+    requires waiting { sweep.now.level ≤ length sweep.now.queue }
+    requires met { sweep.now.level ≤ length sweep.now.meetings }
+    ensures from { sweep.now.level ≤ result }
     ensures inside { result < top_level th.now.profile th.now.vertices }
-    ensures free { level < result → IsFree level result sweep.now.queue sweep.now.meetings }
+    ensures free { sweep.now.level < result → IsFree sweep.now.level result sweep.now.queue sweep.now.meetings }
 {
+    let level = sweep.level;
     let met = sweep.meetings.next(level);
     if met == level {
         return level;
     }
-    lesser(lesser(sweep.queue.next(level), met - 1), th.top() - 1)
+    lesser(
+        lesser(sweep.counted.queue.next(level), met - 1),
+        th.top() - 1,
+    )
 }
 
 // The first level after this one that is of another group, or the limit where it comes first.
@@ -179,35 +194,37 @@ fn are_over(counts: &Vec<u32>, most: u32, vertices: &[u32]) -> bool
     true
 }
 
-// Puts those who came to the level on the furthest one to which all of them rise with nobody to look at on the way, and gives it;
-// this one where there is none.
+// Goes on to the furthest level to which all of those who came to the level of the sweep rise with nobody to look at on the way, and
+// puts them there; stays where there is none.
 //
 // They count each other on each of the levels, and all others whom they count are above: so no count changes, and in a group each
 // of them goes on where all went on before.
-fn rise_together(th: &Thresholds, adj: &LevelAdj, sweep: &mut Sweep, level: u16) -> u16
+fn rise_together(th: &Thresholds, adj: &LevelAdj, sweep: &mut Sweep)
     requires scale { th.now.vertices ≡ adj.now.graph.vertices }
     requires graph { IsGraph adj.now.graph }
-    requires room { level < top_level th.now.profile th.now.vertices }
-    requires sweeping { IsSweeping th.now.profile adj.now.graph adj.now.levels level sweep.old.levels sweep.old.counts.items sweep.old.rising.items sweep.old.risen.items sweep.old.queue sweep.old.meetings }
-    ensures from { level ≤ result }
-    ensures inside { result < top_level th.now.profile th.now.vertices }
-    ensures sweeping { IsSweeping th.now.profile adj.now.graph adj.now.levels result sweep.new.levels sweep.new.counts.items sweep.new.rising.items sweep.new.risen.items sweep.new.queue sweep.new.meetings }
-    ensures come { (x : _) → (s t : ℕ) → HaveCome th.now.profile adj.now.graph x level adj.now.levels sweep.old.levels sweep.old.rising.items sweep.old.risen.items s t → HaveCome th.now.profile adj.now.graph x result adj.now.levels sweep.new.levels sweep.new.rising.items sweep.new.risen.items s t }
+    requires room { sweep.old.level < top_level th.now.profile th.now.vertices }
+    requires sweeping { IsSweeping th.now.profile adj.now.graph adj.now.levels sweep.old }
+    ensures from { sweep.old.level ≤ sweep.new.level }
+    ensures inside { sweep.new.level < top_level th.now.profile th.now.vertices }
+    ensures sweeping { IsSweeping th.now.profile adj.now.graph adj.now.levels sweep.new }
+    ensures come { (x : _) → (s t : ℕ) → HaveCome th.now.profile adj.now.graph x adj.now.levels sweep.old s t → HaveCome th.now.profile adj.now.graph x adj.now.levels sweep.new s t }
 {
-    let limit = free_level(th, sweep, level);
+    let level = sweep.level;
+    let limit = free_level(th, sweep);
     if limit == level {
-        return level;
+        return;
     }
     let most = th.high(th.group(level));
-    if !are_over(&sweep.counts, most, &sweep.rising) {
-        return level;
+    if !are_over(&sweep.counted.counts, most, &sweep.rising) {
+        return;
     }
     let to = end_of_group(th, level, limit);
     go_up(&mut sweep.levels, to - 1, &sweep.rising);
-    to
+    sweep.level = to;
 }
 
-// The round of a level: those of it who count more than their group allows rise to the next.
+// The round of the level that the sweep is at: those of it who count more than their group allows rise to the next, which the sweep
+// is at afterwards.
 //
 // One round is enough, since a rise changes no count of a vertex on this level or below. Those who had come to the level and
 // stay on it are put there in the graph. Of the steps that a riser may cost, two passes over its neighbours and one step more
@@ -218,60 +235,56 @@ fn raise_level<R: Threads + Sync, G: Gate + Sync, L: Ledger>(
     th: &Thresholds,
     adj: &mut LevelAdj,
     sweep: &mut Sweep,
-    level: u16,
     steps: &mut Steps<L>,
 ) -> Result<(), AllocError>
     requires scale { th.now.vertices ≡ adj.old.graph.vertices }
     requires graph { IsGraph adj.old.graph }
-    requires room { level < top_level th.now.profile th.now.vertices }
-    requires sweeping { IsSweeping th.now.profile adj.old.graph adj.old.levels level sweep.old.levels sweep.old.counts.items sweep.old.rising.items sweep.old.risen.items sweep.old.queue sweep.old.meetings }
+    requires room { sweep.old.level < top_level th.now.profile th.now.vertices }
+    requires sweeping { IsSweeping th.now.profile adj.old.graph adj.old.levels sweep.old }
     ensures graph { OnOk result (adj.new.graph ≡ adj.old.graph) }
-    ensures sweeping { OnOk result (IsSweeping th.now.profile adj.old.graph adj.new.levels (level + 1) sweep.new.levels sweep.new.counts.items sweep.new.rising.items sweep.new.risen.items sweep.new.queue sweep.new.meetings) }
-    ensures come { OnOk result ((x : _) → (s : ℕ) → HaveCome th.now.profile adj.old.graph x level adj.old.levels sweep.old.levels sweep.old.rising.items sweep.old.risen.items s steps.old → HaveCome th.now.profile adj.old.graph x (level + 1) adj.new.levels sweep.new.levels sweep.new.rising.items sweep.new.risen.items s steps.new) }
+    ensures level { OnOk result (sweep.new.level ≡ sweep.old.level + 1) }
+    ensures sweeping { OnOk result (IsSweeping th.now.profile adj.old.graph adj.new.levels sweep.new) }
+    ensures come { OnOk result ((x : _) → (s : ℕ) → HaveCome th.now.profile adj.old.graph x adj.old.levels sweep.old s steps.old → HaveCome th.now.profile adj.old.graph x adj.new.levels sweep.new s steps.new) }
 {
+    let level = sweep.level;
     let most = th.high(th.group(level));
     let above = th.high(th.group(level + 1));
-    let waiting = sweep.queue.take_all(alloc, level);
-    let mut going = movers(rounds, &mut sweep.first, &sweep.counts, most, &sweep.rising)?;
-    let starting = movers(rounds, &mut sweep.first, &sweep.counts, most, &waiting)?;
+    let counted = &mut sweep.counted;
+    let waiting = counted.queue.take_all(alloc, level);
+    let mut going = movers(
+        rounds,
+        &mut sweep.first,
+        &counted.counts,
+        most,
+        &sweep.rising,
+    )?;
+    let starting = movers(rounds, &mut sweep.first, &counted.counts, most, &waiting)?;
     go_up(&mut sweep.levels, level, &going);
     // Who waits may do so twice, and begins once.
     let mut begun = lift_off(alloc, &mut sweep.levels, level, &starting)?;
     let met = sweep.meetings.take_all(alloc, level);
-    leave_behind(adj, &sweep.levels, &mut sweep.counts, level, &met);
+    leave_behind(adj, &sweep.levels, &mut counted.counts, level, &met);
+    who_stay(&sweep.levels, level, &sweep.rising, &mut sweep.stay)?;
     part(
-        alloc,
         adj,
         &sweep.levels,
-        &mut sweep.counts,
+        &mut counted.counts,
         level,
-        &sweep.rising,
+        &sweep.stay,
         steps,
-    )?;
-    come_up(
+    );
+    let step = Step {
         adj,
-        &sweep.levels,
-        &mut sweep.counts,
-        &mut sweep.queue,
+        levels: &sweep.levels,
         level,
-        above,
-        sweep.meetings.on(level + 1),
-    )?;
-    begin(
-        rounds,
-        adj,
-        &sweep.levels,
-        &mut sweep.counts,
-        &mut sweep.queue,
-        &mut sweep.meetings,
-        level,
-        above,
-        &begun,
-        steps,
-    )?;
+        most: above,
+    };
+    come_up(&step, counted, sweep.meetings.on(level + 1))?;
+    begin(rounds, &step, counted, &mut sweep.meetings, &begun, steps)?;
     sweep.risen.extend_from_slice(&begun)?;
     going.append(&mut begun)?;
     sweep.rising = going;
+    sweep.level = level + 1;
     Ok(())
 }
 
@@ -291,17 +304,16 @@ fn lift_all<L: Ledger>(adj: &mut LevelAdj, levels: &Levels, risen: &[u32], steps
     }
 }
 
-// The first level from this one on where somebody may have to rise: this one where somebody came to it.
-fn next_level(sweep: &Sweep, level: u16) -> u16
-    requires { level ≤ length sweep.now.queue }
-    ensures from { level ≤ result }
-    ensures inside { result ≤ length sweep.now.queue }
-    ensures sweeping { (p : Profile) (g : GraphShape) (x : List ℕ) → IsSweeping p g x level sweep.now.levels sweep.now.counts.items sweep.now.rising.items sweep.now.risen.items sweep.now.queue sweep.now.meetings → IsSweeping p g x result sweep.now.levels sweep.now.counts.items sweep.now.rising.items sweep.now.risen.items sweep.now.queue sweep.now.meetings }
+// Goes on to the first level where somebody may have to rise: stays where somebody came to the level.
+fn go_on(sweep: &mut Sweep)
+    requires { sweep.old.level ≤ length sweep.old.queue }
+    ensures from { sweep.old.level ≤ sweep.new.level }
+    ensures inside { sweep.new.level ≤ length sweep.new.queue }
+    ensures same { sweep.new ≡ record sweep.old { level = sweep.new.level } }
+    ensures sweeping { (p : Profile) (g : GraphShape) (x : List ℕ) → IsSweeping p g x sweep.old → IsSweeping p g x sweep.new }
 {
     if sweep.rising.is_empty() {
-        sweep.queue.next(level)
-    } else {
-        level
+        sweep.level = sweep.counted.queue.next(sweep.level);
     }
 }
 
@@ -323,15 +335,15 @@ pub fn raise_queued<R: Threads + Sync, G: Gate + Sync, L: Ledger>(
     requires capped { IsCapped th.now.profile adj.old.graph.vertices adj.old.levels }
     requires queued { IsQueued th.now.profile adj.old.graph adj.old.levels sweep.old.queue }
     requires levels { sweep.old.levels ≡ adj.old.levels }
-    requires counted { IsCounted adj.old.graph adj.old.levels 0 sweep.old.counts.items }
-    requires nobody { (sweep.old.rising.items ≡ []) × (sweep.old.risen.items ≡ []) }
+    requires counted { IsCounted adj.old.graph adj.old.levels 0 sweep.old.counts }
+    requires nobody { (sweep.old.rising ≡ []) × (sweep.old.risen ≡ []) }
     requires meetings { sweep.old.meetings ≡ replicate (top_level th.now.profile th.now.vertices + 1) [] }
     ensures graph { OnOk result (adj.new.graph ≡ adj.old.graph) }
     ensures raised { OnOk result (IsRaised th.now.profile adj.old.graph adj.old.levels adj.new.levels) }
     ensures levels { OnOk result (sweep.new.levels ≡ adj.new.levels) }
-    ensures counted { OnOk result (IsCounted adj.old.graph adj.new.levels 0 sweep.new.counts.items) }
-    ensures risen { OnOk result ((v : ℕ) → has_number v sweep.new.risen.items ≡ is_moved adj.old.levels adj.new.levels v) }
-    ensures once { OnOk result (AreDistinct sweep.new.risen.items) }
+    ensures counted { OnOk result (IsCounted adj.old.graph adj.new.levels 0 sweep.new.counts) }
+    ensures risen { OnOk result ((v : ℕ) → has_number v sweep.new.risen ≡ is_moved adj.old.levels adj.new.levels v) }
+    ensures once { OnOk result (AreDistinct sweep.new.risen) }
     ensures buckets { OnOk result (length sweep.new.queue ≡ top_level th.now.profile th.now.vertices + 1) }
     ensures places { OnOk result (length sweep.new.meetings ≡ top_level th.now.profile th.now.vertices + 1) }
     ensures cost { OnOk result (steps.new ≤ steps.old + effort adj.old.graph adj.old.levels adj.new.levels adj.old.graph.vertices) }
@@ -339,11 +351,12 @@ pub fn raise_queued<R: Threads + Sync, G: Gate + Sync, L: Ledger>(
     let _n = adj.graph().vertices();
     let _levels = adj.levels();
     let top = th.top();
-    let mut level = next_level(sweep, 0);
-    while level < top {
-        let last = rise_together(th, adj, sweep, level);
-        raise_level(rounds, alloc, th, adj, sweep, last, steps)?;
-        level = next_level(sweep, last + 1);
+    sweep.level = 0;
+    go_on(sweep);
+    while sweep.level < top {
+        rise_together(th, adj, sweep);
+        raise_level(rounds, alloc, th, adj, sweep, steps)?;
+        go_on(sweep);
     }
     lift_all(adj, &sweep.levels, &sweep.rising, steps);
     Ok(())

@@ -16,33 +16,43 @@ use std::test::Fail;
 use std::thread;
 use std::thread::Threads;
 
-// One phase into a graph without edges, counted in a ledger, gives these levels, and moves so many vertices.
+// A phase into a graph without edges.
+#[derive(Drop)]
+struct Phase<'a> {
+    added: &'a [Edge],
+    // The levels that it gives.
+    want: &'a [u16],
+    // How many vertices it moves.
+    moves: u32,
+}
+
+// The phase, counted in a ledger, gives what it is to give.
 fn check_counted<R: Threads + Sync + Abort, G: Gate + Sync, L: Ledger>(
     rt: &R,
     alloc: Global,
     blank: Blank,
     gate: &G,
     workers: u32,
-    added: &[Edge],
-    want: &[u16],
-    moves: u32,
+    phase: &Phase,
 ) -> Result<(), AllocError>
     requires few_workers { (1 ≤ workers) × (workers ≤ 64) }
     requires name { blank.name ≡ L.name }
     requires parts { blank.parts ≡ L.parts }
     requires some_part { 0 < L.parts }
-    requires positive { 1 ≤ length want.now }
-    requires small { length want.now ≤ MAX_VERTICES }
-    requires ascending { EdgesFrom (length want.now) 0 0 added.now }
-    requires few { length added.now ≤ MAX_EDGES }
+    requires positive { 1 ≤ length phase.now.want.now }
+    requires small { length phase.now.want.now ≤ MAX_VERTICES }
+    requires ascending { EdgesFrom (length phase.now.want.now) 0 0 phase.now.added.now }
+    requires few { length phase.now.added.now ≤ MAX_EDGES }
 {
+    let added = phase.added;
+    let want = phase.want;
     let n = want.len() as u32;
     let th = Thresholds::new(alloc, Profile::One, n)?;
     let mut adj = LevelAdj::new(alloc, n)?;
     let mut steps = Steps::<L>::new(blank);
     let tally = insert_rounds(rt, alloc, gate, workers, &th, &mut adj, added, &mut steps)?;
     assert_eq!(rt; adj.levels().as_slice(), want);
-    assert_eq!(rt; tally.moves, moves);
+    assert_eq!(rt; tally.moves, phase.moves);
     Ok(())
 }
 
@@ -66,9 +76,7 @@ fn check<R: Threads + Sync + Abort>(
             Blank::new(1),
             &OpenGate::new(),
             workers,
-            added,
-            want,
-            moves,
+            &Phase { added, want, moves },
         )?;
     }
     Ok(())
@@ -280,9 +288,11 @@ fn a_first_round_has_two_pieces_at_once(rt: HostRuntime) -> Result<(), Fail> {
         Blank::new(1),
         &gate,
         2,
-        &star,
-        &[2, 1, 1, 1, 1],
-        5,
+        &Phase {
+            added: &star,
+            want: &[2, 1, 1, 1, 1],
+            moves: 5,
+        },
     )?;
     assert!(rt; gate.turns_left.load(SeqCst) > 0);
     Ok(())

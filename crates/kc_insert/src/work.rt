@@ -8,6 +8,7 @@ ghost use Rattle.kc_levels.specs.Following.{AreDistinct};
 ghost use Rattle.kc_insert.specs.Working.{IsReady};
 
 use crate::copying::{copy_ends, copy_rows};
+use crate::counting::Counted;
 use crate::sweeping::Sweep;
 use kc_adj::{LevelAdj, LevelLists};
 use kc_graph::Edge;
@@ -33,7 +34,7 @@ impl Model for InsertionWork {
 
     ghost Value = { Working };
 
-    ghost view = { λ w. record { before = w.before; levels = w.sweep.levels; counts = w.sweep.counts.items; rising = w.sweep.rising.items; risen = w.sweep.risen.items; queue = w.sweep.queue; meetings = w.sweep.meetings } };
+    ghost view = { λ w. record { before = w.before; levels = w.sweep.levels; counts = w.sweep.counts; rising = w.sweep.rising; risen = w.sweep.risen; queue = w.sweep.queue; meetings = w.sweep.meetings } };
 }
 
 impl InsertionWork {
@@ -46,12 +47,16 @@ impl InsertionWork {
     {
         Ok(InsertionWork {
             sweep: Sweep {
+                level: 0,
                 levels: adj.levels().copy(alloc)?,
-                counts: adj.own_counts().to_vec(alloc)?,
+                counted: Counted {
+                    counts: adj.own_counts().to_vec(alloc)?,
+                    queue: LevelLists::new(alloc, th.top() + 1)?,
+                },
                 rising: Vec::new(alloc),
                 risen: Vec::new(alloc),
-                queue: LevelLists::new(alloc, th.top() + 1)?,
                 meetings: LevelLists::new(alloc, th.top() + 1)?,
+                stay: Vec::new(alloc),
                 first: FirstRound::new(),
             },
             before: adj.levels().copy(alloc)?,
@@ -73,9 +78,11 @@ impl InsertionWork {
         let _levels = adj.levels();
         let fresh = adj.own_counts();
         self.before.follow(moves);
-        self.sweep.levels.follow(moves);
-        copy_ends(&mut self.sweep.counts, fresh, removed);
-        copy_rows(&mut self.sweep.counts, fresh, adj.graph(), moves.as_slice());
+        let sweep = &mut self.sweep;
+        sweep.levels.follow(moves);
+        let counts = &mut sweep.counted.counts;
+        copy_ends(counts, fresh, removed);
+        copy_rows(counts, fresh, adj.graph(), moves.as_slice());
     }
 
     /// The moves of those who rose in a phase, ascending. Afterwards nothing is left of the phase. Fails only if memory runs out.
@@ -86,17 +93,13 @@ impl InsertionWork {
         ensures moves { IfOk result (λ moves. moves ≡ moves_between (length self.old.levels) self.old.before self.old.levels) }
         ensures clean { OnOk result (self.new ≡ record self.old { before = self.old.levels; rising = []; risen = []; queue = replicate (length self.old.queue) []; meetings = replicate (length self.old.meetings) [] }) }
     {
-        let moves = moves_of(
-            alloc,
-            &self.before,
-            &self.sweep.levels,
-            &mut self.sweep.risen,
-        )?;
+        let sweep = &mut self.sweep;
+        let moves = moves_of(alloc, &self.before, &sweep.levels, &mut sweep.risen)?;
         self.before.follow(&moves);
-        self.sweep.rising.clear();
-        self.sweep.risen.clear();
-        self.sweep.queue.clear(alloc);
-        self.sweep.meetings.clear(alloc);
+        sweep.rising.clear();
+        sweep.risen.clear();
+        sweep.counted.queue.clear(alloc);
+        sweep.meetings.clear(alloc);
         Ok(moves)
     }
 }

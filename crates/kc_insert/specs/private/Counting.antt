@@ -9,6 +9,7 @@ use Rattle.std.specs.Prelude.{ℕ, ◌+◌, ◌-◌, ◌*◌, ◌≤◌, ◌<◌
 use Rattle.kc_graph.specs.Numbers.{has_number}
 use Rattle.kc_graph.specs.Shape.{GraphShape, Pair, neighbours_of, has_edge}
 use Rattle.kc_levels.specs.LevelList.{at_least}
+use Rattle.kc_levels.specs.Following.{AreDistinct}
 use Rattle.kc_insert.specs.private.Meetings.{IsMeeting}
 
 -- v went from level l on to l + 1, and had come to l in the sweep
@@ -54,6 +55,13 @@ pub record AreLess (g : GraphShape) (asked : ℕ → Bool) (v : ℕ) (before cou
   pub sized : length counts ≡ g.vertices
   pub less : (u : ℕ) → get_or counts u 0 ≡ get_or before u 0 - cond (asked u && has_number u (neighbours_of v g.edges)) 1 0
 
+-- those in the list, each once, begin to rise from level l
+pub record AreBeginners (n : ℕ) (x z : List ℕ) (l : ℕ) (risers : List ℕ) : Type 0 where
+  pub vertex : (v : ℕ) → has_number v risers ≡ true → v < n
+  pub from : (v : ℕ) → has_number v risers ≡ true → get_or x v 0 ≡ l
+  pub to : (v : ℕ) → has_number v risers ≡ true → get_or z v 0 ≡ l + 1
+  pub distinct : AreDistinct risers
+
 -- v begins to rise from level l: it counts so many neighbours, and its neighbours on l + 1 count one more
 pub record HasBegun (g : GraphShape) (x : List ℕ) (l v own : ℕ) (before counts : List ℕ) : Type 0 where
   pub sized : length counts ≡ g.vertices
@@ -98,6 +106,13 @@ StillWait before after = (k u : ℕ) → has_number u (get_or before k []) ≡ t
 -- who is on the level l by x and counts more than `most` waits there
 abbrev pub AreNoted : ℕ → List ℕ → ℕ → ℕ → List ℕ → List (List ℕ) → Type 0
 AreNoted n x l most counts queue = (w : ℕ) → w < n → get_or x w 0 ≡ l → most < get_or counts w 0 → has_number w (get_or queue l []) ≡ true
+
+-- the queue, which was `first`, has all who waited, each from level l on on its own level, and who counts more than `most` on it
+pub record IsNoting (n : ℕ) (x : List ℕ) (l most : ℕ) (counts : List ℕ) (first queue : List (List ℕ)) : Type 0 where
+  pub sized : length queue ≡ length first
+  pub waiting : AreWaiting n x l queue
+  pub still : StillWait first queue
+  pub noted : AreNoted n x l most counts queue
 
 -- the meetings on level k of v, which begins to rise from level l, with the neighbours in the list
 abbrev pub meetings_on : GraphShape → List ℕ → ℕ → ℕ → ℕ → List ℕ → List Pair

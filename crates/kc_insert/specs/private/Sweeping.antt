@@ -18,36 +18,47 @@ abbrev pub all_at : List ℕ → List ℕ → ℕ → List ℕ
 all_at y [] k = y
 all_at y (v ∷ vs) k = all_at (set y v k) vs k
 
--- v waits on its level, which is l or above, or came to level l, or meets the upper invariant
-abbrev pub IsFound : Profile → GraphShape → List ℕ → List ℕ → ℕ → List ℕ → List (List ℕ) → ℕ → Type 0
-IsFound p g x y l rising queue v = MeetsUpper p g y v ⊎ ((get_or y v 0 ≡ l) × (has_number v rising ≡ true)) ⊎ ((l ≤ get_or y v 0) × (get_or y v 0 ≡ get_or x v 0) × (has_number v (get_or queue (get_or y v 0) []) ≡ true))
+-- what contracts see of a `Sweep`: the level that it is at; the levels by now, and how many neighbours each vertex counts; those who
+-- came to the level of the sweep, and all who rose; those who wait, and the meetings to come, by level
+pub record Sweeping : Type 0 where
+  pub level : ℕ
+  pub levels : List ℕ
+  pub counts : List ℕ
+  pub rising : List ℕ
+  pub risen : List ℕ
+  pub queue : List (List ℕ)
+  pub meetings : List (List Pair)
 
--- the levels y, the counts, those who came to level l, all who rose, those who wait, and the meetings to come, where a sweep has
--- come to level l; x are the levels in the graph, where those who are still rising stand on their old levels
-pub record IsSweeping (p : Profile) (g : GraphShape) (x : List ℕ) (l : ℕ) (y counts rising risen : List ℕ) (queue : List (List ℕ)) (meetings : List (List Pair)) : Type 0 where
+-- v waits on its level, which is that of the sweep or above, or came to the sweep's level, or meets the upper invariant; x are the
+-- levels in the graph
+abbrev pub IsFound : Profile → GraphShape → List ℕ → Sweeping → ℕ → Type 0
+IsFound p g x sweep v = MeetsUpper p g sweep.levels v ⊎ ((get_or sweep.levels v 0 ≡ sweep.level) × (has_number v sweep.rising ≡ true)) ⊎ ((sweep.level ≤ get_or sweep.levels v 0) × (get_or sweep.levels v 0 ≡ get_or x v 0) × (has_number v (get_or sweep.queue (get_or sweep.levels v 0) []) ≡ true))
+
+-- a sweep on its way; x are the levels in the graph, where those who are still rising stand on their old levels
+pub record IsSweeping (p : Profile) (g : GraphShape) (x : List ℕ) (sweep : Sweeping) : Type 0 where
   pub start : length x ≡ g.vertices
-  pub sized : length y ≡ g.vertices
-  pub under : IsBelow g.vertices x y
-  pub capped : IsCapped p g.vertices y
-  pub counted : IsCounted g y 0 counts
-  pub still : (v : ℕ) → l < get_or y v 0 → get_or y v 0 ≡ get_or x v 0
-  pub settled : (v : ℕ) → get_or y v 0 < l → get_or y v 0 ≡ get_or x v 0
-  pub came : (v : ℕ) → has_number v rising ≡ true → (v < g.vertices) × (get_or y v 0 ≡ l) × (get_or x v 0 < l)
-  pub all : (v : ℕ) → get_or y v 0 ≡ l → get_or x v 0 < l → has_number v rising ≡ true
-  pub distinct : AreDistinct rising
-  pub risen_in : (v : ℕ) → has_number v risen ≡ true → (v < g.vertices) × (get_or x v 0 < l)
-  pub risen_all : (v : ℕ) → get_or x v 0 < get_or y v 0 → has_number v risen ≡ true
-  pub once : AreDistinct risen
-  pub buckets : length queue ≡ top_level p g.vertices + 1
-  pub waiting : AreWaiting g.vertices x l queue
-  pub found : (v : ℕ) → v < g.vertices → IsFound p g x y l rising queue v
-  pub places : length meetings ≡ top_level p g.vertices + 1
-  pub meet : AreMeetings g x l (λ v. has_number v risen) meetings
+  pub sized : length sweep.levels ≡ g.vertices
+  pub under : IsBelow g.vertices x sweep.levels
+  pub capped : IsCapped p g.vertices sweep.levels
+  pub counted : IsCounted g sweep.levels 0 sweep.counts
+  pub still : (v : ℕ) → sweep.level < get_or sweep.levels v 0 → get_or sweep.levels v 0 ≡ get_or x v 0
+  pub settled : (v : ℕ) → get_or sweep.levels v 0 < sweep.level → get_or sweep.levels v 0 ≡ get_or x v 0
+  pub came : (v : ℕ) → has_number v sweep.rising ≡ true → (v < g.vertices) × (get_or sweep.levels v 0 ≡ sweep.level) × (get_or x v 0 < sweep.level)
+  pub all : (v : ℕ) → get_or sweep.levels v 0 ≡ sweep.level → get_or x v 0 < sweep.level → has_number v sweep.rising ≡ true
+  pub distinct : AreDistinct sweep.rising
+  pub risen_in : (v : ℕ) → has_number v sweep.risen ≡ true → (v < g.vertices) × (get_or x v 0 < sweep.level)
+  pub risen_all : (v : ℕ) → get_or x v 0 < get_or sweep.levels v 0 → has_number v sweep.risen ≡ true
+  pub once : AreDistinct sweep.risen
+  pub buckets : length sweep.queue ≡ top_level p g.vertices + 1
+  pub waiting : AreWaiting g.vertices x sweep.level sweep.queue
+  pub found : (v : ℕ) → v < g.vertices → IsFound p g x sweep v
+  pub places : length sweep.meetings ≡ top_level p g.vertices + 1
+  pub meet : AreMeetings g x sweep.level (λ v. has_number v sweep.risen) sweep.meetings
 
--- what a sweep that began with the list x0 has come to at level l, where the levels in the graph are x: each vertex is in the
--- graph on its old level, or on its new one below l; s steps were counted before the sweep and t by now
-pub record HaveCome (p : Profile) (g : GraphShape) (x0 : List ℕ) (l : ℕ) (x y rising risen : List ℕ) (s t : ℕ) : Type 0 where
-  pub raising : IsRaising p g x0 y
-  pub either : (v : ℕ) → (get_or x v 0 ≡ get_or x0 v 0) ⊎ ((get_or x0 v 0 < get_or x v 0) × (get_or x v 0 ≡ get_or y v 0) × (get_or y v 0 < l))
-  pub moved : (v : ℕ) → has_number v risen ≡ is_moved x0 y v
-  pub cost : t + (2 * degrees g rising + length rising) ≤ s + effort g x0 y g.vertices
+-- what a sweep that began with the list x0 has come to, where the levels in the graph are x: each vertex is in the graph on its old
+-- level, or on its new one below that of the sweep; s steps were counted before the sweep and t by now
+pub record HaveCome (p : Profile) (g : GraphShape) (x0 x : List ℕ) (sweep : Sweeping) (s t : ℕ) : Type 0 where
+  pub raising : IsRaising p g x0 sweep.levels
+  pub either : (v : ℕ) → (get_or x v 0 ≡ get_or x0 v 0) ⊎ ((get_or x0 v 0 < get_or x v 0) × (get_or x v 0 ≡ get_or sweep.levels v 0) × (get_or sweep.levels v 0 < sweep.level))
+  pub moved : (v : ℕ) → has_number v sweep.risen ≡ is_moved x0 sweep.levels v
+  pub cost : t + (2 * degrees g sweep.rising + length sweep.rising) ≤ s + effort g x0 sweep.levels g.vertices

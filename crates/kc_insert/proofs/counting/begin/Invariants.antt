@@ -6,6 +6,6 @@ use Rattle.kc_insert.proofs.counting.begin.Given as goal
 
 abbrev pub invariant-loop-i : goal.invariant-loop-i
 invariant-loop-i g l =
-    AreBeginning l.adj.graph l.adj.levels l.levels l.level l.most l.risers (drop l.i l.risers) l.initial.counts.items l.counts.items l.initial.queue l.queue l.initial.meetings l.meetings
-    × (l.start ≡ length (flat_map (stood_above l.adj.graph l.adj.levels l.level) (take l.i l.risers)))
-    × (l.steps + degrees l.adj.graph (drop l.i l.risers) ≡ l.initial.steps + degrees l.adj.graph l.risers)
+    AreBeginning l.step.adj.now.graph l.step.adj.now.levels l.step.levels.now l.step.level l.step.most l.risers (drop l.i l.risers) l.initial.counted.counts.items l.counted.counts.items l.initial.counted.queue l.counted.queue l.initial.meetings l.meetings
+    × (l.start ≡ length (flat_map (stood_above l.step.adj.now.graph l.step.adj.now.levels l.step.level) (take l.i l.risers)))
+    × (l.steps + degrees l.step.adj.now.graph (drop l.i l.risers) ≡ l.initial.steps + degrees l.step.adj.now.graph l.risers)

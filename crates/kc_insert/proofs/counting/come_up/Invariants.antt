@@ -3,4 +3,4 @@ use Rattle.kc_insert.proofs.Arriving.{IsArriving}
 use Rattle.kc_insert.proofs.counting.come_up.Given as goal
 
 abbrev pub invariant-loop-m : goal.invariant-loop-m
-invariant-loop-m l = IsArriving l.adj.graph l.adj.levels l.levels l.level l.most (drop l.m-index l.meetings) l.initial.counts.items l.counts.items l.initial.queue l.queue
+invariant-loop-m l = IsArriving l.step.adj.now.graph l.step.adj.now.levels l.step.levels.now l.step.level l.step.most (drop l.m-index l.meetings) l.initial.counted.counts.items l.counted.counts.items l.initial.counted.queue l.counted.queue

@@ -1,29 +1,46 @@
-use Rattle.std.proofs.Common.{◌≡◌, refl, List, ℕ, Bool, true, filter, ap, sym, ◌∙◌}
-use Rattle.kc_graph.specs.Numbers.{has_number}
-use Rattle.kc_insert.proofs.Buckets.{has_number-filter}
-use Rattle.kc_insert.proofs.Efforts.{distinct_filter}
-use Rattle.kc_insert.proofs.Stepping.{first_of}
-use Rattle.kc_insert.proofs.Parting.{seen_stay, settled_stay, steps_stay}
+use Rattle.std.proofs.Common.{◌+◌, ◌<◌, ◌≡◌, get_or, refl, sym, ◌∙◌, arith}
+use Rattle.kc_graph.proofs.lemmas.Numbers.{has_number_at}
+use Rattle.kc_insert.specs.private.Counting.{steps_on}
+use Rattle.kc_insert.proofs.Parting.{distinct_at, steps_at_on, parted_some_at, parted_on_at, parted_last, steps_last, settling_first, goes_same, less_same, settles_below, settles, settling_last}
 use Rattle.kc_insert.proofs.counting.part.Goals as goal
 
--- who stays is one of the list
-listed : (test : ℕ → Bool) (all stay : List ℕ) → stay ≡ filter test all → (v : ℕ) → has_number v stay ≡ true → has_number v all ≡ true
-listed test all stay is v there = first_of _ _ (sym (has_number-filter v test all) ∙ ap (has_number v) (sym is) ∙ there)
+pub loop-i-init : goal.loop-i-init
+loop-i-init g c = (c.requires.listed, c.requires.distinct, refl, settling_first _ _ _ _ (c.levels-levels.ensures.sized) c.requires.below)
 
-pub part_each-requires-clause-vertices : goal.part_each-requires-clause-vertices
-part_each-requires-clause-vertices g c = λ v there. c.requires.vertices v (listed _ _ _ (c.deref.ensures.value ∙ c.in_ok-stay.ensures) v there)
+pub part_from-requires-clause-vertex : goal.part_from-requires-clause-vertex
+part_from-requires-clause-vertex g c = rw (c.in_turn-v.ensures, c.loop-i.invariant.3.graph) (c.requires.vertices _ (has_number_at _ c.args.stay.now c.loop-i.i (omega arith) refl))
 
-pub part_each-requires-clause-below : goal.part_each-requires-clause-below
-part_each-requires-clause-below g c = λ v there. c.requires.below v (listed _ _ _ (c.deref.ensures.value ∙ c.in_ok-stay.ensures) v there)
+pub part_from-requires-clause-some : goal.part_from-requires-clause-some
+part_from-requires-clause-some g c =
+    let graph = rw c.graph.ensures at c.vertices-n.ensures.graph in
+    λ u goes near. parted_some_at _ _ _ c.args.stay.now c.loop-i.i (omega arith) _ _ _ graph c.loop-i.invariant.0 c.loop-i.invariant.1 (c.requires.here _ (has_number_at _ c.args.stay.now c.loop-i.i (omega arith) refl)) u
+    (sym (goes_same _ _ _ _ _ _ c.loop-i.invariant.3 u) ∙ goes) (rw (c.in_turn-v.ensures, c.loop-i.invariant.3.graph) at near)
 
-pub part_each-requires-clause-distinct : goal.part_each-requires-clause-distinct
-part_each-requires-clause-distinct g c = rw (c.deref.ensures.value, c.in_ok-stay.ensures) (distinct_filter _ _ c.requires.distinct)
+pub lift-requires-clause-vertex : goal.lift-requires-clause-vertex
+lift-requires-clause-vertex g c = rw (c.in_turn-v.ensures, c.loop-i.invariant.3.graph) (c.requires.vertices _ (has_number_at _ c.args.stay.now c.loop-i.i (omega arith) refl))
 
-pub part_each-requires-clause-listed : goal.part_each-requires-clause-listed
-part_each-requires-clause-listed g c = rw (c.deref.ensures.value, c.in_ok-stay.ensures) (seen_stay c.args.levels.now c.args.level c.args.adj.now.graph _ c.args.risers.now _ _ c.requires.listed)
+pub lift-requires-clause-over : goal.lift-requires-clause-over
+lift-requires-clause-over g c = rw c.in_turn-v.ensures (settles_below _ _ _ _ c.args.stay.now c.loop-i.i (omega arith) c.loop-i.invariant.3)
+
+pub loop-i-preserved : goal.loop-i-preserved
+loop-i-preserved g c =
+    let graph = rw c.graph.ensures at c.vertices-n.ensures.graph in
+    let all = c.args.steps.now + steps_on c.args.adj.now.graph c.args.levels.now c.args.level c.args.stay.now in
+    let listed = has_number_at _ c.args.stay.now c.loop-i.i (omega arith) refl in
+    let low : get_or c.args.stay.now c.loop-i.i 0 < c.args.adj.now.graph.vertices = c.requires.vertices _ listed in
+    let on : get_or c.args.levels.now (get_or c.args.stay.now c.loop-i.i 0) 0 ≡ c.args.level = c.requires.here _ listed in
+    let less = less_same _ _ _ _ _ _ _ _ _ c.loop-i.invariant.3 (rw c.in_turn-v.ensures at c.part_from.ensures.less) in (
+      parted_on_at _ _ _ c.args.stay.now c.loop-i.i (omega arith) _ _ _ graph c.loop-i.invariant.0 _ c.loop-i.invariant.1 on less,
+      (distinct_at c.args.adj.now.graph c.args.levels.now c.args.level c.args.stay.now c.loop-i.i (omega arith) c.loop-i.invariant.1).1,
+      rw (c.lift.ensures.cost, c.part_from.ensures.cost, c.in_turn-v.ensures, c.loop-i.invariant.3.graph) (steps_at_on c.args.adj.now.graph c.args.levels.now c.args.level c.args.stay.now c.loop-i.i (omega arith) c.loop-i.steps all on c.loop-i.invariant.2),
+      settles _ _ _ _ c.args.stay.now c.loop-i.i (omega arith) c.loop-i.invariant.3 _ low on (rw c.in_turn-v.ensures at c.lift.ensures.value),
+    )
+
+pub returns-clause-seen : goal.returns-clause-seen
+returns-clause-seen g c = parted_last c.args.adj.now.graph c.args.levels.now c.args.level c.args.stay.now c.loop-i.i _ _ _ c.loop-i.invariant.0 (omega arith)
 
 pub returns-clause-settled : goal.returns-clause-settled
-returns-clause-settled g c = rw (c.part_each.ensures.settled, c.deref.ensures.value, c.in_ok-stay.ensures, settled_stay c.args.levels.now c.args.level c.args.adj.now.levels c.args.risers.now) refl
+returns-clause-settled g c = settling_last _ _ _ _ c.args.stay.now c.loop-i.i (omega arith) c.loop-i.invariant.3
 
 pub returns-clause-cost : goal.returns-clause-cost
-returns-clause-cost g c = rw (c.part_each.ensures.cost, c.deref.ensures.value, c.in_ok-stay.ensures, steps_stay c.args.levels.now c.args.level c.args.adj.now.graph c.args.risers.now) refl
+returns-clause-cost g c = steps_last c.args.adj.now.graph c.args.levels.now c.args.level c.args.stay.now c.loop-i.i _ _ c.loop-i.invariant.2 (omega arith)

@@ -2,7 +2,7 @@ use Rattle.std.proofs.Common.{◌+◌, get_or, leb, ap, arith, ◌∙◌}
 use Rattle.std.specs.Prelude.{count_by}
 use Rattle.kc_levels.specs.LevelList.{at_least}
 use Rattle.kc_insert.proofs.Starting.{looking_counted}
-use Rattle.kc_insert.proofs.counting.BeginningRoundGather.gather.Goals as goal
+use Rattle.kc_insert.proofs.counting.StepRoundGather.gather.Goals as goal
 
 pub returns-clause-number : goal.returns-clause-number
 unfolding at_least

@@ -1,7 +1,7 @@
 use Rattle.std.proofs.Common.{ℕ, Bool, length, get_or, ltb, ap, arith}
 use Rattle.std.proofs.lemmas.List.Sums.{length-filter, count_by-le-length}
 use Rattle.kc_graph.specs.Shape.{neighbours_of}
-use Rattle.kc_insert.proofs.counting.BeginningRoundGather.room.Goals as goal
+use Rattle.kc_insert.proofs.counting.StepRoundGather.room.Goals as goal
 
 pub returns-then-is_at_hand : goal.returns-then-is_at_hand
 returns-then-is_at_hand c =
