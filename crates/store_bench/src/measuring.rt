@@ -145,22 +145,22 @@ fn print_at_rest<R: Threads + Sync + Clock + Print>(
     Ok(())
 }
 
-// Reads of a store of which all moves are marked and no group is published: three loads each.
+// Reads of a store of which all moves of the second plan are marked and no group is published: three loads each.
 fn print_marked<R: Threads + Sync + Clock + Print>(
     rt: &R,
     alloc: Global,
     rows: Rows,
     order: &[u32],
-    first: &PhasePlan,
-    second: &PhasePlan,
+    plans: &[PhasePlan],
     count: u32,
 ) -> anyhow::Result<()>
     requires vertices { (1 ≤ rows.vertices) × (rows.vertices ≤ MAX_VERTICES) }
-    requires first { IsWellFormed rows.vertices first.now }
-    requires second { IsWellFormed rows.vertices second.now }
+    requires formed { All (IsWellFormed rows.vertices) plans.now }
+    requires two { 2 ≤ length plans.now }
     requires some { 0 < count }
 {
     let n = rows.vertices;
+    let (first, second) = (&plans[0], &plans[1]);
     let (store, mut writer) = Store::open(alloc, n, 0)?;
     let shown = show_next(&store, &mut writer, n, 0, first);
     ensure!(shown, "the first plan can't begin");
@@ -199,15 +199,8 @@ fn print_beside<R: Threads + Sync + Clock + Print>(
     let n = rows.vertices;
     let (store, mut writer) = Store::open(alloc, n, 0)?;
     let mut readers = make_readers(alloc, &store, &mut writer, count)?;
-    let (written, read) = side_by_side(
-        rt,
-        &store,
-        &mut writer,
-        n,
-        plans,
-        order,
-        readers.as_mut_slice(),
-    );
+    let todo = Work { n, plans, order };
+    let (written, read) = side_by_side(rt, &store, &mut writer, &todo, readers.as_mut_slice());
     let (shown, work) = written?;
     ensure!(shown, "a plan can't begin");
     let name = format!(in alloc; "beside {count}")?;
@@ -227,24 +220,32 @@ fn print_beside<R: Threads + Sync + Clock + Print>(
     Ok(())
 }
 
+// What is shown of n vertices, and what is read meanwhile: the plans, and the vertices in the order in which each reader takes them.
+#[derive(Drop)]
+struct Work<'a> {
+    n: u32,
+    plans: &'a [PhasePlan],
+    order: &'a [u32],
+}
+
 // The writer shows the plans while the readers read.
 fn side_by_side<R: Threads + Sync + Clock>(
     rt: &R,
     store: &Store,
     writer: &mut Writer,
-    n: u32,
-    plans: &[PhasePlan],
-    order: &[u32],
+    work: &Work<'_>,
     readers: &mut [Reader],
 ) -> (io::Result<(bool, Duration)>, io::Result<Duration>)
     requires table { writer.old.table ≡ store.now.table }
-    requires vertices { (n ≡ store.now.vertices) × (writer.old.state.vertices ≡ n) }
+    requires vertices { (work.now.n ≡ store.now.vertices) × (writer.old.state.vertices ≡ work.now.n) }
     requires idle { IsIdle writer.old.state }
     requires phase { writer.old.state.phase ≡ 0 }
-    requires formed { All (IsWellFormed n) plans.now }
+    requires formed { All (IsWellFormed work.now.n) work.now.plans.now }
     requires readers { All (λ r. r.pass.table ≡ store.now.table) readers.old }
     requires some { 0 < length readers.old }
 {
+    let n = work.n;
+    let (plans, order) = (work.plans, work.order);
     thread::join_mut(
         rt,
         &mut || time_writer(rt, store, writer, n, plans),
@@ -313,7 +314,7 @@ fn print_for<R: Threads + Sync + Clock + Print>(
 {
     print_plain(rt, alloc, rows, order, count)?;
     print_at_rest(rt, alloc, rows, order, &plans[0], count)?;
-    print_marked(rt, alloc, rows, order, &plans[0], &plans[1], count)?;
+    print_marked(rt, alloc, rows, order, plans, count)?;
     print_beside(rt, alloc, rows, order, plans, count)
 }
 
