@@ -72,29 +72,36 @@ fn are_present(graph: &Graph, edges: &[Edge]) -> bool
     true
 }
 
-// The plan of a phase from one list of levels to another, in a graph with the phase's edges and others.
+// A phase: its number, whether its edges come in (`add`) or leave, its edges, and the levels before and after it.
+#[derive(Drop)]
+struct Step<'a> {
+    phase: u32,
+    add: bool,
+    edges: &'a [Edge],
+    before: &'a [u16],
+    after: &'a [u16],
+}
+
+// The plan of a phase, in a graph with its edges and others.
 fn plan<R: Abort>(
     rt: &R,
     alloc: Global,
-    phase: u32,
-    add: bool,
-    edges: &[Edge],
+    step: &Step<'_>,
     others: &[Edge],
-    before: &[u16],
-    after: &[u16],
 ) -> Result<PhasePlan, AllocError>
-    requires positive { 1 ≤ length before.now }
-    requires small { length before.now ≤ MAX_VERTICES }
-    requires same { length after.now ≡ length before.now }
-    requires ascending { EdgesFrom (length before.now) 0 0 edges.now }
-    ensures { IfOk result (λ plan. IsWellFormed (length before.now) plan) }
+    requires positive { 1 ≤ length step.now.before.now }
+    requires small { length step.now.before.now ≤ MAX_VERTICES }
+    requires same { length step.now.after.now ≡ length step.now.before.now }
+    requires ascending { EdgesFrom (length step.now.before.now) 0 0 step.now.edges.now }
+    ensures { IfOk result (λ plan. IsWellFormed (length step.now.before.now) plan) }
 {
-    let n = before.len() as u32;
+    let n = step.before.len() as u32;
+    let (phase, add, edges) = (step.phase, step.add, step.edges);
     let mut graph = Graph::new(alloc, n)?;
     insert_all(rt, alloc, &mut graph, edges)?;
     insert_all(rt, alloc, &mut graph, others)?;
-    let before = levels_of(alloc, before)?;
-    let after = levels_of(alloc, after)?;
+    let before = levels_of(alloc, step.before)?;
+    let after = levels_of(alloc, step.after)?;
     assert!(rt; are_present(&graph, edges));
     assert!(rt; !add || is_below(&before, &after));
     assert!(rt; add || is_below(&after, &before));
@@ -115,17 +122,23 @@ fn cleaned(alloc: Global, removed: &[Edge], added: &[Edge]) -> Result<Cleaned, A
     })
 }
 
+// A batch: its number, what cleaning gives for it, and the lines that are wanted.
+#[derive(Drop)]
+struct Batch<'a> {
+    number: u32,
+    cleaned: Cleaned,
+    want: &'a [u8],
+}
+
 // The lines of a batch with one phase are these.
 fn check_one<R: Abort>(
     rt: &R,
     alloc: Global,
-    number: u32,
-    cleaned: &Cleaned,
+    batch: &Batch<'_>,
     plan: PhasePlan,
-    want: &[u8],
 ) -> Result<(), Fail>
-    requires few_removed { length cleaned.now.removed < 2 ^ 32 }
-    requires few_added { length cleaned.now.added < 2 ^ 32 }
+    requires few_removed { length batch.now.cleaned.removed < 2 ^ 32 }
+    requires few_added { length batch.now.cleaned.added < 2 ^ 32 }
     requires well_formed { (n : ℕ) × IsWellFormed n plan }
 {
     assert!(rt; plan.quiet.edges.len() < 100);
@@ -134,11 +147,11 @@ fn check_one<R: Abort>(
         alloc,
         &mut LineBuf::new(alloc),
         &mut sink,
-        number,
-        cleaned,
+        batch.number,
+        &batch.cleaned,
         &[plan],
     )?;
-    assert_eq!(rt; sink.bytes(), want);
+    assert_eq!(rt; sink.bytes(), batch.want);
     Ok(())
 }
 
@@ -146,14 +159,12 @@ fn check_one<R: Abort>(
 fn check_two<R: Abort>(
     rt: &R,
     alloc: Global,
-    number: u32,
-    cleaned: &Cleaned,
+    batch: &Batch<'_>,
     first: PhasePlan,
     second: PhasePlan,
-    want: &[u8],
 ) -> Result<(), Fail>
-    requires few_removed { length cleaned.now.removed < 2 ^ 32 }
-    requires few_added { length cleaned.now.added < 2 ^ 32 }
+    requires few_removed { length batch.now.cleaned.removed < 2 ^ 32 }
+    requires few_added { length batch.now.cleaned.added < 2 ^ 32 }
     requires first { (n : ℕ) × IsWellFormed n first }
     requires second { (n : ℕ) × IsWellFormed n second }
 {
@@ -164,11 +175,11 @@ fn check_two<R: Abort>(
         alloc,
         &mut LineBuf::new(alloc),
         &mut sink,
-        number,
-        cleaned,
+        batch.number,
+        &batch.cleaned,
         &[first, second],
     )?;
-    assert_eq!(rt; sink.bytes(), want);
+    assert_eq!(rt; sink.bytes(), batch.want);
     Ok(())
 }
 
@@ -179,17 +190,28 @@ fn a_path_rises(rt: HostRuntime) -> Result<(), Fail> {
     let plan = plan(
         &rt,
         alloc,
-        1,
-        true,
-        &edges,
+        &Step {
+            phase: 1,
+            add: true,
+            edges: &edges,
+            before: &[0, 0, 0, 0, 0],
+            after: &[1, 1, 1, 0, 0],
+        },
         &[],
-        &[0, 0, 0, 0, 0],
-        &[1, 1, 1, 0, 0],
     )?;
     let want = b"batch 1 loops 0 repeats 0 idle 0 removed 0 added 2\n\
         phase 1 insert quiet 0\n\
         group 1 0 0:1 1:1 2:1\n";
-    check_one(&rt, alloc, 1, &cleaned(alloc, &[], &edges)?, plan, want)
+    check_one(
+        &rt,
+        alloc,
+        &Batch {
+            number: 1,
+            cleaned: cleaned(alloc, &[], &edges)?,
+            want,
+        },
+        plan,
+    )
 }
 
 #[test]
@@ -204,17 +226,28 @@ fn a_star_falls(rt: HostRuntime) -> Result<(), Fail> {
     let plan = plan(
         &rt,
         alloc,
-        2,
-        false,
-        &edges,
+        &Step {
+            phase: 2,
+            add: false,
+            edges: &edges,
+            before: &[2, 1, 1, 1, 1],
+            after: &[0, 0, 0, 0, 0],
+        },
         &[],
-        &[2, 1, 1, 1, 1],
-        &[0, 0, 0, 0, 0],
     )?;
     let want = b"batch 2 loops 0 repeats 0 idle 0 removed 4 added 0\n\
         phase 2 delete quiet 0\n\
         group 2 0 0:0 1:0 2:0 3:0 4:0\n";
-    check_one(&rt, alloc, 2, &cleaned(alloc, &edges, &[])?, plan, want)
+    check_one(
+        &rt,
+        alloc,
+        &Batch {
+            number: 2,
+            cleaned: cleaned(alloc, &edges, &[])?,
+            want,
+        },
+        plan,
+    )
 }
 
 #[test]
@@ -231,16 +264,27 @@ fn an_edge_leaves_and_nobody_moves(rt: HostRuntime) -> Result<(), Fail> {
     let plan = plan(
         &rt,
         alloc,
-        2,
-        false,
-        &edges,
+        &Step {
+            phase: 2,
+            add: false,
+            edges: &edges,
+            before: &[6, 6, 6, 6, 0],
+            after: &[6, 6, 6, 6, 0],
+        },
         &others,
-        &[6, 6, 6, 6, 0],
-        &[6, 6, 6, 6, 0],
     )?;
     let want = b"batch 2 loops 0 repeats 0 idle 0 removed 1 added 0\n\
         phase 2 delete quiet 1\n";
-    check_one(&rt, alloc, 2, &cleaned(alloc, &edges, &[])?, plan, want)
+    check_one(
+        &rt,
+        alloc,
+        &Batch {
+            number: 2,
+            cleaned: cleaned(alloc, &edges, &[])?,
+            want,
+        },
+        plan,
+    )
 }
 
 #[test]
@@ -250,18 +294,29 @@ fn two_groups_rise(rt: HostRuntime) -> Result<(), Fail> {
     let plan = plan(
         &rt,
         alloc,
-        1,
-        true,
-        &edges,
+        &Step {
+            phase: 1,
+            add: true,
+            edges: &edges,
+            before: &[0, 0, 0, 0, 0, 0],
+            after: &[1, 1, 1, 1, 0, 0],
+        },
         &[],
-        &[0, 0, 0, 0, 0, 0],
-        &[1, 1, 1, 1, 0, 0],
     )?;
     let want = b"batch 1 loops 0 repeats 0 idle 0 removed 0 added 2\n\
         phase 1 insert quiet 0\n\
         group 1 0 0:1 1:1\n\
         group 1 2 2:1 3:1\n";
-    check_one(&rt, alloc, 1, &cleaned(alloc, &[], &edges)?, plan, want)
+    check_one(
+        &rt,
+        alloc,
+        &Batch {
+            number: 1,
+            cleaned: cleaned(alloc, &[], &edges)?,
+            want,
+        },
+        plan,
+    )
 }
 
 #[test]
@@ -272,22 +327,26 @@ fn two_fall_and_two_rise(rt: HostRuntime) -> Result<(), Fail> {
     let first = plan(
         &rt,
         alloc,
-        2,
-        false,
-        &removed,
+        &Step {
+            phase: 2,
+            add: false,
+            edges: &removed,
+            before: &[1, 1, 0, 0, 0],
+            after: &[0, 0, 0, 0, 0],
+        },
         &[],
-        &[1, 1, 0, 0, 0],
-        &[0, 0, 0, 0, 0],
     )?;
     let second = plan(
         &rt,
         alloc,
-        3,
-        true,
-        &added,
+        &Step {
+            phase: 3,
+            add: true,
+            edges: &added,
+            before: &[0, 0, 0, 0, 0],
+            after: &[1, 0, 1, 0, 0],
+        },
         &[],
-        &[0, 0, 0, 0, 0],
-        &[1, 0, 1, 0, 0],
     )?;
     let want = b"batch 2 loops 0 repeats 0 idle 0 removed 1 added 1\n\
         phase 2 delete quiet 0\n\
@@ -295,5 +354,15 @@ fn two_fall_and_two_rise(rt: HostRuntime) -> Result<(), Fail> {
         phase 3 insert quiet 0\n\
         group 3 0 0:1 2:1\n";
     let cleaned = cleaned(alloc, &removed, &added)?;
-    check_two(&rt, alloc, 2, &cleaned, first, second, want)
+    check_two(
+        &rt,
+        alloc,
+        &Batch {
+            number: 2,
+            cleaned,
+            want,
+        },
+        first,
+        second,
+    )
 }
