@@ -1,5 +1,5 @@
 //! The server: it drains the intake, and applies and prints each batch before it drains the next.
-ghost use Rattle.std.specs.Prelude.{◌≡◌, ◌≤◌, ◌<◌, [], length, All, OnOk};
+ghost use Rattle.std.specs.Prelude.{◌≡◌, ◌≤◌, [], length, OnOk};
 ghost use Rattle.kc_intake.specs.Updates.{all_updates};
 ghost use Rattle.kserve.specs.Batches.{start};
 ghost use Rattle.kserve.specs.private.Engines.{IsOpen, IsReady};

@@ -26,17 +26,17 @@ fn words(alloc: Global, line: &str) -> Result<Words, AllocError> {
 
 // A call of the program: its command line, its input, and which of its reads and writes fail.
 #[derive(Drop)]
-struct Call<'a> {
+struct Call<'a, 'f> {
     line: &'a str,
     input: &'a [u8],
     // How many bytes are read and taken at a time.
     piece: u32,
     // The numbers of the reads that fail, and of the writes.
-    failing: (&'a [u32], &'a [u32]),
+    failing: (&'f [u32], &'f [u32]),
     ghost some: { 0 < piece },
 }
 
-impl<'a> Call<'a> {
+impl<'a, 'f> Call<'a, 'f> {
     // None of them fails, and so many bytes are read and taken at a time.
     fn in_pieces(line: &'a str, input: &'a [u8], piece: u32) -> Self
         requires { 0 < piece }
@@ -60,7 +60,7 @@ fn answer<R: Threads + Wait + Sync, G: Gate + Sync>(
     rt: &R,
     alloc: Global,
     gate: &G,
-    call: &Call<'_>,
+    call: &Call<'_, '_>,
 ) -> Result<(ServeStatus, Vec<u8>), Fail> {
     let words = words(alloc, call.line)?;
     let (reads, writes) = call.failing;

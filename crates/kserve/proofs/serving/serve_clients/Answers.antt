@@ -21,29 +21,32 @@ returns-in_err-intake-clause-served g c =
 
 pub returns-in-Ok-clause-served : goal.returns-in-Ok-clause-served
 returns-in-Ok-clause-served g c =
+    let asked = c.args.context.now.asked.now in
     let s = c.side_by_side-course.ensures in
-    let count : c.len-count.result ≡ length c.args.context.now.asked.now.scripts.items = grind (arith, common_steps, c.len-count.ensures) in
+    let count : c.len-count.result ≡ length asked.scripts.items = grind (arith, common_steps, c.len-count.ensures) in
     let many = ap (λ (d : DrainerShape). d.clients) c.in_ok-intake.ensures.drainer ∙ count in
-    let fit = drained_scripts c.args.context.now.asked.now.scripts.items c.args.context.now.asked.now.count c.in_ok-intake.intake c.in_ok-intake.drainer c.side_by_side-course.new.opened.drainer c.side_by_side-course.new.opened.clients.items
-    c.in_ok-intake.ensures.capacity many c.args.context.now.asked.now.counted s.drained s.clients c.take_in_all.ensures.prefix s.all in
-    served_all c.args.context.now.asked.now.n c.args.context.now.asked.now.scripts.items c.side_by_side-course.new.opened.drainer.taken c.side_by_side-course.new.server.engine.state _ _ fit c.in-Ok.ensures.served
+    let fit = drained_scripts asked.scripts.items asked.count c.in_ok-intake.intake c.in_ok-intake.drainer c.side_by_side-course.new.opened.drainer c.side_by_side-course.new.opened.clients.items
+    c.in_ok-intake.ensures.capacity many asked.counted s.drained s.clients c.take_in_all.ensures.prefix s.all in
+    served_all asked.n asked.scripts.items c.side_by_side-course.new.opened.drainer.taken c.side_by_side-course.new.server.engine.state _ _ fit c.in-Ok.ensures.served
 
 pub returns-clause-served : goal.returns-clause-served
 returns-clause-served g c =
+    let asked = c.args.context.now.asked.now in
     let s = c.side_by_side-course.ensures in
-    let count : c.len-count.result ≡ length c.args.context.now.asked.now.scripts.items = grind (arith, common_steps, c.len-count.ensures) in
+    let count : c.len-count.result ≡ length asked.scripts.items = grind (arith, common_steps, c.len-count.ensures) in
     let many = ap (λ (d : DrainerShape). d.clients) c.in_ok-intake.ensures.drainer ∙ count in
-    let fit = drained_scripts c.args.context.now.asked.now.scripts.items c.args.context.now.asked.now.count c.in_ok-intake.intake c.in_ok-intake.drainer c.side_by_side-course.new.opened.drainer c.side_by_side-course.new.opened.clients.items
-    c.in_ok-intake.ensures.capacity many c.args.context.now.asked.now.counted s.drained s.clients c.take_in_all.ensures.prefix s.all in
-    stopped_all c.args.context.now.asked.now.scripts.items c.side_by_side-course.new.opened.drainer.taken _ _ fit
-    (prefix_of_stop (Unit {0}) c.args.context.now.asked.now.n (start c.args.context.now.asked.now.n) c.side_by_side-course.new.opened.drainer.taken c.side_by_side-course.new.server.engine.state _ _ c.in-Err.stop c.in-Err.ensures.served)
+    let fit = drained_scripts asked.scripts.items asked.count c.in_ok-intake.intake c.in_ok-intake.drainer c.side_by_side-course.new.opened.drainer c.side_by_side-course.new.opened.clients.items
+    c.in_ok-intake.ensures.capacity many asked.counted s.drained s.clients c.take_in_all.ensures.prefix s.all in
+    stopped_all asked.scripts.items c.side_by_side-course.new.opened.drainer.taken _ _ fit
+    (prefix_of_stop (Unit {0}) asked.n (start asked.n) c.side_by_side-course.new.opened.drainer.taken c.side_by_side-course.new.server.engine.state _ _ c.in-Err.stop c.in-Err.ensures.served)
 
 pub fault_of-requires : goal.fault_of-requires
 fault_of-requires g c =
+    let asked = c.args.context.now.asked.now in
     let s = c.side_by_side-course.ensures in
-    let count : c.len-count.result ≡ length c.args.context.now.asked.now.scripts.items = grind (arith, common_steps, c.len-count.ensures) in
+    let count : c.len-count.result ≡ length asked.scripts.items = grind (arith, common_steps, c.len-count.ensures) in
     let many = ap (λ (d : DrainerShape). d.clients) c.in_ok-intake.ensures.drainer ∙ count in
-    let fit = drained_scripts c.args.context.now.asked.now.scripts.items c.args.context.now.asked.now.count c.in_ok-intake.intake c.in_ok-intake.drainer c.side_by_side-course.new.opened.drainer c.side_by_side-course.new.opened.clients.items
-    c.in_ok-intake.ensures.capacity many c.args.context.now.asked.now.counted s.drained s.clients c.take_in_all.ensures.prefix s.all in
-    no_stray (Unit {0}) c.args.context.now.asked.now.n c.args.context.now.asked.now.scripts.items c.side_by_side-course.new.opened.drainer.taken c.side_by_side-course.new.server.engine.state _ _ c.in-Err.stop
-    (can_serve c.args.context.now.asked.now.n c.args.context.now.asked.now.scripts.items c.args.context.now.asked.now.ranges) fit c.in-Err.ensures.served
+    let fit = drained_scripts asked.scripts.items asked.count c.in_ok-intake.intake c.in_ok-intake.drainer c.side_by_side-course.new.opened.drainer c.side_by_side-course.new.opened.clients.items
+    c.in_ok-intake.ensures.capacity many asked.counted s.drained s.clients c.take_in_all.ensures.prefix s.all in
+    no_stray (Unit {0}) asked.n asked.scripts.items c.side_by_side-course.new.opened.drainer.taken c.side_by_side-course.new.server.engine.state _ _ c.in-Err.stop
+    (can_serve asked.n asked.scripts.items asked.ranges) fit c.in-Err.ensures.served
