@@ -1,26 +1,16 @@
 -- Lines of two numbers, with a sign before them or without.
-use Rattle.std.proofs.Common.{ℕ, ◌≡◌, Bool, true, false, List, [], ◌∷◌, refl, ap, ◌∙◌, drop, arith}
+use Rattle.std.proofs.Common.{ℕ, ◌≡◌, Bool, true, false, List, [], ◌∷◌, refl, arith}
 use Rattle.std.specs.Prelude.{Option, Some, None, if◌then◌else◌, ◌==◌, slice_index}
-use Rattle.std.specs.List.{slice_range}
 use Rattle.std.proofs.lemmas.Bool.Decides.{nat_tests}
-use Rattle.kc_text.specs.Words.{words, is_skip, WordAt}
-use Rattle.kc_text.specs.Numbers.{is_number, number_of, value_from, NumberAt}
+use Rattle.kc_text.specs.Words.{words}
+use Rattle.kc_text.specs.Numbers.{is_number, number_of, value_from}
 use Rattle.kc_text.specs.declared.number_line.Sign.{Sign}
 use Rattle.kc_text.specs.declared.number_line.Sign.TheVariants.{Plus, Minus}
 use Rattle.kc_text.specs.NumberLines.{SayNumbers}
 use Rattle.kc_batch.specs.declared.token.Kind.TheVariants.{Item}
-use Rattle.kc_batch.specs.Tokens.{insertion, signed, kind_of_words}
-use Rattle.kc_batch.specs.private.Tokens.{kind_of_text, item_of, AreNumbers}
+use Rattle.kc_batch.specs.Tokens.{kind_of_words}
+use Rattle.kc_batch.specs.private.Tokens.{kind_of_text, item_of}
 use Rattle.kc_batch.proofs.Saying.{Says, says}
-
-pub two_numbers_at : (text : List ℕ) (from u mid v end : ℕ) → NumberAt text from u mid → NumberAt text mid v end → words (drop end text) ≡ [] → AreNumbers (words (drop from text)) u v
-two_numbers_at text from u mid v end a b e = record {
-  first = a.word;
-  second = b.word;
-  words_are = a.words_are ∙ ap (λ ws. a.word ∷ ws) (b.words_are ∙ ap (λ ws. b.word ∷ ws) e);
-  first_is = a.number;
-  second_is = b.number;
-}
 
 chosen : (b : Bool) (x y : ℕ) → (if b then Some x else None) ≡ Some y → b ≡ true
 chosen true x y e = refl
@@ -30,24 +20,6 @@ chosen false x y e = absurd cc
 number_no_hash : (w : List ℕ) (u : ℕ) → number_of w ≡ Some u → (slice_index w 0 == 35) ≡ false
 number_no_hash [] u e = let b = chosen (is_number []) (value_from 0 []) u e in absurd cc
 number_no_hash (x ∷ xs) u e = let b = chosen (is_number (x ∷ xs)) (value_from 0 (x ∷ xs)) u e in grind (arith, nat_tests, b)
-
-two : (ws : List (List ℕ)) (u v : ℕ) → AreNumbers ws u v → kind_of_words ws ≡ insertion (Some u) (Some v)
-unfolding kind_of_words
-two ws u v a = rw (a.words_are, a.first_is, a.second_is) refl
-
-no_skip : (ws : List (List ℕ)) (u v : ℕ) → AreNumbers ws u v → is_skip ws ≡ false
-no_skip ws u v a = rw a.words_are (number_no_hash a.first u a.first_is)
-
--- a line of two numbers is an insertion
-pub number_line : (text : List ℕ) (u v : ℕ) → AreNumbers (words text) u v → kind_of_text text ≡ Some (insertion (Some u) (Some v))
-unfolding kind_of_text
-number_line text u v a = rw (no_skip (words text) u v a, two (words text) u v a) refl
-
--- a sign and two numbers
-pub signed_line : (text : List ℕ) (start end u v : ℕ) → WordAt text 0 start end → AreNumbers (words (drop end text)) u v
-    → kind_of_words (words text) ≡ signed (slice_range text start end) (Some u) (Some v)
-unfolding kind_of_words
-signed_line text start end u v w a = rw (w.words, a.words_are, a.first_is, a.second_is) refl
 
 says_number : (text : List ℕ) (sign : Option Sign) (u v : ℕ) → SayNumbers (words text) sign u v → kind_of_text text ≡ Some (Item (item_of sign u v))
 unfolding kind_of_text kind_of_words

@@ -5,13 +5,11 @@ ghost use Rattle.kc_text.specs.Causes.{ReadCause};
 ghost use Rattle.kc_text.specs.Reading.{budget};
 ghost use Rattle.kc_text.specs.Words.{words, WordAt};
 ghost use Rattle.kc_batch.specs.Tokens.{insertion, deletion, isolation, unsigned, signed, kind_of_words, tokens_left};
-ghost use Rattle.kc_batch.specs.private.Tokens.{AreNumbers, kind_of_text, item_of, onto_token, TakesToken, IsLastKind};
+ghost use Rattle.kc_batch.specs.private.Tokens.{kind_of_text, item_of, onto_token, TakesToken, IsLastKind};
 
 use crate::text::is;
 use kc_graph::Item;
-use kc_text::{
-    Body, LineFault, LineReader, NumberLine, Sign, Source, next_number, next_word, read_number,
-};
+use kc_text::{Body, LineFault, LineReader, NumberLine, Sign, Source, next_word, read_number};
 use std::alloc::Global;
 
 /// What a line of batches says by itself, wherever it stands.
@@ -116,30 +114,13 @@ fn kind_of_three(first: &[u8], second: &[u8], third: &[u8]) -> Kind
     signed(first, read_number(second), read_number(third))
 }
 
-// The two numbers that the words at or after `from` say, if they are two numbers. One pass over their bytes.
-#[tactic(auto, using(crate::proofs::NumberLines::two_numbers_at))]
-fn two_numbers(text: &[u8], from: usize) -> Option<(u32, u32)>
-    requires { from ≤ length text.now }
-    ensures { IfSome result (λ p. AreNumbers (words (drop from text.now)) p.0 p.1) }
-{
-    let (u, end) = next_number(text, from)?;
-    let (v, end) = next_number(text, end)?;
-    if next_word(text, end).is_some() {
-        return None;
-    }
-    Some((u, v))
-}
-
 // What the line says whose first word lies there.
-#[tactic(auto, using(crate::proofs::NumberLines::signed_line), unfolding(crate::specs::Tokens::kind_of_words))]
+#[tactic(auto, unfolding(crate::specs::Tokens::kind_of_words))]
 fn kind_of_line(text: &[u8], start: usize, end: usize) -> Kind
     requires { WordAt text.now 0 start end }
     ensures { result ≡ kind_of_words (words text.now) }
 {
     let first = &text[start..end];
-    if let Some((u, v)) = two_numbers(text, end) {
-        return signed(first, Some(u), Some(v));
-    }
     let Some((start, end)) = next_word(text, end) else {
         return kind_of_one(first);
     };
@@ -154,21 +135,11 @@ fn kind_of_line(text: &[u8], start: usize, end: usize) -> Kind
     kind_of_three(first, second, third)
 }
 
-// Whether it isn't worth looking for two numbers at the beginning.
-fn begins_with_sign(text: &[u8]) -> bool {
-    matches!(text.first(), Some(b'+' | b'-'))
-}
-
-// What a line says, unless it is skipped. Items come first, since most lines are items.
-#[tactic(auto, using(crate::proofs::NumberLines::number_line), unfolding(crate::specs::private::Tokens::kind_of_text))]
+// What a line says, unless it is skipped.
+#[tactic(auto, unfolding(crate::specs::private::Tokens::kind_of_text))]
 fn classify(text: &[u8]) -> Option<Kind>
     ensures { result ≡ kind_of_text text.now }
 {
-    if !begins_with_sign(text) {
-        if let Some((u, v)) = two_numbers(text, 0) {
-            return Some(insertion(Some(u), Some(v)));
-        }
-    }
     let (start, end) = next_word(text, 0)?;
     if text[start] == b'#' {
         return None;

@@ -1,23 +1,14 @@
 -- How tokens follow one another from a reader.
-use Rattle.std.specs.Prelude.{ℕ, ◌≡◌, ◌<◌, ◌≤◌, List, [], ◌∷◌, Option, Some, None, if◌then◌else◌}
+use Rattle.std.specs.Prelude.{ℕ, ◌<◌, ◌≤◌, List, [], ◌∷◌, Option, Some, None, if◌then◌else◌}
 use Rattle.kc_graph.specs.declared.items.Item.{Item}
 use Rattle.kc_graph.specs.declared.items.Item.TheVariants.{Insert, Delete}
 use Rattle.kc_text.specs.declared.number_line.Sign.{Sign}
 use Rattle.kc_text.specs.declared.number_line.Sign.TheVariants.{Plus, Minus}
 use Rattle.kc_text.specs.Words.{words, is_skip}
-use Rattle.kc_text.specs.Numbers.{number_of}
 use Rattle.kc_batch.specs.declared.token.Token.{Token}
 use Rattle.kc_batch.specs.declared.token.Kind.{Kind}
 use Rattle.kc_batch.specs.declared.token.Kind.TheVariants.{Limit, InputEnd}
 use Rattle.kc_batch.specs.Tokens.{kind_of_words}
-
--- these are two words that say u and v
-pub record AreNumbers (ws : List (List ℕ)) (u v : ℕ) : Type 0 where
-  pub first : List ℕ
-  pub second : List ℕ
-  pub words_are : ws ≡ first ∷ second ∷ []
-  pub first_is : number_of first ≡ Some u
-  pub second_is : number_of second ≡ Some v
 
 -- what a text says, unless it is skipped
 unfoldable pub kind_of_text : List ℕ → Option Kind
