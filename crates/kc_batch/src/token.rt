@@ -159,9 +159,9 @@ fn item_of(line: NumberLine) -> Item
     }
 }
 
-/// The next line that isn't skipped. After a fault skipped lines may be gone. Cost: one pass over the bytes of the line
-/// and of those that are skipped, where they lie whole in the reader's memory and are two numbers with one blank between
-/// them, or a sign, a blank and such numbers; and a few passes over each other line.
+/// The next line that isn't skipped. After a fault skipped lines may be gone. Cost: one pass over the bytes of a line that
+/// lies whole in the reader's memory and is two numbers with one blank between them, or a sign, a blank and such numbers;
+/// a few passes over the bytes of each other line.
 #[inline(always)]
 pub fn next_token<S: Source>(
     alloc: Global,
