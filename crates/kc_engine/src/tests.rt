@@ -3,6 +3,7 @@ ghost use Rattle.std.specs.Prelude.{◌≡◌, ◌<◌};
 mod halting;
 mod showing;
 mod trial;
+mod turns;
 mod unshown;
 
 use crate::{BatchPlan, EngineFault, MAX_PHASE, Shape};

@@ -38,28 +38,34 @@ pub(crate) fn are_inside(items: &[Item], n: u32) -> bool
     true
 }
 
+// A store and its writer.
+#[derive(Drop)]
+struct Display {
+    store: Store,
+    writer: Writer,
+}
+
 // Plans a cleaned batch, and shows the plan, of which the gate is told.
 fn plan_and_show<R: Threads + Sync, G: Gate + Sync>(
     rt: &R,
     alloc: Global,
     gate: &G,
     engine: &mut Engine,
-    store: &Store,
-    writer: &mut Writer,
+    display: &mut Display,
     cleaned: &Cleaned,
 ) -> Result<BatchPlan, EngineFault>
-    requires table { writer.old.table ≡ store.now.table }
+    requires table { display.old.writer.table ≡ display.old.store.table }
     requires shown { engine.old.waits ≡ false }
     requires cleaning { engine.old.halted ≡ false → IsCleaning engine.old.state.graph cleaned.now }
-    requires abreast { engine.old.halted ≡ false → IsAbreast writer.old.state engine.old.state }
-    ensures table { writer.new.table ≡ writer.old.table }
+    requires abreast { engine.old.halted ≡ false → IsAbreast display.old.writer.state engine.old.state }
+    ensures table { display.new.writer.table ≡ display.new.store.table }
     ensures shown { engine.new.waits ≡ false }
-    ensures abreast { engine.new.halted ≡ false → IsAbreast writer.new.state engine.new.state }
+    ensures abreast { engine.new.halted ≡ false → IsAbreast display.new.writer.state engine.new.state }
 {
     // Its contract says that the state is sound.
     let _graph = engine.graph();
     let plan = engine.plan(rt, alloc, &OpenGate::new(), cleaned)?;
-    engine.show(rt, gate, store, writer, &plan);
+    engine.show(rt, gate, &display.store, &mut display.writer, &plan);
     Ok(plan)
 }
 
@@ -67,8 +73,7 @@ fn plan_and_show<R: Threads + Sync, G: Gate + Sync>(
 #[derive(Drop)]
 pub(crate) struct Trial {
     engine: Box<Engine>,
-    store: Store,
-    writer: Writer,
+    display: Display,
 }
 
 impl Model for Trial {
@@ -80,7 +85,7 @@ impl Model for Trial {
 
     ghost view = { λ t. t.engine.value };
 
-    ghost invariant = { λ t. (t.writer.table ≡ t.store.table) × (t.engine.value.waits ≡ false) × (t.engine.value.halted ≡ false → IsAbreast t.writer.state t.engine.value.state) };
+    ghost invariant = { λ t. (t.display.writer.table ≡ t.display.store.table) × (t.engine.value.waits ≡ false) × (t.engine.value.halted ≡ false → IsAbreast t.display.writer.state t.engine.value.state) };
 }
 
 impl Trial {
@@ -95,11 +100,8 @@ impl Trial {
         let (store, writer) = Store::open(alloc, shape.n, shape.phases_before)?;
         let opened = Engine::open(alloc, shape)?;
         let engine = Box::new(alloc, opened)?;
-        Ok(Trial {
-            engine,
-            store,
-            writer,
-        })
+        let display = Display { store, writer };
+        Ok(Trial { engine, display })
     }
 
     // For n vertices, with one worker and the program's limits.
@@ -124,6 +126,21 @@ impl Trial {
             && self.engine.phases() == phases
     }
 
+    // Whether the levels are those of the other's engine, and there are and were as many edges and phases.
+    pub(crate) fn is_like(&self, other: &Trial) -> bool {
+        let engine = &*other.engine;
+        self.is_as(
+            engine.levels().as_slice(),
+            engine.graph().edge_count(),
+            engine.phases(),
+        )
+    }
+
+    // Lets the engine make its workspace anew.
+    pub(crate) fn renew(&mut self, alloc: Global) -> Result<(), AllocError> {
+        self.engine.renew(alloc)
+    }
+
     // Plans a batch of these items, and shows the plan, of which the gate is told.
     pub(crate) fn apply<R: Threads + Sync + Abort, G: Gate + Sync>(
         &mut self,
@@ -136,14 +153,6 @@ impl Trial {
         let engine = &mut *self.engine;
         assert!(rt; are_inside(items, engine.graph().vertices()));
         let cleaned = clean(rt, alloc, engine.graph(), items).map_err(EngineFault::Memory)?;
-        plan_and_show(
-            rt,
-            alloc,
-            gate,
-            engine,
-            &self.store,
-            &mut self.writer,
-            &cleaned,
-        )
+        plan_and_show(rt, alloc, gate, engine, &mut self.display, &cleaned)
     }
 }
