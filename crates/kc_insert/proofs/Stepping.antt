@@ -1,5 +1,5 @@
 -- The step of a sweep from level l to the next: who goes on, who begins, and who stays.
-use Rattle.std.proofs.Common.{ℕ, ◌+◌, ◌*◌, ◌≤◌, ◌<◌, ◌≡◌, ◌≢◌, ◌⊎◌, inl, inr, Bool, true, false, leb, ltb, eqb, not, ◌&&◌, ◌||◌, List, [], ◌++◌, length, get_or, set, filter, refl, ap, sym, ◌∙◌, arith, subst}
+use Rattle.std.proofs.Common.{ℕ, ◌+◌, ◌-◌, ◌*◌, ◌≤◌, ◌<◌, ◌≡◌, ◌≢◌, ◌⊎◌, inl, inr, Bool, true, false, leb, ltb, eqb, not, ◌&&◌, ◌||◌, List, [], ◌∷◌, ◌++◌, length, get_or, set, filter, refl, ap, sym, ◌∙◌, arith, subst}
 use Rattle.std.specs.Prelude.{count_by}
 use Rattle.std.proofs.lemmas.Bool.{cases_lt, cases_eq, cases_Bool, true≢false}
 use Rattle.std.proofs.lemmas.Bool.Decides.{nat_tests}
@@ -78,6 +78,23 @@ pub record IsStaying (y z up begun : List ℕ) (v : ℕ) : Type 0 where
 
 abbrev pub IsCase : (n : ℕ) (x y z c up begun : List ℕ) (l most v : ℕ) → Type 0
 IsCase n x y z c up begun l most v = ((has_number v up ≡ true) × IsGoing n x y z c l most v) ⊎ (((has_number v begun ≡ true) × IsBeginning n x y z c l most v) ⊎ IsStaying y z up begun v)
+
+-- those of a list who pass a test, and those who do not
+both_parts : (p q : ℕ → Bool) (vs : List ℕ) → ((v : ℕ) → has_number v vs ≡ true → p v ≡ not (q v)) → length (filter p vs) + length (filter q vs) ≡ length vs
+both_parts p q [] other = refl
+both_parts p q (v ∷ vs) other =
+    let rest = both_parts p q vs (λ u there. other u (grind (arith, nat_tests, there))) in
+    let here : p v ≡ not (q v) = other v (grind (arith, nat_tests)) in
+    elim (cases_Bool (q v)) [
+      | inl yes_ ↦ rw (in_ q yes_, out_ p (here ∙ ap (λ b. not b) yes_)) (omega (arith, rest))
+      | inr no_ ↦ rw (out_ q no_, in_ p (here ∙ ap (λ b. not b) no_)) (omega (arith, rest))
+    ]
+  where
+    in_ : (t : ℕ → Bool) → t v ≡ true → filter t (v ∷ vs) ≡ v ∷ filter t vs
+    in_ t e = grind (arith, nat_tests, e)
+
+    out_ : (t : ℕ → Bool) → t v ≡ false → filter t (v ∷ vs) ≡ filter t vs
+    out_ t e = grind (arith, nat_tests, e)
 
 -- who goes on from the level of a sweep, who begins there, and the levels after the step
 pub record IsStep (sweep : Sweeping) (most : ℕ) (up begun z : List ℕ) : Type 0 where
@@ -273,6 +290,23 @@ module _ (p : Profile) (g : GraphShape) (x : List ℕ) (sweep : Sweeping) (most 
       agree u (inl it) = grind (arith, nat_tests, it.1.from, it.1.to, ne)
       agree u (inr (inl it)) = grind (arith, nat_tests, it.1.from, it.1.to, ne)
       agree u (inr (inr it)) = ap (λ j. leb k j) (sym it.same)
+
+  -- who had come to the level and stays there is who doesn't go on
+  stays_is : (v : ℕ) → has_number v sweep.rising ≡ true → stays_on z sweep.level v ≡ not (is_over sweep.counts most v)
+  stays_is v there = elim (case_of v) [
+    | inl it ↦ opposite (get_or z v 0) (is_over sweep.counts most v) it.1.to (lt_is _ _ it.1.over)
+    | inr (inl it) ↦ absurd (omega (arith, it.1.before, (s.came v there).2))
+    | inr (inr it) ↦ same (get_or z v 0) (is_over sweep.counts most v) (it.same ∙ (s.came v there).1) (ap (λ b. b && is_over sweep.counts most v) (sym there) ∙ sym (step.up_is v) ∙ it.no_up)
+  ]
+    where
+      opposite : (a : ℕ) (b : Bool) → a ≡ sweep.level + 1 → b ≡ true → eqb a sweep.level ≡ not b
+      opposite a b e f = grind (arith, nat_tests, e, f)
+
+      same : (a : ℕ) (b : Bool) → a ≡ sweep.level → b ≡ false → eqb a sweep.level ≡ not b
+      same a b e f = grind (arith, nat_tests, e, f)
+
+  pub stay_many : length (filter (stays_on z sweep.level) sweep.rising) + length (filter (is_over sweep.counts most) sweep.rising) ≡ length sweep.rising
+  stay_many = both_parts (stays_on z sweep.level) (is_over sweep.counts most) sweep.rising stays_is
 
   -- those who stay on the level, of those who had come to it
   module _ (stay : List ℕ) (stay_is : stay ≡ filter (stays_on z sweep.level) sweep.rising) where
@@ -713,6 +747,13 @@ step_from p g x sweep s most up begun starting waiting half z asked_up asked lif
   begun_is = λ v. f9 v ∙ ap (has_number v) (f10 ∙ f3 ∙ ap (filter (is_over sweep.counts most)) (f4 ∙ f5)) ∙ has_number-filter v (is_over sweep.counts most) (get_or sweep.queue sweep.level []);
   z_is = f8 ∙ ap (λ t. all_at t begun (sweep.level + 1)) (f6 ∙ ap (λ vs. all_at sweep.levels vs (sweep.level + 1)) f7);
 }
+
+-- so many of those who had come stay: all but those who go on
+pub many_stay : (z : List ℕ) (l : ℕ) (c : List ℕ) (most came goes : ℕ) (asked rising asked_up up : List ℕ) → length (filter (stays_on z l) rising) + length (filter (is_over c most) rising) ≡ length rising → came ≡ length rising → goes ≡ length up → asked ≡ rising → up ≡ filter (is_over c most) asked_up → asked_up ≡ rising → (goes ≤ came) × (came - goes ≡ length (filter (stays_on z l) asked))
+many_stay z l c most came goes asked rising asked_up up all f1 f2 f3 f4 f5 =
+    let same : length up ≡ length (filter (is_over c most) rising) = ap (λ vs. length vs) (f4 ∙ ap (filter (is_over c most)) f5) in
+    let on : length (filter (stays_on z l) asked) ≡ length (filter (stays_on z l) rising) = ap (λ vs. length (filter (stays_on z l) vs)) f3 in
+    (omega (arith, all, f1, f2, same), omega (arith, all, f1, f2, same, on))
 
 pub staying : (z : List ℕ) (l : ℕ) (listed stay asked rising : List ℕ) → listed ≡ stay → stay ≡ filter (stays_on z l) asked → asked ≡ rising → listed ≡ filter (stays_on z l) rising
 staying z l listed stay asked rising f1 f2 f3 = f1 ∙ f2 ∙ ap (filter (stays_on z l)) f3

@@ -100,17 +100,23 @@ fn part_from<L: Ledger>(
     }
 }
 
-/// Fills `stay` anew with those of the risers who stay on the level, in order. Fails only if memory runs out.
+/// Fills `stay` anew with those of the risers who stay on the level, in order; they are so many. Where they are none, no riser is
+/// looked at. Fails only if memory runs out.
 pub fn who_stay(
     levels: &Levels,
     level: u16,
     risers: &[u32],
+    many: usize,
     stay: &mut Vec<u32>,
 ) -> Result<(), AllocError>
     requires inside { (v : ℕ) → has_number v risers.now ≡ true → v < length levels.now }
+    requires many { many ≡ length (filter (stays_on levels.now level) risers.now) }
     ensures { OnOk result (stay.new.items ≡ filter (stays_on levels.now level) risers.now) }
 {
     stay.clear();
+    if many == 0 {
+        return Ok(());
+    }
     for v in risers {
         if levels.get(*v) == level {
             stay.push(*v)?;

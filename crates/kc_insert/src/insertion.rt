@@ -47,9 +47,9 @@ pub struct Tally {
 /// Besides its passes a vertex that rises costs a few looks on each level on its way, and at most three looks, which count no
 /// steps, for each neighbour that stood above it when it began; and those who rose are sorted. Levels where nobody waits or comes
 /// cost a look for 64 of them. So a phase has no pass over the vertices: all depends on the edges and on who rises. Takes memory
-/// for the vertices that wait or rose, their moves, and 8 bytes for each such neighbour; and on one level at a time, 4 bytes for each
-/// vertex that had come to it and stays, and then 12 bytes for each that begins there and 4 for each neighbour above it, or twice as
-/// much with several workers, room for growth aside.
+/// for the vertices that wait or rose, their moves, and 8 bytes for each such neighbour; 4 bytes for each of the vertices that had
+/// come to one level and stay there, the most of them on one level; and on one level at a time, 12 bytes for each that begins there
+/// and 4 for each neighbour above it, or twice as much with several workers, room for growth aside.
 /// While 8,192 edges or more are linked, 16 bytes for each of them.
 pub fn insert_phase<R: Threads + Sync, G: Gate + Sync, L: Ledger>(
     rounds: &Rounds<R, G>,

@@ -264,7 +264,8 @@ fn raise_level<R: Threads + Sync, G: Gate + Sync, L: Ledger>(
     let mut begun = lift_off(alloc, &mut sweep.levels, level, &starting)?;
     let met = sweep.meetings.take_all(alloc, level);
     leave_behind(adj, &sweep.levels, &mut counted.counts, level, &met);
-    who_stay(&sweep.levels, level, &sweep.rising, &mut sweep.stay)?;
+    let many = sweep.rising.len() - going.len();
+    who_stay(&sweep.levels, level, &sweep.rising, many, &mut sweep.stay)?;
     part(
         adj,
         &sweep.levels,

@@ -1,11 +1,11 @@
-use Rattle.std.proofs.Common.{◌≡◌, ◌+◌, ◌<◌, true, List, [], ap, sym, ◌∙◌, length, subst}
+use Rattle.std.proofs.Common.{◌≡◌, ◌+◌, ◌<◌, true, List, [], refl, ap, sym, ◌∙◌, length, subst, arith}
 use Rattle.std.proofs.lemmas.List.{length-set}
 use Rattle.kc_graph.specs.Numbers.{has_number}
 use Rattle.kc_graph.specs.Shape.{Pair, has_edge}
 use Rattle.kc_levels.specs.Thresholds.{high, group_of, top_level}
 use Rattle.kc_insert.specs.private.Sweeping.{IsSweeping, HaveCome}
 use Rattle.kc_insert.proofs.Lifting.{length-all_at}
-use Rattle.kc_insert.proofs.Stepping.{step_from, staying, long, came_inside, waiting_inside, met_seen, arrived_seen, unlisted_seen, meet_here, meet_next, met_before, next_noting, next_meetings, left_meetings, begun_fresh, are_beginners, places_on, stay_inside, stay_below, stay_here, stay_distinct, stay_seen, stay_settled, stay_steps, stepped, have_come, going_listed, starting_waits, still_here, going_distinct, going_kept}
+use Rattle.kc_insert.proofs.Stepping.{step_from, staying, long, came_inside, waiting_inside, met_seen, arrived_seen, unlisted_seen, meet_here, meet_next, met_before, next_noting, next_meetings, left_meetings, begun_fresh, are_beginners, places_on, stay_many, many_stay, stay_inside, stay_below, stay_here, stay_distinct, stay_seen, stay_settled, stay_steps, stepped, have_come, going_listed, starting_waits, still_here, going_distinct, going_kept}
 use Rattle.kc_insert.proofs.sweeping.raise_level.Goals as goal
 
 pub movers-requires-clause-asked : goal.movers-requires-clause-asked
@@ -57,11 +57,29 @@ leave_behind-requires-clause-met g c =
     let t = step_from _ _ _ _ s c.high-most.result c.in_ok-going.going.items c.in_ok-begun.begun.items c.in_ok-starting.starting.items c.take_all-waiting.result.items c.go_up.new.levels c.lift_off.new.levels _ _ _ _ c.in_ok-going.ensures c.deref.ensures.value c.in_ok-starting.ensures c.deref-2.ensures.value c.take_all-waiting.ensures.taken c.go_up.ensures c.deref-3.ensures.value c.in_ok-begun.ensures.levels c.in_ok-begun.ensures.same c.deref-4.ensures.value in
     rw (c.deref-5.ensures.value, c.take_all-met.ensures.taken) (met_seen _ _ _ _ _ _ _ _ s t)
 
-pub who_stay-requires : goal.who_stay-requires
-who_stay-requires g c =
+pub overflow_sub-many : goal.overflow_sub-many
+overflow_sub-many g c =
     let s = subst (IsSweeping c.args.th.now.profile c.args.adj.now.graph c.args.adj.now.levels) (sym c.sweep.view_is) c.requires.sweeping in
     let t = step_from _ _ _ _ s c.high-most.result c.in_ok-going.going.items c.in_ok-begun.begun.items c.in_ok-starting.starting.items c.take_all-waiting.result.items c.go_up.new.levels c.lift_off.new.levels _ _ _ _ c.in_ok-going.ensures c.deref.ensures.value c.in_ok-starting.ensures c.deref-2.ensures.value c.take_all-waiting.ensures.taken c.go_up.ensures c.deref-3.ensures.value c.in_ok-begun.ensures.levels c.in_ok-begun.ensures.same c.deref-4.ensures.value in
-    record { inside = λ v there. rw (long _ _ _ _ _ _ _ _ s t) (s.came v (ap (has_number v) (sym c.deref-6.ensures.value) ∙ there)).0 }
+    let came : c.len.result ≡ length c.sweep.inside.rising.items = omega (arith, c.len.ensures) in
+    let goes : c.len-2.result ≡ length c.in_ok-going.going.items = omega (arith, c.len-2.ensures) in
+    let all = stay_many _ _ _ _ _ _ _ _ s t in
+    (many_stay _ _ c.sweep.inside.counted.counts.items c.high-most.result _ _ _ _ _ _ all came goes refl c.in_ok-going.ensures c.deref.ensures.value).0
+
+pub who_stay-requires-clause-inside : goal.who_stay-requires-clause-inside
+who_stay-requires-clause-inside g c =
+    let s = subst (IsSweeping c.args.th.now.profile c.args.adj.now.graph c.args.adj.now.levels) (sym c.sweep.view_is) c.requires.sweeping in
+    let t = step_from _ _ _ _ s c.high-most.result c.in_ok-going.going.items c.in_ok-begun.begun.items c.in_ok-starting.starting.items c.take_all-waiting.result.items c.go_up.new.levels c.lift_off.new.levels _ _ _ _ c.in_ok-going.ensures c.deref.ensures.value c.in_ok-starting.ensures c.deref-2.ensures.value c.take_all-waiting.ensures.taken c.go_up.ensures c.deref-3.ensures.value c.in_ok-begun.ensures.levels c.in_ok-begun.ensures.same c.deref-4.ensures.value in
+    λ v there. rw (long _ _ _ _ _ _ _ _ s t) (s.came v (ap (has_number v) (sym c.deref-6.ensures.value) ∙ there)).0
+
+pub who_stay-requires-clause-many : goal.who_stay-requires-clause-many
+who_stay-requires-clause-many g c =
+    let s = subst (IsSweeping c.args.th.now.profile c.args.adj.now.graph c.args.adj.now.levels) (sym c.sweep.view_is) c.requires.sweeping in
+    let t = step_from _ _ _ _ s c.high-most.result c.in_ok-going.going.items c.in_ok-begun.begun.items c.in_ok-starting.starting.items c.take_all-waiting.result.items c.go_up.new.levels c.lift_off.new.levels _ _ _ _ c.in_ok-going.ensures c.deref.ensures.value c.in_ok-starting.ensures c.deref-2.ensures.value c.take_all-waiting.ensures.taken c.go_up.ensures c.deref-3.ensures.value c.in_ok-begun.ensures.levels c.in_ok-begun.ensures.same c.deref-4.ensures.value in
+    let came : c.len.result ≡ length c.sweep.inside.rising.items = omega (arith, c.len.ensures) in
+    let goes : c.len-2.result ≡ length c.in_ok-going.going.items = omega (arith, c.len-2.ensures) in
+    let all = stay_many _ _ _ _ _ _ _ _ s t in
+    (many_stay _ _ c.sweep.inside.counted.counts.items c.high-most.result _ _ _ _ _ _ all came goes c.deref-6.ensures.value c.in_ok-going.ensures c.deref.ensures.value).1
 
 pub part-requires-clause-sized : goal.part-requires-clause-sized
 part-requires-clause-sized g c =
