@@ -4,7 +4,7 @@ use Rattle.std.specs.Prelude.{count_by}
 use Rattle.std.proofs.lemmas.Bool.{cases_eq, true≢false}
 use Rattle.std.proofs.lemmas.Bool.Decides.{nat_tests}
 use Rattle.std.proofs.Math.Seq.{drop-cons}
-use Rattle.std.proofs.lemmas.List.{drop_all, length-set, get_or_read}
+use Rattle.std.proofs.lemmas.List.{drop_all, length-set}
 use Rattle.kc_graph.specs.Shape.{GraphShape, Pair, IsGraph, neighbours_of, has_edge}
 use Rattle.kc_graph.proofs.lemmas.Neighbours.{neighbours_rise, neighbour_below}
 use Rattle.kc_levels.proofs.lemmas.Writes.{changed}
@@ -115,15 +115,12 @@ module _ (g : GraphShape) (x z : List ℕ) (l : ℕ) (items : List Pair) (i : �
     pub met_kept_at : (get_or z e.0 0 ≡ l + 1 → get_or z e.1 0 ≢ l) → AreSeen g (goes_on x z l) (sees_met x z l (drop (i + 1) items)) before counts × AreApart (drop (i + 1) items)
     met_kept_at off = (met_kept g x z l e.0 e.1 (drop (i + 1) items) before counts next_met off, next_apart.1)
 
-    module _ (count : ℕ) (read : count ≡ get_or counts e.0 count) (up : get_or z e.0 0 ≡ l + 1) (stays : get_or z e.1 0 ≡ l) where
-      count_is : count ≡ get_or counts e.0 0
-      count_is = get_or_read counts e.0 count (omega (arith, s.sized, riser_below)) read 0
+    module _ (up : get_or z e.0 0 ≡ l + 1) (stays : get_or z e.1 0 ≡ l) where
+      pub met_some_at : 1 ≤ get_or counts e.0 0
+      met_some_at = met_some g x z l e.0 e.1 (drop (i + 1) items) before counts next_met graph meeting.1 riser_below up stays next_apart.0
 
-      pub met_some_at : 1 ≤ count
-      met_some_at = omega (arith, count_is, met_some g x z l e.0 e.1 (drop (i + 1) items) before counts next_met graph meeting.1 riser_below up stays next_apart.0)
-
-      pub met_left_at : AreSeen g (goes_on x z l) (sees_met x z l (drop (i + 1) items)) before (set counts e.0 (count - 1)) × AreApart (drop (i + 1) items)
-      met_left_at = (rw count_is (met_left g x z l e.0 e.1 (drop (i + 1) items) before counts next_met graph meeting.1 riser_below up stays next_apart.0), next_apart.1)
+      pub met_left_at : AreSeen g (goes_on x z l) (sees_met x z l (drop (i + 1) items)) before (set counts e.0 (get_or counts e.0 0 - 1)) × AreApart (drop (i + 1) items)
+      met_left_at = (met_left g x z l e.0 e.1 (drop (i + 1) items) before counts next_met graph meeting.1 riser_below up stays next_apart.0, next_apart.1)
 
 pub met_last : (g : GraphShape) (x z : List ℕ) (l : ℕ) (items : List Pair) (i : ℕ) (before counts : List ℕ) → AreSeen g (goes_on x z l) (sees_met x z l (drop i items)) before counts → length items ≤ i → AreSeen g (goes_on x z l) (sees_met x z l []) before counts
 met_last g x z l items i before counts s end = rw (drop_all i items end) at s

@@ -2,8 +2,13 @@ mod Buckets
 mod Filing
 mod Flips
 mod Lifting
+mod Seen
+mod Watching
 mod Efforts
+mod Members
 mod Stepping
+mod Climbing
+mod Staying
 mod Leaving
 mod Parting
 mod Arriving

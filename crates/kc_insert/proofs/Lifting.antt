@@ -174,17 +174,3 @@ lifting_all_last a b y risen i end sized s =
   where
     whole : (g h : GraphShape) (x z : List ℕ) → g ≡ h → x ≡ z → ◌≡◌ {A = LeveledGraph} (record { graph = g; levels = x }) (record { graph = h; levels = z })
     whole g h x z e f = rw (e, f) refl
-
--- those before the place i came to the level k
-pub record IsGoingUp (y vertices : List ℕ) (k i : ℕ) (z : List ℕ) : Type 0 where
-  pub levels : all_at z (drop i vertices) k ≡ all_at y vertices k
-  pub sized : length z ≡ length y
-
-pub going_next : (y vertices : List ℕ) (k i : ℕ) (z : List ℕ) → i < length vertices → IsGoingUp y vertices k i z → IsGoingUp y vertices k (i + 1) (set z (get_or vertices i 0) k)
-going_next y vertices k i z at s = record {
-  levels = rw (add-one i) (ap (λ vs. all_at z vs k) (sym (drop-cons vertices i 0 at)) ∙ s.levels);
-  sized = length-set z (get_or vertices i 0) k ∙ s.sized;
-}
-
-pub going_last : (y vertices : List ℕ) (k i : ℕ) (z : List ℕ) → length vertices ≤ i → IsGoingUp y vertices k i z → z ≡ all_at y vertices k
-going_last y vertices k i z end s = ap (λ vs. all_at z vs k) (sym (drop_all i vertices end)) ∙ s.levels

@@ -4,7 +4,7 @@ use Rattle.std.specs.Prelude.{count_by, filter}
 use Rattle.std.proofs.lemmas.Bool.{cases_eq, cases_Bool, true≢false}
 use Rattle.std.proofs.lemmas.Bool.Decides.{nat_tests}
 use Rattle.std.proofs.Math.Seq.{drop-cons}
-use Rattle.std.proofs.lemmas.List.{drop_all, length-set, get_or_read, get_or-set_same, get_or-set_other}
+use Rattle.std.proofs.lemmas.List.{drop_all, length-set, get_or-set_same, get_or-set_other}
 use Rattle.kc_graph.specs.Numbers.{has_number, RisesFrom}
 use Rattle.kc_graph.specs.Shape.{GraphShape, IsGraph, neighbours_of}
 use Rattle.kc_graph.proofs.lemmas.Numbers.{has_number_below, has_number_at}
@@ -13,7 +13,6 @@ use Rattle.kc_levels.proofs.lemmas.Writes.{changed}
 use Rattle.kc_levels.specs.Following.{AreDistinct}
 use Rattle.kc_adj.specs.LeveledGraph.{LeveledGraph}
 use Rattle.kc_insert.specs.private.Counting.{AreSeen, AreLess, goes_on, stays_on, sees_listed, steps_on, settled_at}
-use Rattle.kc_insert.proofs.Buckets.{has_number-filter}
 use Rattle.kc_insert.proofs.Flips.{count_agree, count_less}
 
 one_of : (a b : Bool) → a ≡ true → b ≡ true → ◌≡◌ {A = ℕ} (cond (a && b) 1 0) 1
@@ -92,8 +91,11 @@ module _ (g : GraphShape) (asked : ℕ → Bool) (near before counts : List ℕ)
   next : IsParting g asked near (get_or near i 0 ∷ drop (suc i) near) before counts
   next = rw (drop-cons near i 0 at) at s
 
-  pub parting_less_at : (count : ℕ) → get_or near i 0 < g.vertices → asked (get_or near i 0) ≡ true → count ≡ get_or counts (get_or near i 0) count → IsParting g asked near (drop (i + 1) near) before (set counts (get_or near i 0) (count - 1))
-  parting_less_at count low is read = rw (add-one, get_or_read counts (get_or near i 0) count (omega (arith, low, s.sized)) read 0) (parting_less g asked (get_or near i 0) near (drop (suc i) near) before counts next low is)
+  pub parting_less_at : get_or near i 0 < g.vertices → asked (get_or near i 0) ≡ true → IsParting g asked near (drop (i + 1) near) before (set counts (get_or near i 0) (get_or counts (get_or near i 0) 0 - 1))
+  parting_less_at low is = rw add-one (parting_less g asked (get_or near i 0) near (drop (suc i) near) before counts next low is)
+
+  pub parting_some_at : asked (get_or near i 0) ≡ true → 1 ≤ get_or before (get_or near i 0) 0 → 1 ≤ get_or counts (get_or near i 0) 0
+  parting_some_at is some = omega (arith, some, next.waits (get_or near i 0) (here g asked (get_or near i 0) near (drop (suc i) near) before counts next))
 
   pub parting_kept_at : asked (get_or near i 0) ≡ false → IsParting g asked near (drop (i + 1) near) before counts
   parting_kept_at is = rw add-one (parting_kept g asked (get_or near i 0) near (drop (suc i) near) before counts next is)
@@ -301,7 +303,7 @@ settled_at-there x z l (v ∷ vs) u inside there stays = elim (cases_Bool (has_n
       ])
 ]
 
--- of a list those alone count who stay on the level l
+-- of a list those alone take steps who stay on the level l
 module _ (z : List ℕ) (l : ℕ) where
   keeps : (v : ℕ) (vs : List ℕ) → eqb (get_or z v 0) l ≡ true → filter (stays_on z l) (v ∷ vs) ≡ v ∷ filter (stays_on z l) vs
   keeps v vs on = grind (arith, nat_tests, on)
@@ -317,23 +319,3 @@ module _ (z : List ℕ) (l : ℕ) where
         let none : cond (eqb (get_or z v 0) l) (2 * length (neighbours_of v g.edges) + 1) 0 ≡ 0 = ap (λ t. cond t (2 * length (neighbours_of v g.edges) + 1) 0) off in
         rw (drops v vs off) (omega (arith, none, steps_stay g vs))
   ]
-
-  pub settled_stay : (x vs : List ℕ) → settled_at x z l (filter (stays_on z l) vs) ≡ settled_at x z l vs
-  settled_stay x [] = refl
-  settled_stay x (v ∷ vs) = elim (cases_Bool (eqb (get_or z v 0) l)) [
-    | inl on ↦ ap (settled_at x z l) (keeps v vs on) ∙ ap (λ t. settled_at (cond t (set x v l) x) z l (filter (stays_on z l) vs)) on ∙ settled_stay (set x v l) vs ∙ sym (ap (λ t. settled_at (cond t (set x v l) x) z l vs) on)
-    | inr off ↦ ap (settled_at x z l) (drops v vs off) ∙ settled_stay x vs ∙ sym (ap (λ t. settled_at (cond t (set x v l) x) z l vs) off)
-  ]
-
-  pub seen_stay : (g : GraphShape) (asked : ℕ → Bool) (vs before counts : List ℕ) → AreSeen g asked (sees_listed z l vs) before counts → AreSeen g asked (sees_listed z l (filter (stays_on z l) vs)) before counts
-  seen_stay g asked vs before counts s = record {
-    sized = s.sized;
-    seen = λ v h is. s.seen v h is ∙ count_agree (sees_listed z l vs v) (sees_listed z l (filter (stays_on z l) vs) v) (neighbours_of v g.edges) (λ u near. agree v u);
-    others = s.others;
-  }
-    where
-      agree : (v u : ℕ) → sees_listed z l vs v u ≡ sees_listed z l (filter (stays_on z l) vs) v u
-      agree v u = elim (cases_eq (get_or z u 0) l) [
-        | inl on ↦ grind (arith, nat_tests, on, has_number-filter u (stays_on z l) vs)
-        | inr off ↦ grind (arith, nat_tests, off)
-      ]

@@ -1,5 +1,5 @@
 -- When what phases work with is ready for a graph.
-use Rattle.std.proofs.Common.{ℕ, ◌+◌, ◌≡◌, ◌≢◌, false, List, [], length, replicate, refl, ap, sym, ◌∙◌, subst}
+use Rattle.std.proofs.Common.{ℕ, ◌+◌, ◌≡◌, ◌≢◌, false, List, [], length, replicate, refl, ap, sym, ◌∙◌}
 use Rattle.std.specs.List.{All}
 use Rattle.kc_graph.specs.Numbers.{has_number}
 use Rattle.kc_graph.specs.Shape.{GraphShape, Pair, neighbours_of, without_edges}
@@ -11,12 +11,7 @@ use Rattle.kc_levels.specs.Moved.{moves_between}
 use Rattle.kc_levels.specs.private.Following.{IsCopied}
 use Rattle.kc_adj.specs.LeveledGraph.{LeveledGraph, IsCounted}
 use Rattle.kc_insert.specs.Working.{Working, IsReady}
-use Rattle.kc_insert.specs.private.Sweeping.{Sweeping}
 use Rattle.kc_insert.proofs.Followed.{counted_followed}
-
--- the same with another name of the sweep
-pub ready_same : (p : Profile) (a : LeveledGraph) (before : List ℕ) (sweep now : Sweeping) → sweep ≡ now → IsReady p a (record { before = before; levels = now.levels; counts = now.counts; rising = now.rising; risen = now.risen; queue = now.queue; meetings = now.meetings }) → IsReady p a (record { before = before; levels = sweep.levels; counts = sweep.counts; rising = sweep.rising; risen = sweep.risen; queue = sweep.queue; meetings = sweep.meetings })
-ready_same p a before sweep now is r = subst (λ (w : Sweeping). IsReady p a (record { before = before; levels = w.levels; counts = w.counts; rising = w.rising; risen = w.risen; queue = w.queue; meetings = w.meetings })) (sym is) r
 
 -- after a deletion phase from a to b
 pub ready_followed : (p : Profile) (a b : LeveledGraph) (old new : Working) (es : List Pair) (moves : List Move) (fresh mid : List ℕ) → IsReady p a old → length a.levels ≡ a.graph.vertices → length b.levels ≡ b.graph.vertices → b.graph ≡ without_edges a.graph es → moves ≡ moves_between a.graph.vertices a.levels b.levels → IsCounted b.graph b.levels 0 fresh → ((y : List ℕ) → length y ≡ length old.before → moves ≡ moves_between (length old.before) old.before y → new.before ≡ y) → ((y : List ℕ) → length y ≡ length old.levels → moves ≡ moves_between (length old.levels) old.levels y → new.levels ≡ y) → IsCopied fresh old.counts mid (λ v. All (λ (e : Pair). (v ≢ e.0) × (v ≢ e.1)) es) → IsCopied fresh mid new.counts (λ v. All (λ (m : Move). (v ≢ m.vertex) × (has_number v (neighbours_of m.vertex b.graph.edges) ≡ false)) moves) → new.rising ≡ old.rising → new.risen ≡ old.risen → new.queue ≡ old.queue → new.meetings ≡ old.meetings → IsReady p b new

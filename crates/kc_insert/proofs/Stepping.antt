@@ -1,5 +1,5 @@
 -- The step of a sweep from level l to the next: who goes on, who begins, and who stays.
-use Rattle.std.proofs.Common.{ℕ, ◌+◌, ◌-◌, ◌*◌, ◌≤◌, ◌<◌, ◌≡◌, ◌≢◌, ◌⊎◌, inl, inr, Bool, true, false, leb, ltb, eqb, not, ◌&&◌, ◌||◌, List, [], ◌∷◌, ◌++◌, length, get_or, set, filter, refl, ap, sym, ◌∙◌, arith, subst}
+use Rattle.std.proofs.Common.{ℕ, ◌+◌, ◌*◌, ◌≤◌, ◌<◌, ◌≡◌, ◌≢◌, ◌⊎◌, inl, inr, Bool, true, false, leb, ltb, eqb, not, ◌&&◌, ◌||◌, List, [], ◌++◌, length, get_or, set, filter, refl, ap, sym, ◌∙◌, arith, subst}
 use Rattle.std.specs.Prelude.{count_by}
 use Rattle.std.proofs.lemmas.Bool.{cases_lt, cases_eq, cases_Bool, true≢false}
 use Rattle.std.proofs.lemmas.Bool.Decides.{nat_tests}
@@ -24,7 +24,8 @@ use Rattle.kc_insert.specs.private.Sweeping.{all_at, Sweeping, IsFound, IsSweepi
 use Rattle.kc_insert.proofs.Flips.{count_agree}
 use Rattle.kc_insert.proofs.Buckets.{has_number-filter}
 use Rattle.kc_insert.proofs.Efforts.{effort_up, degrees-append, distinct_append, distinct_filter, fee_parts}
-use Rattle.kc_insert.proofs.Parting.{length-settled_at, settled_at-get, settled_at-there, seen_stay, settled_stay, steps_stay}
+use Rattle.kc_insert.proofs.Parting.{length-settled_at, settled_at-get, settled_at-there, steps_stay}
+use Rattle.kc_insert.proofs.Members.{same_settled, same_steps}
 use Rattle.kc_insert.proofs.Lifting.{length-all_at, all_at_here, all_at_other}
 
 pub first_of : (a b : Bool) → a && b ≡ true → a ≡ true
@@ -78,23 +79,6 @@ pub record IsStaying (y z up begun : List ℕ) (v : ℕ) : Type 0 where
 
 abbrev pub IsCase : (n : ℕ) (x y z c up begun : List ℕ) (l most v : ℕ) → Type 0
 IsCase n x y z c up begun l most v = ((has_number v up ≡ true) × IsGoing n x y z c l most v) ⊎ (((has_number v begun ≡ true) × IsBeginning n x y z c l most v) ⊎ IsStaying y z up begun v)
-
--- those of a list who pass a test, and those who do not
-both_parts : (p q : ℕ → Bool) (vs : List ℕ) → ((v : ℕ) → has_number v vs ≡ true → p v ≡ not (q v)) → length (filter p vs) + length (filter q vs) ≡ length vs
-both_parts p q [] other = refl
-both_parts p q (v ∷ vs) other =
-    let rest = both_parts p q vs (λ u there. other u (grind (arith, nat_tests, there))) in
-    let here : p v ≡ not (q v) = other v (grind (arith, nat_tests)) in
-    elim (cases_Bool (q v)) [
-      | inl yes_ ↦ rw (in_ q yes_, out_ p (here ∙ ap (λ b. not b) yes_)) (omega (arith, rest))
-      | inr no_ ↦ rw (out_ q no_, in_ p (here ∙ ap (λ b. not b) no_)) (omega (arith, rest))
-    ]
-  where
-    in_ : (t : ℕ → Bool) → t v ≡ true → filter t (v ∷ vs) ≡ v ∷ filter t vs
-    in_ t e = grind (arith, nat_tests, e)
-
-    out_ : (t : ℕ → Bool) → t v ≡ false → filter t (v ∷ vs) ≡ filter t vs
-    out_ t e = grind (arith, nat_tests, e)
 
 -- who goes on from the level of a sweep, who begins there, and the levels after the step
 pub record IsStep (sweep : Sweeping) (most : ℕ) (up begun z : List ℕ) : Type 0 where
@@ -291,28 +275,11 @@ module _ (p : Profile) (g : GraphShape) (x : List ℕ) (sweep : Sweeping) (most 
       agree u (inr (inl it)) = grind (arith, nat_tests, it.1.from, it.1.to, ne)
       agree u (inr (inr it)) = ap (λ j. leb k j) (sym it.same)
 
-  -- who had come to the level and stays there is who doesn't go on
-  stays_is : (v : ℕ) → has_number v sweep.rising ≡ true → stays_on z sweep.level v ≡ not (is_over sweep.counts most v)
-  stays_is v there = elim (case_of v) [
-    | inl it ↦ opposite (get_or z v 0) (is_over sweep.counts most v) it.1.to (lt_is _ _ it.1.over)
-    | inr (inl it) ↦ absurd (omega (arith, it.1.before, (s.came v there).2))
-    | inr (inr it) ↦ same (get_or z v 0) (is_over sweep.counts most v) (it.same ∙ (s.came v there).1) (ap (λ b. b && is_over sweep.counts most v) (sym there) ∙ sym (step.up_is v) ∙ it.no_up)
-  ]
-    where
-      opposite : (a : ℕ) (b : Bool) → a ≡ sweep.level + 1 → b ≡ true → eqb a sweep.level ≡ not b
-      opposite a b e f = grind (arith, nat_tests, e, f)
-
-      same : (a : ℕ) (b : Bool) → a ≡ sweep.level → b ≡ false → eqb a sweep.level ≡ not b
-      same a b e f = grind (arith, nat_tests, e, f)
-
-  pub stay_many : length (filter (stays_on z sweep.level) sweep.rising) + length (filter (is_over sweep.counts most) sweep.rising) ≡ length sweep.rising
-  stay_many = both_parts (stays_on z sweep.level) (is_over sweep.counts most) sweep.rising stays_is
-
   -- those who stay on the level, of those who had come to it
-  module _ (stay : List ℕ) (stay_is : stay ≡ filter (stays_on z sweep.level) sweep.rising) where
+  module _ (stay : List ℕ) (once : AreDistinct stay) (stay_is : (v : ℕ) → has_number v stay ≡ has_number v sweep.rising && eqb (get_or z v 0) sweep.level) where
     stay_came : (v : ℕ) → has_number v stay ≡ true → (has_number v sweep.rising ≡ true) × (get_or z v 0 ≡ sweep.level)
     stay_came v there =
-        let both : has_number v sweep.rising && eqb (get_or z v 0) sweep.level ≡ true = sym (has_number-filter v (stays_on z sweep.level) sweep.rising) ∙ ap (has_number v) (sym stay_is) ∙ there in
+        let both : has_number v sweep.rising && eqb (get_or z v 0) sweep.level ≡ true = sym (stay_is v) ∙ there in
         (first_of _ _ both, eq_of _ _ (second_of _ _ both))
 
     pub stay_inside : (v : ℕ) → has_number v stay ≡ true → v < g.vertices
@@ -324,17 +291,26 @@ module _ (p : Profile) (g : GraphShape) (x : List ℕ) (sweep : Sweeping) (most 
     pub stay_here : (v : ℕ) → has_number v stay ≡ true → get_or z v 0 ≡ sweep.level
     stay_here v there = (stay_came v there).1
 
-    pub stay_distinct : AreDistinct stay
-    stay_distinct = subst AreDistinct (sym stay_is) (distinct_filter (stays_on z sweep.level) sweep.rising s.distinct)
-
     pub stay_seen : (d : List ℕ) → AreSeen g (goes_on x z sweep.level) (sees_met x z sweep.level []) sweep.counts d → AreSeen g (goes_on x z sweep.level) (sees_listed z sweep.level stay) d d
-    stay_seen d r = subst (λ vs. AreSeen g (goes_on x z sweep.level) (sees_listed z sweep.level vs) d d) (sym stay_is) (seen_stay z sweep.level g (goes_on x z sweep.level) sweep.rising d d (listed_seen d r))
+    stay_seen d r =
+        let listed : AreSeen g (goes_on x z sweep.level) (sees_listed z sweep.level sweep.rising) d d = listed_seen d r in
+        record {
+          sized = listed.sized;
+          seen = λ v h asked. listed.seen v h asked ∙ count_agree (sees_listed z sweep.level sweep.rising v) (sees_listed z sweep.level stay v) (neighbours_of v g.edges) (λ u near. agree v u);
+          others = λ v none. refl;
+        }
+      where
+        agree : (v u : ℕ) → sees_listed z sweep.level sweep.rising v u ≡ sees_listed z sweep.level stay v u
+        agree v u = elim (cases_eq (get_or z u 0) sweep.level) [
+          | inl on ↦ grind (arith, nat_tests, on, stay_is u)
+          | inr off ↦ grind (arith, nat_tests, off)
+        ]
 
     pub stay_settled : settled_at x z sweep.level stay ≡ settled_at x z sweep.level sweep.rising
-    stay_settled = ap (settled_at x z sweep.level) stay_is ∙ settled_stay z sweep.level x sweep.rising
+    stay_settled = same_settled x z sweep.level stay sweep.rising (λ v there. rw s.start (stay_inside v there)) (λ v there. rw s.start (s.came v there).0) (λ v on. stay_is v ∙ grind (arith, nat_tests, on))
 
     pub stay_steps : steps_on g z sweep.level stay ≡ steps_on g z sweep.level sweep.rising
-    stay_steps = ap (steps_on g z sweep.level) stay_is ∙ steps_stay z sweep.level g sweep.rising
+    stay_steps = same_steps g z sweep.level stay (filter (stays_on z sweep.level) sweep.rising) once (distinct_filter (stays_on z sweep.level) sweep.rising s.distinct) (λ v. stay_is v ∙ sym (has_number-filter v (stays_on z sweep.level) sweep.rising)) ∙ steps_stay z sweep.level g sweep.rising
 
   -- the levels in the graph after those who stay on the level were put there
   module _ (x' : List ℕ) (x'_is : x' ≡ settled_at x z sweep.level sweep.rising) where
@@ -741,56 +717,31 @@ module _ (p : Profile) (g : GraphShape) (x : List ℕ) (sweep : Sweeping) (most 
               let many : length up ≡ length (filter (is_over sweep.counts most) sweep.rising) = ap (λ vs. length vs) kept in
               omega (arith, one, two, three, parts, same, many, e1, e2, r.cost, length-append up begun, degrees-append g up begun)
 
-pub step_from : (p : Profile) (g : GraphShape) (x : List ℕ) (sweep : Sweeping) (s : IsSweeping p g x sweep) (most : ℕ) (up begun starting waiting half z asked_up asked lifting lifting_off : List ℕ) → up ≡ filter (is_over sweep.counts most) asked_up → asked_up ≡ sweep.rising → starting ≡ filter (is_over sweep.counts most) asked → asked ≡ waiting → waiting ≡ get_or sweep.queue sweep.level [] → half ≡ all_at sweep.levels lifting (sweep.level + 1) → lifting ≡ up → z ≡ all_at half begun (sweep.level + 1) → ((v : ℕ) → has_number v begun ≡ has_number v lifting_off) → lifting_off ≡ starting → IsStep sweep most up begun z
-step_from p g x sweep s most up begun starting waiting half z asked_up asked lifting lifting_off f1 f2 f3 f4 f5 f6 f7 f8 f9 f10 = record {
-  up_is = λ v. ap (has_number v) (f1 ∙ ap (filter (is_over sweep.counts most)) f2) ∙ has_number-filter v (is_over sweep.counts most) sweep.rising;
-  begun_is = λ v. f9 v ∙ ap (has_number v) (f10 ∙ f3 ∙ ap (filter (is_over sweep.counts most)) (f4 ∙ f5)) ∙ has_number-filter v (is_over sweep.counts most) (get_or sweep.queue sweep.level []);
-  z_is = f8 ∙ ap (λ t. all_at t begun (sweep.level + 1)) (f6 ∙ ap (λ vs. all_at sweep.levels vs (sweep.level + 1)) f7);
+pub step_from : (p : Profile) (g : GraphShape) (x : List ℕ) (sweep : Sweeping) (s : IsSweeping p g x sweep) (most : ℕ) (begun starting waiting half z asked lifting_off : List ℕ) → starting ≡ filter (is_over sweep.counts most) asked → asked ≡ waiting → waiting ≡ get_or sweep.queue sweep.level [] → half ≡ all_at sweep.levels (filter (is_over sweep.counts most) sweep.rising) (sweep.level + 1) → z ≡ all_at half begun (sweep.level + 1) → ((v : ℕ) → has_number v begun ≡ has_number v lifting_off) → lifting_off ≡ starting → IsStep sweep most (filter (is_over sweep.counts most) sweep.rising) begun z
+step_from p g x sweep s most begun starting waiting half z asked lifting_off f1 f2 f3 f4 f5 f6 f7 = record {
+  up_is = λ v. has_number-filter v (is_over sweep.counts most) sweep.rising;
+  begun_is = λ v. f6 v ∙ ap (has_number v) (f7 ∙ f1 ∙ ap (filter (is_over sweep.counts most)) (f2 ∙ f3)) ∙ has_number-filter v (is_over sweep.counts most) (get_or sweep.queue sweep.level []);
+  z_is = f5 ∙ ap (λ t. all_at t begun (sweep.level + 1)) f4;
 }
 
--- so many of those who had come stay: all but those who go on
-pub many_stay : (z : List ℕ) (l : ℕ) (c : List ℕ) (most came goes : ℕ) (asked rising asked_up up : List ℕ) → length (filter (stays_on z l) rising) + length (filter (is_over c most) rising) ≡ length rising → came ≡ length rising → goes ≡ length up → asked ≡ rising → up ≡ filter (is_over c most) asked_up → asked_up ≡ rising → (goes ≤ came) × (came - goes ≡ length (filter (stays_on z l) asked))
-many_stay z l c most came goes asked rising asked_up up all f1 f2 f3 f4 f5 =
-    let same : length up ≡ length (filter (is_over c most) rising) = ap (λ vs. length vs) (f4 ∙ ap (filter (is_over c most)) f5) in
-    let on : length (filter (stays_on z l) asked) ≡ length (filter (stays_on z l) rising) = ap (λ vs. length (filter (stays_on z l) vs)) f3 in
-    (omega (arith, all, f1, f2, same), omega (arith, all, f1, f2, same, on))
-
-pub staying : (z : List ℕ) (l : ℕ) (listed stay asked rising : List ℕ) → listed ≡ stay → stay ≡ filter (stays_on z l) asked → asked ≡ rising → listed ≡ filter (stays_on z l) rising
-staying z l listed stay asked rising f1 f2 f3 = f1 ∙ f2 ∙ ap (filter (stays_on z l)) f3
-
 -- the candidates of the round
-pub came_inside : (p : Profile) (g : GraphShape) (x : List ℕ) (sweep : Sweeping) (asked : List ℕ) → IsSweeping p g x sweep → asked ≡ sweep.rising → (k d : ℕ) → k < length asked → get_or asked k d < length sweep.counts
-came_inside p g x sweep asked s is k d h =
-    let there : has_number (get_or asked k d) sweep.rising ≡ true = ap (has_number (get_or asked k d)) (sym is) ∙ has_number_at (get_or asked k d) asked k h (get_or_default asked k 0 d h) in
-    rw s.counted.sized (s.came (get_or asked k d) there).0
-
 pub waiting_inside : (p : Profile) (g : GraphShape) (x : List ℕ) (sweep : Sweeping) (asked waiting : List ℕ) → IsSweeping p g x sweep → asked ≡ waiting → waiting ≡ get_or sweep.queue sweep.level [] → (k d : ℕ) → k < length asked → get_or asked k d < length sweep.counts
 waiting_inside p g x sweep asked waiting s is taken k d h =
     let there : has_number (get_or asked k d) (get_or sweep.queue sweep.level []) ≡ true = ap (has_number (get_or asked k d)) (sym (is ∙ taken)) ∙ has_number_at (get_or asked k d) asked k h (get_or_default asked k 0 d h) in
     rw s.counted.sized (s.waiting.vertex sweep.level (get_or asked k d) there)
-
--- one of those who go on had come to the level
-pub going_listed : (up c : List ℕ) (most : ℕ) (asked rising lifting : List ℕ) → up ≡ filter (is_over c most) asked → asked ≡ rising → lifting ≡ up → (v : ℕ) → has_number v lifting ≡ true → has_number v rising ≡ true
-going_listed up c most asked rising lifting f1 f2 f3 v there = first_of _ _ (sym (has_number-filter v (is_over c most) rising) ∙ ap (has_number v) (sym (f3 ∙ f1 ∙ ap (filter (is_over c most)) f2)) ∙ there)
 
 -- one of those who begin waited
 pub starting_waits : (starting : List ℕ) (queue : List (List ℕ)) (l : ℕ) (c : List ℕ) (most : ℕ) (asked waiting lifting : List ℕ) → starting ≡ filter (is_over c most) asked → asked ≡ waiting → waiting ≡ get_or queue l [] → lifting ≡ starting → (v : ℕ) → has_number v lifting ≡ true → has_number v (get_or queue l []) ≡ true
 starting_waits starting queue l c most asked waiting lifting f1 f2 f3 f4 v there = first_of _ _ (sym (has_number-filter v (is_over c most) (get_or queue l [])) ∙ ap (has_number v) (sym (f4 ∙ f1 ∙ ap (filter (is_over c most)) (f2 ∙ f3))) ∙ there)
 
 -- one who waits is on the level still after those who had come to it went on
-pub still_here : (p : Profile) (g : GraphShape) (x : List ℕ) (sweep : Sweeping) (half lifting : List ℕ) → IsSweeping p g x sweep → half ≡ all_at sweep.levels lifting (sweep.level + 1) → ((u : ℕ) → has_number u lifting ≡ true → has_number u sweep.rising ≡ true) → (v : ℕ) → has_number v (get_or sweep.queue sweep.level []) ≡ true → get_or half v 0 ≡ sweep.level
-still_here p g x sweep half lifting s is listed v waits =
+pub still_here : (p : Profile) (g : GraphShape) (x : List ℕ) (sweep : Sweeping) (half : List ℕ) (most : ℕ) → IsSweeping p g x sweep → half ≡ all_at sweep.levels (filter (is_over sweep.counts most) sweep.rising) (sweep.level + 1) → (v : ℕ) → has_number v (get_or sweep.queue sweep.level []) ≡ true → get_or half v 0 ≡ sweep.level
+still_here p g x sweep half most s is v waits =
     let vertex : v < g.vertices = s.waiting.vertex sweep.level v waits in
     let before : get_or x v 0 ≡ sweep.level = s.waiting.level sweep.level v (omega arith) waits in
-    let none : has_number v lifting ≡ false = elim (cases_Bool (has_number v lifting)) [
+    let none : has_number v (filter (is_over sweep.counts most) sweep.rising) ≡ false = elim (cases_Bool (has_number v (filter (is_over sweep.counts most) sweep.rising))) [
       | inr gone ↦ gone
-      | inl there ↦ absurd (omega (arith, before, (s.came v (listed v there)).2))
+      | inl there ↦ absurd (omega (arith, before, (s.came v (first_of _ _ (sym (has_number-filter v (is_over sweep.counts most) sweep.rising) ∙ there))).2))
     ] in
     let here : get_or sweep.levels v 0 ≡ sweep.level = elim (cases_lt sweep.level (get_or sweep.levels v 0)) [ inl lt ↦ s.still v lt ∙ before | inr ge ↦ omega (arith, ge, before, s.under v vertex) ] in
-    ap (λ t. get_or t v 0) is ∙ all_at_other sweep.levels lifting (sweep.level + 1) v none ∙ here
-
-pub going_distinct : (up c : List ℕ) (most : ℕ) (asked rising : List ℕ) → up ≡ filter (is_over c most) asked → asked ≡ rising → AreDistinct rising → AreDistinct up
-going_distinct up c most asked rising f1 f2 once = subst AreDistinct (sym (f1 ∙ ap (filter (is_over c most)) f2)) (distinct_filter (is_over c most) rising once)
-
-pub going_kept : (up c : List ℕ) (most : ℕ) (asked rising : List ℕ) → up ≡ filter (is_over c most) asked → asked ≡ rising → up ≡ filter (is_over c most) rising
-going_kept up c most asked rising f1 f2 = f1 ∙ ap (filter (is_over c most)) f2
+    ap (λ t. get_or t v 0) is ∙ all_at_other sweep.levels (filter (is_over sweep.counts most) sweep.rising) (sweep.level + 1) v none ∙ here

@@ -2,6 +2,8 @@
 pub mod BucketQueue
 pub mod Counting
 pub mod Meetings
+pub mod Rising
 pub mod Round
 pub mod Sweeping
 pub mod Together
+pub mod Watched

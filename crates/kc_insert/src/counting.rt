@@ -9,11 +9,14 @@ ghost use Rattle.kc_graph.specs.Numbers.{has_number};
 ghost use Rattle.kc_graph.specs.Shape.{IsGraph, neighbours_of, has_edge};
 ghost use Rattle.kc_levels.specs.Following.{AreDistinct};
 ghost use Rattle.kc_insert.specs.private.Meetings.{AreApart, AreMeetings};
+ghost use Rattle.kc_insert.specs.private.Rising.{seen};
+ghost use Rattle.kc_insert.specs.private.Watched.{StayWatched};
 ghost use Rattle.kc_insert.specs.private.Counting.{goes_on, is_next, stays_on, AreSeen, sees_met, sees_listed, sees_arrived, sees_unlisted, steps_on, settled_at, degrees, stood_above, MeetOn, IsNoting, AreLess, AreBeginners, HasBegun, HaveBegun, meetings_on};
 
 use crate::meetings::Meeting;
+use crate::rising::RisingLevels;
+use crate::watched::WatchedCounts;
 use kc_adj::{LevelAdj, LevelLists, Steps};
-use kc_levels::Levels;
 use kc_rounds::{Gate, RoundGather, Rounds};
 use std::alloc::{AllocError, Global};
 use std::sync::ledger::Ledger;
@@ -23,7 +26,7 @@ use std::thread::Threads;
 #[derive(Drop)]
 pub struct Counted {
     /// For each vertex, how many of its neighbours are on its level or above.
-    pub counts: Vec<u32>,
+    pub watched: WatchedCounts,
     /// Those who may have to rise from the level on which they stood before.
     pub queue: LevelLists<u32>,
 }
@@ -34,92 +37,72 @@ pub struct Step<'a> {
     /// The graph, where those who are still rising stand on their old levels.
     pub adj: &'a LevelAdj,
     /// The levels after the step.
-    pub levels: &'a Levels,
+    pub levels: &'a RisingLevels,
     /// The level that the step is from.
     pub level: u16,
     /// How many neighbours a vertex may count on the next level.
     pub most: u32,
 }
 
-/// For each meeting on the level: where the riser goes on and the other stays, the riser counts one less.
+/// For each meeting on the level: where the riser goes on and the other stays, the riser counts one less. Fails only if memory runs
+/// out.
 pub fn leave_behind(
     adj: &LevelAdj,
-    levels: &Levels,
-    counts: &mut Vec<u32>,
+    levels: &RisingLevels,
+    watched: &mut WatchedCounts,
     level: u16,
     meetings: &[Meeting],
-)
+) -> Result<(), AllocError>
     requires small { level < 65535 }
     requires graph { IsGraph adj.now.graph }
-    requires sized { length levels.now ≡ adj.now.graph.vertices }
+    requires sized { length (seen levels.now) ≡ adj.now.graph.vertices }
     requires meet { MeetOn adj.now.graph adj.now.levels level meetings.now }
     requires apart { AreApart meetings.now }
-    requires met { AreSeen adj.now.graph (goes_on adj.now.levels levels.now level) (sees_met adj.now.levels levels.now level meetings.now) counts.old.items counts.old.items }
-    ensures { AreSeen adj.now.graph (goes_on adj.now.levels levels.now level) (sees_met adj.now.levels levels.now level []) counts.old.items counts.new.items }
+    requires met { AreSeen adj.now.graph (goes_on adj.now.levels (seen levels.now) level) (sees_met adj.now.levels (seen levels.now) level meetings.now) watched.old.counts.items watched.old.counts.items }
+    ensures seen { OnOk result (AreSeen adj.now.graph (goes_on adj.now.levels (seen levels.now) level) (sees_met adj.now.levels (seen levels.now) level []) watched.old.counts.items watched.new.counts.items) }
+    ensures watched { OnOk result (StayWatched watched.old watched.new) }
 {
     for m in meetings {
         if levels.get(m.riser) == level + 1 && levels.get(m.other) == level {
-            counts[m.riser as usize] -= 1;
+            watched.lessen(m.riser)?;
         }
     }
+    Ok(())
 }
 
 // Whether the vertex went on from the level to the next.
-fn goes_on(adj: &LevelAdj, levels: &Levels, level: u16, v: u32) -> bool
+fn goes_on(adj: &LevelAdj, levels: &RisingLevels, level: u16, v: u32) -> bool
     requires small { level < 65535 }
-    requires sized { length levels.now ≡ adj.now.graph.vertices }
+    requires sized { length (seen levels.now) ≡ adj.now.graph.vertices }
     requires vertex { v < adj.now.graph.vertices }
-    ensures { result ≡ goes_on adj.now.levels levels.now level v }
+    ensures { result ≡ goes_on adj.now.levels (seen levels.now) level v }
 {
     levels.get(v) == level + 1 && adj.level(v) < level
 }
 
-// The neighbours of v that go on count it no more, as it stays on the level.
+// The neighbours of v that go on count it no more, as it stays on the level. Fails only if memory runs out.
 fn part_from<L: Ledger>(
     adj: &LevelAdj,
-    levels: &Levels,
-    counts: &mut Vec<u32>,
+    levels: &RisingLevels,
+    watched: &mut WatchedCounts,
     level: u16,
     v: u32,
     steps: &mut Steps<L>,
-)
+) -> Result<(), AllocError>
     requires small { level < 65535 }
-    requires sized { length levels.now ≡ adj.now.graph.vertices }
-    requires counts { length counts.old.items ≡ adj.now.graph.vertices }
+    requires sized { length (seen levels.now) ≡ adj.now.graph.vertices }
+    requires counts { length watched.old.counts.items ≡ adj.now.graph.vertices }
     requires vertex { v < adj.now.graph.vertices }
-    requires some { (u : ℕ) → goes_on adj.now.levels levels.now level u ≡ true → has_number u (neighbours_of v adj.now.graph.edges) ≡ true → 1 ≤ slice_index counts.old.items u }
-    ensures less { AreLess adj.now.graph (goes_on adj.now.levels levels.now level) v counts.old.items counts.new.items }
-    ensures cost { steps.new ≡ steps.old + length (neighbours_of v adj.now.graph.edges) }
+    requires some { (u : ℕ) → goes_on adj.now.levels (seen levels.now) level u ≡ true → has_number u (neighbours_of v adj.now.graph.edges) ≡ true → 1 ≤ slice_index watched.old.counts.items u }
+    ensures less { OnOk result (AreLess adj.now.graph (goes_on adj.now.levels (seen levels.now) level) v watched.old.counts.items watched.new.counts.items) }
+    ensures cost { OnOk result (steps.new ≡ steps.old + length (neighbours_of v adj.now.graph.edges)) }
+    ensures watched { OnOk result (StayWatched watched.old watched.new) }
 {
     let _n = adj.graph().vertices();
     for u in adj.graph().neighbours(v) {
         steps.tick();
         if goes_on(adj, levels, level, *u) {
-            counts[*u as usize] -= 1;
-        }
-    }
-}
-
-/// Fills `stay` anew with those of the risers who stay on the level, in order; they are so many. Where they are none, no riser is
-/// looked at. Fails only if memory runs out.
-pub fn who_stay(
-    levels: &Levels,
-    level: u16,
-    risers: &[u32],
-    many: usize,
-    stay: &mut Vec<u32>,
-) -> Result<(), AllocError>
-    requires inside { (v : ℕ) → has_number v risers.now ≡ true → v < length levels.now }
-    requires many { many ≡ length (filter (stays_on levels.now level) risers.now) }
-    ensures { OnOk result (stay.new.items ≡ filter (stays_on levels.now level) risers.now) }
-{
-    stay.clear();
-    if many == 0 {
-        return Ok(());
-    }
-    for v in risers {
-        if levels.get(*v) == level {
-            stay.push(*v)?;
+            watched.lessen(*u)?;
         }
     }
     Ok(())
@@ -128,48 +111,51 @@ pub fn who_stay(
 /// Those in the list had come to the level and stay on it: each is counted no more by those who go on, and is put on the level in
 /// the graph.
 ///
-/// Two passes over the neighbours of each.
+/// Two passes over the neighbours of each. Fails only if memory runs out.
 pub fn part<L: Ledger>(
     adj: &mut LevelAdj,
-    levels: &Levels,
-    counts: &mut Vec<u32>,
+    levels: &RisingLevels,
+    watched: &mut WatchedCounts,
     level: u16,
     stay: &[u32],
     steps: &mut Steps<L>,
-)
+) -> Result<(), AllocError>
     requires small { level < 65535 }
-    requires sized { length levels.now ≡ adj.old.graph.vertices }
+    requires sized { length (seen levels.now) ≡ adj.old.graph.vertices }
     requires vertices { (v : ℕ) → has_number v stay.now ≡ true → v < adj.old.graph.vertices }
     requires below { (v : ℕ) → has_number v stay.now ≡ true → slice_index adj.old.levels v ≤ level }
-    requires here { (v : ℕ) → has_number v stay.now ≡ true → slice_index levels.now v ≡ level }
+    requires here { (v : ℕ) → has_number v stay.now ≡ true → slice_index (seen levels.now) v ≡ level }
     requires distinct { AreDistinct stay.now }
-    requires listed { AreSeen adj.old.graph (goes_on adj.old.levels levels.now level) (sees_listed levels.now level stay.now) counts.old.items counts.old.items }
-    ensures seen { AreSeen adj.old.graph (goes_on adj.old.levels levels.now level) (sees_listed levels.now level []) counts.old.items counts.new.items }
-    ensures settled { adj.new ≡ record adj.old { levels = settled_at adj.old.levels levels.now level stay.now } }
-    ensures cost { steps.new ≡ steps.old + steps_on adj.old.graph levels.now level stay.now }
+    requires listed { AreSeen adj.old.graph (goes_on adj.old.levels (seen levels.now) level) (sees_listed (seen levels.now) level stay.now) watched.old.counts.items watched.old.counts.items }
+    ensures seen { OnOk result (AreSeen adj.old.graph (goes_on adj.old.levels (seen levels.now) level) (sees_listed (seen levels.now) level []) watched.old.counts.items watched.new.counts.items) }
+    ensures settled { OnOk result (adj.new ≡ record adj.old { levels = settled_at adj.old.levels (seen levels.now) level stay.now }) }
+    ensures cost { OnOk result (steps.new ≡ steps.old + steps_on adj.old.graph (seen levels.now) level stay.now) }
+    ensures watched { OnOk result (StayWatched watched.old watched.new) }
 {
     let _n = adj.graph().vertices();
     let _levels = adj.levels();
     for i in 0..stay.len() {
         let v = adj.graph().in_turn(stay, i);
-        part_from(adj, levels, counts, level, v, steps);
+        part_from(adj, levels, watched, level, v, steps)?;
         adj.lift(v, level, steps);
     }
+    Ok(())
 }
 
 // w counts one more, and waits on its level where it now has one more than `most`.
 fn meet(counted: &mut Counted, level: u16, most: u32, w: u32) -> Result<(), AllocError>
-    requires vertex { w < length counted.old.counts.items }
-    requires small { slice_index counted.old.counts.items w < 2 ^ 31 }
+    requires vertex { w < length counted.old.watched.counts.items }
+    requires small { slice_index counted.old.watched.counts.items w < 2 ^ 31 }
     requires room { level < length counted.old.queue }
-    ensures counts { OnOk result (counted.new.counts.items ≡ slice_set counted.old.counts.items w (slice_index counted.old.counts.items w + 1)) }
-    ensures queue { OnOk result (counted.new.queue ≡ cond (slice_index counted.old.counts.items w == most) (slice_set counted.old.queue level (slice_index_or counted.old.queue level [] ++ w ∷ [])) counted.old.queue) }
+    ensures counts { OnOk result (counted.new.watched.counts.items ≡ slice_set counted.old.watched.counts.items w (slice_index counted.old.watched.counts.items w + 1)) }
+    ensures queue { OnOk result (counted.new.queue ≡ cond (slice_index counted.old.watched.counts.items w == most) (slice_set counted.old.queue level (slice_index_or counted.old.queue level [] ++ w ∷ [])) counted.old.queue) }
+    ensures watched { OnOk result (StayWatched counted.old.watched counted.new.watched) }
 {
-    let count = counted.counts[w as usize];
+    let count = counted.watched.counts[w as usize];
     if count == most {
         counted.queue.file(level, w)?;
     }
-    counted.counts[w as usize] = count + 1;
+    counted.watched.increase(w);
     Ok(())
 }
 
@@ -177,15 +163,16 @@ fn meet(counted: &mut Counted, level: u16, most: u32, w: u32) -> Result<(), Allo
 /// it may.
 pub fn come_up(step: &Step, counted: &mut Counted, meetings: &[Meeting]) -> Result<(), AllocError>
     requires small { step.now.level < 65535 }
-    requires sized { length step.now.levels.now ≡ step.now.adj.now.graph.vertices }
+    requires sized { length (seen step.now.levels.now) ≡ step.now.adj.now.graph.vertices }
     requires room { step.now.level + 1 < length counted.old.queue }
     requires meet { MeetOn step.now.adj.now.graph step.now.adj.now.levels (step.now.level + 1) meetings.now }
-    requires before { (v w : ℕ) → has_edge (v, w) meetings.now ≡ true → slice_index step.now.levels.now v ≡ step.now.level + 1 → slice_index step.now.adj.now.levels v < step.now.level }
+    requires before { (v w : ℕ) → has_edge (v, w) meetings.now ≡ true → slice_index (seen step.now.levels.now) v ≡ step.now.level + 1 → slice_index step.now.adj.now.levels v < step.now.level }
     requires apart { AreApart meetings.now }
-    requires met { AreSeen step.now.adj.now.graph (is_next step.now.adj.now.levels step.now.level) (sees_arrived step.now.adj.now.levels step.now.levels.now step.now.level meetings.now) counted.old.counts.items counted.old.counts.items }
-    requires noting { IsNoting step.now.adj.now.graph.vertices step.now.adj.now.levels (step.now.level + 1) step.now.most counted.old.counts.items counted.old.queue counted.old.queue }
-    ensures seen { OnOk result (AreSeen step.now.adj.now.graph (is_next step.now.adj.now.levels step.now.level) (sees_arrived step.now.adj.now.levels step.now.levels.now step.now.level []) counted.old.counts.items counted.new.counts.items) }
-    ensures noting { OnOk result (IsNoting step.now.adj.now.graph.vertices step.now.adj.now.levels (step.now.level + 1) step.now.most counted.new.counts.items counted.old.queue counted.new.queue) }
+    requires met { AreSeen step.now.adj.now.graph (is_next step.now.adj.now.levels step.now.level) (sees_arrived step.now.adj.now.levels (seen step.now.levels.now) step.now.level meetings.now) counted.old.watched.counts.items counted.old.watched.counts.items }
+    requires noting { IsNoting step.now.adj.now.graph.vertices step.now.adj.now.levels (step.now.level + 1) step.now.most counted.old.watched.counts.items counted.old.queue counted.old.queue }
+    ensures seen { OnOk result (AreSeen step.now.adj.now.graph (is_next step.now.adj.now.levels step.now.level) (sees_arrived step.now.adj.now.levels (seen step.now.levels.now) step.now.level []) counted.old.watched.counts.items counted.new.watched.counts.items) }
+    ensures noting { OnOk result (IsNoting step.now.adj.now.graph.vertices step.now.adj.now.levels (step.now.level + 1) step.now.most counted.new.watched.counts.items counted.old.queue counted.new.queue) }
+    ensures watched { OnOk result (StayWatched counted.old.watched counted.new.watched) }
 {
     let _n = step.adj.graph().vertices();
     let levels = step.levels;
@@ -205,12 +192,13 @@ impl RoundGather for Step<'_> {
     ghost use Rattle.std.specs.Prelude.{◌≡◌, ◌+◌, ◌<◌, length};
     ghost use Rattle.kc_levels.specs.LevelList.{at_least};
     ghost use Rattle.kc_insert.specs.private.Counting.{stood_above};
+    ghost use Rattle.kc_insert.specs.private.Rising.{seen};
 
-    ghost number = { λ step v. at_least step.adj.now.graph step.levels.now v (step.level + 1) };
+    ghost number = { λ step v. at_least step.adj.now.graph (seen step.levels.now) v (step.level + 1) };
 
     ghost finds = { λ step v. stood_above step.adj.now.graph step.adj.now.levels step.level v };
 
-    ghost may_gather = { λ step v. (v < step.adj.now.graph.vertices) × (length step.levels.now ≡ step.adj.now.graph.vertices) };
+    ghost may_gather = { λ step v. (v < step.adj.now.graph.vertices) × (length (seen step.levels.now) ≡ step.adj.now.graph.vertices) × (step.level < step.levels.now.level) × (step.level < 65535) };
 
     fn room(&self, v: u32) -> usize {
         let graph = self.adj.graph();
@@ -224,7 +212,7 @@ impl RoundGather for Step<'_> {
     fn gather(&self, v: u32, found: &mut Vec<u32>) -> Result<u32, AllocError> {
         let _n = self.adj.graph().vertices();
         let level = self.level;
-        let now = self.levels.as_slice();
+        let now = self.levels.stored.as_slice();
         let before = self.adj.levels().as_slice();
         let mut above = 0;
         for w in self.adj.graph().neighbours(v) {
@@ -248,17 +236,18 @@ fn begin_one(
     above: &[u32],
 ) -> Result<(), AllocError>
     requires small { step.now.level < 65535 }
-    requires counts { length counted.old.counts.items ≡ step.now.adj.now.graph.vertices }
-    requires few { (u : ℕ) → u < step.now.adj.now.graph.vertices → slice_index step.now.adj.now.levels u ≡ step.now.level + 1 → slice_index counted.old.counts.items u < step.now.adj.now.graph.vertices }
+    requires counts { length counted.old.watched.counts.items ≡ step.now.adj.now.graph.vertices }
+    requires few { (u : ℕ) → u < step.now.adj.now.graph.vertices → slice_index step.now.adj.now.levels u ≡ step.now.level + 1 → slice_index counted.old.watched.counts.items u < step.now.adj.now.graph.vertices }
     requires begins { (v < step.now.adj.now.graph.vertices) × (slice_index step.now.adj.now.levels v ≡ step.now.level) }
     requires above { above.now ≡ stood_above step.now.adj.now.graph step.now.adj.now.levels step.now.level v }
     requires room { step.now.level + 1 < length counted.old.queue }
     requires places { (u : ℕ) → u < step.now.adj.now.graph.vertices → slice_index step.now.adj.now.levels u < length meetings.old }
-    requires noting { IsNoting step.now.adj.now.graph.vertices step.now.adj.now.levels (step.now.level + 1) step.now.most counted.old.counts.items counted.old.queue counted.old.queue }
-    ensures begun { OnOk result (HasBegun step.now.adj.now.graph step.now.adj.now.levels step.now.level v own counted.old.counts.items counted.new.counts.items) }
-    ensures noting { OnOk result (IsNoting step.now.adj.now.graph.vertices step.now.adj.now.levels (step.now.level + 1) step.now.most counted.new.counts.items counted.old.queue counted.new.queue) }
+    requires noting { IsNoting step.now.adj.now.graph.vertices step.now.adj.now.levels (step.now.level + 1) step.now.most counted.old.watched.counts.items counted.old.queue counted.old.queue }
+    ensures begun { OnOk result (HasBegun step.now.adj.now.graph step.now.adj.now.levels step.now.level v own counted.old.watched.counts.items counted.new.watched.counts.items) }
+    ensures noting { OnOk result (IsNoting step.now.adj.now.graph.vertices step.now.adj.now.levels (step.now.level + 1) step.now.most counted.new.watched.counts.items counted.old.queue counted.new.queue) }
     ensures places { OnOk result (length meetings.new ≡ length meetings.old) }
     ensures meetings { OnOk result ((k : ℕ) → slice_index_or meetings.new k [] ≡ slice_index_or meetings.old k [] ++ meetings_on step.now.adj.now.graph step.now.adj.now.levels step.now.level v k (neighbours_of v step.now.adj.now.graph.edges)) }
+    ensures watched { OnOk result (StayWatched counted.old.watched counted.new.watched) }
 {
     let adj = step.adj;
     let next = step.level + 1;
@@ -277,7 +266,7 @@ fn begin_one(
             },
         )?;
     }
-    counted.counts[v as usize] = own;
+    counted.watched.put(v, own)?;
     Ok(())
 }
 
@@ -303,17 +292,19 @@ pub fn begin<R: Threads + Sync, G: Gate + Sync, L: Ledger>(
     steps: &mut Steps<L>,
 ) -> Result<(), AllocError>
     requires small { step.now.level < 65535 }
-    requires sized { length step.now.levels.now ≡ step.now.adj.now.graph.vertices }
-    requires risers { AreBeginners step.now.adj.now.graph.vertices step.now.adj.now.levels step.now.levels.now step.now.level risers.now }
+    requires at { step.now.level < step.now.levels.now.level }
+    requires sized { length (seen step.now.levels.now) ≡ step.now.adj.now.graph.vertices }
+    requires risers { AreBeginners step.now.adj.now.graph.vertices step.now.adj.now.levels (seen step.now.levels.now) step.now.level risers.now }
     requires room { step.now.level + 1 < length counted.old.queue }
     requires places { (u : ℕ) → u < step.now.adj.now.graph.vertices → slice_index step.now.adj.now.levels u < length meetings.old }
-    requires unlisted { AreSeen step.now.adj.now.graph (is_next step.now.adj.now.levels step.now.level) (sees_unlisted step.now.levels.now step.now.level risers.now) counted.old.counts.items counted.old.counts.items }
-    requires noting { IsNoting step.now.adj.now.graph.vertices step.now.adj.now.levels (step.now.level + 1) step.now.most counted.old.counts.items counted.old.queue counted.old.queue }
-    ensures begun { OnOk result (HaveBegun step.now.adj.now.graph step.now.adj.now.levels step.now.levels.now step.now.level risers.now counted.old.counts.items counted.new.counts.items) }
-    ensures noting { OnOk result (IsNoting step.now.adj.now.graph.vertices step.now.adj.now.levels (step.now.level + 1) step.now.most counted.new.counts.items counted.old.queue counted.new.queue) }
+    requires unlisted { AreSeen step.now.adj.now.graph (is_next step.now.adj.now.levels step.now.level) (sees_unlisted (seen step.now.levels.now) step.now.level risers.now) counted.old.watched.counts.items counted.old.watched.counts.items }
+    requires noting { IsNoting step.now.adj.now.graph.vertices step.now.adj.now.levels (step.now.level + 1) step.now.most counted.old.watched.counts.items counted.old.queue counted.old.queue }
+    ensures begun { OnOk result (HaveBegun step.now.adj.now.graph step.now.adj.now.levels (seen step.now.levels.now) step.now.level risers.now counted.old.watched.counts.items counted.new.watched.counts.items) }
+    ensures noting { OnOk result (IsNoting step.now.adj.now.graph.vertices step.now.adj.now.levels (step.now.level + 1) step.now.most counted.new.watched.counts.items counted.old.queue counted.new.queue) }
     ensures places { OnOk result (length meetings.new ≡ length meetings.old) }
     ensures meetings { OnOk result ((rises : ℕ → Bool) → AreMeetings step.now.adj.now.graph step.now.adj.now.levels (step.now.level + 1) rises meetings.old → ((v : ℕ) → has_number v risers.now ≡ true → rises v ≡ false) → AreMeetings step.now.adj.now.graph step.now.adj.now.levels (step.now.level + 1) (λ v. rises v || has_number v risers.now) meetings.new) }
     ensures cost { OnOk result (steps.new ≡ steps.old + degrees step.now.adj.now.graph risers.now) }
+    ensures watched { OnOk result (StayWatched counted.old.watched counted.new.watched) }
 {
     let adj = step.adj;
     let _n = adj.graph().vertices();

@@ -37,19 +37,19 @@ pub struct Tally {
 /// it has after the phase and one more (`effort`). A vertex that rises costs at most three passes over its neighbours, however
 /// far it rises: one where it begins to, and two where it stays, of which one puts it on its new level in `adj`.
 ///
-/// Goes through the levels once, from the lowest up, where somebody may have to rise. Each level is a round: those have to rise
-/// from it who count more neighbours there or above than its group allows. Up to as many threads as `rounds` has workers find
-/// them, among those who came up to the level and then among those who stood on it and had an edge come in or a neighbour come
-/// up, and pass over the neighbours of those who begin to rise. The answer doesn't depend on the workers nor on what the gate
+/// Goes through the levels once, from the lowest up, where somebody may have to rise or to stay. Each level is a round: those have
+/// to rise from it who count more neighbours there or above than its group allows. Of those who came up to the level only they are
+/// looked at whose count fell to what the group allows, and all of them where another group begins. Up to as many threads as
+/// `rounds` has workers find those who have to rise among the others, who stood on the level and had an edge come in or a neighbour
+/// come up, and pass over the neighbours of those who begin to rise. The answer doesn't depend on the workers nor on what the gate
 /// does. The first list that isn't empty in the life of `work` is cut into as many pieces as there are workers, or fewer where it
 /// is short, and later short ones into fewer.
 ///
-/// Besides its passes a vertex that rises costs a few looks on each level on its way, and at most three looks, which count no
-/// steps, for each neighbour that stood above it when it began; and those who rose are sorted. Levels where nobody waits or comes
+/// Besides its passes a vertex that rises costs a few looks for each group of levels on its way, and at most three looks, which count
+/// no steps, for each neighbour that stood above it when it began; and those who rose are sorted. Levels where nobody waits or comes
 /// cost a look for 64 of them. So a phase has no pass over the vertices: all depends on the edges and on who rises. Takes memory
-/// for the vertices that wait or rose, their moves, and 8 bytes for each such neighbour; 4 bytes for each of the vertices that had
-/// come to one level and stay there, the most of them on one level; and on one level at a time, 12 bytes for each that begins there
-/// and 4 for each neighbour above it, or twice as much with several workers, room for growth aside.
+/// for the vertices that wait or rose, their moves, and 8 bytes for each such neighbour; and on one level at a time, 12 bytes for each
+/// that begins there and 4 for each neighbour above it, or twice as much with several workers, room for growth aside.
 /// While 8,192 edges or more are linked, 16 bytes for each of them.
 pub fn insert_phase<R: Threads + Sync, G: Gate + Sync, L: Ledger>(
     rounds: &Rounds<R, G>,
@@ -77,16 +77,16 @@ pub fn insert_phase<R: Threads + Sync, G: Gate + Sync, L: Ledger>(
     let _levels = adj.levels();
     let _top = th.top();
     link_edges(alloc, adj, added, steps)?;
-    let sweep = &mut work.sweep;
+    let counted = &mut work.sweep.counted;
     file_ends(
         th,
         adj.levels(),
         adj.own_counts(),
-        &mut sweep.counted.queue,
-        &mut sweep.counted.counts,
+        &mut counted.queue,
+        &mut counted.watched.counts,
         added,
     )?;
-    raise_queued(rounds, alloc, th, adj, sweep, steps)?;
+    raise_queued(rounds, alloc, th, adj, &mut work.sweep, steps)?;
     let moves = work.take_moves(alloc)?;
     Ok(moves)
 }

@@ -3,10 +3,12 @@
 //! [`insert_phase`] is a whole phase, with an [`InsertionWork`] that is kept between phases; [`insert_rounds`] makes one of its own.
 //! `filling` links the edges and files their ends in a queue, by their level. `sweeping` goes through the levels once, from the
 //! lowest up, a round each: those rise to the next who count more neighbours than their level's group allows. It works on copies
-//! of the levels and of one count a vertex, which `copying` keeps equal to those of the graph between phases; `counting` says how
-//! the counts follow, without a pass over a riser's neighbours for each level: a riser and a neighbour above it have one of the
-//! `meetings`, which waits on the neighbour's level. A riser is put on its new level in the graph where it stays. `specs/` has the
-//! definitions: read `Effort`, `BucketQueue`, `Counting`, `Sweeping` and `Working` first.
+//! of the levels and of one count a vertex, which `copying` keeps equal to those of the graph between phases. In `rising` all who
+//! rise are on one level, so that a step puts all of them on the next at once, and `watched` writes down who comes to count few, so
+//! that a round looks at nobody else who came up to its level. `counting` says how the counts follow, without a pass over a riser's
+//! neighbours for each level: a riser and a neighbour above it have one of the `meetings`, which waits on the neighbour's level. A
+//! riser is put on its new level in the graph where it stays. `specs/` has the definitions: read `Effort`, `BucketQueue`, `Counting`,
+//! `Rising`, `Watched`, `Sweeping` and `Working` first.
 #![tactic(auto)]
 
 mod copying;
@@ -14,9 +16,11 @@ mod counting;
 mod filling;
 mod insertion;
 mod meetings;
+mod rising;
 mod sweeping;
 #[cfg(test)]
 mod tests;
+mod watched;
 mod work;
 
 pub use insertion::{Tally, insert_phase, insert_rounds};

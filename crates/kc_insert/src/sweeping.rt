@@ -1,12 +1,12 @@
 // One sweep over the levels, from the lowest up: on each those rise who have more neighbours there or above than their group
 // allows, whether they came up to it or have stood on it before.
 
-ghost use Rattle.std.specs.Prelude.{◌≡◌, ◌+◌, ◌*◌, ◌<◌, ◌≤◌, ℕ, true, List, [], All, IfOk, OnOk, filter, length, replicate, slice_index};
+ghost use Rattle.std.specs.Prelude.{◌≡◌, ◌+◌, ◌*◌, ◌<◌, ◌≤◌, ◌||◌, ℕ, false, true, List, [], All, IfOk, OnOk, filter, length, replicate, slice_index};
 ghost use Rattle.kc_graph.specs.Numbers.{has_number};
 ghost use Rattle.kc_graph.specs.Shape.{GraphShape, IsGraph};
 ghost use Rattle.kc_levels.specs.declared.profile.Profile.{Profile};
 ghost use Rattle.std.specs.Bool.{OnTrue};
-ghost use Rattle.kc_levels.specs.Thresholds.{group_of, top_level};
+ghost use Rattle.kc_levels.specs.Thresholds.{group_of, high, top_level};
 ghost use Rattle.kc_levels.specs.LevelList.{IsBelow, IsCapped, IsRaised};
 ghost use Rattle.kc_levels.specs.Moved.{is_moved};
 ghost use Rattle.kc_adj.specs.LeveledGraph.{IsCounted};
@@ -14,31 +14,31 @@ ghost use Rattle.kc_insert.specs.private.BucketQueue.{IsQueued};
 ghost use Rattle.kc_levels.specs.Following.{AreDistinct};
 ghost use Rattle.kc_insert.specs.private.Counting.{degrees};
 ghost use Rattle.kc_insert.specs.Effort.{effort};
+ghost use Rattle.kc_insert.specs.private.Rising.{rises, seen};
 ghost use Rattle.kc_insert.specs.private.Round.{is_over};
-ghost use Rattle.kc_insert.specs.private.Sweeping.{all_at, IsSweeping, HaveCome};
+ghost use Rattle.kc_insert.specs.private.Sweeping.{all_at, AreKept, HaveCome, IsSweeping, LetStay, sweeping_of};
 ghost use Rattle.kc_insert.specs.private.Together.{IsFree};
 
-use crate::counting::{Counted, Step, begin, come_up, leave_behind, part, who_stay};
+use crate::counting::{Counted, Step, begin, come_up, leave_behind, part};
 use crate::meetings::Meeting;
+use crate::rising::RisingLevels;
+use crate::watched::WatchedCounts;
 use kc_adj::{LevelAdj, LevelLists, Steps};
-use kc_levels::{Levels, Thresholds};
+use kc_levels::Thresholds;
 use kc_rounds::{FirstRound, Gate, RoundTest, Rounds};
 use std::alloc::{AllocError, Global};
-use std::marker::Model;
 use std::sync::ledger::Ledger;
 use std::thread::Threads;
 
-/// How far a sweep has come. Contracts see it as a `Sweeping`.
+/// How far a sweep has come. Contracts see it as a `Sweeping` (`sweeping_of`).
 #[derive(Drop)]
 pub struct Sweep {
-    /// The level that it is at.
-    pub level: u16,
-    /// The levels by now. In the graph a vertex is put on its new level when it stays on it.
-    pub levels: Levels,
+    /// The level that it is at, the levels by now, and who rises. In the graph a vertex is put on its new level when it stays on it.
+    pub levels: RisingLevels,
     /// What each vertex counts, and who waits.
     pub counted: Counted,
-    /// Those who came up to the level that the sweep is at.
-    pub rising: Vec<u32>,
+    /// All who rise, and others who began to rise and stay on a level since.
+    pub began: Vec<u32>,
     /// All who rose.
     pub risen: Vec<u32>,
     /// Whom those who rise are still to meet.
@@ -47,14 +47,6 @@ pub struct Sweep {
     pub stay: Vec<u32>,
     /// Whether no round with candidates has been yet.
     pub first: FirstRound,
-}
-
-impl Model for Sweep {
-    ghost use Rattle.kc_insert.specs.private.Sweeping.{Sweeping};
-
-    ghost Value = { Sweeping };
-
-    ghost view = { λ s. record { level = s.level; levels = s.levels; counts = s.counted.counts.items; rising = s.rising.items; risen = s.risen.items; queue = s.counted.queue; meetings = s.meetings } };
 }
 
 // Tests whether a vertex counts more than `most` neighbours.
@@ -93,35 +85,53 @@ fn movers<R: Threads + Sync, G: Gate + Sync>(
     rounds.movers(first, candidates, &Over { counts, most })
 }
 
-// Puts each of the vertices on the next level.
-fn go_up(levels: &mut Levels, level: u16, vertices: &[u32])
-    requires small { level < 65535 }
-    requires below { (v : ℕ) → has_number v vertices.now ≡ true → v < length levels.old }
-    ensures { levels.new ≡ all_at levels.old vertices.now (level + 1) }
+// Those who rise and of whom it is written down that they count few stay on the level: they rise no more, and `stay` has these
+// alone afterwards. Nobody is written down any more. Fails only if memory runs out.
+fn let_stay(
+    levels: &mut RisingLevels,
+    watched: &mut WatchedCounts,
+    stay: &mut Vec<u32>,
+) -> Result<(), AllocError>
+    requires small { levels.old.level < 65535 }
+    requires inside { (v : ℕ) → has_number v watched.old.doubtful.items ≡ true → (v < length (seen levels.old)) × (v < length watched.old.counts.items) }
+    ensures same { OnOk result ((levels.new.level ≡ levels.old.level) × (seen levels.new ≡ seen levels.old)) }
+    ensures counts { OnOk result (watched.new.counts.items ≡ watched.old.counts.items) }
+    ensures most { OnOk result (watched.new.most ≡ watched.old.most) }
+    ensures nobody { OnOk result (watched.new.doubtful.items ≡ []) }
+    ensures stay { OnOk result (LetStay levels.old watched.old levels.new stay.new.items) }
 {
-    for v in vertices {
-        levels.set(*v, level + 1);
+    stay.clear();
+    for v in &watched.doubtful {
+        if levels.rises(*v) && watched.counts[*v as usize] <= watched.most {
+            levels.settle(*v);
+            stay.push(*v)?;
+        }
     }
+    watched.doubtful.clear();
+    Ok(())
 }
 
-// Puts each of the vertices on the next level, and gives them, each once. All are on this level.
+// Those of the vertices, all on this level, who were there before begin to rise, and are on the next level, where the sweep is. Gives
+// them, each once.
 fn lift_off(
     alloc: Global,
-    levels: &mut Levels,
+    levels: &mut RisingLevels,
     level: u16,
     vertices: &[u32],
 ) -> Result<Vec<u32>, AllocError>
-    requires small { level < 65535 }
-    requires below { (v : ℕ) → has_number v vertices.now ≡ true → v < length levels.old }
-    requires here { (v : ℕ) → has_number v vertices.now ≡ true → slice_index levels.old v ≡ level }
-    ensures levels { IfOk result (λ r. levels.new ≡ all_at levels.old r.items (level + 1)) }
+    requires at { levels.old.level ≡ level + 1 }
+    requires below { (v : ℕ) → has_number v vertices.now ≡ true → v < length (seen levels.old) }
+    requires here { (v : ℕ) → has_number v vertices.now ≡ true → slice_index (seen levels.old) v ≡ level }
+    ensures at { IfOk result (λ r. levels.new.level ≡ levels.old.level) }
+    ensures levels { IfOk result (λ r. seen levels.new ≡ all_at (seen levels.old) r.items (level + 1)) }
+    ensures rises { IfOk result (λ r. (v : ℕ) → rises levels.new v ≡ (rises levels.old v || has_number v r.items)) }
     ensures same { IfOk result (λ r. (v : ℕ) → has_number v r.items ≡ has_number v vertices.now) }
     ensures distinct { IfOk result (λ r. AreDistinct r.items) }
 {
     let mut lifted = Vec::with_capacity(alloc, vertices.len())?;
     for v in vertices {
         if levels.get(*v) == level {
-            levels.set(*v, level + 1);
+            levels.begin(*v);
             lifted.push(*v)?;
         }
     }
@@ -140,14 +150,14 @@ fn lesser(a: u16, b: u16) -> u16
 // The furthest level below the top up to which those who came to the level of the sweep may rise together: on the levels on the way
 // nobody waits or is to be met. That level itself where there is none beyond it.
 fn free_level(th: &Thresholds, sweep: &Sweep) -> u16
-    requires room { sweep.now.level < top_level th.now.profile th.now.vertices }
-    requires waiting { sweep.now.level ≤ length sweep.now.queue }
-    requires met { sweep.now.level ≤ length sweep.now.meetings }
-    ensures from { sweep.now.level ≤ result }
+    requires room { sweep.now.levels.level < top_level th.now.profile th.now.vertices }
+    requires waiting { sweep.now.levels.level ≤ length sweep.now.counted.queue }
+    requires met { sweep.now.levels.level ≤ length sweep.now.meetings }
+    ensures from { sweep.now.levels.level ≤ result }
     ensures inside { result < top_level th.now.profile th.now.vertices }
-    ensures free { sweep.now.level < result → IsFree sweep.now.level result sweep.now.queue sweep.now.meetings }
+    ensures free { sweep.now.levels.level < result → IsFree sweep.now.levels.level result sweep.now.counted.queue sweep.now.meetings }
 {
-    let level = sweep.level;
+    let level = sweep.levels.level;
     let met = sweep.meetings.next(level);
     if met == level {
         return level;
@@ -181,46 +191,67 @@ fn end_of_group(th: &Thresholds, level: u16, limit: u16) -> u16
     last + 1
 }
 
-// Whether each of the vertices counts more than `most` neighbours.
-fn are_over(counts: &Vec<u32>, most: u32, vertices: &[u32]) -> bool
-    requires inside { (v : ℕ) → has_number v vertices.now ≡ true → v < length counts.now.items }
-    ensures { OnTrue result ((v : ℕ) → has_number v vertices.now ≡ true → most < slice_index counts.now.items v) }
+// Those of the vertices who rise, in order: `rising` has these alone afterwards. Fails only if memory runs out.
+fn who_rises(levels: &RisingLevels, began: &[u32], rising: &mut Vec<u32>) -> Result<(), AllocError>
+    requires inside { (v : ℕ) → has_number v began.now ≡ true → v < length (seen levels.now) }
+    ensures { OnOk result (rising.new.items ≡ filter (rises levels.now) began.now) }
 {
-    for v in vertices {
-        if counts[*v as usize] <= most {
-            return false;
+    rising.clear();
+    for v in began {
+        if levels.rises(*v) {
+            rising.push(*v)?;
         }
     }
-    true
+    Ok(())
 }
 
-// Goes on to the furthest level to which all of those who came to the level of the sweep rise with nobody to look at on the way, and
-// puts them there; stays where there is none.
+// Where another number of neighbours is few on the level of the sweep than by now, looks anew at all who rise. Fails only if memory
+// runs out.
+fn look_anew(th: &Thresholds, sweep: &mut Sweep) -> Result<(), AllocError>
+    requires room { sweep.old.levels.level < top_level th.now.profile th.now.vertices }
+    requires sized { length (seen sweep.old.levels) ≡ length sweep.old.counted.watched.counts.items }
+    requires inside { (v : ℕ) → has_number v sweep.old.began.items ≡ true → v < length (seen sweep.old.levels) }
+    requires kept { AreKept sweep.old }
+    ensures same { OnOk result (sweeping_of sweep.new ≡ sweeping_of sweep.old) }
+    ensures kept { OnOk result (AreKept sweep.new) }
+    ensures most { OnOk result (sweep.new.counted.watched.most ≡ high th.now.profile (group_of th.now.profile th.now.vertices sweep.new.levels.level)) }
+{
+    let most = th.high(th.group(sweep.levels.level));
+    if most == sweep.counted.watched.most {
+        return Ok(());
+    }
+    who_rises(&sweep.levels, &sweep.began, &mut sweep.stay)?;
+    std::mem::swap(&mut sweep.began, &mut sweep.stay);
+    sweep.counted.watched.watch(most, &sweep.began)?;
+    Ok(())
+}
+
+// Where nobody who rises counts few, and nobody is to look at on the way, goes on to the furthest level to which all rise at once.
+// Gives whether there is one.
 //
 // They count each other on each of the levels, and all others whom they count are above: so no count changes, and in a group each
 // of them goes on where all went on before.
-fn rise_together(th: &Thresholds, adj: &LevelAdj, sweep: &mut Sweep)
+fn rise_together(th: &Thresholds, adj: &LevelAdj, sweep: &mut Sweep) -> bool
     requires scale { th.now.vertices ≡ adj.now.graph.vertices }
     requires graph { IsGraph adj.now.graph }
-    requires room { sweep.old.level < top_level th.now.profile th.now.vertices }
-    requires sweeping { IsSweeping th.now.profile adj.now.graph adj.now.levels sweep.old }
-    ensures from { sweep.old.level ≤ sweep.new.level }
-    ensures inside { sweep.new.level < top_level th.now.profile th.now.vertices }
-    ensures sweeping { IsSweeping th.now.profile adj.now.graph adj.now.levels sweep.new }
-    ensures come { (x : _) → (s t : ℕ) → HaveCome th.now.profile adj.now.graph x adj.now.levels sweep.old s t → HaveCome th.now.profile adj.now.graph x adj.now.levels sweep.new s t }
+    requires room { sweep.old.levels.level < top_level th.now.profile th.now.vertices }
+    requires sweeping { IsSweeping th.now.profile adj.now.graph adj.now.levels (sweeping_of sweep.old) }
+    requires kept { AreKept sweep.old }
+    requires most { sweep.old.counted.watched.most ≡ high th.now.profile (group_of th.now.profile th.now.vertices sweep.old.levels.level) }
+    ensures stays { result ≡ false → sweep.new ≡ sweep.old }
+    ensures goes { OnTrue result (sweep.old.levels.level < sweep.new.levels.level) }
+    ensures inside { sweep.new.levels.level < top_level th.now.profile th.now.vertices }
+    ensures sweeping { IsSweeping th.now.profile adj.now.graph adj.now.levels (sweeping_of sweep.new) }
+    ensures come { (x : _) → (s t : ℕ) → HaveCome th.now.profile adj.now.graph x adj.now.levels (sweeping_of sweep.old) s t → HaveCome th.now.profile adj.now.graph x adj.now.levels (sweeping_of sweep.new) s t }
+    ensures kept { AreKept sweep.new }
 {
-    let level = sweep.level;
     let limit = free_level(th, sweep);
-    if limit == level {
-        return;
+    let level = sweep.levels.level;
+    if limit == level || !sweep.counted.watched.doubtful.is_empty() {
+        return false;
     }
-    let most = th.high(th.group(level));
-    if !are_over(&sweep.counted.counts, most, &sweep.rising) {
-        return;
-    }
-    let to = end_of_group(th, level, limit);
-    go_up(&mut sweep.levels, to - 1, &sweep.rising);
-    sweep.level = to;
+    sweep.levels.go_to(end_of_group(th, level, limit));
+    true
 }
 
 // The round of the level that the sweep is at: those of it who count more than their group allows rise to the next, which the sweep
@@ -239,41 +270,43 @@ fn raise_level<R: Threads + Sync, G: Gate + Sync, L: Ledger>(
 ) -> Result<(), AllocError>
     requires scale { th.now.vertices ≡ adj.old.graph.vertices }
     requires graph { IsGraph adj.old.graph }
-    requires room { sweep.old.level < top_level th.now.profile th.now.vertices }
-    requires sweeping { IsSweeping th.now.profile adj.old.graph adj.old.levels sweep.old }
+    requires room { sweep.old.levels.level < top_level th.now.profile th.now.vertices }
+    requires sweeping { IsSweeping th.now.profile adj.old.graph adj.old.levels (sweeping_of sweep.old) }
+    requires kept { AreKept sweep.old }
+    requires most { sweep.old.counted.watched.most ≡ high th.now.profile (group_of th.now.profile th.now.vertices sweep.old.levels.level) }
     ensures graph { OnOk result (adj.new.graph ≡ adj.old.graph) }
-    ensures level { OnOk result (sweep.new.level ≡ sweep.old.level + 1) }
-    ensures sweeping { OnOk result (IsSweeping th.now.profile adj.old.graph adj.new.levels sweep.new) }
-    ensures come { OnOk result ((x : _) → (s : ℕ) → HaveCome th.now.profile adj.old.graph x adj.old.levels sweep.old s steps.old → HaveCome th.now.profile adj.old.graph x adj.new.levels sweep.new s steps.new) }
+    ensures level { OnOk result (sweep.new.levels.level ≡ sweep.old.levels.level + 1) }
+    ensures sweeping { OnOk result (IsSweeping th.now.profile adj.old.graph adj.new.levels (sweeping_of sweep.new)) }
+    ensures come { OnOk result ((x : _) → (s : ℕ) → HaveCome th.now.profile adj.old.graph x adj.old.levels (sweeping_of sweep.old) s steps.old → HaveCome th.now.profile adj.old.graph x adj.new.levels (sweeping_of sweep.new) s steps.new) }
+    ensures kept { OnOk result (AreKept sweep.new) }
 {
-    let level = sweep.level;
-    let most = th.high(th.group(level));
+    let _top = th.top();
+    let level = sweep.levels.level;
     let above = th.high(th.group(level + 1));
     let counted = &mut sweep.counted;
+    let most = counted.watched.most;
     let waiting = counted.queue.take_all(alloc, level);
-    let mut going = movers(
+    let starting = movers(
         rounds,
         &mut sweep.first,
-        &counted.counts,
+        &counted.watched.counts,
         most,
-        &sweep.rising,
+        &waiting,
     )?;
-    let starting = movers(rounds, &mut sweep.first, &counted.counts, most, &waiting)?;
-    go_up(&mut sweep.levels, level, &going);
+    let_stay(&mut sweep.levels, &mut counted.watched, &mut sweep.stay)?;
+    sweep.levels.go_to(level + 1);
     // Who waits may do so twice, and begins once.
     let mut begun = lift_off(alloc, &mut sweep.levels, level, &starting)?;
     let met = sweep.meetings.take_all(alloc, level);
-    leave_behind(adj, &sweep.levels, &mut counted.counts, level, &met);
-    let many = sweep.rising.len() - going.len();
-    who_stay(&sweep.levels, level, &sweep.rising, many, &mut sweep.stay)?;
+    leave_behind(adj, &sweep.levels, &mut counted.watched, level, &met)?;
     part(
         adj,
         &sweep.levels,
-        &mut counted.counts,
+        &mut counted.watched,
         level,
         &sweep.stay,
         steps,
-    );
+    )?;
     let step = Step {
         adj,
         levels: &sweep.levels,
@@ -283,19 +316,51 @@ fn raise_level<R: Threads + Sync, G: Gate + Sync, L: Ledger>(
     come_up(&step, counted, sweep.meetings.on(level + 1))?;
     begin(rounds, &step, counted, &mut sweep.meetings, &begun, steps)?;
     sweep.risen.extend_from_slice(&begun)?;
-    going.append(&mut begun)?;
-    sweep.rising = going;
-    sweep.level = level + 1;
+    sweep.began.append(&mut begun)?;
+    Ok(())
+}
+
+// Goes on from the level of the sweep: to the furthest to which all who rise do so at once, or by a round to the next.
+fn rise_on<R: Threads + Sync, G: Gate + Sync, L: Ledger>(
+    rounds: &Rounds<R, G>,
+    alloc: Global,
+    th: &Thresholds,
+    adj: &mut LevelAdj,
+    sweep: &mut Sweep,
+    steps: &mut Steps<L>,
+) -> Result<(), AllocError>
+    requires scale { th.now.vertices ≡ adj.old.graph.vertices }
+    requires graph { IsGraph adj.old.graph }
+    requires room { sweep.old.levels.level < top_level th.now.profile th.now.vertices }
+    requires sweeping { IsSweeping th.now.profile adj.old.graph adj.old.levels (sweeping_of sweep.old) }
+    requires kept { AreKept sweep.old }
+    ensures graph { OnOk result (adj.new.graph ≡ adj.old.graph) }
+    ensures level { OnOk result (sweep.old.levels.level < sweep.new.levels.level) }
+    ensures within { OnOk result (sweep.new.levels.level ≤ top_level th.now.profile th.now.vertices) }
+    ensures sweeping { OnOk result (IsSweeping th.now.profile adj.old.graph adj.new.levels (sweeping_of sweep.new)) }
+    ensures come { OnOk result ((x : _) → (s : ℕ) → HaveCome th.now.profile adj.old.graph x adj.old.levels (sweeping_of sweep.old) s steps.old → HaveCome th.now.profile adj.old.graph x adj.new.levels (sweeping_of sweep.new) s steps.new) }
+    ensures kept { OnOk result (AreKept sweep.new) }
+{
+    look_anew(th, sweep)?;
+    if rise_together(th, adj, sweep) {
+        return Ok(());
+    }
+    raise_level(rounds, alloc, th, adj, sweep, steps)?;
     Ok(())
 }
 
 // Puts those who are still rising on their levels in the graph.
-fn lift_all<L: Ledger>(adj: &mut LevelAdj, levels: &Levels, risen: &[u32], steps: &mut Steps<L>)
-    requires sized { length levels.now ≡ adj.old.graph.vertices }
+fn lift_all<L: Ledger>(
+    adj: &mut LevelAdj,
+    levels: &RisingLevels,
+    risen: &[u32],
+    steps: &mut Steps<L>,
+)
+    requires sized { length (seen levels.now) ≡ adj.old.graph.vertices }
     requires vertices { (v : ℕ) → has_number v risen.now ≡ true → v < adj.old.graph.vertices }
-    requires above { IsBelow adj.old.graph.vertices adj.old.levels levels.now }
-    requires all { (v : ℕ) → slice_index adj.old.levels v < slice_index levels.now v → has_number v risen.now ≡ true }
-    ensures value { adj.new ≡ record adj.old { levels = levels.now } }
+    requires above { IsBelow adj.old.graph.vertices adj.old.levels (seen levels.now) }
+    requires all { (v : ℕ) → slice_index adj.old.levels v < slice_index (seen levels.now) v → has_number v risen.now ≡ true }
+    ensures value { adj.new ≡ record adj.old { levels = seen levels.now } }
     ensures cost { steps.new ≡ steps.old + (degrees adj.old.graph risen.now + length risen.now) }
 {
     let _levels = adj.levels();
@@ -305,25 +370,40 @@ fn lift_all<L: Ledger>(adj: &mut LevelAdj, levels: &Levels, risen: &[u32], steps
     }
 }
 
-// Goes on to the first level where somebody may have to rise: stays where somebody came to the level.
-fn go_on(sweep: &mut Sweep)
-    requires { sweep.old.level ≤ length sweep.old.queue }
-    ensures from { sweep.old.level ≤ sweep.new.level }
-    ensures inside { sweep.new.level ≤ length sweep.new.queue }
-    ensures same { sweep.new ≡ record sweep.old { level = sweep.new.level } }
-    ensures sweeping { (p : Profile) (g : GraphShape) (x : List ℕ) → IsSweeping p g x sweep.old → IsSweeping p g x sweep.new }
+// Those who are still rising stay where they are. The list has all of them, each once.
+fn settle_all(levels: &mut RisingLevels, risers: &[u32])
+    requires small { (v : ℕ) → has_number v risers.now ≡ true → levels.old.level < 65535 }
+    requires all { (v : ℕ) → rises levels.old v ≡ has_number v risers.now }
+    requires distinct { AreDistinct risers.now }
+    ensures { levels.new.stored ≡ seen levels.old }
 {
-    if sweep.rising.is_empty() {
-        sweep.level = sweep.counted.queue.next(sweep.level);
+    for v in risers {
+        levels.settle(*v);
+    }
+}
+
+// Goes on to the first level where somebody may have to rise: stays where somebody rises.
+fn go_on(sweep: &mut Sweep)
+    requires kept { AreKept sweep.old }
+    requires within { sweep.old.levels.level ≤ length sweep.old.counted.queue }
+    ensures from { sweep.old.levels.level ≤ sweep.new.levels.level }
+    ensures within { sweep.new.levels.level ≤ length sweep.new.counted.queue }
+    ensures same { sweeping_of sweep.new ≡ record (sweeping_of sweep.old) { level = sweep.new.levels.level } }
+    ensures kept { AreKept sweep.new }
+    ensures sweeping { (p : Profile) (g : GraphShape) (x : List ℕ) → IsSweeping p g x (sweeping_of sweep.old) → IsSweeping p g x (sweeping_of sweep.new) }
+{
+    if sweep.began.is_empty() {
+        let next = sweep.counted.queue.next(sweep.levels.level);
+        sweep.levels.go_to(next);
     }
 }
 
 /// Raises the levels to the raised list, where every vertex that breaks the upper invariant is in the queue, each in the bucket
 /// of its level. The sweep has the levels and the counts of the graph, before and after, and all who rose.
 ///
-/// Goes through the levels once, from the lowest up, where somebody waits or came; each is a round. A vertex that rises costs
-/// three passes over its neighbours, however far it rises, and a few looks at each level on its way. Fails only if memory runs out;
-/// the levels of the graph are then unspecified.
+/// Goes through the levels once, from the lowest up, where somebody waits, is met or stays; each is a round. A vertex that rises costs
+/// three passes over its neighbours, however far it rises, and a few looks for each group of levels on its way. Fails only if memory
+/// runs out; the levels of the graph are then unspecified.
 pub fn raise_queued<R: Threads + Sync, G: Gate + Sync, L: Ledger>(
     rounds: &Rounds<R, G>,
     alloc: Global,
@@ -334,31 +414,33 @@ pub fn raise_queued<R: Threads + Sync, G: Gate + Sync, L: Ledger>(
 ) -> Result<(), AllocError>
     requires scale { th.now.vertices ≡ adj.old.graph.vertices }
     requires capped { IsCapped th.now.profile adj.old.graph.vertices adj.old.levels }
-    requires queued { IsQueued th.now.profile adj.old.graph adj.old.levels sweep.old.queue }
-    requires levels { sweep.old.levels ≡ adj.old.levels }
-    requires counted { IsCounted adj.old.graph adj.old.levels 0 sweep.old.counts }
-    requires nobody { (sweep.old.rising ≡ []) × (sweep.old.risen ≡ []) }
+    requires queued { IsQueued th.now.profile adj.old.graph adj.old.levels sweep.old.counted.queue }
+    requires levels { sweep.old.levels.stored ≡ adj.old.levels }
+    requires counted { IsCounted adj.old.graph adj.old.levels 0 sweep.old.counted.watched.counts.items }
+    requires nobody { (sweep.old.began.items ≡ []) × (sweep.old.risen.items ≡ []) }
     requires meetings { sweep.old.meetings ≡ replicate (top_level th.now.profile th.now.vertices + 1) [] }
     ensures graph { OnOk result (adj.new.graph ≡ adj.old.graph) }
     ensures raised { OnOk result (IsRaised th.now.profile adj.old.graph adj.old.levels adj.new.levels) }
-    ensures levels { OnOk result (sweep.new.levels ≡ adj.new.levels) }
-    ensures counted { OnOk result (IsCounted adj.old.graph adj.new.levels 0 sweep.new.counts) }
-    ensures risen { OnOk result ((v : ℕ) → has_number v sweep.new.risen ≡ is_moved adj.old.levels adj.new.levels v) }
-    ensures once { OnOk result (AreDistinct sweep.new.risen) }
-    ensures buckets { OnOk result (length sweep.new.queue ≡ top_level th.now.profile th.now.vertices + 1) }
+    ensures levels { OnOk result (sweep.new.levels.stored ≡ adj.new.levels) }
+    ensures counted { OnOk result (IsCounted adj.old.graph adj.new.levels 0 sweep.new.counted.watched.counts.items) }
+    ensures risen { OnOk result ((v : ℕ) → has_number v sweep.new.risen.items ≡ is_moved adj.old.levels adj.new.levels v) }
+    ensures once { OnOk result (AreDistinct sweep.new.risen.items) }
+    ensures buckets { OnOk result (length sweep.new.counted.queue ≡ top_level th.now.profile th.now.vertices + 1) }
     ensures places { OnOk result (length sweep.new.meetings ≡ top_level th.now.profile th.now.vertices + 1) }
     ensures cost { OnOk result (steps.new ≤ steps.old + effort adj.old.graph adj.old.levels adj.new.levels adj.old.graph.vertices) }
 {
     let _n = adj.graph().vertices();
     let _levels = adj.levels();
     let top = th.top();
-    sweep.level = 0;
+    sweep.levels.go_to(0);
+    sweep.counted.watched.doubtful.clear();
     go_on(sweep);
-    while sweep.level < top {
-        rise_together(th, adj, sweep);
-        raise_level(rounds, alloc, th, adj, sweep, steps)?;
+    while sweep.levels.level < top {
+        rise_on(rounds, alloc, th, adj, sweep, steps)?;
         go_on(sweep);
     }
-    lift_all(adj, &sweep.levels, &sweep.rising, steps);
+    who_rises(&sweep.levels, &sweep.began, &mut sweep.stay)?;
+    lift_all(adj, &sweep.levels, &sweep.stay, steps);
+    settle_all(&mut sweep.levels, &sweep.stay);
     Ok(())
 }

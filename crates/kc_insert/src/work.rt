@@ -9,7 +9,9 @@ ghost use Rattle.kc_insert.specs.Working.{IsReady};
 
 use crate::copying::{copy_ends, copy_rows};
 use crate::counting::Counted;
+use crate::rising::RisingLevels;
 use crate::sweeping::Sweep;
+use crate::watched::WatchedCounts;
 use kc_adj::{LevelAdj, LevelLists};
 use kc_graph::Edge;
 use kc_levels::{Levels, Moves, Thresholds, moves_of};
@@ -34,7 +36,7 @@ impl Model for InsertionWork {
 
     ghost Value = { Working };
 
-    ghost view = { λ w. record { before = w.before; levels = w.sweep.levels; counts = w.sweep.counts; rising = w.sweep.rising; risen = w.sweep.risen; queue = w.sweep.queue; meetings = w.sweep.meetings } };
+    ghost view = { λ w. record { before = w.before; levels = w.sweep.levels.stored; counts = w.sweep.counted.watched.counts.items; rising = w.sweep.began.items; risen = w.sweep.risen.items; queue = w.sweep.counted.queue; meetings = w.sweep.meetings } };
 }
 
 impl InsertionWork {
@@ -47,13 +49,19 @@ impl InsertionWork {
     {
         Ok(InsertionWork {
             sweep: Sweep {
-                level: 0,
-                levels: adj.levels().copy(alloc)?,
+                levels: RisingLevels {
+                    stored: adj.levels().copy(alloc)?,
+                    level: 0,
+                },
                 counted: Counted {
-                    counts: adj.own_counts().to_vec(alloc)?,
+                    watched: WatchedCounts {
+                        counts: adj.own_counts().to_vec(alloc)?,
+                        most: 0,
+                        doubtful: Vec::new(alloc),
+                    },
                     queue: LevelLists::new(alloc, th.top() + 1)?,
                 },
-                rising: Vec::new(alloc),
+                began: Vec::new(alloc),
                 risen: Vec::new(alloc),
                 meetings: LevelLists::new(alloc, th.top() + 1)?,
                 stay: Vec::new(alloc),
@@ -78,9 +86,8 @@ impl InsertionWork {
         let _levels = adj.levels();
         let fresh = adj.own_counts();
         self.before.follow(moves);
-        let sweep = &mut self.sweep;
-        sweep.levels.follow(moves);
-        let counts = &mut sweep.counted.counts;
+        self.sweep.levels.stored.follow(moves);
+        let counts = &mut self.sweep.counted.watched.counts;
         copy_ends(counts, fresh, removed);
         copy_rows(counts, fresh, adj.graph(), moves.as_slice());
     }
@@ -93,13 +100,17 @@ impl InsertionWork {
         ensures moves { IfOk result (λ moves. moves ≡ moves_between (length self.old.levels) self.old.before self.old.levels) }
         ensures clean { OnOk result (self.new ≡ record self.old { before = self.old.levels; rising = []; risen = []; queue = replicate (length self.old.queue) []; meetings = replicate (length self.old.meetings) [] }) }
     {
-        let sweep = &mut self.sweep;
-        let moves = moves_of(alloc, &self.before, &sweep.levels, &mut sweep.risen)?;
+        let moves = moves_of(
+            alloc,
+            &self.before,
+            &self.sweep.levels.stored,
+            &mut self.sweep.risen,
+        )?;
         self.before.follow(&moves);
-        sweep.rising.clear();
-        sweep.risen.clear();
-        sweep.counted.queue.clear(alloc);
-        sweep.meetings.clear(alloc);
+        self.sweep.began.clear();
+        self.sweep.risen.clear();
+        self.sweep.counted.queue.clear(alloc);
+        self.sweep.meetings.clear(alloc);
         Ok(moves)
     }
 }

@@ -1,5 +1,5 @@
 -- How far a sweep has come, level by level.
-use Rattle.std.specs.Prelude.{ℕ, ◌+◌, ◌*◌, ◌≤◌, ◌<◌, ◌≡◌, ◌⊎◌, true, List, [], ◌∷◌, length, get_or, set}
+use Rattle.std.specs.Prelude.{ℕ, ◌+◌, ◌*◌, ◌≤◌, ◌<◌, ◌≡◌, ◌⊎◌, ◌&&◌, not, true, List, [], ◌∷◌, length, get_or, set, filter}
 use Rattle.kc_graph.specs.Numbers.{has_number}
 use Rattle.kc_graph.specs.Shape.{GraphShape, Pair}
 use Rattle.kc_levels.specs.declared.profile.Profile.{Profile}
@@ -12,6 +12,10 @@ use Rattle.kc_insert.specs.Effort.{effort}
 use Rattle.kc_levels.specs.Following.{AreDistinct}
 use Rattle.kc_insert.specs.private.Meetings.{AreMeetings}
 use Rattle.kc_insert.specs.private.Counting.{degrees, AreWaiting}
+use Rattle.kc_insert.specs.private.Rising.{rises, seen}
+use Rattle.kc_insert.specs.declared.rising.RisingLevels.{RisingLevels}
+use Rattle.kc_insert.specs.declared.sweeping.Sweep.{Sweep}
+use Rattle.kc_insert.specs.declared.watched.WatchedCounts.{WatchedCounts}
 
 -- the list with those of `risers` on the level k
 abbrev pub all_at : List ℕ → List ℕ → ℕ → List ℕ
@@ -28,6 +32,24 @@ pub record Sweeping : Type 0 where
   pub risen : List ℕ
   pub queue : List (List ℕ)
   pub meetings : List (List Pair)
+
+-- what a `Sweep` stands for: who rises is among those who began
+abbrev pub sweeping_of : Sweep → Sweeping
+sweeping_of s = record { level = s.levels.level; levels = seen s.levels; counts = s.counted.watched.counts.items; rising = filter (rises s.levels) s.began.items; risen = s.risen.items; queue = s.counted.queue; meetings = s.meetings }
+
+-- how a `Sweep` keeps who rises: all of them began, all who began rose, and who rises and counts few is written down
+pub record AreKept (s : Sweep) : Type 0 where
+  pub began : (v : ℕ) → rises s.levels v ≡ true → has_number v s.began.items ≡ true
+  pub risen : (v : ℕ) → has_number v s.began.items ≡ true → has_number v s.risen.items ≡ true
+  pub few : (v : ℕ) → rises s.levels v ≡ true → get_or s.counted.watched.counts.items v 0 ≤ s.counted.watched.most → has_number v s.counted.watched.doubtful.items ≡ true
+  pub inside : (v : ℕ) → has_number v s.counted.watched.doubtful.items ≡ true → v < length s.counted.watched.counts.items
+
+-- those in the list, each once, rise no more, since they count few; of those written down who still rises counts more
+pub record LetStay (old : RisingLevels) (watched : WatchedCounts) (new : RisingLevels) (stay : List ℕ) : Type 0 where
+  pub rises_on : (v : ℕ) → rises new v ≡ (rises old v && not (has_number v stay))
+  pub stays : (v : ℕ) → has_number v stay ≡ true → (rises old v ≡ true) × (get_or watched.counts.items v 0 ≤ watched.most)
+  pub over : (v : ℕ) → has_number v watched.doubtful.items ≡ true → rises new v ≡ true → watched.most < get_or watched.counts.items v 0
+  pub distinct : AreDistinct stay
 
 -- v waits on its level, which is that of the sweep or above, or came to the sweep's level, or meets the upper invariant; x are the
 -- levels in the graph

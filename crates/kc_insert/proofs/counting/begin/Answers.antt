@@ -5,12 +5,14 @@ use Rattle.kc_graph.specs.Shape.{neighbours_of}
 use Rattle.kc_graph.proofs.lemmas.Numbers.{has_number_at}
 use Rattle.kc_levels.specs.LevelList.{at_least}
 use Rattle.kc_insert.specs.private.Counting.{stood_above, HasBegun}
+use Rattle.kc_insert.specs.private.Rising.{seen}
 use Rattle.kc_insert.proofs.Starting.{piece_next, piece_within, piece_at, mapped_at}
 use Rattle.kc_insert.proofs.Beginning.{few_unlisted, riser_at, noting_at, degrees_next, are_beginning_next, have_begun, have_filed}
+use Rattle.kc_insert.proofs.Watching.{watched_on}
 use Rattle.kc_insert.proofs.counting.begin.Goals as goal
 
 pub gather-requires-after_bounds : goal.gather-requires-after_bounds
-gather-requires-after_bounds g c κs within k d at = rw (get_or_default_zero c.args.risers.now k d at) (c.requires.risers.vertex _ (has_number_at _ c.args.risers.now k at refl), c.requires.sized)
+gather-requires-after_bounds g c κs within k d at = rw (get_or_default_zero c.args.risers.now k d at) (c.requires.risers.vertex _ (has_number_at _ c.args.risers.now k at refl), c.requires.sized, c.requires.at, c.requires.small)
 
 pub run_of-above-requires : goal.run_of-above-requires
 run_of-above-requires g c =
@@ -58,13 +60,14 @@ loop-i-preserved g c =
     let graph = rw c.graph.ensures at c.vertices-n.ensures.graph in
     let f = stood_above c.args.step.now.adj.now.graph c.args.step.now.adj.now.levels c.args.step.now.level in
     let count : c.index-count.result.now ≡ length (f (get_or c.args.risers.now c.loop-i.i 0)) = mapped_at _ _ _ _ _ c.in_ok-gathered.ensures.lengths c.loop-i-test.true c.index-count.ensures in
-    let own : c.index-own.result.now ≡ at_least c.args.step.now.adj.now.graph c.args.step.now.levels.now (get_or c.args.risers.now c.loop-i.i 0) (c.args.step.now.level + 1) = mapped_at _ _ _ _ _ c.in_ok-gathered.ensures.numbers c.loop-i-test.true c.index-own.ensures in
-    let begun : HasBegun c.args.step.now.adj.now.graph c.args.step.now.adj.now.levels c.args.step.now.level (get_or c.args.risers.now c.loop-i.i 0) (at_least c.args.step.now.adj.now.graph c.args.step.now.levels.now (get_or c.args.risers.now c.loop-i.i 0) (c.args.step.now.level + 1)) c.loop-i.counted.counts.items c.begin_one.new.counted.counts.items = rw (← own) c.in_ok-begin_one.ensures.begun in
+    let own : c.index-own.result.now ≡ at_least c.args.step.now.adj.now.graph (seen c.args.step.now.levels.now) (get_or c.args.risers.now c.loop-i.i 0) (c.args.step.now.level + 1) = mapped_at _ _ _ _ _ c.in_ok-gathered.ensures.numbers c.loop-i-test.true c.index-own.ensures in
+    let begun : HasBegun c.args.step.now.adj.now.graph c.args.step.now.adj.now.levels c.args.step.now.level (get_or c.args.risers.now c.loop-i.i 0) (at_least c.args.step.now.adj.now.graph (seen c.args.step.now.levels.now) (get_or c.args.risers.now c.loop-i.i 0) (c.args.step.now.level + 1)) c.loop-i.counted.watched.counts.items c.begin_one.new.counted.watched.counts.items = rw (← own) c.in_ok-begin_one.ensures.begun in
     let near : length c.neighbours.result.now ≡ length (neighbours_of (get_or c.args.risers.now c.loop-i.i 0) c.args.step.now.adj.now.graph.edges) = ap length (rw c.graph-in-loop-i.ensures at c.neighbours.ensures.value) in (
       are_beginning_next _ _ _ _ _ c.loop-i.i c.args.risers.now _ _ _ _ _ _ graph c.requires.risers c.loop-i-test.true c.loop-i.invariant.0 _ _ _
           begun c.in_ok-begin_one.ensures.noting c.in_ok-begin_one.ensures.places c.in_ok-begin_one.ensures.meetings,
       omega (arith, count, c.loop-i.invariant.1, piece_next f c.args.risers.now c.loop-i.i c.loop-i-test.true),
       omega (arith, c.loop-i.invariant.2, near, c.add.ensures, degrees_next c.args.step.now.adj.now.graph _ _ _ _ c.loop-i.i c.args.risers.now _ _ _ _ _ _ graph c.requires.risers c.loop-i-test.true c.loop-i.invariant.0),
+      watched_on _ _ _ c.loop-i.invariant.3 c.in_ok-begin_one.ensures.watched,
     )
 
 pub returns-clause-begun : goal.returns-clause-begun

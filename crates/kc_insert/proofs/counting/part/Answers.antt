@@ -1,11 +1,13 @@
 use Rattle.std.proofs.Common.{◌+◌, ◌<◌, ◌≡◌, get_or, refl, sym, ◌∙◌, arith}
 use Rattle.kc_graph.proofs.lemmas.Numbers.{has_number_at}
 use Rattle.kc_insert.specs.private.Counting.{steps_on}
+use Rattle.kc_insert.specs.private.Rising.{seen}
 use Rattle.kc_insert.proofs.Parting.{distinct_at, steps_at_on, parted_some_at, parted_on_at, parted_last, steps_last, settling_first, goes_same, less_same, settles_below, settles, settling_last}
+use Rattle.kc_insert.proofs.Watching.{watched_same, watched_on}
 use Rattle.kc_insert.proofs.counting.part.Goals as goal
 
 pub loop-i-init : goal.loop-i-init
-loop-i-init g c = (c.requires.listed, c.requires.distinct, refl, settling_first _ _ _ _ (c.levels-levels.ensures.sized) c.requires.below)
+loop-i-init g c = (c.requires.listed, c.requires.distinct, refl, settling_first _ _ _ _ (c.levels-levels.ensures.sized) c.requires.below, watched_same c.args.watched.now)
 
 pub part_from-requires-clause-vertex : goal.part_from-requires-clause-vertex
 part_from-requires-clause-vertex g c = rw (c.in_turn-v.ensures, c.loop-i.invariant.3.graph) (c.requires.vertices _ (has_number_at _ c.args.stay.now c.loop-i.i (omega arith) refl))
@@ -25,22 +27,23 @@ lift-requires-clause-over g c = rw c.in_turn-v.ensures (settles_below _ _ _ _ c.
 pub loop-i-preserved : goal.loop-i-preserved
 loop-i-preserved g c =
     let graph = rw c.graph.ensures at c.vertices-n.ensures.graph in
-    let all = c.args.steps.now + steps_on c.args.adj.now.graph c.args.levels.now c.args.level c.args.stay.now in
+    let all = c.args.steps.now + steps_on c.args.adj.now.graph (seen c.args.levels.now) c.args.level c.args.stay.now in
     let listed = has_number_at _ c.args.stay.now c.loop-i.i (omega arith) refl in
     let low : get_or c.args.stay.now c.loop-i.i 0 < c.args.adj.now.graph.vertices = c.requires.vertices _ listed in
-    let on : get_or c.args.levels.now (get_or c.args.stay.now c.loop-i.i 0) 0 ≡ c.args.level = c.requires.here _ listed in
-    let less = less_same _ _ _ _ _ _ _ _ _ c.loop-i.invariant.3 (rw c.in_turn-v.ensures at c.part_from.ensures.less) in (
+    let on : get_or (seen c.args.levels.now) (get_or c.args.stay.now c.loop-i.i 0) 0 ≡ c.args.level = c.requires.here _ listed in
+    let less = less_same _ _ _ _ _ _ _ _ _ c.loop-i.invariant.3 (rw c.in_turn-v.ensures at c.in_ok-part_from.ensures.less) in (
       parted_on_at _ _ _ c.args.stay.now c.loop-i.i (omega arith) _ _ _ graph c.loop-i.invariant.0 _ c.loop-i.invariant.1 on less,
-      (distinct_at c.args.adj.now.graph c.args.levels.now c.args.level c.args.stay.now c.loop-i.i (omega arith) c.loop-i.invariant.1).1,
-      rw (c.lift.ensures.cost, c.part_from.ensures.cost, c.in_turn-v.ensures, c.loop-i.invariant.3.graph) (steps_at_on c.args.adj.now.graph c.args.levels.now c.args.level c.args.stay.now c.loop-i.i (omega arith) c.loop-i.steps all on c.loop-i.invariant.2),
+      (distinct_at c.args.adj.now.graph (seen c.args.levels.now) c.args.level c.args.stay.now c.loop-i.i (omega arith) c.loop-i.invariant.1).1,
+      rw (c.lift.ensures.cost, c.in_ok-part_from.ensures.cost, c.in_turn-v.ensures, c.loop-i.invariant.3.graph) (steps_at_on c.args.adj.now.graph (seen c.args.levels.now) c.args.level c.args.stay.now c.loop-i.i (omega arith) c.loop-i.steps all on c.loop-i.invariant.2),
       settles _ _ _ _ c.args.stay.now c.loop-i.i (omega arith) c.loop-i.invariant.3 _ low on (rw c.in_turn-v.ensures at c.lift.ensures.value),
+      watched_on _ _ _ c.loop-i.invariant.4 c.in_ok-part_from.ensures.watched,
     )
 
 pub returns-clause-seen : goal.returns-clause-seen
-returns-clause-seen g c = parted_last c.args.adj.now.graph c.args.levels.now c.args.level c.args.stay.now c.loop-i.i _ _ _ c.loop-i.invariant.0 (omega arith)
+returns-clause-seen g c = parted_last c.args.adj.now.graph (seen c.args.levels.now) c.args.level c.args.stay.now c.loop-i.i _ _ _ c.loop-i.invariant.0 (omega arith)
 
 pub returns-clause-settled : goal.returns-clause-settled
 returns-clause-settled g c = settling_last _ _ _ _ c.args.stay.now c.loop-i.i (omega arith) c.loop-i.invariant.3
 
 pub returns-clause-cost : goal.returns-clause-cost
-returns-clause-cost g c = steps_last c.args.adj.now.graph c.args.levels.now c.args.level c.args.stay.now c.loop-i.i _ _ c.loop-i.invariant.2 (omega arith)
+returns-clause-cost g c = steps_last c.args.adj.now.graph (seen c.args.levels.now) c.args.level c.args.stay.now c.loop-i.i _ _ c.loop-i.invariant.2 (omega arith)

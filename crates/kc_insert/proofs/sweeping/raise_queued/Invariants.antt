@@ -1,14 +1,15 @@
 use Rattle.std.proofs.Common.{◌≡◌, ◌+◌, ◌-◌, ◌≤◌, length}
 use Rattle.kc_levels.specs.Thresholds.{top_level}
-use Rattle.kc_insert.specs.private.Sweeping.{IsSweeping, HaveCome}
+use Rattle.kc_insert.specs.private.Sweeping.{AreKept, IsSweeping, HaveCome, sweeping_of}
 use Rattle.kc_insert.proofs.sweeping.raise_queued.Given as goal
 
 abbrev pub invariant-loop-sweep : goal.invariant-loop-sweep
 invariant-loop-sweep g l =
     (l.adj.graph ≡ l.initial.adj.graph)
-    × (l.sweep.level ≤ length l.sweep.queue)
-    × IsSweeping l.th.profile l.initial.adj.graph l.adj.levels l.sweep
-    × HaveCome l.th.profile l.initial.adj.graph l.initial.adj.levels l.adj.levels l.sweep l.initial.steps l.steps
+    × (l.sweep.levels.level ≤ length l.sweep.counted.queue)
+    × IsSweeping l.th.profile l.initial.adj.graph l.adj.levels (sweeping_of l.sweep)
+    × HaveCome l.th.profile l.initial.adj.graph l.initial.adj.levels l.adj.levels (sweeping_of l.sweep) l.initial.steps l.steps
+    × AreKept l.sweep
 
 abbrev pub decreases-loop-sweep : goal.decreases-loop-sweep
-decreases-loop-sweep g l = top_level l.th.profile l.th.vertices + 1 - l.sweep.level
+decreases-loop-sweep g l = top_level l.th.profile l.th.vertices + 1 - l.sweep.levels.level

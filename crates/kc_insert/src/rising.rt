@@ -1,0 +1,70 @@
+// The levels during a sweep. All who rise are on one level, so that a step puts all of them on the next by one write.
+
+ghost use Rattle.std.specs.Prelude.{◌≡◌, ◌<◌, ◌==◌, ◌&&◌, ◌||◌, ℕ, Bool, true, List, not, length, slice_index, slice_set};
+ghost use Rattle.kc_graph.specs.Numbers.{has_number};
+ghost use Rattle.kc_insert.specs.private.Rising.{rises, seen};
+ghost use Rattle.kc_insert.specs.private.Sweeping.{all_at};
+
+use kc_levels::Levels;
+
+// What stands in the list for the level of who rises. A level is always less.
+const RISING: u16 = 65_535;
+
+/// The levels during a sweep, and who rises with it: contracts speak of `seen` and `rises`.
+#[derive(Drop)]
+pub struct RisingLevels {
+    /// The level of each vertex that doesn't rise, and 65,535 for who does.
+    pub stored: Levels,
+    /// The level that the sweep is at, on which all are who rise.
+    pub level: u16,
+}
+
+impl RisingLevels {
+    /// The level of v.
+    pub fn get(&self, v: u32) -> u16
+        requires { v < length (seen self.now) }
+        ensures { result ≡ slice_index (seen self.now) v }
+    {
+        let level = self.stored.get(v);
+        if level == RISING { self.level } else { level }
+    }
+
+    /// Whether v rises.
+    pub fn rises(&self, v: u32) -> bool
+        requires { v < length (seen self.now) }
+        ensures { result ≡ rises self.now v }
+    {
+        self.stored.get(v) == RISING
+    }
+
+    /// v rises from now on, and is on the level of the sweep.
+    pub fn begin(&mut self, v: u32)
+        requires { v < length (seen self.old) }
+        ensures level { self.new.level ≡ self.old.level }
+        ensures seen { seen self.new ≡ slice_set (seen self.old) v self.old.level }
+        ensures rises { (u : ℕ) → rises self.new u ≡ (rises self.old u || (u == v)) }
+    {
+        self.stored.set(v, RISING);
+    }
+
+    /// v rises no more, and stays on the level of the sweep.
+    pub fn settle(&mut self, v: u32)
+        requires small { self.old.level < 65535 }
+        requires rises { rises self.old v ≡ true }
+        ensures level { self.new.level ≡ self.old.level }
+        ensures seen { seen self.new ≡ seen self.old }
+        ensures rises { (u : ℕ) → rises self.new u ≡ (rises self.old u && not (u == v)) }
+    {
+        let level = self.level;
+        self.stored.set(v, level);
+    }
+
+    /// The sweep goes to the level, and all who rise are on it.
+    pub fn go_to(&mut self, level: u16)
+        ensures level { self.new.level ≡ level }
+        ensures seen { (risers : List ℕ) → ((v : ℕ) → rises self.old v ≡ has_number v risers) → seen self.new ≡ all_at (seen self.old) risers level }
+        ensures rises { (v : ℕ) → rises self.new v ≡ rises self.old v }
+    {
+        self.level = level;
+    }
+}
