@@ -70,30 +70,37 @@ fn are_present(graph: &Graph, edges: &[Edge]) -> bool
     true
 }
 
-// The plan of a phase from one list of levels to another, in a graph with the phase's edges and others.
+// A phase: its number, whether its edges come in (`add`) or leave, its edges, and the levels before and after it.
+#[derive(Drop)]
+pub(crate) struct Step<'a> {
+    pub(crate) phase: u32,
+    pub(crate) add: bool,
+    pub(crate) edges: &'a [Edge],
+    pub(crate) before: &'a [u16],
+    pub(crate) after: &'a [u16],
+}
+
+// The plan of a phase, in a graph with its edges and others.
 pub(crate) fn plan<R: Abort>(
     rt: &R,
     alloc: Global,
-    phase: u32,
-    add: bool,
-    edges: &[Edge],
+    step: &Step<'_>,
     others: &[Edge],
-    before: &[u16],
-    after: &[u16],
 ) -> Result<PhasePlan, AllocError>
-    requires positive { 1 ≤ length before.now }
-    requires small { length before.now ≤ MAX_VERTICES }
-    requires same { length after.now ≡ length before.now }
-    requires ascending { EdgesFrom (length before.now) 0 0 edges.now }
-    ensures formed { IfOk result (IsWellFormed (length before.now)) }
-    ensures phase { IfOk result (λ plan. plan.quiet.phase ≡ phase) }
+    requires positive { 1 ≤ length step.now.before.now }
+    requires small { length step.now.before.now ≤ MAX_VERTICES }
+    requires same { length step.now.after.now ≡ length step.now.before.now }
+    requires ascending { EdgesFrom (length step.now.before.now) 0 0 step.now.edges.now }
+    ensures formed { IfOk result (IsWellFormed (length step.now.before.now)) }
+    ensures phase { IfOk result (λ plan. plan.quiet.phase ≡ step.now.phase) }
 {
-    let n = before.len() as u32;
+    let n = step.before.len() as u32;
+    let (phase, add, edges) = (step.phase, step.add, step.edges);
     let mut graph = Graph::new(alloc, n)?;
     insert_all(rt, alloc, &mut graph, edges)?;
     insert_all(rt, alloc, &mut graph, others)?;
-    let before = levels_of(alloc, before)?;
-    let after = levels_of(alloc, after)?;
+    let before = levels_of(alloc, step.before)?;
+    let after = levels_of(alloc, step.after)?;
     assert!(rt; are_present(&graph, edges));
     assert!(rt; !add || is_below(&before, &after));
     assert!(rt; add || is_below(&after, &before));

@@ -1,6 +1,6 @@
 ghost use Rattle.std.specs.Prelude.{◌≡◌, ◌<◌};
 
-use crate::tests::plans::{edge, plan};
+use crate::tests::plans::{Step, edge, plan};
 use crate::tests::showing::{
     are_current, begin_next, groups_of, lend_last, mark_next_by, moves_of, publish_next,
     show_if_current,
@@ -26,12 +26,14 @@ fn two_groups<R: Abort>(rt: &R, alloc: Global, lent: bool) -> Result<(), AllocEr
     let plan = plan(
         rt,
         alloc,
-        1,
-        true,
-        &[edge(0, 1), edge(2, 3)],
+        &Step {
+            phase: 1,
+            add: true,
+            edges: &[edge(0, 1), edge(2, 3)],
+            before: &[0, 0, 0, 0, 0, 0],
+            after: &[1, 1, 1, 1, 0, 0],
+        },
         &[],
-        &[0, 0, 0, 0, 0, 0],
-        &[1, 1, 1, 1, 0, 0],
     )?;
     let mut pass = writer.pass(&store);
     let current = are_current(&store, &mut writer, 6, &plan);
@@ -80,32 +82,38 @@ fn a_label_is_published_again(rt: HostRuntime) -> Result<(), Fail> {
     let rise = plan(
         &rt,
         alloc,
-        1,
-        true,
-        &[edge(0, 1)],
+        &Step {
+            phase: 1,
+            add: true,
+            edges: &[edge(0, 1)],
+            before: &[0, 0, 0, 0, 0],
+            after: &[1, 1, 0, 0, 0],
+        },
         &[],
-        &[0, 0, 0, 0, 0],
-        &[1, 1, 0, 0, 0],
     )?;
     let fall = plan(
         &rt,
         alloc,
-        2,
-        false,
-        &[edge(0, 1)],
+        &Step {
+            phase: 2,
+            add: false,
+            edges: &[edge(0, 1)],
+            before: &[1, 1, 0, 0, 0],
+            after: &[0, 0, 0, 0, 0],
+        },
         &[],
-        &[1, 1, 0, 0, 0],
-        &[0, 0, 0, 0, 0],
     )?;
     let rise_again = plan(
         &rt,
         alloc,
-        3,
-        true,
-        &[edge(0, 2)],
+        &Step {
+            phase: 3,
+            add: true,
+            edges: &[edge(0, 2)],
+            before: &[0, 0, 0, 0, 0],
+            after: &[1, 0, 1, 0, 0],
+        },
         &[],
-        &[0, 0, 0, 0, 0],
-        &[1, 0, 1, 0, 0],
     )?;
     let mut pass = writer.pass(&store);
     let shown = show_if_current(&store, &mut writer, &rise, 5);

@@ -90,38 +90,38 @@ fn changed(
     Ok(after)
 }
 
-// Shows plans that move some vertices up or down, and keeps them. Says whether each was from the levels at the history's end.
+// Shows plans that move some vertices up or down, and gives them. `None` where one isn't from the levels at the history's end.
 fn show_plans(
     alloc: Global,
     store: &Store,
     writer: &mut Writer,
     graph: &Graph,
-    shown: &mut Vec<PhasePlan>,
-) -> Result<bool, AllocError>
+) -> Result<Option<Vec<PhasePlan>>, AllocError>
     requires table { writer.old.table ≡ store.now.table }
     requires vertices { (store.now.vertices ≡ VERTICES) × (writer.old.state.vertices ≡ VERTICES) × (graph.now.vertices ≡ VERTICES) }
     requires idle { IsIdle writer.old.state }
     requires phase { writer.old.state.phase ≡ 0 }
 {
+    let mut shown = Vec::new(alloc);
     let mut numbers = Numbers { state: 20 };
     let mut before = Levels::zeros(alloc, VERTICES)?;
     for k in 0..PLANS {
         let add = numbers.next() % 2 == 0;
         let after = changed(alloc, &mut numbers, &before, add)?;
         if add && !is_below(&before, &after) {
-            return Ok(false);
+            return Ok(None);
         }
         if !add && !is_below(&after, &before) {
-            return Ok(false);
+            return Ok(None);
         }
         let plan = plan_phase(alloc, k + 1, add, &[], &before, &after, graph)?;
         if !show_if_current(store, writer, &plan, VERTICES) {
-            return Ok(false);
+            return Ok(None);
         }
         shown.push(plan)?;
         before = after;
     }
-    Ok(true)
+    Ok(Some(shown))
 }
 
 // Four readers that have read nothing yet, and will so often.
@@ -151,9 +151,8 @@ fn side_by_side<R: Threads + Sync>(
     store: &Store,
     writer: &mut Writer,
     graph: &Graph,
-    shown: &mut Vec<PhasePlan>,
     readers: &mut [Reader],
-) -> Result<bool, AllocError>
+) -> Result<Option<Vec<PhasePlan>>, AllocError>
     requires table { writer.old.table ≡ store.now.table }
     requires vertices { (store.now.vertices ≡ VERTICES) × (writer.old.state.vertices ≡ VERTICES) × (graph.now.vertices ≡ VERTICES) }
     requires idle { IsIdle writer.old.state }
@@ -162,7 +161,7 @@ fn side_by_side<R: Threads + Sync>(
 {
     thread::join_mut(
         rt,
-        &mut || show_plans(alloc, store, writer, graph, shown),
+        &mut || show_plans(alloc, store, writer, graph),
         &mut ||
             requires { IsSync R.row × (store.now.vertices ≡ VERTICES) × All (λ r. r.pass.table ≡ store.now.table) readers.now }
         { run_readers(rt, store, readers) },
@@ -254,17 +253,17 @@ fn readers_see_points_of_the_history(rt: HostRuntime) -> Result<(), Fail> {
     insert_all(&rt, alloc, &mut graph, &edges)?;
     let (store, mut writer) = Store::open(alloc, VERTICES, 0)?;
     let mut readers = make_readers(alloc, &store, &mut writer, READS)?;
-    let mut shown = Vec::new(alloc);
-    let current = side_by_side(
+    let shown = side_by_side(
         &rt,
         alloc,
         &store,
         &mut writer,
         &graph,
-        &mut shown,
         readers.as_mut_slice(),
     )?;
-    assert!(rt; current);
+    let Some(shown) = shown else {
+        panic!(&rt; "a plan isn't from the levels at the history's end");
+    };
     for reader in readers.as_slice() {
         let explained = are_explained(alloc, shown.as_slice(), reader.levels.as_slice())?;
         assert!(rt; explained);
