@@ -87,6 +87,17 @@ fn are_present(graph: &Graph, edges: &[Edge]) -> bool
     true
 }
 
+// A phase in which edges leave: the edges and the levels before it, the edges that leave, the levels that are wanted, and how many
+// vertices move.
+#[derive(Drop)]
+struct Case<'a> {
+    edges: &'a [Edge],
+    levels: &'a [u16],
+    removed: &'a [Edge],
+    want: &'a [u16],
+    moves: u32,
+}
+
 // What `check` says, with a counter of its own.
 fn check_counting<R: Threads + Sync + Abort, G: Gate + Sync, L: Ledger>(
     rt: &R,
@@ -94,60 +105,42 @@ fn check_counting<R: Threads + Sync + Abort, G: Gate + Sync, L: Ledger>(
     blank: Blank,
     gate: &G,
     workers: u32,
-    edges: &[Edge],
-    levels: &[u16],
-    removed: &[Edge],
-    want: &[u16],
-    moves: u32,
+    case: &Case<'_>,
 ) -> Result<(), AllocError>
     requires few_workers { (1 ≤ workers) × (workers ≤ 64) }
     requires name { blank.name ≡ L.name }
     requires parts { blank.parts ≡ L.parts }
     requires some { 0 < L.parts }
-    requires positive { 1 ≤ length levels.now }
-    requires small { length levels.now ≤ MAX_VERTICES }
-    requires ascending { EdgesFrom (length levels.now) 0 0 removed.now }
+    requires positive { 1 ≤ length case.now.levels.now }
+    requires small { length case.now.levels.now ≤ MAX_VERTICES }
+    requires ascending { EdgesFrom (length case.now.levels.now) 0 0 case.now.removed.now }
 {
     let mut steps = Steps::<L>::new(blank);
-    let th = Thresholds::new(alloc, Profile::One, levels.len() as u32)?;
-    let mut adj = state(rt, alloc, edges, levels, &mut steps)?;
+    let removed = case.removed;
+    let th = Thresholds::new(alloc, Profile::One, case.levels.len() as u32)?;
+    let mut adj = state(rt, alloc, case.edges, case.levels, &mut steps)?;
     assert!(rt; are_capped(&adj, &th));
     assert!(rt; meet_lower(&adj, &th));
     assert!(rt; are_present(adj.graph(), removed));
     let tally = delete_rounds(rt, alloc, gate, workers, &th, &mut adj, removed, &mut steps)?;
-    assert_eq!(rt; adj.levels().as_slice(), want);
-    assert_eq!(rt; tally.moves, moves);
+    assert_eq!(rt; adj.levels().as_slice(), case.want);
+    assert_eq!(rt; tally.moves, case.moves);
     Ok(())
 }
 
-// One phase from these edges and levels, in which some edges leave, by any number of workers gives these levels, and moves so
-// many vertices.
+// The phase gives its levels, and moves so many vertices, by any number of workers.
 fn check<R: Threads + Sync + Abort>(
     rt: &R,
     alloc: Global,
-    edges: &[Edge],
-    levels: &[u16],
-    removed: &[Edge],
-    want: &[u16],
-    moves: u32,
+    case: &Case<'_>,
 ) -> Result<(), AllocError>
-    requires positive { 1 ≤ length levels.now }
-    requires small { length levels.now ≤ MAX_VERTICES }
-    requires ascending { EdgesFrom (length levels.now) 0 0 removed.now }
+    requires positive { 1 ≤ length case.now.levels.now }
+    requires small { length case.now.levels.now ≤ MAX_VERTICES }
+    requires ascending { EdgesFrom (length case.now.levels.now) 0 0 case.now.removed.now }
 {
     for workers in [1, 3, 64] {
-        check_counting::<R, OpenGate, Brand>(
-            rt,
-            alloc,
-            Blank::new(1),
-            &OpenGate::new(),
-            workers,
-            edges,
-            levels,
-            removed,
-            want,
-            moves,
-        )?;
+        let gate = OpenGate::new();
+        check_counting::<R, OpenGate, Brand>(rt, alloc, Blank::new(1), &gate, workers, case)?;
     }
     Ok(())
 }
@@ -171,11 +164,13 @@ fn a_vertex_falls_part_of_the_way(rt: HostRuntime) -> Result<(), Fail> {
     check(
         &rt,
         rt.alloc(),
-        &edges,
-        &[19, 19, 19, 19, 19, 19, 19, 19],
-        &removed,
-        &[13, 19, 19, 19, 19, 19, 19, 19],
-        1,
+        &Case {
+            edges: &edges,
+            levels: &[19, 19, 19, 19, 19, 19, 19, 19],
+            removed: &removed,
+            want: &[13, 19, 19, 19, 19, 19, 19, 19],
+            moves: 1,
+        },
     )?;
     Ok(())
 }
@@ -191,37 +186,58 @@ fn a_star_falls_to_the_ground(rt: HostRuntime) -> Result<(), Fail> {
     check(
         &rt,
         rt.alloc(),
-        &star,
-        &[2, 1, 1, 1, 1],
-        &star,
-        &[0, 0, 0, 0, 0],
-        5,
+        &Case {
+            edges: &star,
+            levels: &[2, 1, 1, 1, 1],
+            removed: &star,
+            want: &[0, 0, 0, 0, 0],
+            moves: 5,
+        },
     )?;
     Ok(())
 }
 
-// Four vertices that are joined each with each, and one alone. All but vertex 4 have enough neighbours left.
+// Four vertices that are joined each with each.
+const FOUR: [Edge; 6] = [
+    Edge { a: 0, b: 1 },
+    Edge { a: 0, b: 2 },
+    Edge { a: 0, b: 3 },
+    Edge { a: 1, b: 2 },
+    Edge { a: 1, b: 3 },
+    Edge { a: 2, b: 3 },
+];
+
+// The four lose an edge. All have enough neighbours left.
 #[test]
 fn nobody_falls_without_need(rt: HostRuntime) -> Result<(), Fail> {
-    let four = [
-        Edge { a: 0, b: 1 },
-        Edge { a: 0, b: 2 },
-        Edge { a: 0, b: 3 },
-        Edge { a: 1, b: 2 },
-        Edge { a: 1, b: 3 },
-        Edge { a: 2, b: 3 },
-    ];
-    let levels = [6, 6, 6, 6, 0];
     check(
         &rt,
         rt.alloc(),
-        &four,
-        &levels,
-        &[Edge { a: 0, b: 1 }],
-        &levels,
-        0,
+        &Case {
+            edges: &FOUR,
+            levels: &[6, 6, 6, 6, 0],
+            removed: &[Edge { a: 0, b: 1 }],
+            want: &[6, 6, 6, 6, 0],
+            moves: 0,
+        },
     )?;
-    check(&rt, rt.alloc(), &four, &levels, &[], &levels, 0)?;
+    Ok(())
+}
+
+// The four lose nothing.
+#[test]
+fn nobody_falls_where_no_edge_leaves(rt: HostRuntime) -> Result<(), Fail> {
+    check(
+        &rt,
+        rt.alloc(),
+        &Case {
+            edges: &FOUR,
+            levels: &[6, 6, 6, 6, 0],
+            removed: &[],
+            want: &[6, 6, 6, 6, 0],
+            moves: 0,
+        },
+    )?;
     Ok(())
 }
 
@@ -276,11 +292,13 @@ fn a_first_round_has_two_pieces_at_once(rt: HostRuntime) -> Result<(), Fail> {
         Blank::new(1),
         &gate,
         2,
-        &star,
-        &[2, 1, 1, 1, 1],
-        &star,
-        &[0, 0, 0, 0, 0],
-        5,
+        &Case {
+            edges: &star,
+            levels: &[2, 1, 1, 1, 1],
+            removed: &star,
+            want: &[0, 0, 0, 0, 0],
+            moves: 5,
+        },
     )?;
     assert!(rt; gate.turns_left.load(SeqCst) > 0);
     Ok(())
