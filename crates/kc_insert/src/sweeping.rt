@@ -43,7 +43,7 @@ pub struct Sweep {
     pub risen: Vec<u32>,
     /// Whom those who rise are still to meet.
     pub meetings: LevelLists<Meeting>,
-    /// Room for those who stay on a level that they had come to.
+    /// Room for those who stay on a level that they had come to, or for those who rise on.
     pub stay: Vec<u32>,
     /// Whether no round with candidates has been yet.
     pub first: FirstRound,

@@ -6,11 +6,14 @@ ghost use Rattle.kc_insert.specs.private.Watched.{is_few, StayWatched};
 
 use std::alloc::AllocError;
 
-/// For each vertex how many of its neighbours it counts, and a list that has whoever came to count at most `most` (`StayWatched`).
+/// For each vertex how many of its neighbours it counts, and who came to count few (`StayWatched`).
 #[derive(Drop)]
 pub struct WatchedCounts {
+    /// How many neighbours each vertex counts.
     pub counts: Vec<u32>,
+    /// So many are few, and so are less.
     pub most: u32,
+    /// Whoever came to count few, and maybe others.
     pub doubtful: Vec<u32>,
 }
 
