@@ -129,7 +129,7 @@ impl LevelAdj {
     /// The thresholds are for this number of vertices, and the level of `v` is at most their top. Takes no memory.
     ///
     /// Costs O(1) where `v` can stay on its level. Else one pass over its neighbours where it can stand on the next level below, and
-    /// about two more for each doubling of the number of levels that it would fall, at most 24.
+    /// about two more for each doubling of the number of levels that it would fall, at most 27.
     pub fn desired(&self, th: &Thresholds, v: u32) -> u16
         requires vertex { v < self.now.graph.vertices }
         requires scale { th.now.vertices ≡ self.now.graph.vertices }

@@ -170,7 +170,7 @@ impl LineReader {
         self.scanner.whole_line()
     }
 
-    /// Takes the line of which `whole_line` tells, by its length, and gives its number. Takes no memory, and reads
+    /// Takes the line of which `number_line` or `whole_line` tells, by its length, and gives its number. Takes no memory, and reads
     /// nothing.
     #[inline(always)]
     pub fn pass_line(&mut self, len: usize) -> u32

@@ -59,11 +59,11 @@ fn write_vertices<K: Sink>(
     Ok(())
 }
 
-/// Writes what is after all batches and readers (`tail_text`): a line for each of the n vertices of the engine's graph, with these levels
-/// of them, and the last line.
+/// Writes what is after all batches (`tail_text`): a line for each of the n vertices of the engine's graph, with these levels of them,
+/// and the last line.
 ///
-/// The engine has not halted, and the levels, as a last pass read them, are its levels: the counts of neighbours are the engine's. After
-/// `WriteFault`, which only a failed write gives, and after `Memory` the sink took a prefix of the lines.
+/// The engine has not halted, and the levels are its levels: the counts of neighbours are the engine's. After `WriteFault`, which only
+/// a failed write gives, and after `Memory` the sink took a prefix of the lines.
 pub fn write_tail<K: Sink>(
     alloc: Global,
     buf: &mut LineBuf,
