@@ -4,6 +4,7 @@ mod Digits
 mod Ends
 mod Giving
 mod Holding
+mod KeptLemmas
 mod Known
 mod NumberLines
 mod Numbering

@@ -1,5 +1,6 @@
 pub mod Causes
 pub mod Following
+pub mod Kept
 pub mod Laws
 pub mod Lines
 pub mod Mem

@@ -3,24 +3,22 @@ ghost use Rattle.std.specs.Prelude.{◌≡◌, ◌<◌, IfOk};
 
 use crate::{
     Body, Failed, Line, LineBuf, LineFault, LineReader, MemSink, MemSource, NullSink, NumberLine,
-    Reason, SendFault, Sign, Sink, Source, StdSink, StdSource, Words, fill_named, is_skipped,
-    next_number, next_word, put_all, read_number,
+    Reason, SendFault, Sign, Sink, Source, StdSink, StdSource, Words, fill_named, give_back,
+    is_skipped, next_kept, next_number, next_word, put_all, read_number, text_of,
 };
 use std::alloc::Global;
 use std::io;
 use std::io::{Read, Write};
 use std::test::Fail;
 
-// Adds what a reader gives next, a line each: its number and text; `*` for a line that is too
-// long, `!` for the limit, `.` for the end; `?` for a read fault. Returns whether it was the last.
-// The memory of every second line is given back.
-fn tell<S: Source>(
-    alloc: Global,
+// Adds what a reader gave: the line's number and text; `*` for a line that is too long, `!` for the limit, `.` for the end;
+// `?` for a read fault. Returns whether it was the last. The memory of every second line is given back.
+fn add_line(
     reader: &mut LineReader,
-    source: &mut S,
+    given: Result<Line, LineFault>,
     out: &mut Vec<u8>,
 ) -> Result<bool, Fail> {
-    let line = match reader.next_line(alloc, source) {
+    let line = match given {
         Ok(line) => line,
         Err(LineFault::ReadFault) => {
             out.extend_from_slice(b"?\n")?;
@@ -30,21 +28,30 @@ fn tell<S: Source>(
     };
     let number = line.number;
     out.push(b'0' + (number % 10) as u8)?;
-    let (mark, last): (&[u8], bool) = match line.body {
-        Body::Text(bytes) => {
-            out.push(b':')?;
-            out.extend_from_slice(bytes.as_slice())?;
-            if number % 2 == 1 {
-                reader.reuse(bytes);
-            }
-            (b"\n", false)
-        }
-        Body::TooLong => (b"*\n", false),
-        Body::Limit => (b"!\n", true),
-        Body::End => (b".\n", true),
+    let (mark, last) = match &line.body {
+        Body::Text(_) => (b':', false),
+        Body::TooLong => (b'*', false),
+        Body::Limit => (b'!', true),
+        Body::End => (b'.', true),
     };
-    out.extend_from_slice(mark)?;
+    out.push(mark)?;
+    out.extend_from_slice(text_of(&line))?;
+    out.push(b'\n')?;
+    if number % 2 == 1 {
+        give_back(reader, line);
+    }
     Ok(last)
+}
+
+// Adds what a reader gives next.
+fn tell<S: Source>(
+    alloc: Global,
+    reader: &mut LineReader,
+    source: &mut S,
+    out: &mut Vec<u8>,
+) -> Result<bool, Fail> {
+    let given = reader.next_line(alloc, source);
+    add_line(reader, given, out)
 }
 
 // The same of a line that lies whole in the reader's memory. Returns whether there was one.
@@ -179,6 +186,28 @@ fn lines_of_two_numbers(rt: HostRuntime) -> Result<(), Fail> {
         if let Some(line) = got {
             assert_eq!(rt; reader.pass_line(line.len), 2);
         }
+    }
+    Ok(())
+}
+
+#[test]
+fn lines_that_arent_skipped(rt: HostRuntime) -> Result<(), Fail> {
+    // the input, the failing reads, and what the first four calls give
+    let rows: [(&[u8], &[u32], &[u8]); 4] = [
+        (b"#\n\na\n \t\n #x\nb #\n", &[], b"3:a\n6:b #\n7.\n7.\n"),
+        (b"#23456789\na", &[], b"1*\n2:a\n3.\n3.\n"),
+        (b"#\n\n#\n#4567890123456789", &[], b"4!\n4!\n4!\n4!\n"),
+        (b"#\n\na\n", &[2], b"?\n3:a\n4.\n4.\n"),
+    ];
+    for (input, failing, want) in rows {
+        let mut source = MemSource::new(rt.alloc(), input, 2, failing)?;
+        let mut reader = LineReader::new(rt.alloc(), 8, 20)?;
+        let mut out = Vec::new(rt.alloc());
+        for _ in 0..4 {
+            let given = next_kept(rt.alloc(), &mut reader, &mut source);
+            add_line(&mut reader, given, &mut out)?;
+        }
+        assert_eq!(rt; out.as_slice(), want, "at {input:?}");
     }
     Ok(())
 }
