@@ -5,7 +5,6 @@ mod FaultDecides
 mod Following
 mod HeaderEnds
 mod InputLemmas
-mod KeptLemmas
 mod NumberLines
 mod Saying
 mod Stepping

@@ -4,7 +4,7 @@ use Rattle.kc_text.specs.Lines.{lines}
 use Rattle.kc_batch.specs.declared.rules.Rules.{Rules}
 use Rattle.kc_batch.specs.HeaderShape.{HeaderShape}
 use Rattle.kc_batch.specs.declared.batch.Next.{Next}
-use Rattle.kc_batch.specs.Kept.{kept}
+use Rattle.kc_text.specs.Kept.{kept}
 use Rattle.kc_batch.specs.Headers.{HeaderText, Accepted, Refused, header_of}
 use Rattle.kc_batch.specs.Tokens.{tokens}
 use Rattle.kc_batch.specs.Batches.{batches}

@@ -10,7 +10,7 @@ use Rattle.kc_levels.specs.declared.profile.Profile.TheVariants.{One, Two}
 use Rattle.kc_text.specs.declared.line.Line.{Line}
 use Rattle.kc_text.specs.Words.{words}
 use Rattle.kc_text.specs.Numbers.{number_of}
-use Rattle.kc_batch.specs.Kept.{text_of}
+use Rattle.kc_text.specs.Kept.{text_of}
 use Rattle.kc_batch.specs.declared.ask.Ask.{Ask}
 use Rattle.kc_batch.specs.HeaderShape.{HeaderShape}
 use Rattle.kc_batch.specs.declared.header.HeaderFault.{HeaderFault}

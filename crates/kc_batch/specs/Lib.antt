@@ -5,7 +5,6 @@ pub mod FaultLaw
 pub mod HeaderLaw
 pub mod HeaderShape
 pub mod Headers
-pub mod Kept
 pub mod Laws
 pub mod RangeLaw
 pub mod Tokens

@@ -9,7 +9,7 @@ use Rattle.kc_text.specs.declared.line.Body.TheVariants as body
 use Rattle.kc_text.specs.Reading.{Reading}
 use Rattle.kc_text.specs.Words.{words}
 use Rattle.kc_text.specs.Numbers.{number_of}
-use Rattle.kc_batch.specs.Kept.{kept_left}
+use Rattle.kc_text.specs.Kept.{kept_left}
 use Rattle.kc_batch.specs.declared.token.Token.{Token}
 use Rattle.kc_batch.specs.declared.token.Kind.{Kind}
 use Rattle.kc_batch.specs.declared.token.Kind.TheVariants.{BatchStart, Item, BatchEnd, Other, TooLong, Limit, InputEnd}

@@ -2,15 +2,14 @@
 ghost use Rattle.std.specs.Prelude.{◌≡◌, ◌+◌, ◌<◌, ◌≤◌, [], true, IfOk, OnOk, IfSome};
 ghost use Rattle.kc_text.specs.Reading.{budget};
 ghost use Rattle.kc_text.specs.Words.{words};
-ghost use Rattle.kc_batch.specs.Kept.{kept_left};
+ghost use Rattle.kc_text.specs.Kept.{kept_left};
 
 use crate::Asks;
 use crate::ask::{is_ask, next_ask};
-use crate::kept::{next_kept, text_of};
 use crate::text::is;
 use kc_graph::MAX_VERTICES;
 use kc_levels::Profile;
-use kc_text::{LineFault, LineReader, Source, next_word, read_number};
+use kc_text::{LineFault, LineReader, Source, next_kept, next_word, read_number, text_of};
 use std::alloc::{AllocError, AllocFailed, Global};
 use std::marker::Model;
 use thiserror::Error;

@@ -8,7 +8,6 @@ mod ask;
 mod batch;
 mod header;
 mod items;
-mod kept;
 pub mod laws;
 mod rules;
 mod text;
@@ -19,7 +18,6 @@ pub use ask::{Ask, Asks, Vertices};
 pub use batch::{Batch, BatchFault, Next, next_batch};
 pub use header::{Header, HeaderFault, vertices_in};
 pub use items::Items;
-pub use kept::{next_kept, text_of};
 pub use rules::Rules;
 
 #[cfg(test)]

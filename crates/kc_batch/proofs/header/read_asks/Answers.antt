@@ -2,7 +2,7 @@ use Rattle.std.proofs.Common.{◌∙◌, sym, arith, [], ◌∷◌, length-appen
 use Rattle.std.proofs.lemmas.List.Elements.{All-push}
 use Rattle.kc_text.specs.Reading.{onto}
 use Rattle.kc_batch.specs.Headers.{asks_from, Accepted, refused_at, IsAsk}
-use Rattle.kc_batch.proofs.KeptLemmas.{told_goes}
+use Rattle.kc_text.proofs.lemmas.Kept.{told_goes}
 use Rattle.kc_batch.proofs.Stepping.{step_on}
 use Rattle.kc_batch.proofs.Asking.{step_back, ask_missing, ask_refused, ask_there, takes_ask, takes_no_less}
 use Rattle.kc_batch.proofs.header.read_asks.Goals as goal

@@ -2,7 +2,7 @@ use Rattle.std.proofs.Common.{◌≡◌, ◌≤◌, [], length}
 use Rattle.std.specs.Prelude.{All}
 use Rattle.std.specs.Option.{option_map}
 use Rattle.kc_text.specs.Reading.{budget}
-use Rattle.kc_batch.specs.Kept.{kept_left}
+use Rattle.kc_text.specs.Kept.{kept_left}
 use Rattle.kc_batch.specs.Headers.{asks_from, IsAsk}
 use Rattle.kc_batch.proofs.header.read_asks.Given as goal
 
