@@ -13,8 +13,8 @@ use Rattle.kc_text.specs.declared.line.Body.TheVariants.{Text, TooLong, Limit, E
 use Rattle.kc_text.specs.Reading.{onto, behind, Takes}
 use Rattle.kc_text.specs.Words.{words, words_from}
 use Rattle.kc_text.specs.Numbers.{number_of}
-use Rattle.kc_batch.specs.declared.ask.Ask.{Ask}
 use Rattle.kc_text.specs.Kept.{text_of}
+use Rattle.kc_batch.specs.declared.ask.Ask.{Ask}
 use Rattle.kc_batch.specs.Headers.{Accepted, Refused, profile_in, vertices_in, is_ask, number_before, numbers_of, fits_ask, ask_with, ask_in, next_ask, asks_from, after_profile, header_of, IsAsk}
 
 -- numbers that were read, and those that the words after them say

@@ -5,10 +5,10 @@ use Rattle.std.specs.Option.{option_map}
 use Rattle.kc_text.specs.declared.line.Line.{Line}
 use Rattle.kc_text.specs.Lines.{lines}
 use Rattle.kc_text.specs.Reading.{Reading, lines_left}
+use Rattle.kc_text.specs.Kept.{kept_left}
 use Rattle.kc_batch.specs.HeaderShape.{HeaderShape}
 use Rattle.kc_batch.specs.declared.header.HeaderFault.{HeaderFault}
 use Rattle.kc_batch.specs.declared.header.HeaderFault.TheVariants as fault
-use Rattle.kc_text.specs.Kept.{kept_left}
 use Rattle.kc_batch.specs.Headers.{HeaderText, Accepted, refused_at, header_of, Answers}
 use Rattle.kc_batch.specs.Tokens.{tokens}
 use Rattle.kc_batch.specs.Batches.{batches}

@@ -10,10 +10,10 @@ use Rattle.kc_text.specs.declared.line.Body.TheVariants as body
 use Rattle.kc_text.specs.Reading.{onto, behind}
 use Rattle.kc_text.specs.Words.{words, is_skip}
 use Rattle.kc_text.specs.Numbers.{number_of}
+use Rattle.kc_text.specs.Kept.{is_skipped, kept}
 use Rattle.kc_batch.specs.declared.token.Token.{Token}
 use Rattle.kc_batch.specs.declared.token.Kind.{Kind}
 use Rattle.kc_batch.specs.declared.token.Kind.TheVariants.{BatchStart, Item, BatchEnd, Other, TooLong, Limit, InputEnd}
-use Rattle.kc_text.specs.Kept.{is_skipped, kept}
 use Rattle.kc_batch.specs.Tokens.{insertion, deletion, isolation, unsigned, kind_of_words, kind_of, tokens}
 use Rattle.kc_batch.specs.private.Tokens.{kind_of_text, onto_token, behind_kind, TakesToken, IsLastKind}
 use Rattle.kc_text.proofs.lemmas.Kept.{told_skips, told_goes}

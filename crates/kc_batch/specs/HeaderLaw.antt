@@ -3,8 +3,8 @@ use Rattle.std.specs.Prelude.{ℕ, ◌≡◌, ◌≤◌, true, false, List, [], 
 use Rattle.kc_levels.specs.declared.profile.Profile.{Profile}
 use Rattle.kc_text.specs.declared.line.Line.{Line}
 use Rattle.kc_text.specs.Words.{words}
-use Rattle.kc_batch.specs.declared.ask.Ask.{Ask}
 use Rattle.kc_text.specs.Kept.{text_of}
+use Rattle.kc_batch.specs.declared.ask.Ask.{Ask}
 use Rattle.kc_batch.specs.Headers.{Accepted, Refused, profile_in, vertices_in, is_ask, ask_in, header_of}
 
 abbrev pub line_words : Line → List (List ℕ)
