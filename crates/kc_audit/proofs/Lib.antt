@@ -1,6 +1,5 @@
 pub mod lemmas
 mod FlatLemmas
-mod KeptLemmas
 mod LineLemmas
 mod MoveLemmas
 mod PairsBack

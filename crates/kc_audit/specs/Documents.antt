@@ -6,6 +6,7 @@ use Rattle.kc_text.specs.declared.line.Line.{Line}
 use Rattle.kc_text.specs.Lines.{lines}
 use Rattle.kc_text.specs.declared.reason.Reason.{Reason}
 use Rattle.kc_text.specs.declared.reason.Reason.TheVariants.{LineLong, BadLine, BadVertex, Truncated, InputLimit}
+use Rattle.kc_text.specs.Kept.{kept}
 use Rattle.kc_history.specs.declared.replies.Reply.{Reply}
 use Rattle.kc_audit.specs.declared.run_text.RunText.{RunText}
 use Rattle.kc_audit.specs.declared.stage.PhasesLeft.{PhasesLeft}
@@ -13,7 +14,6 @@ use Rattle.kc_audit.specs.declared.stage.PhasesLeft.TheVariants.{NoPhase, Insert
 use Rattle.kc_audit.specs.declared.stage.Place.{Place}
 use Rattle.kc_audit.specs.declared.stage.Stage.{Stage}
 use Rattle.kc_audit.specs.declared.stage.Stage.TheVariants.{Batches, Groups, Readers, VertexLines, Closed}
-use Rattle.kc_audit.specs.Kept.{kept}
 use Rattle.kc_audit.specs.Kinds.{Kind, kind_of}
 use Rattle.kc_audit.specs.Kinds as kind
 use Rattle.kc_audit.specs.Runs.{are_below}

@@ -1,6 +1,5 @@
 pub mod Documents
 pub mod Flat
-pub mod Kept
 pub mod Kinds
 pub mod Laws
 pub mod Printed

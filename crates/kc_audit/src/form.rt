@@ -1,7 +1,7 @@
 //! What the lines of a run text say, each by itself.
 ghost use Rattle.std.specs.Prelude.{◌≡◌, ◌≤◌, length, drop};
 ghost use Rattle.kc_text.specs.Words.{words};
-ghost use Rattle.kc_audit.specs.private.KeptLines.{text_of};
+ghost use Rattle.kc_text.specs.Kept.{text_of};
 ghost use Rattle.kc_audit.specs.Words.{first_number};
 ghost use Rattle.kc_audit.specs.Kinds.{is_version, names_reason, is_refusal, vertices_kind, batch_kind, direction_of, direction_kind, phase_kind, group_kind, reader_kind, vertex_kind, named_kind, kind_of_words, kind_of};
 ghost use Rattle.kc_audit.specs.private.Kinds.{kind_told, IsWithin};

@@ -9,7 +9,6 @@
 mod flat;
 mod form;
 mod groups;
-mod kept;
 pub mod laws;
 mod read;
 mod readers;

@@ -1,16 +1,15 @@
 //! Reading a run text.
 ghost use Rattle.std.specs.Prelude.{◌≡◌, IfOk};
-ghost use Rattle.kc_audit.specs.Kept.{kept_left};
+ghost use Rattle.kc_text.specs.Kept.{kept_left};
 ghost use Rattle.kc_audit.specs.Runs.{IsAuditable};
 ghost use Rattle.kc_audit.specs.Documents.{empty_run, first_place, read_from, after_head, document_of};
 ghost use Rattle.kc_audit.specs.Reads.{Answers, AuditCause};
 ghost use Rattle.kc_audit.specs.declared.stage.Stage.TheVariants.{Batches};
 
 use crate::form::{FormLine, form_of};
-use crate::kept::{give_back, next_kept, text_of};
 use crate::stage::{PhasesLeft, Place, Stage, Turn, head_of, turn_at, vertices_of};
 use crate::{GroupLines, Readers, RunText};
-use kc_text::{LineFault, LineReader, Reason, Source};
+use kc_text::{LineFault, LineReader, Reason, Source, give_back, next_kept, text_of};
 use std::alloc::{AllocError, Global};
 use thiserror::Error;
 

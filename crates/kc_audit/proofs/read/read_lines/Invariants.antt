@@ -1,7 +1,7 @@
 use Rattle.std.proofs.Common.{◌≡◌}
 use Rattle.std.specs.Option.{option_map}
 use Rattle.kc_text.specs.Reading.{budget}
-use Rattle.kc_audit.specs.Kept.{kept_left}
+use Rattle.kc_text.specs.Kept.{kept_left}
 use Rattle.kc_audit.specs.Runs.{IsAuditable}
 use Rattle.kc_audit.specs.Documents.{empty_run, first_place, read_from}
 use Rattle.kc_audit.specs.declared.stage.Stage.TheVariants.{Batches}

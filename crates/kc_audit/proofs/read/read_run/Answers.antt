@@ -1,6 +1,6 @@
 use Rattle.std.proofs.Common.{sym}
+use Rattle.kc_text.specs.Kept.{text_of}
 use Rattle.kc_audit.specs.Documents.{Refused, after_head, document_of}
-use Rattle.kc_audit.specs.private.KeptLines.{text_of}
 use Rattle.kc_audit.proofs.Stepping.{head_there, head_missing, step_on, answer_before, refused_here}
 use Rattle.kc_audit.proofs.read.read_run.Goals as goal
 

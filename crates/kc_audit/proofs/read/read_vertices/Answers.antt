@@ -1,7 +1,7 @@
 use Rattle.std.proofs.Common.{sym}
+use Rattle.kc_text.specs.Kept.{text_of}
 use Rattle.kc_audit.specs.declared.stage.Stage.TheVariants.{Batches}
 use Rattle.kc_audit.specs.Documents.{Refused, empty_run, first_place, read_from, after_head}
-use Rattle.kc_audit.specs.private.KeptLines.{text_of}
 use Rattle.kc_audit.proofs.Stepping.{vertices_there, vertices_missing, step_on, answer_before, refused_here}
 use Rattle.kc_audit.proofs.read.read_vertices.Goals as goal
 
