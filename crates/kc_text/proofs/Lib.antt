@@ -6,6 +6,7 @@ mod Giving
 mod Holding
 mod KeptLemmas
 mod Known
+mod NamedLines
 mod NumberLines
 mod Numbering
 mod Passing

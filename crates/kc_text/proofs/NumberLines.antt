@@ -14,7 +14,7 @@ use Rattle.kc_text.specs.Lines.{without_cr}
 use Rattle.kc_text.specs.Words.{words, words_from, is_blank}
 use Rattle.kc_text.specs.Laws.{HasNoBlank}
 use Rattle.kc_text.specs.Numbers.{is_digit, number_of}
-use Rattle.kc_text.specs.NumberLines.{with_sign, IsFront, IsTwoNumbers}
+use Rattle.kc_text.specs.NumberLines.{with_sign, IsFront, EndsInNumbers, IsTwoNumbers}
 use Rattle.kc_text.specs.private.WholeLines.{EndsAt}
 use Rattle.kc_text.specs.private.Numbers.{DigitsTo, StopsAt, HasNoNumber}
 use Rattle.kc_text.specs.private.NumberLines.{sign_of, BeginsAt, FrontStands, ClosesAt, NumbersStand, HaveNoNumbers, HaveNoNumberLine, NumbersTo, IsNumberLine, is_plain}
@@ -30,7 +30,7 @@ range_first xs a c h l =
     range_split xs a (a + 1) c (omega arith) (omega arith) ∙ ap (λ ys. ys ++ slice_range xs (a + 1) c) one
 
 -- a line's sign
-pub begins_bare : (bytes : List ℕ) → BeginsAt bytes None 0
+pub begins_bare : (bytes : List ℕ) → BeginsAt bytes (with_sign None) 0
 begins_bare bytes = record { within = omega arith; words_are = λ rest. refl; plain = λ k lt. absurd (omega arith) }
 
 abbrev byte_of : Sign → ℕ
@@ -47,15 +47,15 @@ plain_two x y more e f zero lt = e
 plain_two x y more e f (suc zero) lt = f
 plain_two x y more e f (suc (suc k)) lt = absurd (omega arith)
 
-blank_no_end : (b : ℕ) → is_blank b ≡ true → (b == 10) ≡ false
+pub blank_no_end : (b : ℕ) → is_blank b ≡ true → (b == 10) ≡ false
 blank_no_end b e = grind (arith, nat_tests, e)
 
-begins : (sign : Sign) (x y : ℕ) (more : List ℕ) → x ≡ byte_of sign → is_blank y ≡ true → BeginsAt (x ∷ y ∷ more) (Some sign) 2
+begins : (sign : Sign) (x y : ℕ) (more : List ℕ) → x ≡ byte_of sign → is_blank y ≡ true → BeginsAt (x ∷ y ∷ more) (with_sign (Some sign)) 2
 unfolding words_from
 begins Plus x y more e b = record { within = omega arith; words_are = λ rest. rw (e, b) refl; plain = plain_two x y more (rw e refl) (blank_no_end y b) }
 begins Minus x y more e b = record { within = omega arith; words_are = λ rest. rw (e, b) refl; plain = plain_two x y more (rw e refl) (blank_no_end y b) }
 
-pub begins_signed : (bytes : List ℕ) (sign : Option Sign) → 2 ≤ length bytes → sign ≡ sign_of (get_or bytes 0 0) → is_some sign ≡ true → is_blank (get_or bytes 1 0) ≡ true → BeginsAt bytes sign 2
+pub begins_signed : (bytes : List ℕ) (sign : Option Sign) → 2 ≤ length bytes → sign ≡ sign_of (get_or bytes 0 0) → is_some sign ≡ true → is_blank (get_or bytes 1 0) ≡ true → BeginsAt bytes (with_sign sign) 2
 begins_signed [] sign h e s b = absurd (omega arith)
 begins_signed (x ∷ []) sign h e s b = absurd (omega arith)
 begins_signed (x ∷ y ∷ more) None h e s b = absurd cc
@@ -180,43 +180,52 @@ text_is bytes end len h c p = elim (cases_lt end len) [
   | inr none ↦ let at : len ≡ end = omega (arith, c.after) in rw at (stays bytes end h (omega (arith, c.within, at)) (plain_no_cr _ p))
 ]
 
-pub number_line : (bytes : List ℕ) (sign : Option Sign) (start first second len : ℕ) → BeginsAt bytes sign start → NumbersTo bytes start first second len
-    → IsNumberLine bytes (record { sign = sign; first = first; second = second; len = len })
-number_line bytes sign start first second len b n =
+-- a line ends where the numbers behind its front do
+pub line_ends : (bytes : List ℕ) (front : List (List ℕ) → List (List ℕ)) (start first second len : ℕ) → BeginsAt bytes front start → NumbersTo bytes start first second len → EndsAt bytes len
+line_ends bytes front start first second len b n = record {
+  within = n.closes.within;
+  here = n.closes.here;
+  before = λ k lt. elim (cases_lt k start) [
+    | inl before ↦ b.plain k before
+    | inr back ↦ elim (cases_lt k n.end) [
+      | inl number ↦ plain_no_end _ (n.plain k back number)
+      | inr cr ↦ let at : k ≡ n.end = omega (arith, n.closes.near) in rw at (cr_no_end _ (n.closes.before (omega (arith, at, lt))))
+    ]
+  ];
+}
+
+-- and its words are those of the front and the two numbers
+pub line_words : (bytes : List ℕ) (front : List (List ℕ) → List (List ℕ)) (start first second len : ℕ) → BeginsAt bytes front start → (n : NumbersTo bytes start first second len)
+    → words (without_cr (take len bytes)) ≡ front (n.says.one ∷ n.says.two ∷ [])
+line_words bytes front start first second len b n =
     let text = text_is bytes n.end len (omega (arith, n.after)) n.closes (n.plain (n.end - 1) (omega (arith, n.after)) (omega (arith, n.after))) in
     let e : n.end ≡ start + (n.end - start) = omega (arith, n.after) in
     let all : take n.end bytes ≡ take start bytes ++ slice_range bytes start n.end = ap (λ k. take k bytes) e ∙ take-add start (n.end - start) bytes in
-    record {
-      ends = record {
-        within = n.closes.within;
-        here = n.closes.here;
-        before = λ k lt. elim (cases_lt k start) [
-          | inl front ↦ b.plain k front
-          | inr back ↦ elim (cases_lt k n.end) [
-            | inl number ↦ plain_no_end _ (n.plain k back number)
-            | inr cr ↦ let at : k ≡ n.end = omega (arith, n.closes.near) in rw at (cr_no_end _ (n.closes.before (omega (arith, at, lt))))
-          ]
-        ];
-      };
-      says = record {
-        one = n.says.one;
-        two = n.says.two;
-        words_are = ap words (text ∙ all) ∙ b.words_are (slice_range bytes start n.end) ∙ ap (with_sign sign) n.says.words_are;
-        one_is = n.says.one_is;
-        two_is = n.says.two_is;
-      };
-    }
+    ap words (text ∙ all) ∙ b.words_are (slice_range bytes start n.end) ∙ ap front n.says.words_are
+
+pub number_line : (bytes : List ℕ) (sign : Option Sign) (start first second len : ℕ) → BeginsAt bytes (with_sign sign) start → NumbersTo bytes start first second len
+    → IsNumberLine bytes (record { sign = sign; first = first; second = second; len = len })
+number_line bytes sign start first second len b n = record {
+  ends = line_ends bytes (with_sign sign) start first second len b n;
+  says = record {
+    one = n.says.one;
+    two = n.says.two;
+    words_are = line_words bytes (with_sign sign) start first second len b n;
+    one_is = n.says.one_is;
+    two_is = n.says.two_is;
+  };
+}
 
 -- the bytes of a line before its end
-record Text (bytes : List ℕ) (len : ℕ) : Type 0 where
-  end : ℕ
-  closes : ClosesAt bytes end len
-  is : without_cr (take len bytes) ≡ take end bytes
+pub record Text (bytes : List ℕ) (len : ℕ) : Type 0 where
+  pub end : ℕ
+  pub closes : ClosesAt bytes end len
+  pub is : without_cr (take len bytes) ≡ take end bytes
 
 nothing_taken : (bytes : List ℕ) → (get_or (take 0 bytes) (0 - 1) 0 == 13) ≡ true → ⊥
 nothing_taken bytes e = cc
 
-text_with : (bytes : List ℕ) (len : ℕ) (cr : Bool) → len < length bytes → get_or bytes len 0 ≡ 10 → (get_or (take len bytes) (len - 1) 0 == 13) ≡ cr → Text bytes len
+pub text_with : (bytes : List ℕ) (len : ℕ) (cr : Bool) → len < length bytes → get_or bytes len 0 ≡ 10 → (get_or (take len bytes) (len - 1) 0 == 13) ≡ cr → Text bytes len
 text_with bytes len false l h e = record { end = len; closes = closes_here bytes len l h; is = rw (length-take-le len bytes (omega arith), e) refl }
 text_with bytes len true l h e = elim (cases_lt 0 len) [
   | inl some ↦
@@ -256,6 +265,33 @@ front_of n bytes (Some Minus) start h f = (f.0, (rw (get_or-take n bytes 0 0 (om
 no_blank_past : (b : ℕ) → b ≡ 0 → is_blank b ≡ true → ⊥
 no_blank_past b z e = differ (is_blank b) e (rw z refl)
 
+-- where the numbers stand that end a line
+pub record Standing (bytes : List ℕ) (end start first second len : ℕ) : Type 0 where
+  pub after : start + 1 < end
+  pub numbers : NumbersStand bytes start first second len
+
+pub numbers_in : (bytes : List ℕ) (end len start first second : ℕ) → ClosesAt bytes end len → EndsInNumbers (take end bytes) start first second → Standing bytes end start first second len
+numbers_in bytes end len start first second c t =
+    let l = length-take-le end bytes (omega (arith, c.after, c.within)) in
+    let w = number_has (slice_range (take end bytes) start t.middle) first t.one in
+    let n : length (slice_range (take end bytes) start t.middle) ≡ min (t.middle - start) (length (take end bytes) - start) = simp (length-take, length-drop) refl in
+    let some : start < t.middle = omega (arith, w.some, n) in
+    let inside : t.middle < end = elim (cases_lt t.middle end) [
+      | inl less ↦ less
+      | inr past ↦ absurd (no_blank_past _ (get_or_past (take end bytes) t.middle 0 (omega (arith, l, past))) t.blank)
+    ] in
+    record {
+      after = omega (arith, some, inside);
+      numbers = record {
+        middle = t.middle;
+        end = end;
+        one = digits_of bytes start t.middle first (omega (arith, some)) (omega (arith, inside, c.after, c.within)) (rw (range_take end bytes start t.middle (omega (arith, some)) (omega (arith, inside))) at t.one);
+        blank = rw (get_or-take end bytes t.middle 0 inside) at t.blank;
+        two = digits_of bytes (t.middle + 1) end second (omega (arith, inside)) (omega (arith, c.after, c.within)) (rw (drop_range end bytes (t.middle + 1) (omega (arith, inside))) at t.two);
+        closes = c;
+      };
+    }
+
 -- where the parts of a line of two numbers stand
 record Stands (bytes : List ℕ) (sign : Option Sign) (first second len : ℕ) : Type 0 where
   start : ℕ
@@ -264,31 +300,16 @@ record Stands (bytes : List ℕ) (sign : Option Sign) (first second len : ℕ) :
 
 stands_in : (bytes : List ℕ) (end len : ℕ) (sign : Option Sign) (first second : ℕ) → ClosesAt bytes end len → IsTwoNumbers (take end bytes) sign first second → Stands bytes sign first second len
 stands_in bytes end len sign first second c t =
-    let l = length-take-le end bytes (omega (arith, c.after, c.within)) in
-    let w = number_has (slice_range (take end bytes) t.start t.middle) first t.one in
-    let n : length (slice_range (take end bytes) t.start t.middle) ≡ min (t.middle - t.start) (length (take end bytes) - t.start) = simp (length-take, length-drop) refl in
-    let some : t.start < t.middle = omega (arith, w.some, n) in
-    let inside : t.middle < end = elim (cases_lt t.middle end) [
-      | inl less ↦ less
-      | inr past ↦ absurd (no_blank_past _ (get_or_past (take end bytes) t.middle 0 (omega (arith, l, past))) t.blank)
-    ] in
-    let one = digits_of bytes t.start t.middle first (omega (arith, some)) (omega (arith, inside, c.after, c.within)) (rw (range_take end bytes t.start t.middle (omega (arith, some)) (omega (arith, inside))) at t.one) in
-    let two = digits_of bytes (t.middle + 1) end second (omega (arith, inside)) (omega (arith, c.after, c.within)) (rw (drop_range end bytes (t.middle + 1) (omega (arith, inside))) at t.two) in
+    let s = numbers_in bytes end len t.start first second c t.numbers in
+    let one = s.numbers.one in
     record {
       start = t.start;
       front = record {
-        more = omega (arith, some, inside, c.after, c.within);
-        front = front_of end bytes sign t.start (omega (arith, some, inside)) t.front;
-        digit = digit_in bytes t.start t.middle t.start one.within one.digits (omega arith) some;
+        more = omega (arith, s.after, c.after, c.within);
+        front = front_of end bytes sign t.start (omega (arith, s.after)) t.front;
+        digit = digit_in bytes t.start s.numbers.middle t.start one.within one.digits (omega arith) one.after;
       };
-      numbers = record {
-        middle = t.middle;
-        end = end;
-        one = one;
-        blank = rw (get_or-take end bytes t.middle 0 inside) at t.blank;
-        two = two;
-        closes = c;
-      };
+      numbers = s.numbers;
     }
 
 stands : (bytes : List ℕ) (len : ℕ) (sign : Option Sign) (first second : ℕ) → EndsAt bytes len → IsTwoNumbers (without_cr (take len bytes)) sign first second → Stands bytes sign first second len

@@ -37,9 +37,9 @@ last_word : (w : List ℕ) → is_word w ≡ true → words w ≡ w ∷ []
 last_word [] e = absurd cc
 last_word (x ∷ xs) e = are_longest_runs.last [] x xs (All-nil (λ b. is_blank b ≡ true)) (no_blank (x ∷ xs) (and_parts _ _ e).1)
 
-first_word : (w rest : List ℕ) → is_word w ≡ true → words (w ++ 32 ∷ rest) ≡ w ∷ words rest
-first_word [] rest e = absurd cc
-first_word (x ∷ xs) rest e = are_longest_runs.first [] x xs 32 rest (All-nil (λ b. is_blank b ≡ true)) (no_blank (x ∷ xs) (and_parts _ _ e).1) refl
+pub first_word : (w : List ℕ) (b : ℕ) (rest : List ℕ) → is_word w ≡ true → is_blank b ≡ true → words (w ++ b ∷ rest) ≡ w ∷ words rest
+first_word [] b rest e h = absurd cc
+first_word (x ∷ xs) b rest e h = are_longest_runs.first [] x xs b rest (All-nil (λ c. is_blank c ≡ true)) (no_blank (x ∷ xs) (and_parts _ _ e).1) h
 
 no_words : words [] ≡ []
 no_words = are_longest_runs.none [] (All-nil (λ b. is_blank b ≡ true))
@@ -49,7 +49,7 @@ words_back [] e = no_words
 words_back (w ∷ []) e = last_word w (and_parts (is_word w) true e).0
 words_back (w ∷ v ∷ ws) e =
     let p = and_parts (is_word w) (list_all is_word (v ∷ ws)) e in
-    first_word w (join_with_byte 32 (v ∷ ws)) p.0 ∙ ap (λ (l : List (List ℕ)). w ∷ l) (words_back (v ∷ ws) p.1)
+    first_word w 32 (join_with_byte 32 (v ∷ ws)) p.0 refl ∙ ap (λ (l : List (List ℕ)). w ∷ l) (words_back (v ∷ ws) p.1)
 
 -- numbers
 record Reads (n : ℕ) (ds : List ℕ) : Type 0 where

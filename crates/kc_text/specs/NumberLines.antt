@@ -1,5 +1,5 @@
 -- Lines of two numbers.
-use Rattle.std.specs.Prelude.{ℕ, ◌+◌, ◌≡◌, true, List, [], ◌∷◌, drop, get_or, Option, Some, None, codes}
+use Rattle.std.specs.Prelude.{ℕ, ◌+◌, ◌≡◌, true, List, [], ◌∷◌, length, take, drop, get_or, Option, Some, None, codes}
 use Rattle.std.specs.List.{slice_range}
 use Rattle.kc_text.specs.declared.number_line.Sign.{Sign}
 use Rattle.kc_text.specs.declared.number_line.Sign.TheVariants.{Plus, Minus}
@@ -20,6 +20,21 @@ pub record SayNumbers (ws : List (List ℕ)) (sign : Option Sign) (first second 
   pub one_is : number_of one ≡ Some first
   pub two_is : number_of two ≡ Some second
 
+-- these are a name and two words that say `first` and `second`
+pub record SayNamed (ws : List (List ℕ)) (name : List ℕ) (first second : ℕ) : Type 0 where
+  pub one : List ℕ
+  pub two : List ℕ
+  pub words_are : ws ≡ name ∷ one ∷ two ∷ []
+  pub one_is : number_of one ≡ Some first
+  pub two_is : number_of two ≡ Some second
+
+-- from `start` on a text is two numbers with one blank between them
+pub record EndsInNumbers (text : List ℕ) (start first second : ℕ) : Type 0 where
+  pub middle : ℕ
+  pub one : number_of (slice_range text start middle) ≡ Some first
+  pub blank : is_blank (get_or text middle 0) ≡ true
+  pub two : number_of (drop (middle + 1) text) ≡ Some second
+
 -- nothing before `start`, or a sign and a blank
 abbrev pub IsFront : List ℕ → Option Sign → ℕ → Type 0
 IsFront text None start = start ≡ 0
@@ -29,12 +44,23 @@ IsFront text (Some Minus) start = (start ≡ 2) × ((get_or text 0 0 ≡ 45) × 
 -- a text of two numbers with one blank between them, or of a sign, a blank and such numbers
 pub record IsTwoNumbers (text : List ℕ) (sign : Option Sign) (first second : ℕ) : Type 0 where
   pub start : ℕ
-  pub middle : ℕ
   pub front : IsFront text sign start
-  pub one : number_of (slice_range text start middle) ≡ Some first
-  pub blank : is_blank (get_or text middle 0) ≡ true
-  pub two : number_of (drop (middle + 1) text) ≡ Some second
+  pub numbers : EndsInNumbers text start first second
 
 -- a text that isn't so
 abbrev pub IsNoNumberLine : List ℕ → Type 0
 IsNoNumberLine text = (sign : Option Sign) (first second : ℕ) → IsTwoNumbers text sign first second → ⊥
+
+-- a text that begins with a name and a blank
+pub record BeginsWithName (text name : List ℕ) : Type 0 where
+  pub name_is : take (length name) text ≡ name
+  pub blank : is_blank (get_or text (length name) 0) ≡ true
+
+-- a text of a name, a blank, and two numbers with one blank between them
+pub record IsNamedNumbers (text name : List ℕ) (first second : ℕ) : Type 0 where
+  pub front : BeginsWithName text name
+  pub numbers : EndsInNumbers text (length name + 1) first second
+
+-- a text that isn't so
+abbrev pub IsNoNamedLine : List ℕ → List ℕ → Type 0
+IsNoNamedLine text name = (first second : ℕ) → IsNamedNumbers text name first second → ⊥

@@ -38,7 +38,7 @@ pub use mem_source::MemSource;
 pub use named::fill_named;
 pub use null_sink::NullSink;
 pub use number::{next_number, read_number};
-pub use number_line::{NumberLine, Sign};
+pub use number_line::{NamedNumbers, NumberLine, Sign};
 pub use reader::LineReader;
 pub use reason::Reason;
 pub use sink::{Sink, put_all};

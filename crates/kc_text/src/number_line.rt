@@ -1,7 +1,9 @@
 // Lines of two numbers, read in one pass over their bytes.
-ghost use Rattle.std.specs.Prelude.{◌≡◌, ◌≤◌, ℕ, Option, length, IfSome, IfNone};
+ghost use Rattle.std.specs.Prelude.{◌≡◌, ◌≤◌, ◌+◌, ℕ, ◌∷◌, true, Option, length, IfSome, IfNone};
+ghost use Rattle.kc_text.specs.Printing.{is_word};
+ghost use Rattle.kc_text.specs.NumberLines.{with_sign, BeginsWithName};
 ghost use Rattle.kc_text.specs.private.Numbers.{DigitsTo, StopsAt, HasNoNumber};
-ghost use Rattle.kc_text.specs.private.NumberLines.{sign_of, BeginsAt, FrontStands, ClosesAt, NumbersTo, HaveNoNumbers, IsNumberLine, HaveNoNumberLine};
+ghost use Rattle.kc_text.specs.private.NumberLines.{sign_of, BeginsAt, FrontStands, ClosesAt, NumbersTo, HaveNoNumbers, IsNumberLine, HaveNoNumberLine, IsNamedLine, HaveNoNamedLine};
 
 use crate::number::pass_digits;
 use crate::word::parts_words;
@@ -26,6 +28,15 @@ pub struct NumberLine {
     pub len: usize,
 }
 
+/// A line of a name and two numbers.
+#[derive(Clone, Copy, Debug, PartialEq, Eq)]
+pub struct NamedNumbers {
+    pub first: u32,
+    pub second: u32,
+    /// The length of the line, with a carriage return at its end.
+    pub len: usize,
+}
+
 fn sign_of(byte: u8) -> Option<Sign>
     ensures { result ≡ sign_of byte }
 {
@@ -39,7 +50,7 @@ fn sign_of(byte: u8) -> Option<Sign>
 // The sign with which a line begins, and where the rest of the line begins. None where a sign doesn't stand alone.
 #[tactic(auto, using(crate::proofs::NumberLines::begin_steps))]
 fn pass_sign(bytes: &[u8]) -> Option<(Option<Sign>, usize)>
-    ensures begins { IfSome result (λ r. BeginsAt bytes.now r.0 r.1) }
+    ensures begins { IfSome result (λ r. BeginsAt bytes.now (with_sign r.0) r.1) }
     ensures front { IfSome result (λ r. (sign : Option Sign) (start : ℕ) → FrontStands bytes.now sign start → start ≡ r.1) }
     ensures none { IfNone result ((sign : Option Sign) (start : ℕ) → FrontStands bytes.now sign start → ⊥) }
 {
@@ -134,4 +145,40 @@ pub(crate) fn number_line(bytes: &[u8]) -> Option<NumberLine>
         second,
         len,
     })
+}
+
+// Where the numbers begin of a line that begins with the name and a blank.
+#[inline(always)]
+fn pass_name(bytes: &[u8], name: &[u8]) -> Option<usize>
+    requires { is_word name.now ≡ true }
+    ensures start { IfSome result (λ start. start ≡ length name.now + 1) }
+    ensures begins { IfSome result (λ start. BeginsAt bytes.now (λ ws. name.now ∷ ws) start) }
+    ensures none { IfNone result (BeginsWithName bytes.now name.now → ⊥) }
+{
+    let len = name.len();
+    if !bytes.starts_with(name) {
+        return None;
+    }
+    if len == bytes.len() || !parts_words(bytes[len]) {
+        return None;
+    }
+    Some(len + 1)
+}
+
+// The line with which the bytes begin, where its line feed is among them and it is the name, a blank, and two numbers with
+// one blank between them. None where they don't begin with such a line.
+#[inline(always)]
+#[tactic(auto, using(crate::proofs::NamedLines::named_line))]
+pub(crate) fn numbers_after(bytes: &[u8], name: &[u8]) -> Option<NamedNumbers>
+    requires { is_word name.now ≡ true }
+    ensures line { IfSome result (λ line. IsNamedLine bytes.now name.now line) }
+    ensures none { IfNone result (HaveNoNamedLine bytes.now name.now) }
+{
+    let Some(start) = pass_name(bytes, name) else {
+        return None;
+    };
+    let Some((first, second, len)) = numbers_to(bytes, start) else {
+        return None;
+    };
+    Some(NamedNumbers { first, second, len })
 }

@@ -6,7 +6,7 @@ ghost use Rattle.kc_text.specs.Lines.{lines};
 
 use crate::line::LastLine;
 use crate::scanner::Scanner;
-use crate::{Body, Bytes, Line, LineFault, NumberLine, Source};
+use crate::{Body, Bytes, Line, LineFault, NamedNumbers, NumberLine, Source};
 use std::alloc::{AllocError, Global};
 use std::marker::Model;
 
@@ -66,7 +66,8 @@ fn line_of_last(last: LastLine) -> Line
 impl LineReader {
     ghost use Rattle.kc_text.specs.Scanning.{whole_text, whole_line};
     ghost use Rattle.kc_text.specs.Words.{words};
-    ghost use Rattle.kc_text.specs.NumberLines.{SayNumbers, IsNoNumberLine};
+    ghost use Rattle.kc_text.specs.NumberLines.{SayNumbers, IsNoNumberLine, SayNamed, IsNoNamedLine};
+    ghost use Rattle.kc_text.specs.Printing.{is_word};
     ghost use Rattle.kc_text.specs.Reading.{Reading, lines_of_rest, lines_left, onto, Takes, IsLast, budget, is_decided, HasWhole};
 
     /// A reader that stands before the first line. Lines of more than `line_limit` bytes are too
@@ -154,6 +155,23 @@ impl LineReader {
         self.scanner.number_line()
     }
 
+    /// The next line, where it lies whole in the reader's own memory, as `whole_line` has it, and is the name, one blank or
+    /// tab, and two numbers with one blank or tab between them, as `edge 12 345` is for `edge`. None only where there is no
+    /// such line. `pass_line` takes the line. Cost: one pass over the bytes of the line; of a line that begins with another
+    /// word, the bytes of the name.
+    #[inline(always)]
+    pub fn numbers_after(&self, name: &[u8]) -> Option<NamedNumbers>
+        requires { is_word name.now ≡ true }
+        ensures whole { IfSome result (λ line. HasWhole line.len self.now) }
+        ensures says { IfSome result (λ line. SayNamed (words (whole_text line.len self.now.scan)) name.now line.first line.second) }
+        ensures none { IfNone result ((len : ℕ) → HasWhole len self.now → IsNoNamedLine (whole_text len self.now.scan) name.now) }
+    {
+        if !self.is_scanning() {
+            return None;
+        }
+        self.scanner.numbers_after(name)
+    }
+
     /// The text of the next line, and its length with a carriage return at its end, where the line lies whole in the
     /// reader's own memory, isn't too long and is within the input's limit: nothing is read or copied for it. None
     /// exactly where there is no such line; `next_line` gives the next line then. `pass_line` takes the line. Cost: the
@@ -170,8 +188,8 @@ impl LineReader {
         self.scanner.whole_line()
     }
 
-    /// Takes the line of which `number_line` or `whole_line` tells, by its length, and gives its number. Takes no memory, and reads
-    /// nothing.
+    /// Takes the line of which `number_line`, `numbers_after` or `whole_line` tells, by its length, and gives its number. Takes no
+    /// memory, and reads nothing.
     #[inline(always)]
     pub fn pass_line(&mut self, len: usize) -> u32
         requires whole { HasWhole len self.old }

@@ -4,9 +4,9 @@ ghost use Rattle.kc_text.specs.Causes.{Rose, ReadCause, OnReadFault};
 ghost use Rattle.kc_text.specs.Lines.{body_of, without_cr, lines};
 ghost use Rattle.kc_text.specs.private.ScannerState.{piece_of};
 
-use crate::number_line::number_line;
+use crate::number_line::{number_line, numbers_after};
 use crate::window::Window;
-use crate::{Body, Bytes, Failed, Line, LineFault, NumberLine, Source};
+use crate::{Body, Bytes, Failed, Line, LineFault, NamedNumbers, NumberLine, Source};
 use memchr::memchr;
 use std::alloc::{AllocError, Global};
 use std::marker::Model;
@@ -135,7 +135,8 @@ impl Scanner {
     ghost use Rattle.kc_text.specs.Following.{onto, Takes, IsLast};
     ghost use Rattle.kc_text.specs.Scanning.{Scan, scan_lines, scan_budget, is_scan_decided, IsWhole, whole_text, whole_line};
     ghost use Rattle.kc_text.specs.Words.{words};
-    ghost use Rattle.kc_text.specs.NumberLines.{SayNumbers, IsNoNumberLine};
+    ghost use Rattle.kc_text.specs.NumberLines.{SayNumbers, IsNoNumberLine, SayNamed, IsNoNamedLine};
+    ghost use Rattle.kc_text.specs.Printing.{is_word};
     ghost use Rattle.kc_text.specs.private.WholeLines.{Lends};
     ghost use Rattle.kc_text.specs.private.Scanning.{scan_lines_left};
     ghost use Rattle.kc_text.specs.private.ScannerSteps.{work, Gives, Absorbs};
@@ -260,6 +261,18 @@ impl Scanner {
         ensures none { IfNone result ((len : ℕ) → IsWhole len self.now → IsNoNumberLine (whole_text len self.now)) }
     {
         number_line(self.ahead())
+    }
+
+    /// The next line, where it lies whole among the bytes that were read and is the name, a blank, and two numbers with one
+    /// blank between them.
+    #[inline(always)]
+    pub fn numbers_after(&self, name: &[u8]) -> Option<NamedNumbers>
+        requires { is_word name.now ≡ true }
+        ensures whole { IfSome result (λ line. IsWhole line.len self.now) }
+        ensures says { IfSome result (λ line. SayNamed (words (whole_text line.len self.now)) name.now line.first line.second) }
+        ensures none { IfNone result ((len : ℕ) → IsWhole len self.now → IsNoNamedLine (whole_text len self.now) name.now) }
+    {
+        numbers_after(self.ahead(), name)
     }
 
     /// The text of the next line, and its length with a carriage return, where the line lies whole among the bytes

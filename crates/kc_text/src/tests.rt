@@ -2,7 +2,7 @@
 ghost use Rattle.std.specs.Prelude.{◌≡◌, ◌<◌, IfOk};
 
 use crate::{
-    Body, Failed, Line, LineBuf, LineFault, LineReader, MemSink, MemSource, NullSink, NumberLine,
+    Body, Failed, Line, LineBuf, LineFault, LineReader, MemSink, MemSource, NamedNumbers, NullSink, NumberLine,
     Reason, SendFault, Sign, Sink, Source, StdSink, StdSource, Words, fill_named, give_back,
     is_skipped, next_kept, next_number, next_word, put_all, read_number, text_of,
 };
@@ -208,6 +208,45 @@ fn lines_that_arent_skipped(rt: HostRuntime) -> Result<(), Fail> {
             add_line(&mut reader, given, &mut out)?;
         }
         assert_eq!(rt; out.as_slice(), want, "at {input:?}");
+    }
+    Ok(())
+}
+
+#[test]
+fn lines_of_a_name_and_two_numbers(rt: HostRuntime) -> Result<(), Fail> {
+    // the limits of a line and of the input, the input, and numbers and length of its second line, where its name is `ab`
+    let rows: [(u32, u32, &[u8], Option<(u32, u32, usize)>); 14] = [
+        (6, 9, b"#\nab 1 2\n", Some((1, 2, 6))),
+        (5, 9, b"#\nab 1 2\n", None),
+        (6, 8, b"#\nab 1 2\n", None),
+        (99, 99, b"#\nab\t10\t20\r\nx", Some((10, 20, 9))),
+        (
+            99,
+            99,
+            b"#\nab 4294967295 0000000001\n",
+            Some((4294967295, 1, 24)),
+        ),
+        (99, 99, b"#\nab 1 4294967296\n", None),
+        (99, 99, b"#\nab 1 2", None),
+        (99, 99, b"#\nab  1 2\n", None),
+        (99, 99, b"#\n ab 1 2\n", None),
+        (99, 99, b"#\nab 1\n2\n", None),
+        (99, 99, b"#\nab1 2\n", None),
+        (99, 99, b"#\nabc 1 2\n", None),
+        (99, 99, b"#\nac 1 2\n", None),
+        (99, 99, b"#\nab", None),
+    ];
+    for (line_limit, input_limit, input, want) in rows {
+        assert!(rt; line_limit < 100 && input_limit < 100);
+        let mut source = MemSource::new(rt.alloc(), input, 1000, &[])?;
+        let mut reader = LineReader::new(rt.alloc(), line_limit, input_limit)?;
+        reader.next_line(rt.alloc(), &mut source)?;
+        let got = reader.numbers_after(b"ab");
+        let want = want.map(|(first, second, len)| NamedNumbers { first, second, len });
+        assert_eq!(rt; got, want, "at {input:?}");
+        if let Some(line) = got {
+            assert_eq!(rt; reader.pass_line(line.len), 2);
+        }
     }
     Ok(())
 }

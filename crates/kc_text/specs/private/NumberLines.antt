@@ -4,10 +4,11 @@ use Rattle.std.specs.List.{slice_range}
 use Rattle.kc_text.specs.declared.number_line.Sign.{Sign}
 use Rattle.kc_text.specs.declared.number_line.Sign.TheVariants.{Plus, Minus}
 use Rattle.kc_text.specs.declared.number_line.NumberLine.{NumberLine}
+use Rattle.kc_text.specs.declared.number_line.NamedNumbers.{NamedNumbers}
 use Rattle.kc_text.specs.Lines.{without_cr}
 use Rattle.kc_text.specs.Words.{words, is_blank}
 use Rattle.kc_text.specs.Numbers.{is_digit}
-use Rattle.kc_text.specs.NumberLines.{with_sign, SayNumbers, IsFront, IsNoNumberLine}
+use Rattle.kc_text.specs.NumberLines.{SayNumbers, SayNamed, IsFront, IsNoNumberLine, IsNoNamedLine}
 use Rattle.kc_text.specs.private.Numbers.{DigitsTo}
 use Rattle.kc_text.specs.private.WholeLines.{EndsAt}
 
@@ -15,10 +16,10 @@ use Rattle.kc_text.specs.private.WholeLines.{EndsAt}
 abbrev pub sign_of : ℕ → Option Sign
 sign_of b = if b == 43 then Some Plus else if b == 45 then Some Minus else None
 
--- a line that begins with these bytes has this sign, and the rest of its words come from `start` on
-pub record BeginsAt (bytes : List ℕ) (sign : Option Sign) (start : ℕ) : Type 0 where
+-- a line that begins with these bytes has the words of this front, and the rest of its words come from `start` on
+pub record BeginsAt (bytes : List ℕ) (front : List (List ℕ) → List (List ℕ)) (start : ℕ) : Type 0 where
   pub within : start ≤ length bytes
-  pub words_are : (rest : List ℕ) → words (take start bytes ++ rest) ≡ with_sign sign (words rest)
+  pub words_are : (rest : List ℕ) → words (take start bytes ++ rest) ≡ front (words rest)
   pub plain : (k : ℕ) → k < start → (get_or bytes k 0 == 10) ≡ false
 
 -- a line feed stands at `len`, which is `end`, or behind a carriage return at `end`
@@ -68,3 +69,12 @@ pub record IsNumberLine (bytes : List ℕ) (line : NumberLine) : Type 0 where
 -- the bytes don't begin with a line of two numbers and nothing else
 abbrev pub HaveNoNumberLine : List ℕ → Type 0
 HaveNoNumberLine bytes = (len : ℕ) → EndsAt bytes len → IsNoNumberLine (without_cr (take len bytes))
+
+-- the bytes begin with this line of the name and two numbers
+pub record IsNamedLine (bytes name : List ℕ) (line : NamedNumbers) : Type 0 where
+  pub ends : EndsAt bytes line.len
+  pub says : SayNamed (words (without_cr (take line.len bytes))) name line.first line.second
+
+-- the bytes don't begin with a line of the name, a blank, two numbers and nothing else
+abbrev pub HaveNoNamedLine : List ℕ → List ℕ → Type 0
+HaveNoNamedLine bytes name = (len : ℕ) → EndsAt bytes len → IsNoNamedLine (without_cr (take len bytes)) name
