@@ -4,6 +4,7 @@ mod EdgeRows
 mod EdgeSteps
 mod LevelSteps
 mod LineTexts
+mod NamedLines
 mod NumberWords
 mod OneVerdict
 mod ReadBack

@@ -168,7 +168,9 @@ fn classify(text: &[u8]) -> Option<Kind>
     Some(kind_of_line(&text[start..end], text, end))
 }
 
-/// The next line that isn't skipped. After a fault skipped lines may be gone.
+/// The next line that isn't skipped. After a fault skipped lines may be gone. Cost: one pass over the bytes of a line that
+/// lies whole in the reader's memory and is `edge` or `level` and two numbers, with one blank before each number; a few
+/// passes over the bytes of each other line.
 #[inline(always)]
 pub fn next_token<S: Source>(
     alloc: Global,
@@ -179,6 +181,16 @@ pub fn next_token<S: Source>(
     ensures cause { ReadCause (S.faults src.old) (S.faults src.new) result }
 {
     loop {
+        if let Some(edge) = reader.numbers_after(b"edge") {
+            let number = reader.pass_line(edge.len);
+            let kind = Kind::Edge(edge.first, edge.second);
+            return Ok(Token { number, kind });
+        }
+        if let Some(level) = reader.numbers_after(b"level") {
+            let number = reader.pass_line(level.len);
+            let kind = Kind::Level(level.first, level.second);
+            return Ok(Token { number, kind });
+        }
         if let Some((ahead, len)) = reader.whole_line() {
             let told = classify(ahead);
             let number = reader.pass_line(len);
