@@ -2,9 +2,9 @@
 ghost use Rattle.std.specs.Prelude.{◌≡◌, ◌<◌, IfOk};
 
 use crate::{
-    Body, Failed, Line, LineBuf, LineFault, LineReader, MemSink, MemSource, NamedNumbers, NullSink, NumberLine,
-    Reason, SendFault, Sign, Sink, Source, StdSink, StdSource, Words, fill_named, give_back,
-    is_skipped, next_kept, next_number, next_word, put_all, read_number, text_of,
+    Body, Failed, Line, LineBuf, LineFault, LineReader, MemSink, MemSource, NamedNumbers, NullSink,
+    NumberLine, Reason, SendFault, Sign, Sink, Source, StdSink, StdSource, Words, fill_named,
+    give_back, is_skipped, next_kept, next_number, next_word, put_all, read_number, text_of,
 };
 use std::alloc::Global;
 use std::io;
