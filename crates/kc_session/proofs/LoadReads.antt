@@ -25,6 +25,7 @@ use Rattle.kc_batch.specs.Batches.{Between, Within, batches_from, whole}
 use Rattle.kc_batch.specs.declared.token.Kind.TheVariants.{BatchStart, Item, BatchEnd, InputEnd}
 use Rattle.kc_levels.specs.declared.profile.Profile.TheVariants.{One}
 use Rattle.kc_text.specs.Numbers.{number_of, value_from}
+use Rattle.kc_text.specs.Kept.{kept}
 use Rattle.kc_batch.specs.declared.ask.Ask.{Ask}
 use Rattle.kc_report.proofs.lemmas.Lines.{joined}
 use Rattle.kc_batch.specs.declared.batch.Next.{Next}
@@ -33,7 +34,6 @@ use Rattle.kc_batch.specs.Headers.{HeaderText, Accepted, profile_in, vertices_in
 use Rattle.kc_batch.specs.HeaderLaw.{IsBeginning, IsAskLine}
 use Rattle.kc_batch.proofs.lemmas.Inputs.{first_other_line_ends}
 use Rattle.kc_session.specs.LoadInputs.{item_drawn, items_drawn, load_batches, load_ask, load_header, LoadsAreRead}
-use Rattle.kc_batch.specs.Kept.{kept}
 use Rattle.kc_batch.specs.Tokens.{kind_of_words, tokens}
 use Rattle.kc_session.specs.Generated.{next_state, drawn, drawn_item, after_item, drawn_items, after_items, drawn_batches, first_numbers, ask_words, head_words, load_words, generated, IsLoad}
 
