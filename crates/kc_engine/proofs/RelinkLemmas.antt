@@ -1,30 +1,12 @@
 -- Edges that leave a graph and come in again, and the phases in which edges leave or come in.
-use Rattle.std.proofs.Common.{ℕ, ◌<◌, ◌≡◌, Bool, true, false, ◌||◌, ◌&&◌, List, [], ◌∷◌, length, refl, ap, sym, ◌∙◌, arith}
+use Rattle.std.proofs.Common.{ℕ, ◌<◌, ◌≡◌, Bool, true, false, ◌||◌, ◌&&◌, List, length, refl, ap, sym, ◌∙◌}
 use Rattle.std.specs.Prelude.{All, not}
-use Rattle.std.proofs.lemmas.Bool.Decides.{nat_tests}
-use Rattle.std.proofs.lemmas.List.Elements.{All-cons, All-nil}
-use Rattle.kc_graph.specs.Shape.{GraphShape, Pair, EdgesFrom, IsGraph, same_edge, has_edge, with_edges, without_edges}
+use Rattle.kc_graph.specs.Shape.{GraphShape, Pair, EdgesFrom, IsGraph, has_edge, with_edges, without_edges}
 use Rattle.kc_graph.specs.Changes.{AllPresent}
 use Rattle.kc_graph.proofs.lemmas.Edges.{graph_is_its_edges}
 use Rattle.kc_graph.proofs.lemmas.Changes.{vertices-with_edges, vertices-without_edges, has_edge-with_edges, has_edge-without_edges, insertions_keep_graph, removals_keep_graph, inside_from_ascending}
 use Rattle.kc_groups.specs.Laws.{IsPhase}
-use Rattle.kc_groups.proofs.lemmas.Phases.{present_in}
-
-own_edge : (e : Pair) (es : List Pair) → has_edge e (e ∷ es) ≡ true
-own_edge e es = grind (arith, nat_tests)
-
-or_later : (a b : Bool) → b ≡ true → (a || b) ≡ true
-or_later true b e = refl
-or_later false b e = e
-
--- what is true of each edge of a list
-all_members : (P : Pair → Type 0) (es : List Pair) → ((e : Pair) → has_edge e es ≡ true → P e) → All P es
-all_members P [] h = All-nil P
-all_members P (e ∷ es) h = All-cons P e es (h e (own_edge e es)) (all_members P es (λ f m. h f (or_later (same_edge f e) (has_edge f es) m)))
-
--- edges that came in are there
-pub present_after : (g : GraphShape) (es : List Pair) → AllPresent (with_edges g es) es
-present_after g es = all_members (λ e. has_edge e (with_edges g es).edges ≡ true) es (λ e m. has_edge-with_edges e g es ∙ ap (λ (t : Bool). t || has_edge e g.edges) m)
+use Rattle.kc_groups.proofs.lemmas.Phases.{present_in, present_after}
 
 out_and_in : (a b : Bool) → (a ≡ true → b ≡ true) → (a || (not a && b)) ≡ b
 out_and_in true b h = sym (h refl)

@@ -93,7 +93,7 @@ fn deletion_phase<R: Threads + Sync, G: Gate + Sync, L: Ledger>(
         edges,
         moves: &moves,
     };
-    let plan = plan_moves(alloc, &leaving, adj.graph(), groups)?;
+    let plan = plan_moves(alloc, &leaving, adj.graph(), edges, groups)?;
     BatchPlan::of_phase(alloc, plan, moves.len() as u32)
 }
 
@@ -149,7 +149,7 @@ fn insertion_phase<R: Threads + Sync, G: Gate + Sync, L: Ledger>(
         edges,
         moves: &moves,
     };
-    let plan = plan_moves(alloc, &coming, adj.graph(), groups)?;
+    let plan = plan_moves(alloc, &coming, adj.graph(), &[], groups)?;
     BatchPlan::of_phase(alloc, plan, moves.len() as u32)
 }
 

@@ -28,7 +28,7 @@ all_members P [] h = All-nil P
 all_members P (e ∷ es) h = All-cons P e es (h e (own_edge e es)) (all_members P es (λ f m. h f (or_later (same_edge f e) (has_edge f es) m)))
 
 -- edges that came in are there
-present_after : (g : GraphShape) (es : List Pair) → AllPresent (with_edges g es) es
+pub present_after : (g : GraphShape) (es : List Pair) → AllPresent (with_edges g es) es
 present_after g es = all_members (λ e. has_edge e (with_edges g es).edges ≡ true) es (λ e m. has_edge-with_edges e g es ∙ ap (λ (t : Bool). t || has_edge e g.edges) m)
 
 -- what a phase leaves: a graph of as many vertices, with as many levels

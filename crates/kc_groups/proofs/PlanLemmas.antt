@@ -1,16 +1,14 @@
 -- What each step of a plan leaves for the next, over plain lists.
-use Rattle.std.proofs.Common.{ℕ, suc, zero, ◌≤◌, ◌<◌, ◌≡◌, inl, inr, Bool, true, false, not, eqb, ltb, ◌&&◌, ◌||◌, List, [], ◌∷◌, length, get_or, map, filter, refl, ap, sym, ◌∙◌, arith, subst}
+use Rattle.std.proofs.Common.{ℕ, ◌≤◌, ◌<◌, ◌≡◌, inl, inr, Bool, true, false, not, eqb, ltb, ◌&&◌, ◌||◌, List, [], length, get_or, map, filter, ap, sym, ◌∙◌, arith, subst}
 use Rattle.std.specs.Prelude.{None, All}
 use Rattle.std.proofs.lemmas.Bool.{cases_lt}
 use Rattle.std.proofs.lemmas.Bool.Decides.{nat_tests}
-use Rattle.std.proofs.lemmas.List.Elements.{All-head, All-tail}
 use Rattle.std.proofs.lemmas.List.{length-map, get_or-map, get_or_past}
 use Rattle.kc_graph.specs.Numbers.{has_number}
-use Rattle.kc_graph.specs.Shape.{GraphShape, Pair, IsGraph, EdgesFrom, has_edge, with_edge, with_edges}
+use Rattle.kc_graph.specs.Shape.{GraphShape, Pair, IsGraph, EdgesFrom, with_edges}
 use Rattle.kc_graph.specs.Changes.{AllPresent}
-use Rattle.kc_graph.proofs.lemmas.Edges.{insert_edge_present}
 use Rattle.kc_graph.proofs.lemmas.Numbers.{has_number_at, all_from_below}
-use Rattle.kc_graph.proofs.lemmas.Changes.{vertices-with_edges, has_edge-with_edges, insertions_keep_graph, inside_from_ascending}
+use Rattle.kc_graph.proofs.lemmas.Changes.{vertices-with_edges, insertions_keep_graph, inside_from_ascending}
 use Rattle.kc_levels.specs.declared.moves.Move.{Move}
 use Rattle.kc_levels.specs.Moved.{is_moved, moved_below, moves_between}
 use Rattle.kc_levels.proofs.lemmas.Moves.{vertices_between, moved_rise, has_number-moved_below}
@@ -57,38 +55,25 @@ between_in_order n x y ms is =
     let up = moved_rise (is_moved x y) n in
     record { rises = rw movers up.0; below = rw movers up.1 }
 
--- edges that are there change nothing when they come in
-pub all_there : (g : GraphShape) (es : List Pair) → IsGraph g → AllPresent g es → with_edges g es ≡ g
-all_there g [] graph there = refl
-all_there g (e ∷ es) graph there =
-    let same : with_edge g e ≡ g = ap (λ ps. record { vertices = g.vertices; edges = ps }) (insert_edge_present g.vertices 0 0 e g.edges graph (All-head (λ f. has_edge f g.edges ≡ true) e es there)) in
-    ap (λ h. with_edges h es) same ∙ all_there g es graph (All-tail (λ f. has_edge f g.edges ≡ true) e es there)
-
--- each edge is in its list
-has_edge_at : (es : List Pair) (k : ℕ) (d : Pair) → k < length es → has_edge (get_or es k d) es ≡ true
-has_edge_at [] k d h = absurd (omega (arith, h))
-has_edge_at (e ∷ es) zero d h = grind (arith, nat_tests)
-has_edge_at (e ∷ es) (suc k) d h = let rest = has_edge_at es k d (omega (arith, h)) in grind (arith, nat_tests, rest)
-
-module _ (g : GraphShape) (edges : List Pair) (ms : List Move) (graph : IsGraph g) (order : AreInOrder g.vertices ms) (up : EdgesFrom g.vertices 0 0 edges) (parents labels : List ℕ) where
-  all_graph : IsGraph (with_edges g edges)
-  all_graph = insertions_keep_graph g edges graph (inside_from_ascending g.vertices 0 0 edges up)
+module _ (g : GraphShape) (gone : List Pair) (ms : List Move) (graph : IsGraph g) (order : AreInOrder g.vertices ms) (up : EdgesFrom g.vertices 0 0 gone) (parents labels : List ℕ) where
+  all_graph : IsGraph (with_edges g gone)
+  all_graph = insertions_keep_graph g gone graph (inside_from_ascending g.vertices 0 0 gone up)
 
   -- the labels of all moves
-  pub labels_here : AreGathered (length ms) (λ i j. in_rows g (vertices ms) (length ms) i j || in_edges edges (vertices ms) i j) parents → ((roots : List ℕ) → IsForest parents roots → AreLabelled g.vertices (vertices ms) roots labels) → AreLabels (with_edges g edges) (is_mover ms) labels
+  pub labels_here : AreGathered (length ms) (λ i j. in_rows g (vertices ms) (length ms) i j || in_edges gone (vertices ms) i j) parents → ((roots : List ℕ) → IsForest parents roots → AreLabelled g.vertices (vertices ms) roots labels) → AreLabels (with_edges g gone) (is_mover ms) labels
   labels_here gathered table =
-      let known : AreGathered (length (vertices ms)) (all_links g edges (vertices ms) (length (vertices ms))) parents = rw (many ms) gathered in
-      labels_are g edges (vertices ms) parents known order.rises order.below all_graph labels (table known.roots known.forest)
+      let known : AreGathered (length (vertices ms)) (all_links g gone (vertices ms) (length (vertices ms))) parents = rw (many ms) gathered in
+      labels_are g gone (vertices ms) parents known order.rises order.below all_graph labels (table known.roots known.forest)
 
-  module _ (are : AreLabels (with_edges g edges) (is_mover ms) labels) where
-    one : AreJoined (with_edges g edges) (is_mover ms) labels
-    one = labels_joined (with_edges g edges) (is_mover ms) labels all_graph are
+  module _ (are : AreLabels (with_edges g gone) (is_mover ms) labels) where
+    one : AreJoined (with_edges g gone) (is_mover ms) labels
+    one = labels_joined (with_edges g gone) (is_mover ms) labels all_graph are
 
     pub many_labels : length labels ≡ g.vertices
-    many_labels = are.sized ∙ vertices-with_edges g edges
+    many_labels = are.sized ∙ vertices-with_edges g gone
 
     pub rooted_here : AreRooted (length labels) (is_mover ms) labels
-    rooted_here = rw (are.sized) (rooted (with_edges g edges) (is_mover ms) labels are one)
+    rooted_here = rw (are.sized) (rooted (with_edges g gone) (is_mover ms) labels are one)
 
     module _ (phase : ℕ) (add : Bool) (places : List ℕ) (opened : List Entry) (open_is : opened ≡ map (empty_entry phase add) (labels_below labels (length labels))) (p : ArePlaces (length labels) labels (labels_below labels (length labels)) places (length labels)) where
       long : length opened ≡ length (labels_below labels (length labels))
@@ -121,37 +106,33 @@ module _ (g : GraphShape) (edges : List Pair) (ms : List Move) (graph : IsGraph 
             let inside : k < length opened = omega (arith, m.sized, h) in
             ap (λ (e : Entry). e.edges) (m.each k d inside) ∙ ap (λ (e : Entry). e.edges) (empty_at k d inside)
 
-        joined_at : (k : ℕ) (d : Pair) → k < length edges → IsJoined (length labels) (is_mover ms) labels (get_or edges k d)
-        joined_at k d h =
-            let there : has_edge (get_or edges k d) (with_edges g edges).edges ≡ true = has_edge-with_edges (get_or edges k d) g edges ∙ some (has_edge (get_or edges k d) edges) (has_edge (get_or edges k d) g.edges) (has_edge_at edges k d h) in
-            rw (are.sized) (edge_joined (with_edges g edges) (is_mover ms) labels (get_or edges k d) all_graph one there)
-          where
-            some : (a b : Bool) → a ≡ true → (a || b) ≡ true
-            some a b e = grind (arith, nat_tests, e)
+        module _ (edges : List Pair) (there : AllPresent (with_edges g gone) edges) where
+          joined_at : (k : ℕ) (d : Pair) → k < length edges → IsJoined (length labels) (is_mover ms) labels (get_or edges k d)
+          joined_at k d h = rw (are.sized) (edge_joined (with_edges g gone) (is_mover ms) labels (get_or edges k d) all_graph one (there k d h))
 
-        pub placed_edges : All (IsPlacedEdge (length places) (length dealt) places) edges
-        placed_edges k d h = rw (m.sized ∙ long, p.sized) (edge_placed (length labels) labels (labels_below labels (length labels)) places p (is_mover ms) rooted_here (get_or edges k d) (joined_at k d h))
+          pub placed_edges : All (IsPlacedEdge (length places) (length dealt) places) edges
+          placed_edges k d h = rw (m.sized ∙ long, p.sized) (edge_placed (length labels) labels (labels_below labels (length labels)) places p (is_mover ms) rooted_here (get_or edges k d) (joined_at k d h))
 
-        pub entries_are : (made : List Entry) (quiet : List Pair) → AreDealt (dealt_edges places edges) dealt made → quiet ≡ filter (is_unplaced (length places) places) edges → (x y : List ℕ) → AreMovesOf g.vertices x y ms → AreEntries phase add edges x y (with_edges g edges) (record { quiet = record { phase = phase; label = None; add = add; moves = []; edges = quiet }; groups = made })
-        entries_are made quiet e q x y moves =
-            let n = length labels in
-            let roots = labels_below labels (length labels) in
-            let same = movers_are g.vertices x y ms moves in
-            let inside : All (λ (e : Pair). (e.0 < length labels) × (e.1 < length labels)) edges = λ k d h. let j = joined_at k d h in (omega (arith, j.order, j.inside), j.inside) in
-            let between : ms ≡ moves_between (length labels) x y = moves.moves ∙ ap (λ k. moves_between k x y) (sym many_labels) in
-            let below : (i : ℕ) → i < length (labels_below labels (length labels)) → filter (λ (m : Move). eqb (get_or places m.vertex 0) i) ms ≡ moves_below places x y i (length labels) =
-            λ i h.
-            ap (filter (λ (m : Move). eqb (get_or places m.vertex 0) i)) between
-            ∙ moves_placed places x y i n (λ v lt still.
-            let none = stays n labels roots places p (is_mover ms) rooted_here v lt (ap (λ f. f v) same ∙ still) in
-            let apart : i < get_or places v 0 = omega (arith, none, h, p.few) in
-            grind (arith, nat_tests, apart)) in
-            let groups : made ≡ map (group_entry phase add edges x y labels (length labels)) (labels_below labels (length labels)) = groups_are n labels roots places p phase add x y edges opened dealt made inside open_is ms below m e in
-            record {
-              labels = labels;
-              are_labels = subst (λ f. AreLabels (with_edges g edges) f labels) same are;
-              quiet =
-                  ap (λ ps. record { phase = phase; label = None; add = add; moves = []; edges = ps })
-                  (q ∙ ap (λ k. filter (is_unplaced k places) edges) p.sized ∙ quiet_are n labels roots places p (is_mover ms) rooted_here edges inside ∙ ap (λ (f : ℕ → Bool). filter (λ (e : Pair). not (f e.0) && not (f e.1)) edges) same);
-              groups = rw (are.sized) at groups;
-            }
+          pub entries_are : (made : List Entry) (quiet : List Pair) → AreDealt (dealt_edges places edges) dealt made → quiet ≡ filter (is_unplaced (length places) places) edges → (x y : List ℕ) → AreMovesOf g.vertices x y ms → AreEntries phase add edges x y (with_edges g gone) (record { quiet = record { phase = phase; label = None; add = add; moves = []; edges = quiet }; groups = made })
+          entries_are made quiet e q x y moves =
+              let n = length labels in
+              let roots = labels_below labels (length labels) in
+              let same = movers_are g.vertices x y ms moves in
+              let inside : All (λ (e : Pair). (e.0 < length labels) × (e.1 < length labels)) edges = λ k d h. let j = joined_at k d h in (omega (arith, j.order, j.inside), j.inside) in
+              let between : ms ≡ moves_between (length labels) x y = moves.moves ∙ ap (λ k. moves_between k x y) (sym many_labels) in
+              let below : (i : ℕ) → i < length (labels_below labels (length labels)) → filter (λ (m : Move). eqb (get_or places m.vertex 0) i) ms ≡ moves_below places x y i (length labels) =
+              λ i h.
+              ap (filter (λ (m : Move). eqb (get_or places m.vertex 0) i)) between
+              ∙ moves_placed places x y i n (λ v lt still.
+              let none = stays n labels roots places p (is_mover ms) rooted_here v lt (ap (λ f. f v) same ∙ still) in
+              let apart : i < get_or places v 0 = omega (arith, none, h, p.few) in
+              grind (arith, nat_tests, apart)) in
+              let groups : made ≡ map (group_entry phase add edges x y labels (length labels)) (labels_below labels (length labels)) = groups_are n labels roots places p phase add x y edges opened dealt made inside open_is ms below m e in
+              record {
+                labels = labels;
+                are_labels = subst (λ f. AreLabels (with_edges g gone) f labels) same are;
+                quiet =
+                    ap (λ ps. record { phase = phase; label = None; add = add; moves = []; edges = ps })
+                    (q ∙ ap (λ k. filter (is_unplaced k places) edges) p.sized ∙ quiet_are n labels roots places p (is_mover ms) rooted_here edges inside ∙ ap (λ (f : ℕ → Bool). filter (λ (e : Pair). not (f e.0) && not (f e.1)) edges) same);
+                groups = rw (are.sized) at groups;
+              }

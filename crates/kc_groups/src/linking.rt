@@ -64,25 +64,25 @@ fn link_row(graph: &Graph, moves: &[Move], places: &[u32], parents: &mut Vec<u32
     }
 }
 
-// A forest over the moves in which those that an edge of the graph or of the phase leads between are in one tree.
+// A forest over the moves in which those that an edge of the graph or one that is gone leads between are in one tree.
 pub(crate) fn gather(
     alloc: Global,
     graph: &Graph,
-    edges: &[Edge],
+    gone: &[Edge],
     moves: &[Move],
     places: &[u32],
 ) -> Result<Vec<u32>, AllocError>
     requires small { length moves.now ≤ MAX_VERTICES }
     requires numbered { AreNumbered graph.now.vertices (vertices moves.now) places.now }
-    requires ascending { EdgesFrom graph.now.vertices 0 0 edges.now }
-    ensures { IfOk result (λ parents. AreGathered (length moves.now) (λ i j. in_rows graph.now (vertices moves.now) (length moves.now) i j || in_edges edges.now (vertices moves.now) i j) parents.items) }
+    requires ascending { EdgesFrom graph.now.vertices 0 0 gone.now }
+    ensures { IfOk result (λ parents. AreGathered (length moves.now) (λ i j. in_rows graph.now (vertices moves.now) (length moves.now) i j || in_edges gone.now (vertices moves.now) i j) parents.items) }
 {
     let m = moves.len() as u32;
     let mut parents = lone_places(alloc, m)?;
     for place in 0..m {
         link_row(graph, moves, places, &mut parents, place);
     }
-    for e in edges {
+    for e in gone {
         let first = places[e.a as usize];
         let second = places[e.b as usize];
         if first < m && second < m {

@@ -19,7 +19,8 @@ use std::alloc::{AllocError, Global};
 /// The entries of a phase, as `AreEntries` says: by the levels before and after it, whatever they are, that its moves lead between
 /// (`AreMovesOf`), and the graph with all its edges.
 ///
-/// `graph` is the graph after the phase, or the one before it. The edges ascend, and so do the vertices of the moves.
+/// `graph` is the graph after the phase, or the one before it, and `gone` has those edges of the phase that it lacks: for the graph
+/// after an insertion none, and for the one after a deletion all. They ascend, and so do the vertices of the moves.
 ///
 /// Looks only at the vertices that move, their neighbours and the edges of the phase, whatever the number of vertices. The
 /// workspace is clean before and afterwards. Fails only if memory runs out; the workspace is then of no further use.
@@ -27,27 +28,28 @@ pub fn plan_moves(
     alloc: Global,
     phase: &Phase<'_>,
     graph: &Graph,
+    gone: &[Edge],
     work: &mut GroupWork,
 ) -> Result<PhasePlan, AllocError>
     requires clean { work.old ≡ clean graph.now.vertices }
     requires order { AreInOrder graph.now.vertices phase.now.moves.now }
-    requires ascending { EdgesFrom graph.now.vertices 0 0 phase.now.edges.now }
+    requires ascending { EdgesFrom graph.now.vertices 0 0 gone.now }
+    requires present { AllPresent (with_edges graph.now gone.now) phase.now.edges.now }
     ensures clean { OnOk result (work.new ≡ clean graph.now.vertices) }
-    ensures entries { IfOk result (λ plan. (before after : List ℕ) → AreMovesOf graph.now.vertices before after phase.now.moves.now → AreEntries phase.now.number phase.now.add phase.now.edges.now before after (with_edges graph.now phase.now.edges.now) plan) }
+    ensures entries { IfOk result (λ plan. (before after : List ℕ) → AreMovesOf graph.now.vertices before after phase.now.moves.now → AreEntries phase.now.number phase.now.add phase.now.edges.now before after (with_edges graph.now gone.now) plan) }
 {
     // Its contract says how many vertices there are at most.
     let _n = graph.vertices();
-    let edges = phase.edges;
     let moves = phase.moves.as_slice();
     let places = &mut work.places;
     number(moves, places);
-    let parents = gather(alloc, graph, edges, moves, places)?;
+    let parents = gather(alloc, graph, gone, moves, places)?;
     label(moves, &parents, places);
     let mut groups = Vec::new(alloc);
     let mut quiet = Entry::new(alloc, phase.number, None, phase.add);
     open_groups(alloc, phase.number, phase.add, moves, places, &mut groups)?;
     deal_moves(moves, places, &mut groups)?;
-    deal_edges(places, edges, &mut quiet.edges, &mut groups)?;
+    deal_edges(places, phase.edges, &mut quiet.edges, &mut groups)?;
     clear(moves, places);
     Ok(PhasePlan {
         quiet,
@@ -90,5 +92,5 @@ pub fn plan_phase(
         edges,
         moves: &moves,
     };
-    plan_moves(alloc, &phase, graph, &mut work)
+    plan_moves(alloc, &phase, graph, &[], &mut work)
 }

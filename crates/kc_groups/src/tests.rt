@@ -106,7 +106,7 @@ fn plan<R: Abort>(
     plan_phase(alloc, 7, step.add, edges, &before, &after, &graph)
 }
 
-// The plan of a phase after which the graph is this one, by a workspace that other phases use too.
+// The plan of a phase whose edges the graph lacks, by a workspace that other phases use too.
 fn plan_after(
     alloc: Global,
     step: &Step<'_>,
@@ -126,7 +126,7 @@ fn plan_after(
         edges: step.edges,
         moves: &moves,
     };
-    plan_moves(alloc, &phase, graph, work)
+    plan_moves(alloc, &phase, graph, step.edges, work)
 }
 
 // The quiet entry has these edges, and there are so many groups.

@@ -2,8 +2,8 @@
 
 -- an edge of a list all of whose edges are there is there
 pub use Rattle.kc_groups.proofs.EdgesLaw.{present_in}
--- edges that are there change nothing when they come in
-pub use Rattle.kc_groups.proofs.PlanLemmas.{all_there}
+-- edges that came in are there
+pub use Rattle.kc_groups.proofs.PhaseLaw.{present_after}
 -- what leads from one state to another is a phase on the graph that has all its edges
 pub use Rattle.kc_groups.proofs.PhaseLaw.{is_phase}
 -- a phase keeps that the graph is one, with as many vertices and as many levels

@@ -4,6 +4,7 @@ use Rattle.kc_graph.specs.Shape.{GraphShape}
 use Rattle.kc_graph.proofs.lemmas.Changes.{vertices-without_edges}
 use Rattle.kc_levels.specs.Moved.{moved_count}
 use Rattle.kc_groups.proofs.lemmas.Plans.{between_in_order}
+use Rattle.kc_groups.proofs.lemmas.Phases.{present_after}
 use Rattle.kc_engine.specs.declared.plans.BatchPlan.{BatchPlan}
 use Rattle.kc_engine.specs.Readiness.{AreReady}
 use Rattle.kc_engine.proofs.BatchLemmas.{moved_same}
@@ -51,6 +52,9 @@ plan_moves-requires-clause-order g c =
 pub plan_moves-requires-clause-ascending : goal.plan_moves-requires-clause-ascending
 plan_moves-requires-clause-ascending g c =
     rw (c.graph-2.ensures, c.in_ok-moves.ensures.graph, c.as_slice-edges.ensures, vertices-without_edges c.args.adj.now.graph c.args.removed.now) c.requires.ascending
+
+pub plan_moves-requires-clause-present : goal.plan_moves-requires-clause-present
+plan_moves-requires-clause-present g c = present_after c.graph-2.result.now c.as_slice-edges.result.now
 
 pub overflow_cast-len : goal.overflow_cast-len
 overflow_cast-len g c =

@@ -1,15 +1,13 @@
 use Rattle.std.proofs.Common.{ℕ, ◌≡◌, true, List, length, ap, sym, ◌∙◌, arith}
 use Rattle.std.proofs.lemmas.Result.{IfOk-weaker}
-use Rattle.kc_graph.specs.Shape.{GraphShape, IsGraph}
-use Rattle.kc_graph.specs.Changes.{AllPresent}
-use Rattle.kc_graph.proofs.lemmas.Changes.{vertices-with_edges, insertions_keep_graph, inside_from_ascending}
+use Rattle.kc_graph.specs.Shape.{GraphShape}
+use Rattle.kc_graph.proofs.lemmas.Changes.{vertices-with_edges}
 use Rattle.kc_levels.specs.Moved.{moved_count}
 use Rattle.kc_groups.proofs.lemmas.Plans.{between_in_order}
-use Rattle.kc_groups.proofs.lemmas.Phases.{all_there}
+use Rattle.kc_groups.proofs.lemmas.Phases.{present_after}
 use Rattle.kc_engine.specs.declared.plans.BatchPlan.{BatchPlan}
 use Rattle.kc_engine.specs.Readiness.{AreReady}
 use Rattle.kc_engine.proofs.BatchLemmas.{moved_same}
-use Rattle.kc_engine.proofs.RelinkLemmas.{present_after}
 use Rattle.kc_engine.proofs.MoveLemmas.{moves_again, moves_inside, move_count, few_moves}
 use Rattle.kc_engine.proofs.PhaseLaw.{phase_made, moves_made}
 use Rattle.kc_engine.proofs.phases.insertion_phase.Goals as goal
@@ -31,9 +29,8 @@ pub plan_moves-requires-clause-order : goal.plan_moves-requires-clause-order
 plan_moves-requires-clause-order g c =
     rw c.graph-2.ensures (between_in_order c.insert_phase.new.adj.graph.vertices c.args.adj.now.levels c.insert_phase.new.adj.levels c.in_ok-moves.moves c.in_ok-moves.ensures.moves)
 
-pub plan_moves-requires-clause-ascending : goal.plan_moves-requires-clause-ascending
-plan_moves-requires-clause-ascending g c =
-    rw (c.graph-2.ensures, c.in_ok-moves.ensures.graph, c.as_slice-edges.ensures, vertices-with_edges c.args.adj.now.graph c.args.added.now) c.requires.ascending
+pub plan_moves-requires-clause-present : goal.plan_moves-requires-clause-present
+plan_moves-requires-clause-present g c = rw (c.graph-2.ensures, c.in_ok-moves.ensures.graph) (present_after c.args.adj.now.graph c.as_slice-edges.result.now)
 
 pub overflow_cast-len : goal.overflow_cast-len
 overflow_cast-len g c =
@@ -50,11 +47,8 @@ returns-clause-phases g c =
     let planned = rw c.graph-2.ensures at c.in_ok-plan.ensures.entries in
     let entries = planned x y (record { before = c.levels-levels.ensures.sized ∙ sym same; after = c.in_ok-moves.ensures.raised.raisable.sized; moves = c.in_ok-moves.ensures.moves }) in
     let later = c.insert_phase.new.adj.graph in
-    let is : IsGraph c.insert_phase.new.adj.graph = rw (c.in_ok-moves.ensures.graph, c.as_slice-edges.ensures) (insertions_keep_graph graph c.args.added.now (rw c.graph.ensures at c.vertices-n.ensures.graph) (inside_from_ascending graph.vertices 0 0 c.args.added.now c.requires.ascending)) in
-    let there : AllPresent c.insert_phase.new.adj.graph c.args.added.now = rw (c.in_ok-moves.ensures.graph, c.as_slice-edges.ensures) (present_after graph c.args.added.now) in
-    let whole = all_there later c.args.added.now is there in
     phase_made c.of_phase.result c.args.phase c.len.result true c.is_empty.result c.args.added.now x y later c.in_ok-plan.plan
-    c.is_empty.ensures c.if-is_empty.false (rw (c.as_slice-edges.ensures, whole) at entries) c.of_phase.ensures
+    c.is_empty.ensures c.if-is_empty.false (rw c.as_slice-edges.ensures at entries) c.of_phase.ensures
 
 pub returns-clause-ready : goal.returns-clause-ready
 returns-clause-ready g c =

@@ -14,20 +14,20 @@ loop-place-init c = rows_first (length c.args.moves.now) c.args.graph.now (verti
 pub loop-e-init : goal.loop-e-init
 loop-e-init c =
     let all : c.loop-place.place ≡ length c.args.moves.now = omega arith in
-    edges_first c.args.graph.now (vertices c.args.moves.now) (length c.args.moves.now) c.args.edges.now c.loop-place.parents.items (rw all at c.loop-place.invariant)
+    edges_first c.args.graph.now (vertices c.args.moves.now) (length c.args.moves.now) c.args.gone.now c.loop-place.parents.items (rw all at c.loop-place.invariant)
 
 pub bounds-places-e-inside : goal.bounds-places-e-inside
 bounds-places-e-inside c =
-    let item : c.e-item.result ≡ get_or c.args.edges.now c.loop-e.e-index c.e-item.result = c.e-item.is in
-    let a : c.e.inside.a ≡ (get_or c.args.edges.now c.loop-e.e-index c.e-item.result).0 = ap (λ (e : Pair). e.0) (c.e.view_is ∙ item) in
-    let low = inside_from_ascending c.args.graph.now.vertices 0 0 c.args.edges.now c.requires.ascending c.loop-e.e-index c.e-item.result c.loop-e-test.true in
+    let item : c.e-item.result ≡ get_or c.args.gone.now c.loop-e.e-index c.e-item.result = c.e-item.is in
+    let a : c.e.inside.a ≡ (get_or c.args.gone.now c.loop-e.e-index c.e-item.result).0 = ap (λ (e : Pair). e.0) (c.e.view_is ∙ item) in
+    let low = inside_from_ascending c.args.graph.now.vertices 0 0 c.args.gone.now c.requires.ascending c.loop-e.e-index c.e-item.result c.loop-e-test.true in
     omega (arith, a, low.0, low.1, c.requires.numbered.sized)
 
 pub bounds-places-e-inside-in-loop-e : goal.bounds-places-e-inside-in-loop-e
 bounds-places-e-inside-in-loop-e c =
-    let item : c.e-item.result ≡ get_or c.args.edges.now c.loop-e.e-index c.e-item.result = c.e-item.is in
-    let b : c.e.inside.b ≡ (get_or c.args.edges.now c.loop-e.e-index c.e-item.result).1 = ap (λ (e : Pair). e.1) (c.e.view_is ∙ item) in
-    let low = inside_from_ascending c.args.graph.now.vertices 0 0 c.args.edges.now c.requires.ascending c.loop-e.e-index c.e-item.result c.loop-e-test.true in
+    let item : c.e-item.result ≡ get_or c.args.gone.now c.loop-e.e-index c.e-item.result = c.e-item.is in
+    let b : c.e.inside.b ≡ (get_or c.args.gone.now c.loop-e.e-index c.e-item.result).1 = ap (λ (e : Pair). e.1) (c.e.view_is ∙ item) in
+    let low = inside_from_ascending c.args.graph.now.vertices 0 0 c.args.gone.now c.requires.ascending c.loop-e.e-index c.e-item.result c.loop-e-test.true in
     omega (arith, b, low.1, c.requires.numbered.sized)
 
 pub loop-e-preserved : goal.loop-e-preserved
@@ -35,21 +35,21 @@ loop-e-preserved c =
     let g = c.args.graph.now in
     let vs = vertices c.args.moves.now in
     let m = length c.args.moves.now in
-    let edges = c.args.edges.now in
+    let gone = c.args.gone.now in
     let places = c.args.places.now in
     let k = c.loop-e.e-index in
     let d = c.e-item.result in
-    let item : c.e-item.result ≡ get_or c.args.edges.now c.loop-e.e-index c.e-item.result = c.e-item.is in
-    let first : get_or c.args.places.now c.e.inside.a 0 ≡ get_or c.args.places.now (get_or c.args.edges.now c.loop-e.e-index c.e-item.result).0 0 = ap (λ (e : Pair). get_or places e.0 0) (c.e.view_is ∙ item) in
-    let second : get_or c.args.places.now c.e.inside.b 0 ≡ get_or c.args.places.now (get_or c.args.edges.now c.loop-e.e-index c.e-item.result).1 0 = ap (λ (e : Pair). get_or places e.1 0) (c.e.view_is ∙ item) in
+    let item : c.e-item.result ≡ get_or c.args.gone.now c.loop-e.e-index c.e-item.result = c.e-item.is in
+    let first : get_or c.args.places.now c.e.inside.a 0 ≡ get_or c.args.places.now (get_or c.args.gone.now c.loop-e.e-index c.e-item.result).0 0 = ap (λ (e : Pair). get_or places e.0 0) (c.e.view_is ∙ item) in
+    let second : get_or c.args.places.now c.e.inside.b 0 ≡ get_or c.args.places.now (get_or c.args.gone.now c.loop-e.e-index c.e-item.result).1 0 = ap (λ (e : Pair). get_or places e.1 0) (c.e.view_is ∙ item) in
     let few : length (vertices c.args.moves.now) ≤ c.args.graph.now.vertices = omega (arith, length-rising c.args.graph.now.vertices 0 vs c.requires.numbered.rises c.requires.numbered.below (omega arith)) in
-    let at = inside_from_ascending c.args.graph.now.vertices 0 0 edges c.requires.ascending k d c.loop-e-test.true in
-    let low : ((get_or c.args.edges.now c.loop-e.e-index c.e-item.result).0 < c.args.graph.now.vertices) × ((get_or c.args.edges.now c.loop-e.e-index c.e-item.result).1 < c.args.graph.now.vertices) = (omega (arith, at.0, at.1), at.1) in
-    let past = edge_past g vs m edges c.loop-e.parents.items g.vertices places c.requires.numbered few (many c.args.moves.now) k d c.loop-e-test.true low c.loop-e.invariant in
+    let at = inside_from_ascending c.args.graph.now.vertices 0 0 gone c.requires.ascending k d c.loop-e-test.true in
+    let low : ((get_or c.args.gone.now c.loop-e.e-index c.e-item.result).0 < c.args.graph.now.vertices) × ((get_or c.args.gone.now c.loop-e.e-index c.e-item.result).1 < c.args.graph.now.vertices) = (omega (arith, at.0, at.1), at.1) in
+    let past = edge_past g vs m gone c.loop-e.parents.items g.vertices places c.requires.numbered few (many c.args.moves.now) k d c.loop-e-test.true low c.loop-e.invariant in
     elim c.if-first-m.branch [
       | then-first-m+then-second-m w ↦
           rw (w.parents-is)
-          (edge_link g vs m edges c.loop-e.parents.items g.vertices places c.requires.numbered few (many c.args.moves.now) k d c.loop-e-test.true low c.loop-e.invariant _ _ _ first second w.if-first-m.true w.if-second-m.true w.join.ensures.sized (w.join.ensures.forest c.loop-e.invariant.roots c.loop-e.invariant.forest))
+          (edge_link g vs m gone c.loop-e.parents.items g.vertices places c.requires.numbered few (many c.args.moves.now) k d c.loop-e-test.true low c.loop-e.invariant _ _ _ first second w.if-first-m.true w.if-second-m.true w.join.ensures.sized (w.join.ensures.forest c.loop-e.invariant.roots c.loop-e.invariant.forest))
       | else-first-m w ↦
           rw (w.parents-is)
           (past (elim w.else-first-m.branch [
@@ -59,4 +59,4 @@ loop-e-preserved c =
     ]
 
 pub returns : goal.returns
-returns c = edges_last c.args.graph.now (vertices c.args.moves.now) (length c.args.moves.now) c.args.edges.now c.loop-e.parents.items c.loop-e.e-index (omega arith) c.loop-e.invariant
+returns c = edges_last c.args.graph.now (vertices c.args.moves.now) (length c.args.moves.now) c.args.gone.now c.loop-e.parents.items c.loop-e.e-index (omega arith) c.loop-e.invariant

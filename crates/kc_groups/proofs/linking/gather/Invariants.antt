@@ -8,4 +8,4 @@ abbrev pub invariant-loop-place : goal.invariant-loop-place
 invariant-loop-place l = AreGathered l.m (in_rows l.graph (vertices l.moves) l.place) l.parents.items
 
 abbrev pub invariant-loop-e : goal.invariant-loop-e
-invariant-loop-e l = AreGathered l.m (with_first l.graph (vertices l.moves) l.m l.edges l.e-index) l.parents.items
+invariant-loop-e l = AreGathered l.m (with_first l.graph (vertices l.moves) l.m l.gone l.e-index) l.parents.items

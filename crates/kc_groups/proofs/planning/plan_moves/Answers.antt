@@ -17,67 +17,67 @@ gather-requires-clause-small c =
 pub open_groups-requires-clause-rooted : goal.open_groups-requires-clause-rooted
 open_groups-requires-clause-rooted c =
     let g = c.args.graph.now in
-    let edges = c.args.phase.now.edges.now in
+    let gone = c.args.gone.now in
     let ms = c.as_slice-moves.result.now in
     let labels = c.label.new.places.items in
     let order : AreInOrder c.args.graph.now.vertices c.as_slice-moves.result.now = rw (c.as_slice-moves.ensures) c.requires.order in
     let long : length c.number.new.places.items ≡ c.args.graph.now.vertices = c.number.ensures.sized ∙ ap (λ (xs : List ℕ). length xs) (c.work.view_is ∙ c.requires.clean) ∙ length-replicate g.vertices g.vertices in
-    let are : AreLabels (with_edges c.args.graph.now c.args.phase.now.edges.now) (is_mover c.as_slice-moves.result.now) c.label.new.places.items = labels_here g edges ms c.vertices-n.ensures.graph order c.requires.ascending c.in_ok-parents.parents.items labels c.in_ok-parents.ensures (λ roots f. rw long at (c.label.ensures roots (rw (c.deref-2.ensures.value) f))) in
-    rooted_here g edges ms c.vertices-n.ensures.graph order c.requires.ascending c.in_ok-parents.parents.items labels are
+    let are : AreLabels (with_edges c.args.graph.now c.args.gone.now) (is_mover c.as_slice-moves.result.now) c.label.new.places.items = labels_here g gone ms c.vertices-n.ensures.graph order c.requires.ascending c.in_ok-parents.parents.items labels c.in_ok-parents.ensures (λ roots f. rw long at (c.label.ensures roots (rw (c.deref-2.ensures.value) f))) in
+    rooted_here g gone ms c.vertices-n.ensures.graph order c.requires.ascending c.in_ok-parents.parents.items labels are
 
 pub deal_moves-requires-clause-placed : goal.deal_moves-requires-clause-placed
 deal_moves-requires-clause-placed c =
     let g = c.args.graph.now in
-    let edges = c.args.phase.now.edges.now in
+    let gone = c.args.gone.now in
     let ms = c.as_slice-moves.result.now in
     let labels = c.label.new.places.items in
     let order : AreInOrder c.args.graph.now.vertices c.as_slice-moves.result.now = rw (c.as_slice-moves.ensures) c.requires.order in
     let long : length c.number.new.places.items ≡ c.args.graph.now.vertices = c.number.ensures.sized ∙ ap (λ (xs : List ℕ). length xs) (c.work.view_is ∙ c.requires.clean) ∙ length-replicate g.vertices g.vertices in
-    let are : AreLabels (with_edges c.args.graph.now c.args.phase.now.edges.now) (is_mover c.as_slice-moves.result.now) c.label.new.places.items = labels_here g edges ms c.vertices-n.ensures.graph order c.requires.ascending c.in_ok-parents.parents.items labels c.in_ok-parents.ensures (λ roots f. rw long at (c.label.ensures roots (rw (c.deref-2.ensures.value) f))) in
-    rw (c.deref-3.ensures.value) (placed_moves g edges ms c.vertices-n.ensures.graph order c.requires.ascending c.in_ok-parents.parents.items labels are c.args.phase.now.number c.args.phase.now.add c.open_groups.new.places.items c.open_groups.new.entries.items c.in_ok-open_groups.ensures.entries c.in_ok-open_groups.ensures.places)
+    let are : AreLabels (with_edges c.args.graph.now c.args.gone.now) (is_mover c.as_slice-moves.result.now) c.label.new.places.items = labels_here g gone ms c.vertices-n.ensures.graph order c.requires.ascending c.in_ok-parents.parents.items labels c.in_ok-parents.ensures (λ roots f. rw long at (c.label.ensures roots (rw (c.deref-2.ensures.value) f))) in
+    rw (c.deref-3.ensures.value) (placed_moves g gone ms c.vertices-n.ensures.graph order c.requires.ascending c.in_ok-parents.parents.items labels are c.args.phase.now.number c.args.phase.now.add c.open_groups.new.places.items c.open_groups.new.entries.items c.in_ok-open_groups.ensures.entries c.in_ok-open_groups.ensures.places)
 
 pub deal_moves-requires-clause-empty : goal.deal_moves-requires-clause-empty
 deal_moves-requires-clause-empty c =
     let g = c.args.graph.now in
-    let edges = c.args.phase.now.edges.now in
+    let gone = c.args.gone.now in
     let ms = c.as_slice-moves.result.now in
     let labels = c.label.new.places.items in
     let order : AreInOrder c.args.graph.now.vertices c.as_slice-moves.result.now = rw (c.as_slice-moves.ensures) c.requires.order in
     let long : length c.number.new.places.items ≡ c.args.graph.now.vertices = c.number.ensures.sized ∙ ap (λ (xs : List ℕ). length xs) (c.work.view_is ∙ c.requires.clean) ∙ length-replicate g.vertices g.vertices in
-    let are : AreLabels (with_edges c.args.graph.now c.args.phase.now.edges.now) (is_mover c.as_slice-moves.result.now) c.label.new.places.items = labels_here g edges ms c.vertices-n.ensures.graph order c.requires.ascending c.in_ok-parents.parents.items labels c.in_ok-parents.ensures (λ roots f. rw long at (c.label.ensures roots (rw (c.deref-2.ensures.value) f))) in
-    no_moves g edges ms c.vertices-n.ensures.graph order c.requires.ascending c.in_ok-parents.parents.items labels are c.args.phase.now.number c.args.phase.now.add c.open_groups.new.places.items c.open_groups.new.entries.items c.in_ok-open_groups.ensures.entries c.in_ok-open_groups.ensures.places
+    let are : AreLabels (with_edges c.args.graph.now c.args.gone.now) (is_mover c.as_slice-moves.result.now) c.label.new.places.items = labels_here g gone ms c.vertices-n.ensures.graph order c.requires.ascending c.in_ok-parents.parents.items labels c.in_ok-parents.ensures (λ roots f. rw long at (c.label.ensures roots (rw (c.deref-2.ensures.value) f))) in
+    no_moves g gone ms c.vertices-n.ensures.graph order c.requires.ascending c.in_ok-parents.parents.items labels are c.args.phase.now.number c.args.phase.now.add c.open_groups.new.places.items c.open_groups.new.entries.items c.in_ok-open_groups.ensures.entries c.in_ok-open_groups.ensures.places
 
 pub deal_edges-requires-clause-placed : goal.deal_edges-requires-clause-placed
 deal_edges-requires-clause-placed c =
     let g = c.args.graph.now in
-    let edges = c.args.phase.now.edges.now in
+    let gone = c.args.gone.now in
     let ms = c.as_slice-moves.result.now in
     let labels = c.label.new.places.items in
     let order : AreInOrder c.args.graph.now.vertices c.as_slice-moves.result.now = rw (c.as_slice-moves.ensures) c.requires.order in
     let long : length c.number.new.places.items ≡ c.args.graph.now.vertices = c.number.ensures.sized ∙ ap (λ (xs : List ℕ). length xs) (c.work.view_is ∙ c.requires.clean) ∙ length-replicate g.vertices g.vertices in
-    let are : AreLabels (with_edges c.args.graph.now c.args.phase.now.edges.now) (is_mover c.as_slice-moves.result.now) c.label.new.places.items = labels_here g edges ms c.vertices-n.ensures.graph order c.requires.ascending c.in_ok-parents.parents.items labels c.in_ok-parents.ensures (λ roots f. rw long at (c.label.ensures roots (rw (c.deref-2.ensures.value) f))) in
-    rw (c.deref-4.ensures.value) (placed_edges g edges ms c.vertices-n.ensures.graph order c.requires.ascending c.in_ok-parents.parents.items labels are c.args.phase.now.number c.args.phase.now.add c.open_groups.new.places.items c.open_groups.new.entries.items c.in_ok-open_groups.ensures.entries c.in_ok-open_groups.ensures.places c.deal_moves.new.entries.items (rw (c.deref-3.ensures.value) at c.in_ok-deal_moves.ensures))
+    let are : AreLabels (with_edges c.args.graph.now c.args.gone.now) (is_mover c.as_slice-moves.result.now) c.label.new.places.items = labels_here g gone ms c.vertices-n.ensures.graph order c.requires.ascending c.in_ok-parents.parents.items labels c.in_ok-parents.ensures (λ roots f. rw long at (c.label.ensures roots (rw (c.deref-2.ensures.value) f))) in
+    rw (c.deref-4.ensures.value) (placed_edges g gone ms c.vertices-n.ensures.graph order c.requires.ascending c.in_ok-parents.parents.items labels are c.args.phase.now.number c.args.phase.now.add c.open_groups.new.places.items c.open_groups.new.entries.items c.in_ok-open_groups.ensures.entries c.in_ok-open_groups.ensures.places c.deal_moves.new.entries.items (rw (c.deref-3.ensures.value) at c.in_ok-deal_moves.ensures) c.args.phase.now.edges.now c.requires.present)
 
 pub deal_edges-requires-clause-empty : goal.deal_edges-requires-clause-empty
 deal_edges-requires-clause-empty c =
     let g = c.args.graph.now in
-    let edges = c.args.phase.now.edges.now in
+    let gone = c.args.gone.now in
     let ms = c.as_slice-moves.result.now in
     let labels = c.label.new.places.items in
     let order : AreInOrder c.args.graph.now.vertices c.as_slice-moves.result.now = rw (c.as_slice-moves.ensures) c.requires.order in
     let long : length c.number.new.places.items ≡ c.args.graph.now.vertices = c.number.ensures.sized ∙ ap (λ (xs : List ℕ). length xs) (c.work.view_is ∙ c.requires.clean) ∙ length-replicate g.vertices g.vertices in
-    let are : AreLabels (with_edges c.args.graph.now c.args.phase.now.edges.now) (is_mover c.as_slice-moves.result.now) c.label.new.places.items = labels_here g edges ms c.vertices-n.ensures.graph order c.requires.ascending c.in_ok-parents.parents.items labels c.in_ok-parents.ensures (λ roots f. rw long at (c.label.ensures roots (rw (c.deref-2.ensures.value) f))) in
-    no_edges g edges ms c.vertices-n.ensures.graph order c.requires.ascending c.in_ok-parents.parents.items labels are c.args.phase.now.number c.args.phase.now.add c.open_groups.new.places.items c.open_groups.new.entries.items c.in_ok-open_groups.ensures.entries c.in_ok-open_groups.ensures.places c.deal_moves.new.entries.items (rw (c.deref-3.ensures.value) at c.in_ok-deal_moves.ensures)
+    let are : AreLabels (with_edges c.args.graph.now c.args.gone.now) (is_mover c.as_slice-moves.result.now) c.label.new.places.items = labels_here g gone ms c.vertices-n.ensures.graph order c.requires.ascending c.in_ok-parents.parents.items labels c.in_ok-parents.ensures (λ roots f. rw long at (c.label.ensures roots (rw (c.deref-2.ensures.value) f))) in
+    no_edges g gone ms c.vertices-n.ensures.graph order c.requires.ascending c.in_ok-parents.parents.items labels are c.args.phase.now.number c.args.phase.now.add c.open_groups.new.places.items c.open_groups.new.entries.items c.in_ok-open_groups.ensures.entries c.in_ok-open_groups.ensures.places c.deal_moves.new.entries.items (rw (c.deref-3.ensures.value) at c.in_ok-deal_moves.ensures)
 
 pub returns-clause-entries : goal.returns-clause-entries
 returns-clause-entries c =
     let g = c.args.graph.now in
-    let edges = c.args.phase.now.edges.now in
+    let gone = c.args.gone.now in
     let ms = c.as_slice-moves.result.now in
     let labels = c.label.new.places.items in
     let order : AreInOrder c.args.graph.now.vertices c.as_slice-moves.result.now = rw (c.as_slice-moves.ensures) c.requires.order in
     let long : length c.number.new.places.items ≡ c.args.graph.now.vertices = c.number.ensures.sized ∙ ap (λ (xs : List ℕ). length xs) (c.work.view_is ∙ c.requires.clean) ∙ length-replicate g.vertices g.vertices in
-    let are : AreLabels (with_edges c.args.graph.now c.args.phase.now.edges.now) (is_mover c.as_slice-moves.result.now) c.label.new.places.items = labels_here g edges ms c.vertices-n.ensures.graph order c.requires.ascending c.in_ok-parents.parents.items labels c.in_ok-parents.ensures (λ roots f. rw long at (c.label.ensures roots (rw (c.deref-2.ensures.value) f))) in
+    let are : AreLabels (with_edges c.args.graph.now c.args.gone.now) (is_mover c.as_slice-moves.result.now) c.label.new.places.items = labels_here g gone ms c.vertices-n.ensures.graph order c.requires.ascending c.in_ok-parents.parents.items labels c.in_ok-parents.ensures (λ roots f. rw long at (c.label.ensures roots (rw (c.deref-2.ensures.value) f))) in
     rw (c.new-quiet.ensures, c.from_vec.ensures, sym c.as_slice-moves.ensures)
-    (entries_are g edges ms c.vertices-n.ensures.graph order c.requires.ascending c.in_ok-parents.parents.items labels are c.args.phase.now.number c.args.phase.now.add c.open_groups.new.places.items c.open_groups.new.entries.items c.in_ok-open_groups.ensures.entries c.in_ok-open_groups.ensures.places c.deal_moves.new.entries.items (rw (c.deref-3.ensures.value) at c.in_ok-deal_moves.ensures) c.deal_edges.new.entries.items c.deal_edges.new.quiet
+    (entries_are g gone ms c.vertices-n.ensures.graph order c.requires.ascending c.in_ok-parents.parents.items labels are c.args.phase.now.number c.args.phase.now.add c.open_groups.new.places.items c.open_groups.new.entries.items c.in_ok-open_groups.ensures.entries c.in_ok-open_groups.ensures.places c.deal_moves.new.entries.items (rw (c.deref-3.ensures.value) at c.in_ok-deal_moves.ensures) c.args.phase.now.edges.now c.requires.present c.deal_edges.new.entries.items c.deal_edges.new.quiet
     (rw (c.deref-4.ensures.value) at c.in_ok-deal_edges.ensures.entries) (rw (c.deref-4.ensures.value) at c.in_ok-deal_edges.ensures.quiet))

@@ -1,10 +1,10 @@
-use Rattle.std.proofs.Common.{◌≡◌, ap, sym, ◌∙◌}
+use Rattle.std.proofs.Common.{◌≡◌, ap, ◌∙◌}
 use Rattle.std.proofs.lemmas.Result.{IfOk-weaker}
 use Rattle.kc_levels.specs.Moved.{moves_between}
 use Rattle.kc_groups.specs.Entries.{AreEntries}
 use Rattle.kc_groups.specs.WellFormed.{IsWellFormed}
 use Rattle.kc_groups.proofs.PlanLaw.{plan_is_well_formed}
-use Rattle.kc_groups.proofs.PlanLemmas.{between_in_order, all_there}
+use Rattle.kc_groups.proofs.PlanLemmas.{between_in_order}
 use Rattle.kc_groups.proofs.planning.plan_phase.Goals as goal
 
 pub plan_moves-requires-clause-order : goal.plan_moves-requires-clause-order
@@ -25,10 +25,7 @@ returns-clause-entries c =
     ∙ ap (λ k. moves_between k c.as_slice.result.now c.as_slice-2.result.now) c.vertices-n.ensures.count
     ∙ ap (λ x. moves_between n x c.as_slice-2.result.now) c.as_slice.ensures
     ∙ ap (λ y. moves_between n c.args.before.now y) c.as_slice-2.ensures in
-    let g = c.args.graph.now in
-    let whole = all_there g c.args.edges.now c.vertices-n.ensures.graph c.requires.present in
-    rw (sym whole)
-    (IfOk-weaker c.plan_moves.result _ _ (λ plan all. all c.args.before.now c.args.after.now (record { before = c.requires.before; after = c.requires.after; moves = moves })) c.plan_moves.ensures.entries)
+    IfOk-weaker c.plan_moves.result _ _ (λ plan all. all c.args.before.now c.args.after.now (record { before = c.requires.before; after = c.requires.after; moves = moves })) c.plan_moves.ensures.entries
 
 pub returns-clause-well_formed : goal.returns-clause-well_formed
 returns-clause-well_formed c =

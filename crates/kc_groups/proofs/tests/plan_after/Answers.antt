@@ -1,5 +1,6 @@
 use Rattle.std.proofs.Common.{ap, ◌∙◌}
 use Rattle.kc_levels.specs.Moved.{moves_between}
+use Rattle.kc_groups.proofs.PhaseLaw.{present_after}
 use Rattle.kc_groups.proofs.PlanLemmas.{between_in_order}
 use Rattle.kc_groups.proofs.tests.plan_after.Goals as goal
 
@@ -7,3 +8,6 @@ pub plan_moves-requires-clause-order : goal.plan_moves-requires-clause-order
 plan_moves-requires-clause-order c =
     between_in_order c.args.graph.now.vertices c.args.step.now.before.now c.args.step.now.after.now c.in_ok-moves.moves
     (c.in_ok-moves.ensures ∙ ap (λ k. moves_between k c.args.step.now.before.now c.args.step.now.after.now) c.vertices.ensures.count)
+
+pub plan_moves-requires-clause-present : goal.plan_moves-requires-clause-present
+plan_moves-requires-clause-present c = present_after c.args.graph.now c.args.step.now.edges.now
