@@ -60,12 +60,6 @@ pub length-insert_edge : (e : Pair) (es : List Pair) → has_edge e es ≡ false
 length-insert_edge e [] absent = omega arith
 length-insert_edge e (f ∷ fs) absent = grind (arith, nat_tests, absent, length-insert_edge e fs)
 
--- an edge that is there already
-pub insert_edge_present : (n c d : ℕ) (e : Pair) (es : List Pair) → EdgesFrom n c d es → has_edge e es ≡ true → insert_edge e es ≡ es
-insert_edge_present n c d e [] up there = absurd (cc)
-insert_edge_present n c d e (f ∷ fs) up there =
-    grind (arith, nat_tests, there, insert_edge_present n f.0 (suc f.1) e fs up.3, has_edge_before n f.0 (suc f.1) e fs up.3)
-
 -- remove_edge
 
 pub has_edge-remove_edge : (e f : Pair) (es : List Pair) → has_edge f (remove_edge e es) ≡ not (same_edge f e) && has_edge f es

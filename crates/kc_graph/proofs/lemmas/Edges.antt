@@ -14,8 +14,6 @@ pub use Rattle.kc_graph.proofs.EdgeListLemmas.{edges_from_filter}
 pub use Rattle.kc_graph.proofs.EdgeLemmas.{edges_from_at}
 -- an edge after all others comes in at the end
 pub use Rattle.kc_graph.proofs.EdgeLemmas.{insert_edge_last}
--- an edge that is there already changes nothing when it comes in
-pub use Rattle.kc_graph.proofs.EdgeLemmas.{insert_edge_present}
 -- an edge that comes in makes the list longer by one
 pub use Rattle.kc_graph.proofs.EdgeLemmas.{length-insert_edge}
 -- v shares an edge with w where w shares one with v
