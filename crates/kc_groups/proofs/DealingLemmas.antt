@@ -1,18 +1,18 @@
 -- How moves and edges come into the entries of their labels, over plain lists.
-use Rattle.std.proofs.Common.{ℕ, suc, zero, ◌+◌, ◌≤◌, ◌<◌, ◌≡◌, ◌≢◌, ◌⊎◌, inl, inr, Bool, true, false, cond, eqb, ◌&&◌, not, List, [], ◌∷◌, ◌++◌, length, get_or, set, map, filter, take, refl, ap, sym, ◌∙◌, arith, add-one, append-nil}
+use Rattle.std.proofs.Common.{ℕ, suc, zero, ◌+◌, ◌<◌, ◌≡◌, ◌≢◌, ◌⊎◌, inl, inr, Bool, true, false, cond, eqb, ◌&&◌, not, List, [], ◌∷◌, ◌++◌, length, get_or, set, map, filter, take, refl, ap, sym, ◌∙◌, arith, add-one, append-nil}
 use Rattle.std.specs.Prelude.{Some, All}
 use Rattle.std.proofs.lemmas.Bool.{cases_eq, cases_lt}
 use Rattle.std.proofs.lemmas.Bool.Decides.{nat_tests}
 use Rattle.std.proofs.lemmas.List.{length-set, length-map, map_push, get_or-map, get_or-set_same, get_or-set_other, length_push, get_or_push, get_or_append_left, get_or_default, same_lists}
-use Rattle.std.proofs.lemmas.List.Elements.{filter_more}
+use Rattle.std.proofs.lemmas.List.Elements.{All-filter, All-take, filter_more}
 use Rattle.kc_graph.specs.Shape.{Pair}
 use Rattle.kc_levels.specs.Moved.{is_moved, move_of, pushed_if, moved_below, moves_between}
 use Rattle.kc_levels.specs.declared.moves.Move.{Move}
 use Rattle.kc_history.specs.declared.entries.Entry.{Entry}
 use Rattle.kc_groups.specs.private.Labels.{AreRooted}
 use Rattle.kc_groups.specs.Entries.{labels_below, moves_below, group_entry, ends_at}
-use Rattle.kc_groups.specs.private.Dealing.{empty_entry, with_moves, with_edges, ArePlaces, AreDealt, IsPlacedEdge, edge_place, is_unplaced}
-use Rattle.kc_groups.proofs.EndLemmas.{IsAt, IsJoined, ends_yes, ends_no}
+use Rattle.kc_groups.specs.private.Dealing.{empty_entry, with_moves, with_edges, ArePlaces, AreDealt, AreMovesBelow, IsPlacedEdge, is_unplaced}
+use Rattle.kc_groups.proofs.EndLemmas.{IsJoined}
 
 -- Places
 
@@ -143,9 +143,6 @@ dealt_at f h old es q t a inside here other = record {
   ];
 }
 
-dealt_same : (f h : ℕ → Entry → Entry) (old es : List Entry) → AreDealt f old es → ((p : ℕ) → p < length old → (u : Entry) → h p u ≡ f p u) → AreDealt h old es
-dealt_same f h old es a same = record { sized = a.sized; each = λ p d lt. a.each p d lt ∙ sym (same p lt (get_or old p d)) }
-
 dealt_first : (f : ℕ → Entry → Entry) (old : List Entry) → ((p : ℕ) (d : Entry) → p < length old → f p (get_or old p d) ≡ get_or old p d) → AreDealt f old old
 dealt_first f old same = record { sized = refl; each = λ p d lt. sym (same p d lt) }
 
@@ -168,6 +165,12 @@ deal_move places ms i d old es t h a inside read =
     filtered : (p : ℕ) (b : Bool) → eqb (get_or places (get_or ms i d).vertex 0) p ≡ b → filter (λ (n : Move). eqb (get_or places n.vertex 0) p) (take (i + 1) ms) ≡ filter (λ (n : Move). eqb (get_or places n.vertex 0) p) (take i ms) ++ cond b (get_or ms i d ∷ []) []
     filtered p b e = filter_more (λ (n : Move). eqb (get_or places n.vertex 0) p) ms i d h ∙ ap (λ c. filter (λ (n : Move). eqb (get_or places n.vertex 0) p) (take i ms) ++ cond c (get_or ms i d ∷ []) []) e
 
+-- the moves that were dealt are of vertices below n, as all moves are
+pub dealt_below : (n : ℕ) (places : List ℕ) (ms : List Move) (i : ℕ) (old es : List Entry) → All (λ (m : Move). m.vertex < n) ms → AreDealt (with_moves places (take i ms)) old es → AreMovesBelow n es
+dealt_below n places ms i old es below a p d h =
+    rw (a.each p d (omega (arith, a.sized, h)))
+    (All-filter (λ (m : Move). eqb (get_or places m.vertex 0) p) (λ (m : Move). m.vertex < n) (take i ms) (All-take (λ (m : Move). m.vertex < n) i ms below))
+
 -- the moves between two lists of levels whose vertices have the place p
 pub moves_placed : (places x y : List ℕ) (p k : ℕ) → ((v : ℕ) → v < k → is_moved x y v ≡ false → eqb (get_or places v 0) p ≡ false) → filter (λ (m : Move). eqb (get_or places m.vertex 0) p) (moves_between k x y) ≡ moves_below places x y p k
 moves_placed places x y p zero none = refl
@@ -188,67 +191,6 @@ moves_placed places x y p (suc k) none = go (is_moved x y k) refl (moves_placed 
         ap (filter (λ (m : Move). eqb (get_or places m.vertex 0) p)) (map_push (move_of x y) (moved_below (is_moved x y) k) k)
         ∙ pushed (eqb (get_or places k 0) p) refl (moves_between k x y) ∙ ap (pushed_if (eqb (get_or places k 0) p) (move_of x y k)) same
     go false e same = same ∙ sym (ap (λ b. pushed_if b (move_of x y k) (moves_below places x y p k)) (none k (omega arith) e))
-
--- Edges
-
--- what the place of an edge tells
-pub record IsTold (n m place : ℕ) (unplaced : Bool) : Type 0 where
-  pub low : place < n → (place < m) × (unplaced ≡ false)
-  pub high : n ≤ place → unplaced ≡ true
-
-pub placed_at : (n m : ℕ) (places : List ℕ) (e : Pair) → IsPlacedEdge n m places e → m ≤ n → IsAt n (edge_place n places e) (get_or places e.0 0) (get_or places e.1 0) × IsTold n m (edge_place n places e) (is_unplaced n places e)
-placed_at n m places e j few = go (eqb (get_or places e.0 0) n) (eqb (get_or places e.1 0) n) refl refl
-  where
-    go : (s t : Bool) → eqb (get_or places e.0 0) n ≡ s → eqb (get_or places e.1 0) n ≡ t → IsAt n (cond s (get_or places e.1 0) (get_or places e.0 0)) (get_or places e.0 0) (get_or places e.1 0) × IsTold n m (cond s (get_or places e.1 0) (get_or places e.0 0)) (s && t)
-    go true true ea eb = (
-      record { first = inr (grind (arith, nat_tests, ea)); second = inl refl; either = inr refl },
-      record { low = λ lt. absurd (grind (arith, nat_tests, eb, lt)); high = λ le. refl },
-    )
-    go true false ea eb = (
-      record { first = inr (grind (arith, nat_tests, ea)); second = inl refl; either = inr refl },
-      record { low = λ lt. (elim j.second [ inl low ↦ low | inr none ↦ absurd (omega arith) ], refl); high = λ le. elim j.second [ inl low ↦ absurd (omega arith) | inr none ↦ absurd (grind (arith, nat_tests, eb, none)) ] },
-    )
-    go false t ea eb =
-        let low : get_or places e.0 0 < m = elim j.first [ inl low ↦ low | inr none ↦ absurd (grind (arith, nat_tests, ea, none)) ] in (
-          record { first = inl refl; second = elim j.second [ inl other ↦ inl (j.one (omega arith) (omega arith)) | inr none ↦ inr none ]; either = inl refl },
-          record { low = λ lt. (low, refl); high = λ le. absurd (omega arith) },
-        )
-
-module _ (n : ℕ) (places : List ℕ) (edges : List Pair) (i : ℕ) (d : Pair) (old es : List Entry) (few : length old ≤ n) (inside : i < length edges) (j : IsPlacedEdge n (length old) places (get_or edges i d)) where
-  abbrev item : Pair
-  item = get_or edges i d
-
-  abbrev place : ℕ
-  place = edge_place n places (get_or edges i d)
-
-  filtered : (t : Pair → Bool) (b : Bool) → t (get_or edges i d) ≡ b → filter t (take (i + 1) edges) ≡ filter t (take i edges) ++ cond b (get_or edges i d ∷ []) []
-  filtered t b e = filter_more t edges i d inside ∙ ap (λ c. filter t (take i edges) ++ cond c (get_or edges i d ∷ []) []) e
-
-  same_edges : (p : ℕ) → p < length old → p ≢ place → (u : Entry) → with_edges places (take (i + 1) edges) p u ≡ with_edges places (take i edges) p u
-  same_edges p lt ne u = ap (λ ps. record u { edges = ps }) (filtered (ends_at places p) false (ends_no n place p places item (placed_at n (length old) places item j few).0 (omega arith) ne) ∙ append-nil (filter (ends_at places p) (take i edges)))
-
-  pub deal_edge : (t : Entry) → AreDealt (with_edges places (take i edges)) old es → edge_place n places (get_or edges i d) < n → t ≡ get_or es (edge_place n places (get_or edges i d)) t → AreDealt (with_edges places (take (i + 1) edges)) old (set es (edge_place n places (get_or edges i d)) (record t { edges = t.edges ++ get_or edges i d ∷ [] }))
-  deal_edge t a low read =
-      let told = placed_at n (length old) places item j few in
-      let here : place < length old = (told.1.low low).0 in
-      dealt_at (with_edges places (take i edges)) (with_edges places (take (i + 1) edges)) old es place (record t { edges = t.edges ++ item ∷ [] }) a here
-      (λ u.
-      let was : t ≡ with_edges places (take i edges) place (get_or old place u) = read ∙ get_or_default es place t u (omega (arith, a.sized)) ∙ a.each place u here in
-      ap (λ (v : Entry). record v { edges = v.edges ++ item ∷ [] }) was ∙ ap (λ ps. record (get_or old place u) { edges = ps }) (sym (filtered (ends_at places place) true (ends_yes n place places item told.0))))
-      same_edges
-
-  pub deal_edge_quiet : AreDealt (with_edges places (take i edges)) old es → n ≤ edge_place n places (get_or edges i d) → AreDealt (with_edges places (take (i + 1) edges)) old es
-  deal_edge_quiet a high = dealt_same (with_edges places (take i edges)) (with_edges places (take (i + 1) edges)) old es a (λ p lt u. same_edges p lt (omega arith) u)
-
-  pub quiet_same : edge_place n places (get_or edges i d) < n → filter (is_unplaced n places) (take (i + 1) edges) ≡ filter (is_unplaced n places) (take i edges)
-  quiet_same low = filtered (is_unplaced n places) false ((placed_at n (length old) places item j few).1.low low).1 ∙ append-nil (filter (is_unplaced n places) (take i edges))
-
-  pub quiet_more : n ≤ edge_place n places (get_or edges i d) → filter (is_unplaced n places) (take (i + 1) edges) ≡ filter (is_unplaced n places) (take i edges) ++ get_or edges i d ∷ []
-  quiet_more high = filtered (is_unplaced n places) true ((placed_at n (length old) places item j few).1.high high)
-
--- an entry with an edge put at the end of its edges
-pub pushed_edge : (t : Entry) (d e : Pair) → d ≡ e → record t { edges = t.edges ++ d ∷ [] } ≡ record t { edges = t.edges ++ e ∷ [] }
-pushed_edge t d e item = ap (λ (f : Pair). record t { edges = t.edges ++ f ∷ [] }) item
 
 -- From places to labels
 

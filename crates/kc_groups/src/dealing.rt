@@ -1,10 +1,10 @@
 // The moves and edges of a phase, dealt to the entries of their labels.
-ghost use Rattle.std.specs.Prelude.{◌≡◌, ℕ, ◌<◌, ◌≤◌, [], OnOk, All, map, filter, length, slice_index};
+ghost use Rattle.std.specs.Prelude.{◌≡◌, ℕ, ◌<◌, ◌≤◌, [], true, OnOk, All, get_or, map, filter, length, slice_index};
 ghost use Rattle.kc_groups.specs.private.Labels.{AreRooted};
-ghost use Rattle.kc_groups.specs.Gathering.{AreInOrder};
+ghost use Rattle.kc_groups.specs.Gathering.{vertices, AreInOrder};
 ghost use Rattle.kc_groups.specs.private.Gathering.{is_mover};
 ghost use Rattle.kc_groups.specs.Entries.{labels_below};
-ghost use Rattle.kc_groups.specs.private.Dealing.{empty_entry, with_moves, with_edges, ArePlaces, AreDealt, IsPlacedEdge, edge_place, is_unplaced};
+ghost use Rattle.kc_groups.specs.private.Dealing.{empty_entry, with_moves, with_edges, ArePlaces, AreDealt, AreMovesBelow, IsPlacedEdge, edge_place, is_unplaced};
 
 use kc_graph::{Edge, Edges, MAX_VERTICES};
 use kc_history::{Entry, Move};
@@ -40,6 +40,40 @@ pub(crate) fn open_groups(
     Ok(())
 }
 
+// So many entries are looked at together: they lie anywhere in memory, and so do the lists in them.
+const TOGETHER: usize = 16;
+
+// Whether the last move of the entry is of one of n vertices, as each of its moves is: a look at the end of the list.
+fn ends_inside(entry: &Entry, n: usize) -> bool
+    requires { All (λ m. m.vertex < n) entry.now.moves }
+    ensures { result ≡ true }
+{
+    match entry.moves.as_slice().last() {
+        Some(m) => (m.vertex as usize) < n,
+        None => true,
+    }
+}
+
+// The place of the vertex of move k. Before the first of 16 has its turn, the entries of the 16 are looked at together.
+fn move_in_turn(moves: &[Move], places: &[u32], entries: &[Entry], k: usize) -> u32
+    requires inside { k < length moves.now }
+    requires placed { All (λ m. (m.vertex < length places.now) × (slice_index places.now m.vertex < length entries.now)) moves.now }
+    requires dealt { AreMovesBelow (length places.now) entries.now }
+    ensures { result ≡ slice_index places.now (slice_index (vertices moves.now) k) }
+{
+    let place = places[moves[k].vertex as usize];
+    if k % TOGETHER > 0 {
+        return place;
+    }
+    for i in k..moves.len().min(k + TOGETHER) {
+        let entry = &entries[places[moves[i].vertex as usize] as usize];
+        if !ends_inside(entry, places.len()) {
+            return 0;
+        }
+    }
+    place
+}
+
 // Puts each move at the end of the entry at the place of its vertex.
 pub(crate) fn deal_moves(
     moves: &[Move],
@@ -50,8 +84,9 @@ pub(crate) fn deal_moves(
     requires empty { All (λ e. e.moves ≡ []) entries.old.items }
     ensures { OnOk result (AreDealt (with_moves places.now moves.now) entries.old.items entries.new.items) }
 {
-    for m in moves {
-        entries[places[m.vertex as usize] as usize].push_move(*m)?;
+    for k in 0..moves.len() {
+        let place = move_in_turn(moves, places, entries, k);
+        entries[place as usize].push_move(moves[k])?;
     }
     Ok(())
 }
@@ -71,6 +106,37 @@ fn place_at(places: &[u32], e: Edge) -> u32
     }
 }
 
+// Whether the last edge of the entry has its lesser vertex first, as every edge does: a look at the end of the list.
+fn ends_in_order(entry: &Entry) -> bool
+    ensures { result ≡ true }
+{
+    match entry.edges.last() {
+        Some(e) => e.a < e.b,
+        None => true,
+    }
+}
+
+// The place of edge k (`place_at`). Before the first of 16 has its turn, the entries of the 16 are looked at together.
+fn edge_in_turn(edges: &[Edge], places: &[u32], entries: &[Entry], k: usize) -> u32
+    requires small { length places.now ≤ MAX_VERTICES }
+    requires inside { k < length edges.now }
+    requires placed { All (IsPlacedEdge (length places.now) (length entries.now) places.now) edges.now }
+    ensures { result ≡ edge_place (length places.now) places.now (get_or edges.now k (0, 0)) }
+{
+    let place = place_at(places, edges[k]);
+    if k % TOGETHER > 0 {
+        return place;
+    }
+    for i in k..edges.len().min(k + TOGETHER) {
+        if let Some(entry) = entries.get(place_at(places, edges[i]) as usize) {
+            if !ends_in_order(entry) {
+                return 0;
+            }
+        }
+    }
+    place
+}
+
 // Puts each edge into the entry at its place, or among the quiet ones.
 pub(crate) fn deal_edges(
     places: &[u32],
@@ -87,12 +153,12 @@ pub(crate) fn deal_edges(
     ensures entries { OnOk result (AreDealt (with_edges places.now edges.now) entries.old.items entries.new.items) }
 {
     let n = places.len() as u32;
-    for e in edges {
-        let place = place_at(places, *e);
+    for k in 0..edges.len() {
+        let place = edge_in_turn(edges, places, entries, k);
         if place < n {
-            entries[place as usize].push_edge(*e)?;
+            entries[place as usize].push_edge(edges[k])?;
         } else {
-            quiet.push(*e)?;
+            quiet.push(edges[k])?;
         }
     }
     Ok(())

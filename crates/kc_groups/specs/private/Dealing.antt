@@ -1,5 +1,5 @@
 -- How moves and edges are dealt to the entries of their labels.
-use Rattle.std.specs.Prelude.{ℕ, ◌≤◌, ◌<◌, ◌≡◌, ◌==◌, ◌&&◌, ◌⊎◌, Bool, cond, List, [], Some, length, get_or, filter}
+use Rattle.std.specs.Prelude.{ℕ, ◌≤◌, ◌<◌, ◌≡◌, ◌==◌, ◌&&◌, ◌⊎◌, Bool, cond, List, [], Some, All, length, get_or, filter}
 use Rattle.kc_graph.specs.Shape.{Pair}
 use Rattle.kc_levels.specs.declared.moves.Move.{Move}
 use Rattle.kc_history.specs.declared.entries.Entry.{Entry}
@@ -23,6 +23,10 @@ pub record ArePlaces (n : ℕ) (labels roots places : List ℕ) (k : ℕ) : Type
 pub record AreDealt (f : ℕ → Entry → Entry) (old new : List Entry) : Type 0 where
   pub sized : length new ≡ length old
   pub each : (p : ℕ) (d : Entry) → p < length old → get_or new p d ≡ f p (get_or old p d)
+
+-- each move of the entries is of a vertex below n
+abbrev pub AreMovesBelow : ℕ → List Entry → Type 0
+AreMovesBelow n entries = All (λ (e : Entry). All (λ (m : Move). m.vertex < n) e.moves) entries
 
 -- the entry with the moves of the vertices whose place is p
 abbrev pub with_moves : List ℕ → List Move → ℕ → Entry → Entry
