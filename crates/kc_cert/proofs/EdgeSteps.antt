@@ -1,8 +1,11 @@
 -- Edges that are read one after another.
-use Rattle.std.proofs.Common.{ℕ, suc, ◌+◌, ◌-◌, ◌<◌, ◌≡◌, Bool, true, false, List, [], ◌∷◌, ◌++◌, refl, ap, sym, ◌∙◌, arith}
+use Rattle.std.proofs.Common.{ℕ, suc, ◌+◌, ◌-◌, ◌<◌, ◌≤◌, ◌≡◌, Bool, true, false, List, [], ◌∷◌, ◌++◌, refl, ap, sym, subst, ◌∙◌, arith, append_assoc}
 use Rattle.std.specs.Prelude.{Result, Ok, Err, nat_lt, ◌&&◌, if◌then◌else◌}
 use Rattle.std.proofs.lemmas.Bool.Decides.{nat_tests}
-use Rattle.kc_graph.specs.Shape.{GraphShape, Pair, IsNotBefore, EdgesFrom, has_edge, insert_edge, with_edge}
+use Rattle.std.proofs.lemmas.List.{append-nil}
+use Rattle.std.proofs.lemmas.List.Elements.{All-nil, All-cons}
+use Rattle.kc_graph.specs.Shape.{GraphShape, Pair, IsNotBefore, EdgesFrom, has_edge, with_edges}
+use Rattle.kc_graph.specs.Changes.{AllAbsent}
 use Rattle.kc_graph.proofs.lemmas.Edges.{edges_from_at, insert_edge_last}
 use Rattle.kc_text.specs.declared.reason.Reason.{Reason}
 use Rattle.kc_text.specs.declared.reason.Reason.TheVariants.{BadLine, BadVertex}
@@ -63,18 +66,52 @@ pub follow_more : (n a b : ℕ) (es : List Pair) (e : Pair) → MayFollow n a b 
 follow_more n a b es e m h = record { ascending = m.more e h; more = λ f k. two_more n 0 0 es e f (m.more e h) k }
 
 -- an edge after all others isn't among them
-absent_last : (n c d : ℕ) (es : List Pair) (e : Pair) → EdgesFrom n c d (es ++ e ∷ []) → has_edge e es ≡ false
-absent_last n c d [] e up = refl
-absent_last n c d (f ∷ fs) e up =
-    let after : IsNotBefore f.0 (suc f.1) e = edges_from_at n f.0 (suc f.1) fs e [] up.3 in
-    let later : has_edge e fs ≡ false = absent_last n f.0 (suc f.1) fs e up.3 in
+absent_last : (n c d : ℕ) (es : List Pair) (e : Pair) (rest : List Pair) → EdgesFrom n c d (es ++ e ∷ rest) → has_edge e es ≡ false
+absent_last n c d [] e rest up = refl
+absent_last n c d (f ∷ fs) e rest up =
+    let after : IsNotBefore f.0 (suc f.1) e = edges_from_at n f.0 (suc f.1) fs e rest up.3 in
+    let later : has_edge e fs ≡ false = absent_last n f.0 (suc f.1) fs e rest up.3 in
     grind (arith, nat_tests)
 
-pub absent : (n a b : ℕ) (es : List Pair) (e : Pair) → MayFollow n a b es → Fits n a b e → has_edge e es ≡ false
-absent n a b es e m h = absent_last n 0 0 es e (m.more e h)
+-- edges that ascend from a later place on do so from an earlier one
+from_earlier : (n a b c d : ℕ) (es : List Pair) → EdgesFrom n c d es → ((e : Pair) → IsNotBefore c d e → IsNotBefore a b e) → EdgesFrom n a b es
+from_earlier n a b c d [] up h = tt
+from_earlier n a b c d (e ∷ es) up h = (h e up.0, up.1, up.2, up.3)
 
-pub inserted : (n a b : ℕ) (es : List Pair) (e : Pair) → MayFollow n a b es → Fits n a b e → insert_edge e es ≡ es ++ e ∷ []
-inserted n a b es e m h = insert_edge_last n 0 0 es e [] (m.more e h)
+later_place : (a b : ℕ) (e f : Pair) → IsNotBefore a b e → IsNotBefore e.0 (suc e.1) f → IsNotBefore a b f
+later_place a b e f h k = grind (arith, h, k)
+
+-- one edge less
+without_one : (n c d : ℕ) (es : List Pair) (e : Pair) (rest : List Pair) → EdgesFrom n c d (es ++ e ∷ rest) → EdgesFrom n c d (es ++ rest)
+without_one n c d [] e rest up = from_earlier n c d e.0 (suc e.1) rest up.3 (λ f k. later_place c d e f up.0 k)
+without_one n c d (f ∷ fs) e rest up = (up.0, up.1, up.2, without_one n f.0 (suc f.1) fs e rest up.3)
+
+-- the edges before others, and those after others
+pub first_ascend : (n c d : ℕ) (es rest : List Pair) → EdgesFrom n c d (es ++ rest) → EdgesFrom n c d es
+first_ascend n c d [] rest up = tt
+first_ascend n c d (e ∷ es) rest up = (up.0, up.1, up.2, first_ascend n e.0 (suc e.1) es rest up.3)
+
+pub rest_ascends : (n c d : ℕ) (es rest : List Pair) → EdgesFrom n c d (es ++ rest) → EdgesFrom n 0 0 rest
+rest_ascends n c d [] rest up = from_earlier n 0 0 c d rest up (λ e k. not_before_start e)
+rest_ascends n c d (e ∷ es) rest up = rest_ascends n e.0 (suc e.1) es rest up.3
+
+-- edges that follow all others aren't among them
+pub rest_is_absent : (g : GraphShape) (es : List Pair) → EdgesFrom g.vertices 0 0 (g.edges ++ es) → AllAbsent g es
+rest_is_absent g [] up = All-nil (λ f. has_edge f g.edges ≡ false)
+rest_is_absent g (e ∷ es) up =
+    All-cons (λ f. has_edge f g.edges ≡ false) e es (absent_last g.vertices 0 0 g.edges e es up) (rest_is_absent g es (without_one g.vertices 0 0 g.edges e es up))
+
+-- and they come in behind them
+come_behind : (n : ℕ) (before es : List Pair) → EdgesFrom n 0 0 (before ++ es) → with_edges (record { vertices = n; edges = before }) es ≡ record { vertices = n; edges = before ++ es }
+come_behind n before [] up = ap (λ (fs : List Pair). record { vertices = n; edges = fs }) (sym (append-nil before))
+come_behind n before (e ∷ es) up =
+    let moved : (before ++ e ∷ []) ++ es ≡ before ++ e ∷ es = append_assoc before (e ∷ []) es in
+    ap (λ (fs : List Pair). with_edges (record { vertices = n; edges = fs }) es) (insert_edge_last n 0 0 before e es up)
+    ∙ come_behind n (before ++ e ∷ []) es (subst (EdgesFrom n 0 0) (sym moved) up)
+    ∙ ap (λ (fs : List Pair). record { vertices = n; edges = fs }) moved
+
+pub let_in_edges : (g h : GraphShape) (es : List Pair) → EdgesFrom g.vertices 0 0 (g.edges ++ es) → h ≡ with_edges g es → h ≡ record { vertices = g.vertices; edges = g.edges ++ es }
+let_in_edges g h es up e = e ∙ come_behind g.vertices g.edges es up
 
 -- the stage where edge i of `count` is due
 abbrev pub edges_due : Profile → GraphShape → ℕ → ℕ → ℕ → ℕ → ℕ → Stage
@@ -91,20 +128,25 @@ edge_step p g n count i a b k x size lt x_is =
     let here : edge_of g.vertices a b k ≡ x = rw size (sym x_is) in
     rw due (ap (onward (after_edge p g n count i)) here)
 
--- the graph with an edge that follows all others
-pub after_insert : (p : Profile) (g h : GraphShape) (n count i a b x y : ℕ) (e : Pair) → MayFollow n a b g.edges → Fits n a b e → h ≡ with_edge g e → e ≡ (x, y) → edges_due p h n count (i + 1) x (y + 1) ≡ after_edge p g n count i e
-after_insert p g h n count i a b x y e m f h_is e_is =
+-- the stage where the next edge is due
+pub after_one : (p : Profile) (n count i x y : ℕ) (es fs : List Pair) (e : Pair) → fs ≡ es ++ e ∷ [] → e ≡ (x, y)
+    → edges_due p (record { vertices = n; edges = fs }) n count (i + 1) x (y + 1) ≡ after_edge p (record { vertices = n; edges = es }) n count i e
+after_one p n count i x y es fs e fs_is e_is =
     let one : y + 1 ≡ suc y = omega arith in
-    let last = inserted n a b g.edges e m f in
-    let here : h ≡ record { vertices = g.vertices; edges = g.edges ++ e ∷ [] } = h_is ∙ ap (λ (es : List Pair). record { vertices = g.vertices; edges = es }) last in
     let first : e.0 ≡ x = ap (λ (q : Pair). q.0) e_is in
     let second : e.1 ≡ y = ap (λ (q : Pair). q.1) e_is in
-    rw (here, one, ← first, ← second) refl
+    rw (fs_is, one, ← first, ← second) refl
 
-pub follow_insert : (n a b x y : ℕ) (g h : GraphShape) (e : Pair) → MayFollow n a b g.edges → Fits n a b e → h ≡ with_edge g e → e ≡ (x, y) → MayFollow n x (y + 1) h.edges
-follow_insert n a b x y g h e m f h_is e_is =
+pub follow_one : (n a b x y : ℕ) (es fs : List Pair) (e : Pair) → MayFollow n a b es → Fits n a b e → fs ≡ es ++ e ∷ [] → e ≡ (x, y) → MayFollow n x (y + 1) fs
+follow_one n a b x y es fs e m f fs_is e_is =
     let one : y + 1 ≡ suc y = omega arith in
-    let last = inserted n a b g.edges e m f in
     let first : e.0 ≡ x = ap (λ (q : Pair). q.0) e_is in
     let second : e.1 ≡ y = ap (λ (q : Pair). q.1) e_is in
-    rw (h_is, last, one, ← first, ← second) (follow_more n a b g.edges e m f)
+    rw (fs_is, one, ← first, ← second) (follow_more n a b es e m f)
+
+-- no edge is due any more
+pub all_read : (p : Profile) (g : GraphShape) (n count i a b : ℕ) (es : List Pair) → g.vertices ≡ n → g.edges ≡ es → count ≤ i
+    → edges_due p (record { vertices = n; edges = es }) n count i a b ≡ AtBody (record { profile = p; graph = g; levels = [] }) 0 a b g.vertices
+all_read p g n count i a b es v e h =
+    let none : count - i ≡ 0 = omega arith in
+    rw (none, ← v, ← e) refl

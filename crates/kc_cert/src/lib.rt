@@ -7,6 +7,7 @@
 #![tactic(auto)]
 
 mod certificate;
+mod filling;
 pub mod laws;
 mod read;
 mod token;

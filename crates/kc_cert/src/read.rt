@@ -7,6 +7,7 @@ ghost use Rattle.kc_cert.specs.Reads.{IsAnswer, CertCause};
 ghost use Rattle.kc_cert.specs.Texts.{IsCertificate};
 
 use crate::Certificate;
+use crate::filling::{add_edge, let_in};
 use crate::token::next_token;
 use crate::turn::{
     close_of, edge_count_of, edge_of, input_end_of, level_of, magic_of, profile_of, vertices_of,
@@ -149,13 +150,14 @@ fn read_edges<S: Source>(
     ensures cause { CertCause (S.faults src.old) (S.faults src.new) result }
 {
     let mut graph = Graph::new(alloc, n)?;
+    let mut waiting = Vec::new(alloc);
     let mut a = 0;
     let mut b = 0;
     for i in 0..count {
         let token = next_token(alloc, reader, src)?;
         match edge_of(n, a, b, token.kind) {
             Ok(edge) => {
-                graph.insert(alloc, edge)?;
+                add_edge(alloc, &mut graph, &mut waiting, edge)?;
                 a = edge.a;
                 b = edge.b + 1;
             }
@@ -165,6 +167,7 @@ fn read_edges<S: Source>(
             }
         }
     }
+    let_in(alloc, &mut graph, &mut waiting)?;
     read_levels(alloc, reader, src, profile, graph)
 }
 
@@ -245,8 +248,9 @@ fn read_profile<S: Source>(
 /// where the source's count of faults rose, and `Memory` where there was none for a line, the graph or the levels. After
 /// each of the three the reader isn't used again, since lines of the certificate are gone.
 ///
-/// Cost: one pass over the lines, and for each edge the work of `Graph::insert` for ascending edges. Beside the graph and
-/// the levels, whose memory is taken once their number of vertices was read, there is the memory of one line.
+/// Cost: one pass over the lines, and the work of `Graph::insert_all` for each 1,048,576 edges. Beside the graph and the
+/// levels, whose memory is taken once their number of vertices was read, there is the memory of one line and of so many
+/// edges.
 pub fn read_certificate<S: Source>(
     alloc: Global,
     reader: &mut LineReader,

@@ -1,19 +1,19 @@
-use Rattle.std.proofs.Common.{◌≡◌, ◌-◌, [], length}
+use Rattle.std.proofs.Common.{◌≡◌, ◌++◌, length}
 use Rattle.std.specs.Prelude.{Result}
 use Rattle.kc_cert.specs.declared.certificate.Certificate.{Certificate}
 use Rattle.kc_cert.specs.declared.read.CertFault.{CertFault}
 use Rattle.kc_cert.specs.Tokens.{tokens_left}
 use Rattle.kc_cert.specs.Documents.{AtBody, empty_certificate}
 use Rattle.kc_cert.specs.private.Reads.{Answers}
-use Rattle.kc_cert.proofs.EdgeSteps.{MayFollow}
+use Rattle.kc_cert.proofs.EdgeSteps.{MayFollow, edges_due}
 use Rattle.kc_cert.proofs.read.read_edges.Given as goal
 
 abbrev pub invariant-loop-i : goal.invariant-loop-i
 invariant-loop-i g l = record {
-  answers : (r : Result Certificate CertFault) → Answers (AtBody (record { profile = l.profile; graph = l.graph; levels = [] }) (l.count - l.i) l.a l.b l.n) (tokens_left l.reader (g.S.Source.left l.src)) r
+  answers : (r : Result Certificate CertFault) → Answers (edges_due l.profile (record { vertices = l.n; edges = l.graph.edges ++ l.waiting.items }) l.n l.count l.i l.a l.b) (tokens_left l.reader (g.S.Source.left l.src)) r
       → Answers (AtBody (empty_certificate l.profile l.n) l.count 0 0 l.n) (tokens_left l.fn.reader (g.S.Source.left l.fn.src)) r;
   vertices : l.graph.vertices ≡ l.n;
-  follow : MayFollow l.n l.a l.b l.graph.edges;
-  counted : length l.graph.edges ≡ l.i;
+  follow : MayFollow l.n l.a l.b (l.graph.edges ++ l.waiting.items);
+  counted : length (l.graph.edges ++ l.waiting.items) ≡ l.i;
   faults : g.S.Source.faults l.src ≡ g.S.Source.faults l.fn.src;
 }
