@@ -1,12 +1,12 @@
 -- Edges that are read one after another.
-use Rattle.std.proofs.Common.{ℕ, suc, ◌+◌, ◌-◌, ◌<◌, ◌≤◌, ◌≡◌, Bool, true, false, List, [], ◌∷◌, ◌++◌, refl, ap, sym, subst, ◌∙◌, arith, append_assoc}
+use Rattle.std.proofs.Common.{ℕ, suc, ◌+◌, ◌-◌, ◌<◌, ◌≤◌, ◌≡◌, Bool, true, false, List, [], ◌∷◌, ◌++◌, refl, ap, sym, ◌∙◌, arith}
 use Rattle.std.specs.Prelude.{Result, Ok, Err, nat_lt, ◌&&◌, if◌then◌else◌}
 use Rattle.std.proofs.lemmas.Bool.Decides.{nat_tests}
-use Rattle.std.proofs.lemmas.List.{append-nil}
 use Rattle.std.proofs.lemmas.List.Elements.{All-nil, All-cons}
 use Rattle.kc_graph.specs.Shape.{GraphShape, Pair, IsNotBefore, EdgesFrom, has_edge, with_edges}
 use Rattle.kc_graph.specs.Changes.{AllAbsent}
-use Rattle.kc_graph.proofs.lemmas.Edges.{edges_from_at, insert_edge_last}
+use Rattle.kc_graph.proofs.lemmas.Edges.{edges_from_at}
+use Rattle.kc_graph.proofs.lemmas.Changes.{added_behind}
 use Rattle.kc_text.specs.declared.reason.Reason.{Reason}
 use Rattle.kc_text.specs.declared.reason.Reason.TheVariants.{BadLine, BadVertex}
 use Rattle.kc_cert.specs.declared.token.Kind.{Kind}
@@ -102,16 +102,8 @@ rest_is_absent g (e ∷ es) up =
     All-cons (λ f. has_edge f g.edges ≡ false) e es (absent_last g.vertices 0 0 g.edges e es up) (rest_is_absent g es (without_one g.vertices 0 0 g.edges e es up))
 
 -- and they come in behind them
-come_behind : (n : ℕ) (before es : List Pair) → EdgesFrom n 0 0 (before ++ es) → with_edges (record { vertices = n; edges = before }) es ≡ record { vertices = n; edges = before ++ es }
-come_behind n before [] up = ap (λ (fs : List Pair). record { vertices = n; edges = fs }) (sym (append-nil before))
-come_behind n before (e ∷ es) up =
-    let moved : (before ++ e ∷ []) ++ es ≡ before ++ e ∷ es = append_assoc before (e ∷ []) es in
-    ap (λ (fs : List Pair). with_edges (record { vertices = n; edges = fs }) es) (insert_edge_last n 0 0 before e es up)
-    ∙ come_behind n (before ++ e ∷ []) es (subst (EdgesFrom n 0 0) (sym moved) up)
-    ∙ ap (λ (fs : List Pair). record { vertices = n; edges = fs }) moved
-
 pub let_in_edges : (g h : GraphShape) (es : List Pair) → EdgesFrom g.vertices 0 0 (g.edges ++ es) → h ≡ with_edges g es → h ≡ record { vertices = g.vertices; edges = g.edges ++ es }
-let_in_edges g h es up e = e ∙ come_behind g.vertices g.edges es up
+let_in_edges g h es up e = e ∙ added_behind g.vertices g.edges es up
 
 -- the stage where edge i of `count` is due
 abbrev pub edges_due : Profile → GraphShape → ℕ → ℕ → ℕ → ℕ → ℕ → Stage

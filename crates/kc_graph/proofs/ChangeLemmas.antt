@@ -105,7 +105,7 @@ is_graph-without_edges g [] graph = graph
 is_graph-without_edges g (e ∷ es) graph = is_graph-without_edges (without_edge g e) es (is_graph-without_edge g e graph)
 
 -- ascending edges come in after those before them
-added_behind : (n : ℕ) (before es : List Pair) → EdgesFrom n 0 0 (before ++ es) → with_edges (record { vertices = n; edges = before }) es ≡ record { vertices = n; edges = before ++ es }
+pub added_behind : (n : ℕ) (before es : List Pair) → EdgesFrom n 0 0 (before ++ es) → with_edges (record { vertices = n; edges = before }) es ≡ record { vertices = n; edges = before ++ es }
 added_behind n before [] up = ap (λ (fs : List Pair). record { vertices = n; edges = fs }) (sym (append-nil before))
 added_behind n before (e ∷ es) up =
     let moved : (before ++ e ∷ []) ++ es ≡ before ++ e ∷ es = append_assoc before (e ∷ []) es in

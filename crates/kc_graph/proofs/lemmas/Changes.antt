@@ -20,6 +20,8 @@ pub use Rattle.kc_graph.proofs.ChangeLemmas.{is_graph-with_edges as insertions_k
 pub use Rattle.kc_graph.proofs.ChangeLemmas.{is_graph-without_edges as removals_keep_graph}
 -- edges that may come in are counted on to those of the graph
 pub use Rattle.kc_graph.proofs.ChangeLemmas.{length-with_edges}
+-- edges that follow all others come in after them
+pub use Rattle.kc_graph.proofs.ChangeLemmas.{added_behind}
 -- edges that come in leave the number of vertices as it was
 pub use Rattle.kc_graph.proofs.ChangeLemmas.{vertices-with_edges}
 -- edges that leave do so too

@@ -12,10 +12,6 @@ pub use Rattle.kc_graph.proofs.EdgeListLemmas.{has_edge-filter}
 pub use Rattle.kc_graph.proofs.EdgeListLemmas.{edges_from_filter}
 -- in an ascending list, the edge that ends a beginning isn't before where the list begins
 pub use Rattle.kc_graph.proofs.EdgeLemmas.{edges_from_at}
--- an edge after all others comes in at the end
-pub use Rattle.kc_graph.proofs.EdgeLemmas.{insert_edge_last}
--- an edge that comes in makes the list longer by one
-pub use Rattle.kc_graph.proofs.EdgeLemmas.{length-insert_edge}
 -- v shares an edge with w where w shares one with v
 pub use Rattle.kc_graph.proofs.EdgeLemmas.{joined_comm}
 -- two vertices, the lesser first, share an edge where the list has it
