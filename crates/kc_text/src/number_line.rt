@@ -102,6 +102,7 @@ fn pass_cr(bytes: &[u8], end: usize) -> Option<usize>
 }
 
 // The two numbers of which a line consists from `start` on, with one blank between them, and the place of its line feed.
+#[inline(always)]
 #[tactic(auto, using(crate::proofs::NumberLines::number_steps))]
 fn numbers_to(bytes: &[u8], start: usize) -> Option<(u32, u32, usize)>
     requires { start ≤ length bytes.now }
