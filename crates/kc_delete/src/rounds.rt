@@ -125,15 +125,7 @@ pub fn delete_phase<R: Threads + Sync, G: Gate + Sync, L: Ledger>(
     let _levels = adj.levels();
     unlink_edges(alloc, adj, removed, steps)?;
     add_short_ends(adj, th, removed, &mut work.waiting)?;
-    settle(
-        rounds,
-        &mut work.first,
-        adj,
-        th,
-        &mut work.waiting,
-        &mut work.fallen,
-        steps,
-    )?;
+    settle(rounds, th, adj, work, steps)?;
     let moves = work.fallen.take_moves(alloc, adj.levels())?;
     Ok(moves)
 }

@@ -8,9 +8,9 @@ ghost use Rattle.kc_levels.specs.LevelList.{IsCapped, IsLowered};
 ghost use Rattle.kc_delete.specs.private.Fallen.{AreFallen};
 ghost use Rattle.kc_delete.specs.private.Settling.{IsSettling, WaitsOrMeets, StillWait, IsUntouched, IsLookedAt};
 
-use crate::fallen::Fallen;
 use crate::short::is_short;
 use crate::waiting::Waiting;
+use crate::work::DeletionWork;
 use kc_adj::{LevelAdj, Steps};
 use kc_levels::Thresholds;
 use kc_rounds::{FirstRound, Gate, Rounds};
@@ -78,32 +78,35 @@ fn add_short_neighbours(
     Ok(())
 }
 
-/// Lets the vertices that wait fall to their desired levels, round after round, and their neighbours wait where they need to,
-/// until nobody waits. Nobody has fallen before; afterwards all who fell are noted.
+/// Lets the vertices of `work` that wait fall to their desired levels, round after round, and their neighbours wait where they
+/// need to, until nobody waits. Nobody has fallen before; afterwards all who fell are noted.
 ///
 /// Fails only if memory runs out; all is then unspecified.
 pub fn settle<R: Threads + Sync, G: Gate + Sync, L: Ledger>(
     rounds: &Rounds<R, G>,
-    first: &mut FirstRound,
-    adj: &mut LevelAdj,
     th: &Thresholds,
-    waiting: &mut Waiting,
-    fallen: &mut Fallen,
+    adj: &mut LevelAdj,
+    work: &mut DeletionWork,
     steps: &mut Steps<L>,
 ) -> Result<(), AllocError>
     requires graph { IsGraph adj.old.graph }
     requires scale { th.now.vertices ≡ adj.old.graph.vertices }
     requires capped { IsCapped th.now.profile adj.old.graph.vertices adj.old.levels }
-    requires settling { IsSettling th.now.profile adj.old.graph adj.old.levels adj.old.levels waiting.old }
-    requires before { fallen.old.before ≡ adj.old.levels }
-    requires nobody { fallen.old.vertices.items ≡ [] }
+    requires settling { IsSettling th.now.profile adj.old.graph adj.old.levels adj.old.levels work.old.waits }
+    requires before { work.old.before ≡ adj.old.levels }
+    requires nobody { work.old.fallen ≡ [] }
     ensures graph { OnOk result (adj.new.graph ≡ adj.old.graph) }
     ensures lowered { OnOk result (IsLowered th.now.profile adj.old.graph adj.old.levels adj.new.levels) }
-    ensures sized { OnOk result (length waiting.new ≡ adj.old.graph.vertices) }
-    ensures none_waits { OnOk result ((v : ℕ) → slice_index_or waiting.new v false ≡ false) }
-    ensures before { OnOk result (fallen.new.before ≡ adj.old.levels) }
-    ensures fallen { OnOk result (AreFallen adj.old.levels adj.new.levels fallen.new.vertices.items) }
+    ensures sized { OnOk result (length work.new.waits ≡ adj.old.graph.vertices) }
+    ensures none_waits { OnOk result ((v : ℕ) → slice_index_or work.new.waits v false ≡ false) }
+    ensures before { OnOk result (work.new.before ≡ adj.old.levels) }
+    ensures fallen { OnOk result (AreFallen adj.old.levels adj.new.levels work.new.fallen) }
 {
+    let DeletionWork {
+        waiting,
+        fallen,
+        first,
+    } = work;
     while let Some(v) = waiting.next(rounds, first, adj, th)? {
         let from = adj.level(v);
         let to = adj.desired_near(th, v, waiting.level());

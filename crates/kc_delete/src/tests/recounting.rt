@@ -73,41 +73,81 @@ fn two_of_three(alloc: Global, random: &mut u32) -> Result<Vec<Edge>, AllocError
     Ok(edges)
 }
 
+// A graph whose levels phases of deletions keep, with their workspace, and its levels by recounting.
+#[derive(Drop)]
+struct Both {
+    adj: LevelAdj,
+    work: DeletionWork,
+    plain: Levels,
+}
+
 // One batch of deletions gives the same levels by a phase and plainly.
 fn compare_batch<R: Threads + Sync + Abort, L: Ledger>(
     rt: &R,
     alloc: Global,
     th: &Thresholds,
-    adj: &mut LevelAdj,
-    work: &mut DeletionWork,
-    plain: &mut Levels,
+    both: &mut Both,
     items: &[Item],
     steps: &mut Steps<L>,
 ) -> Result<(), AllocError>
-    requires ready { IsReady adj.old work.old }
-    requires inside { All (IsInside adj.old.graph.vertices) items.now }
+    requires ready { IsReady both.old.adj both.old.work }
+    requires inside { All (IsInside both.old.adj.graph.vertices) items.now }
     requires few { length items.now ≤ MAX_ITEMS }
-    requires scale { th.now.vertices ≡ adj.old.graph.vertices }
-    requires sized { length plain.old ≡ adj.old.graph.vertices }
-    ensures ready { OnOk result (IsReady adj.new work.new) }
-    ensures vertices { OnOk result (adj.new.graph.vertices ≡ adj.old.graph.vertices) }
-    ensures sized { OnOk result (length plain.new ≡ adj.new.graph.vertices) }
+    requires scale { th.now.vertices ≡ both.old.adj.graph.vertices }
+    requires sized { length both.old.plain ≡ both.old.adj.graph.vertices }
+    ensures ready { OnOk result (IsReady both.new.adj both.new.work) }
+    ensures vertices { OnOk result (both.new.adj.graph.vertices ≡ both.old.adj.graph.vertices) }
+    ensures sized { OnOk result (length both.new.plain ≡ both.new.adj.graph.vertices) }
 {
     cleaned_fits_graph();
-    let _n = adj.graph().vertices();
-    assert!(rt; are_capped(adj, th));
-    assert!(rt; meet_lower(adj, th));
-    let cleaned = clean(rt, alloc, adj.graph(), items)?;
+    let _n = both.adj.graph().vertices();
+    assert!(rt; are_capped(&both.adj, th));
+    assert!(rt; meet_lower(&both.adj, th));
+    let cleaned = clean(rt, alloc, both.adj.graph(), items)?;
     let gate = OpenGate::new();
     let rounds = Rounds::new(rt, alloc, &gate, 3);
     let removed = cleaned.removed.as_slice();
-    delete_phase(&rounds, alloc, th, adj, work, removed, steps)?;
-    lower_plainly(rt, adj.graph(), th, plain);
-    assert_eq!(rt; adj.levels().as_slice(), plain.as_slice());
+    delete_phase(
+        &rounds,
+        alloc,
+        th,
+        &mut both.adj,
+        &mut both.work,
+        removed,
+        steps,
+    )?;
+    lower_plainly(rt, both.adj.graph(), th, &mut both.plain);
+    assert_eq!(rt; both.adj.levels().as_slice(), both.plain.as_slice());
     Ok(())
 }
 
-// Levels that are as high as the lower invariant lets them be, and three batches of deletions in turn with one workspace.
+// A graph that has two of three edges, on levels that are as high as the lower invariant lets them be.
+fn highest<R: Abort, L: Ledger>(
+    rt: &R,
+    alloc: Global,
+    th: &Thresholds,
+    random: &mut u32,
+    steps: &mut Steps<L>,
+) -> Result<Both, AllocError>
+    requires scale { th.now.vertices ≡ VERTICES }
+    ensures ready { IfOk result (λ both. IsReady both.adj both.work) }
+    ensures vertices { IfOk result (λ both. both.adj.graph.vertices ≡ VERTICES) }
+    ensures sized { IfOk result (λ both. length both.plain ≡ VERTICES) }
+{
+    let edges = two_of_three(alloc, random)?;
+    let zeros = vec![in alloc; 0u16; VERTICES as usize]?;
+    let grounded = state(rt, alloc, &edges, &zeros, steps)?;
+    let mut plain = Levels::zeros(alloc, VERTICES)?;
+    for v in 0..VERTICES {
+        plain.set(v, th.top());
+    }
+    lower_plainly(rt, grounded.graph(), th, &mut plain);
+    let adj = state(rt, alloc, &edges, plain.as_slice(), steps)?;
+    let work = DeletionWork::new(alloc, &adj)?;
+    Ok(Both { adj, work, plain })
+}
+
+// Three batches of deletions in turn, with one workspace.
 fn compare<R: Threads + Sync + Abort, L: Ledger>(
     rt: &R,
     alloc: Global,
@@ -121,21 +161,10 @@ fn compare<R: Threads + Sync + Abort, L: Ledger>(
     let mut random = seed;
     let mut steps = Steps::<L>::new(blank);
     let th = Thresholds::new(alloc, Profile::One, VERTICES)?;
-    let edges = two_of_three(alloc, &mut random)?;
-    let zeros = vec![in alloc; 0u16; VERTICES as usize]?;
-    let grounded = state(rt, alloc, &edges, &zeros, &mut steps)?;
-    let mut plain = Levels::zeros(alloc, VERTICES)?;
-    for v in 0..VERTICES {
-        plain.set(v, th.top());
-    }
-    lower_plainly(rt, grounded.graph(), &th, &mut plain);
-    let mut adj = state(rt, alloc, &edges, plain.as_slice(), &mut steps)?;
-    let mut work = DeletionWork::new(alloc, &adj)?;
+    let mut both = highest(rt, alloc, &th, &mut random, &mut steps)?;
     for _ in 0..3u32 {
         let items = deletions(alloc, &mut random)?;
-        compare_batch(
-            rt, alloc, &th, &mut adj, &mut work, &mut plain, &items, &mut steps,
-        )?;
+        compare_batch(rt, alloc, &th, &mut both, &items, &mut steps)?;
     }
     Ok(())
 }

@@ -4,7 +4,7 @@ use Rattle.kc_graph.specs.Shape.{GraphShape}
 use Rattle.kc_graph.proofs.lemmas.Changes.{vertices-without_edges, removals_keep_graph}
 use Rattle.kc_levels.specs.Moved.{moves_between}
 use Rattle.kc_adj.specs.LeveledGraph.{LeveledGraph}
-use Rattle.kc_delete.specs.Working.{IsReady}
+use Rattle.kc_delete.specs.Working.{Working, IsReady}
 use Rattle.kc_delete.proofs.SettlingLemmas.{settling_first}
 use Rattle.kc_delete.proofs.FallenLemmas.{none_marked}
 use Rattle.kc_delete.proofs.rounds.delete_phase.Goals as goal
@@ -54,13 +54,13 @@ settle-requires-clause-before g c κs o =
 pub take_moves-requires-clause-sized : goal.take_moves-requires-clause-sized
 take_moves-requires-clause-sized g c =
     let same : c.settle.new.adj.graph.vertices ≡ c.args.adj.now.graph.vertices = ap (λ (h : GraphShape). h.vertices) (c.in_ok-settle.ensures.graph ∙ ap (λ (a : LeveledGraph). a.graph) c.in_ok-unlink_edges.ensures) ∙ vertices-without_edges c.args.adj.now.graph c.args.removed.now in
-    let before : c.settle.new.fallen.before ≡ c.args.adj.now.levels = c.in_ok-settle.ensures.before ∙ ap (λ (a : LeveledGraph). a.levels) c.in_ok-unlink_edges.ensures in
+    let before : c.work-2.inside.fallen.before ≡ c.args.adj.now.levels = ap (λ (w : Working). w.before) c.work-2.view_is ∙ c.in_ok-settle.ensures.before ∙ ap (λ (a : LeveledGraph). a.levels) c.in_ok-unlink_edges.ensures in
     ap (λ (x : List ℕ). length x) c.levels.ensures.value ∙ c.levels.ensures.sized ∙ same ∙ sym (ap (λ (x : List ℕ). length x) before ∙ c.levels-levels.ensures.sized)
 
 pub returns-clause-moves : goal.returns-clause-moves
 returns-clause-moves g c =
     let same : c.settle.new.adj.graph.vertices ≡ c.args.adj.now.graph.vertices = ap (λ (h : GraphShape). h.vertices) (c.in_ok-settle.ensures.graph ∙ ap (λ (a : LeveledGraph). a.graph) c.in_ok-unlink_edges.ensures) ∙ vertices-without_edges c.args.adj.now.graph c.args.removed.now in
-    let before : c.settle.new.fallen.before ≡ c.args.adj.now.levels = c.in_ok-settle.ensures.before ∙ ap (λ (a : LeveledGraph). a.levels) c.in_ok-unlink_edges.ensures in
+    let before : c.work-2.inside.fallen.before ≡ c.args.adj.now.levels = ap (λ (w : Working). w.before) c.work-2.view_is ∙ c.in_ok-settle.ensures.before ∙ ap (λ (a : LeveledGraph). a.levels) c.in_ok-unlink_edges.ensures in
     c.in_ok-moves.ensures.moves
     ∙ ap (λ (x : List ℕ). moves_between (length x) x c.levels.result.now) before
     ∙ ap (λ (y : List ℕ). moves_between (length c.args.adj.now.levels) c.args.adj.now.levels y) c.levels.ensures.value
@@ -69,6 +69,6 @@ returns-clause-moves g c =
 pub returns-clause-ready : goal.returns-clause-ready
 returns-clause-ready g c = record {
   before = c.in_ok-moves.ensures.before ∙ c.levels.ensures.value;
-  none_waits = none_marked c.settle.new.waiting c.in_ok-settle.ensures.none_waits ∙ ap (λ n. replicate n false) (c.in_ok-settle.ensures.sized ∙ sym (ap (λ (h : GraphShape). h.vertices) c.in_ok-settle.ensures.graph));
+  none_waits = ap (λ (w : Working). w.waits) c.work-2.view_is ∙ none_marked c.settle.new.work.waits c.in_ok-settle.ensures.none_waits ∙ ap (λ n. replicate n false) (c.in_ok-settle.ensures.sized ∙ sym (ap (λ (h : GraphShape). h.vertices) c.in_ok-settle.ensures.graph));
   none_fallen = c.in_ok-moves.ensures.nobody;
 }
