@@ -1,0 +1,2 @@
+-- Words of private contracts: no public contract needs them.
+pub mod Senders
