@@ -7,13 +7,13 @@ use Rattle.kc_text.specs.declared.reason.Reason.{Reason}
 use Rattle.kc_text.specs.Lines.{lines}
 use Rattle.kc_text.specs.Reading.{Reading, lines_left}
 use Rattle.kc_text.specs.Writing.{IsPrefix}
+use Rattle.kc_text.specs.Kept.{kept_left}
 use Rattle.kc_text.proofs.lemmas.Writing.{prefix_none}
 use Rattle.kc_audit.specs.declared.read.AuditFault.{AuditFault}
 use Rattle.kc_audit.specs.declared.read.AuditFault.TheVariants as fault
 use Rattle.kc_audit.specs.declared.run_text.RunText.{RunText}
 use Rattle.kc_audit.specs.declared.verdict.AuditVerdict.{AuditVerdict}
 use Rattle.kc_audit.specs.Documents.{Document, Accepted, Refused, document_of, document_in}
-use Rattle.kc_audit.specs.Kept.{kept_left}
 use Rattle.kc_audit.specs.Reads.{IsAnswer, Answers}
 use Rattle.kc_audit.specs.Verdicts.{IsVerdict}
 use Rattle.kc_audit.proofs.lemmas.Verdicts.{has_verdict}

@@ -2,10 +2,10 @@
 use Rattle.std.proofs.Common.{ℕ, ◌+◌, ◌≡◌, ◌≤◌, Bool, false, List, ◌++◌, length, ap, ◌∙◌, subst, arith, length-append}
 use Rattle.kc_text.specs.Lines.{lines}
 use Rattle.kc_text.specs.Printing.{printed}
+use Rattle.kc_text.specs.Kept.{kept}
 use Rattle.kc_graph.specs.declared.limits.TheConstants.{MAX_VERTICES, MAX_ITEMS}
 use Rattle.kc_batch.specs.Headers.{HeaderText, Accepted, Refused, header_of}
 use Rattle.kc_batch.specs.BatchInputs.{behind_header}
-use Rattle.kc_batch.specs.Kept.{kept}
 use Rattle.kc_batch.specs.Tokens.{tokens}
 use Rattle.kc_cert.specs.declared.verdict.Verdict.TheVariants.{Certified}
 use Rattle.kc_cert.specs.Documents as document

@@ -6,6 +6,7 @@ use Rattle.std.proofs.lemmas.Bool.{cases_lt}
 use Rattle.kc_text.specs.declared.buf.SendFault.{SendFault}
 use Rattle.kc_text.specs.Lines.{lines}
 use Rattle.kc_text.specs.Writing.{Appends}
+use Rattle.kc_text.specs.Kept.{kept}
 use Rattle.kc_text.proofs.lemmas.Writing.{prefix_none}
 use Rattle.kc_graph.specs.declared.limits.TheConstants.{MAX_EDGES, MAX_ITEMS}
 use Rattle.kc_graph.specs.Shape.{GraphShape, IsGraph}
@@ -14,7 +15,6 @@ use Rattle.kc_dense.specs.Dense.{IsDensePart, IsHalfAsDenseAsAny}
 use Rattle.kc_dense.proofs.lemmas.DenseParts.{dense_part_is_half_as_dense, each_has_dense_part, dense_part_is_one}
 use Rattle.kc_report.specs.Lines.{end_line}
 use Rattle.kc_batch.specs.Headers.{HeaderText, Accepted, Refused, header_of}
-use Rattle.kc_batch.specs.Kept.{kept}
 use Rattle.kc_batch.specs.Tokens.{tokens}
 use Rattle.kc_batch.specs.BatchInputs.{behind_header}
 use Rattle.kc_engine.specs.States.{State, IsSound}

@@ -4,13 +4,13 @@ use Rattle.std.specs.Prelude.{Option, Some, None, Ok, Err}
 use Rattle.std.specs.Option.{option_map}
 use Rattle.kc_text.specs.declared.buf.SendFault.{SendFault}
 use Rattle.kc_text.specs.Lines.{lines}
+use Rattle.kc_text.specs.Kept.{kept}
 use Rattle.kc_text.proofs.lemmas.Writing.{append_twice, prefix_longer, prefix_then}
 use Rattle.kc_graph.specs.declared.limits.TheConstants.{MAX_EDGES, MAX_ITEMS}
 use Rattle.kc_batch.specs.declared.token.Token.{Token}
 use Rattle.kc_batch.specs.declared.batch.Next.{Next}
 use Rattle.kc_batch.specs.HeaderShape.{HeaderShape}
 use Rattle.kc_batch.specs.Headers.{HeaderText, Accepted, Refused, header_of}
-use Rattle.kc_batch.specs.Kept.{kept}
 use Rattle.kc_batch.specs.Tokens.{tokens}
 use Rattle.kc_batch.specs.Batches.{batches}
 use Rattle.kc_batch.specs.BatchInputs.{rules_of, behind_header}

@@ -4,6 +4,7 @@ use Rattle.std.specs.Prelude.{All, codes, decimal}
 use Rattle.kc_graph.specs.declared.limits.TheConstants.{MAX_VERTICES, MAX_EDGES, MAX_ITEMS}
 use Rattle.kc_graph.specs.Shape.{GraphShape}
 use Rattle.kc_text.specs.Lines.{lines}
+use Rattle.kc_text.specs.Kept.{kept}
 use Rattle.kc_levels.specs.declared.profile.Profile.{Profile}
 use Rattle.kc_history.specs.declared.entries.Entry.{Entry}
 use Rattle.kc_history.specs.declared.replies.Reply.{Reply}
@@ -14,7 +15,6 @@ use Rattle.kc_batch.specs.HeaderShape.{HeaderShape}
 use Rattle.kc_batch.specs.Headers.{HeaderText, Accepted, Refused, header_of}
 use Rattle.kc_batch.specs.Batches.{batches}
 use Rattle.kc_batch.specs.BatchInputs.{rules_of, behind_header}
-use Rattle.kc_batch.specs.Kept.{kept}
 use Rattle.kc_batch.specs.Tokens.{tokens}
 use Rattle.kc_batch.proofs.lemmas.Inputs.{batches_keep_ranges}
 use Rattle.kc_engine.specs.States.{State, IsSound}

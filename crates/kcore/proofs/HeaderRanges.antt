@@ -8,11 +8,11 @@ use Rattle.std.proofs.lemmas.List.Elements.{All-nil, All-tail, All-push}
 use Rattle.kc_text.specs.declared.line.Line.{Line}
 use Rattle.kc_text.specs.Numbers.{number_of}
 use Rattle.kc_text.specs.Words.{words}
+use Rattle.kc_text.specs.Kept.{text_of}
 use Rattle.kc_graph.specs.declared.limits.TheConstants.{MAX_VERTICES}
 use Rattle.kc_levels.specs.declared.profile.Profile.{Profile}
 use Rattle.kc_batch.specs.declared.ask.Ask.{Ask}
 use Rattle.kc_batch.specs.Headers.{HeaderText, Accepted, Refused, IsAsk, IsHeader, fits_ask, ask_with, ask_in, profile_in, vertex_count, vertices_in, is_ask, next_ask, on_ask, asks_from, on_vertices, after_profile, on_profile, header_of}
-use Rattle.kc_batch.specs.Kept.{text_of}
 use Rattle.kc_batch.proofs.lemmas.Inputs.{fits}
 use Rattle.kcore.proofs.LineNumbers.{IsNumbered}
 

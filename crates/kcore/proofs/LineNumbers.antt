@@ -6,6 +6,7 @@ use Rattle.kc_graph.specs.declared.items.Item.{Item}
 use Rattle.kc_text.specs.declared.line.Line.{Line}
 use Rattle.kc_text.specs.declared.line.Body.TheVariants as body
 use Rattle.kc_text.specs.Lines.{lines, lines_from, last_of, line_of}
+use Rattle.kc_text.specs.Kept.{is_skipped, kept}
 use Rattle.kc_batch.specs.declared.batch.Next.{Next}
 use Rattle.kc_batch.specs.declared.batch.Next.TheVariants.{Items, Refused, End}
 use Rattle.kc_batch.specs.declared.rules.Rules.{Rules}
@@ -15,7 +16,6 @@ use Rattle.kc_batch.specs.declared.token.Kind.TheVariants as kind
 use Rattle.kc_batch.specs.declared.turn.Turn.{Turn}
 use Rattle.kc_batch.specs.declared.turn.Turn.TheVariants.{Add, Close, Pass, Stop}
 use Rattle.kc_batch.specs.Batches.{Place, Between, Within, Passing, batches, batches_from, step_between, step_within, step_passing}
-use Rattle.kc_batch.specs.Kept.{is_skipped, kept}
 use Rattle.kc_batch.specs.Tokens.{tokens}
 use Rattle.kc_batch.specs.Turns.{turn_of}
 use Rattle.kcore.specs.declared.limits.TheConstants.{LINE_LIMIT, INPUT_LIMIT}

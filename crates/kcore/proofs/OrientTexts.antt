@@ -4,6 +4,7 @@ use Rattle.std.specs.Prelude.{Option, Result, Err}
 use Rattle.kc_text.specs.declared.buf.SendFault.{SendFault}
 use Rattle.kc_text.specs.Lines.{lines}
 use Rattle.kc_text.specs.Writing.{Appends}
+use Rattle.kc_text.specs.Kept.{kept}
 use Rattle.kc_text.proofs.lemmas.Writing.{prefix_none}
 use Rattle.kc_graph.specs.declared.limits.TheConstants.{MAX_EDGES, MAX_ITEMS}
 use Rattle.kc_levels.specs.declared.profile.Profile.{Profile}
@@ -15,7 +16,6 @@ use Rattle.kc_orient.proofs.lemmas.Orientations.{out_neighbours_are_few, outs_at
 use Rattle.kc_orient.proofs.lemmas.Colourings.{colourings_are_one, colouring_is_proper, colours_are_few, colouring_is_one}
 use Rattle.kc_report.specs.Lines.{end_line}
 use Rattle.kc_batch.specs.Headers.{HeaderText, Accepted, Refused, header_of}
-use Rattle.kc_batch.specs.Kept.{kept}
 use Rattle.kc_batch.specs.Tokens.{tokens}
 use Rattle.kc_batch.specs.Batches.{batches}
 use Rattle.kc_batch.specs.BatchInputs.{rules_of, behind_header}

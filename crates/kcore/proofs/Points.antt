@@ -4,6 +4,7 @@ use Rattle.std.specs.Prelude.{Option, Some, None, All}
 use Rattle.std.proofs.lemmas.List.Elements.{All-head, All-tail, All-take}
 use Rattle.std.proofs.Math.Seq.{take-length}
 use Rattle.kc_text.specs.Lines.{lines}
+use Rattle.kc_text.specs.Kept.{kept}
 use Rattle.kc_graph.specs.declared.cleaning.Cleaned.{Cleaned}
 use Rattle.kc_graph.specs.declared.limits.TheConstants.{MAX_EDGES, MAX_ITEMS}
 use Rattle.kc_graph.specs.Cleaning.{cleaned}
@@ -19,7 +20,6 @@ use Rattle.kc_batch.specs.declared.batch.Next.TheVariants.{Items, Refused, End}
 use Rattle.kc_batch.specs.HeaderShape.{HeaderShape}
 use Rattle.kc_batch.specs.Headers.{HeaderText, Accepted, header_of}
 use Rattle.kc_batch.specs.Headers as headers
-use Rattle.kc_batch.specs.Kept.{kept}
 use Rattle.kc_batch.specs.Tokens.{tokens}
 use Rattle.kc_batch.specs.Batches.{batches, IsNext}
 use Rattle.kc_batch.specs.BatchInputs.{rules_of, behind_header}

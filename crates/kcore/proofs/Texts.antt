@@ -4,6 +4,7 @@ use Rattle.std.specs.Prelude.{Option, Some, None, Ok, Err, All}
 use Rattle.std.specs.Option.{option_map}
 use Rattle.std.proofs.lemmas.List.Elements.{All-nil, All-cons}
 use Rattle.kc_text.specs.Lines.{lines}
+use Rattle.kc_text.specs.Kept.{kept}
 use Rattle.kc_graph.specs.declared.limits.TheConstants.{MAX_ITEMS}
 use Rattle.kc_history.specs.declared.entries.Entry.{Entry}
 use Rattle.kc_history.specs.declared.replies.Reply.{Reply}
@@ -15,7 +16,6 @@ use Rattle.kc_batch.specs.declared.token.Token.{Token}
 use Rattle.kc_batch.specs.declared.batch.Next.{Next}
 use Rattle.kc_batch.specs.HeaderShape.{HeaderShape}
 use Rattle.kc_batch.specs.Headers.{HeaderText, Accepted, Refused, header_of}
-use Rattle.kc_batch.specs.Kept.{kept}
 use Rattle.kc_batch.specs.Tokens.{tokens}
 use Rattle.kc_batch.specs.Batches.{batches}
 use Rattle.kc_batch.specs.BatchInputs.{rules_of, behind_header}

@@ -1,7 +1,7 @@
 use Rattle.std.proofs.Common.{◌∙◌, sym, refl, inl, inr}
 use Rattle.std.proofs.lemmas.Result.{err_from_is_err_and}
+use Rattle.kc_text.specs.Kept.{kept_left}
 use Rattle.kc_graph.specs.declared.limits.TheConstants.{MAX_ITEMS}
-use Rattle.kc_batch.specs.Kept.{kept_left}
 use Rattle.kc_batch.proofs.lemmas.Inputs.{told_input, told_accepted, told_refused}
 use Rattle.kcore.specs.declared.limits.TheConstants.{LINE_LIMIT, INPUT_LIMIT}
 use Rattle.kcore.proofs.Openings.{is_refused}
