@@ -7,7 +7,7 @@ use Rattle.kc_text.specs.declared.line.Body.TheVariants.{Text, TooLong, Limit, E
 use Rattle.kc_text.specs.declared.reason.Reason.TheVariants.{Header}
 use Rattle.kc_text.specs.Reading.{onto, behind}
 use Rattle.kc_text.specs.Words.{words, words_from}
-use Rattle.kc_batch.specs.Kept.{text_of}
+use Rattle.kc_text.specs.Kept.{text_of}
 use Rattle.kc_batch.specs.Headers.{vertices_in}
 use Rattle.kserve.specs.declared.head.Head.TheVariants as head
 use Rattle.kserve.specs.Inputs.{Refused, is_magic, after_head, after_magic, input_from}

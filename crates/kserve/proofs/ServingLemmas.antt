@@ -15,6 +15,7 @@ use Rattle.kc_text.specs.Lines.{lines}
 use Rattle.kc_text.specs.Words.{words}
 use Rattle.kc_text.specs.Writing.{IsPrefix, WriteCause}
 use Rattle.kc_text.specs.Causes.{Rose}
+use Rattle.kc_text.specs.Kept.{kept, text_of}
 use Rattle.kc_text.proofs.lemmas.Writing.{append_none, append_twice, prefix_none, prefix_longer, prefix_then}
 use Rattle.kc_graph.specs.declared.items.Item.{Item}
 use Rattle.kc_graph.specs.declared.limits.TheConstants.{MAX_EDGES, MAX_ITEMS}
@@ -23,7 +24,6 @@ use Rattle.kc_levels.specs.declared.profile.Profile.TheVariants.{One}
 use Rattle.kc_levels.specs.LevelList.{MeetsBoth}
 use Rattle.kc_batch.specs.declared.batch.Next.{Next}
 use Rattle.kc_batch.specs.declared.batch.Next.TheVariants as next
-use Rattle.kc_batch.specs.Kept.{kept, text_of}
 use Rattle.kc_batch.specs.Headers.{vertices_in}
 use Rattle.kc_batch.specs.Tokens.{tokens}
 use Rattle.kc_batch.specs.Batches.{batches, IsNext}

@@ -11,10 +11,10 @@ use Rattle.kc_text.specs.declared.reason.Reason.{Reason}
 use Rattle.kc_text.specs.declared.reason.Reason.TheVariants.{Header, TooMany}
 use Rattle.kc_text.specs.Lines.{lines}
 use Rattle.kc_text.specs.Words.{words}
+use Rattle.kc_text.specs.Kept.{kept, text_of}
 use Rattle.kc_batch.specs.declared.rules.Rules.{Rules}
 use Rattle.kc_batch.specs.declared.batch.Next.{Next}
 use Rattle.kc_batch.specs.declared.batch.Next.TheVariants as next
-use Rattle.kc_batch.specs.Kept.{kept, text_of}
 use Rattle.kc_batch.specs.Headers.{vertices_in}
 use Rattle.kc_batch.specs.Tokens.{tokens}
 use Rattle.kc_batch.specs.Batches.{batches}

@@ -4,12 +4,12 @@ ghost use Rattle.std.specs.Option.{option_map};
 ghost use Rattle.std.specs.Str.{bytes_eq};
 ghost use Rattle.kc_text.specs.Causes.{ReadCause};
 ghost use Rattle.kc_text.specs.Words.{words};
-ghost use Rattle.kc_batch.specs.Kept.{kept_left};
+ghost use Rattle.kc_text.specs.Kept.{kept_left};
 ghost use Rattle.kserve.specs.Inputs.{is_magic, input_from, after_magic, after_head};
 ghost use Rattle.kserve.specs.private.Inputs.{HasRange};
 
-use kc_batch::{next_kept, text_of, vertices_in};
-use kc_text::{LineFault, LineReader, Source, next_word};
+use kc_batch::vertices_in;
+use kc_text::{LineFault, LineReader, Source, next_kept, next_word, text_of};
 use std::alloc::Global;
 
 /// What the first two lines of an input say.
