@@ -1,5 +1,6 @@
 pub mod lemmas
 mod ForestLemmas
+mod UniteLemmas
 mod MovedLemmas
 mod EndLemmas
 mod DealingLemmas

@@ -1,6 +1,8 @@
 // A forest over the places of a list: each place points to one that is no greater, and a root to itself.
-ghost use Rattle.std.specs.Prelude.{◌≡◌, ℕ, List, ◌<◌, length, slice_index};
-ghost use Rattle.kc_groups.specs.private.Forest.{IsForest, merged};
+ghost use Rattle.std.specs.Prelude.{◌≡◌, ℕ, Bool, List, ◌<◌, ◌≤◌, ◌||◌, length, slice_index};
+ghost use Rattle.kc_groups.specs.private.Forest.{IsForest, AreGathered, merged};
+
+use kc_graph::MAX_VERTICES;
 
 // The root of a place. What is passed on the way points further up afterwards.
 fn find(parents: &mut Vec<u32>, place: u32) -> u32
@@ -30,4 +32,20 @@ pub(crate) fn join(parents: &mut Vec<u32>, first: u32, second: u32)
     let first = find(parents, first);
     let second = find(parents, second);
     parents[first.max(second) as usize] = first.min(second);
+}
+
+// Makes one tree of those of each two places that are in one tree of `other`, a forest over the same places.
+pub(crate) fn unite(parents: &mut Vec<u32>, other: &[u32])
+    requires small { length other.now ≤ MAX_VERTICES }
+    requires same { length parents.old.items ≡ length other.now }
+    requires forest { (roots : List ℕ) × IsForest parents.old.items roots }
+    requires other { (roots : List ℕ) × IsForest other.now roots }
+    ensures { (m : ℕ) (before more : ℕ → ℕ → Bool) → AreGathered m before parents.old.items → AreGathered m more other.now → AreGathered m (λ i j. before i j || more i j) parents.new.items }
+{
+    for place in 0..other.len() as u32 {
+        let up = other[place as usize];
+        if up < place {
+            join(parents, place, up);
+        }
+    }
 }
