@@ -15,6 +15,7 @@ use crate::showing::{Crew, MarkerPlaces, show_phases};
 use crate::work::PhaseWork;
 use kc_adj::LevelAdj;
 use kc_graph::{Cleaned, Graph, MAX_EDGES, MAX_VERTICES};
+use kc_groups::Planners;
 use kc_history::MAX_PHASE;
 use kc_levels::{Levels, Thresholds};
 use kc_rounds::{Gate, Rounds};
@@ -156,6 +157,11 @@ impl Engine {
         self.halted = true;
         let context = PhaseContext {
             rounds: Rounds::new(rt, alloc, gate, self.workers),
+            planners: Planners {
+                rt,
+                alloc,
+                workers: self.workers,
+            },
             alloc,
             th: &self.thresholds,
         };

@@ -16,7 +16,7 @@ use crate::work::PhaseWork;
 use kc_adj::{LevelAdj, Steps};
 use kc_delete::delete_phase;
 use kc_graph::{Cleaned, Edges, MAX_EDGES};
-use kc_groups::{Phase, plan_moves};
+use kc_groups::{Phase, Planners, plan_moves};
 use kc_history::MAX_PHASE;
 use kc_insert::insert_phase;
 use kc_levels::Thresholds;
@@ -26,10 +26,12 @@ use std::marker::Brand;
 use std::sync::ledger::{Blank, Ledger};
 use std::thread::Threads;
 
-// What stays the same through the phases of a batch: who makes their rounds, where memory comes from, and the thresholds.
+// What stays the same through the phases of a batch: who makes their rounds, who plans them, where memory comes from, and the
+// thresholds.
 #[derive(Drop)]
 pub(crate) struct PhaseContext<'a, R, G> {
     pub(crate) rounds: Rounds<'a, R, G>,
+    pub(crate) planners: Planners<'a, R>,
     pub(crate) alloc: Global,
     pub(crate) th: &'a Thresholds,
 }
@@ -93,7 +95,7 @@ fn deletion_phase<R: Threads + Sync, G: Gate + Sync, L: Ledger>(
         edges,
         moves: &moves,
     };
-    let plan = plan_moves(alloc, &leaving, adj.graph(), edges, groups)?;
+    let plan = plan_moves(&context.planners, &leaving, adj.graph(), edges, groups)?;
     BatchPlan::of_phase(alloc, plan, moves.len() as u32)
 }
 
@@ -149,7 +151,7 @@ fn insertion_phase<R: Threads + Sync, G: Gate + Sync, L: Ledger>(
         edges,
         moves: &moves,
     };
-    let plan = plan_moves(alloc, &coming, adj.graph(), &[], groups)?;
+    let plan = plan_moves(&context.planners, &coming, adj.graph(), &[], groups)?;
     BatchPlan::of_phase(alloc, plan, moves.len() as u32)
 }
 

@@ -6,6 +6,7 @@ mod EndLemmas
 mod DealingLemmas
 mod WorkLemmas
 mod LinkLemmas
+mod PieceLemmas
 mod GroupLemmas
 mod LabelLaw
 mod ListLemmas

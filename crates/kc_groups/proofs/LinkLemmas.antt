@@ -1,13 +1,13 @@
 -- What each link that is followed adds to the forest.
 use Rattle.std.proofs.Common.{ℕ, ◌+◌, ◌≤◌, ◌<◌, ◌≡◌, ◌≢◌, ◌⊎◌, inl, inr, Bool, true, false, ◌&&◌, ◌||◌, eqb, ltb, List, [], ◌∷◌, ◌++◌, length, get_or, take, refl, ap, sym, ◌∙◌, arith, add-one}
 use Rattle.std.proofs.Math.Seq.{take-suc, take-length}
-use Rattle.std.proofs.lemmas.Bool.{cases_eq, cases_lt, cases_Bool}
+use Rattle.std.proofs.lemmas.Bool.{cases_eq, cases_Bool}
 use Rattle.std.proofs.lemmas.Bool.Decides.{nat_tests}
 use Rattle.kc_graph.specs.Numbers.{has_number}
 use Rattle.kc_graph.specs.Shape.{GraphShape, Pair, neighbours_of, has_edge, same_edge}
 use Rattle.kc_graph.proofs.lemmas.Numbers.{has_number-push, has_number_index}
 use Rattle.kc_groups.specs.private.Forest.{IsForest, merged, AreGathered}
-use Rattle.kc_groups.specs.private.Gathering.{AreNumbered, is_near, in_rows, in_edges}
+use Rattle.kc_groups.specs.private.Gathering.{AreNumbered, is_near, in_row, in_edges}
 use Rattle.kc_groups.proofs.ForestLemmas.{gathered_same, gathered_more}
 use Rattle.kc_groups.proofs.ListLemmas.{rises_apart}
 
@@ -31,41 +31,26 @@ place_of n vs places v num h low few = elim (cases_Bool (has_number v vs)) [
   | inr out ↦ absurd (omega (arith, num.none v h out))
 ]
 
--- the links of the mover at `place` to its first p neighbours at lesser places, and those of the movers before it
-abbrev pub so_far : GraphShape → List ℕ → ℕ → List ℕ → ℕ → ℕ → ℕ → Bool
-so_far g vs place items p i j = in_rows g vs place i j || (eqb i place && is_near vs (take p items) i j)
+-- the links of before, and those of the mover at `place` to its first p neighbours at lesser places
+abbrev pub so_far : (ℕ → ℕ → Bool) → List ℕ → ℕ → List ℕ → ℕ → ℕ → ℕ → Bool
+so_far before vs place items p i j = before i j || (eqb i place && is_near vs (take p items) i j)
 
-module _ (g : GraphShape) (vs : List ℕ) (place : ℕ) (items : List ℕ) (parents : List ℕ) where
-  pub row_first : AreGathered (length vs) (in_rows g vs place) parents → AreGathered (length vs) (so_far g vs place items 0) parents
-  row_first a = gathered_same (length vs) (in_rows g vs place) (so_far g vs place items 0) parents a (λ i j hi hj. none (in_rows g vs place i j) (eqb i place) (ltb (get_or [] j 0) 0) (ltb j i))
+module _ (before : ℕ → ℕ → Bool) (vs : List ℕ) (place : ℕ) (items : List ℕ) (parents : List ℕ) where
+  pub row_first : AreGathered (length vs) before parents → AreGathered (length vs) (so_far before vs place items 0) parents
+  row_first a = gathered_same (length vs) before (so_far before vs place items 0) parents a (λ i j hi hj. none (before i j) (eqb i place) (ltb j i))
     where
-      none : (a b c d : Bool) → (a || (b && (d && false))) ≡ a
-      none a b c d = grind (arith, nat_tests)
+      none : (a b c : Bool) → (a || (b && (c && false))) ≡ a
+      none a b c = grind (arith, nat_tests)
 
-  pub row_last : (p : ℕ) → p ≡ length items → items ≡ neighbours_of (get_or vs place 0) g.edges → AreGathered (length vs) (so_far g vs place items p) parents → AreGathered (length vs) (in_rows g vs (place + 1)) parents
-  row_last p whole is a = gathered_same (length vs) (so_far g vs place items p) (in_rows g vs (place + 1)) parents a (λ i j hi hj. same i j)
+  pub row_last : (g : GraphShape) (p : ℕ) → p ≡ length items → items ≡ neighbours_of (get_or vs place 0) g.edges → AreGathered (length vs) (so_far before vs place items p) parents → AreGathered (length vs) (λ i j. before i j || in_row g vs place i j) parents
+  row_last g p whole is a = gathered_same (length vs) (so_far before vs place items p) (λ i j. before i j || in_row g vs place i j) parents a (λ i j hi hj. ap (λ ws. before i j || (eqb i place && is_near vs ws i j)) (sym all))
     where
       all : take p items ≡ neighbours_of (get_or vs place 0) g.edges
       all = ap (λ k. take k items) whole ∙ take-length items ∙ is
 
-      same : (i j : ℕ) → in_rows g vs (place + 1) i j ≡ so_far g vs place items p i j
-      same i j = elim (cases_eq i place) [
-        | inl e ↦ at (is_near vs (neighbours_of (get_or vs i 0) g.edges) i j) (is_near vs (take p items) i j) e (ap (λ ws. is_near vs ws i j) (ap (λ k. neighbours_of (get_or vs k 0) g.edges) e ∙ sym all))
-        | inr ne ↦ other (is_near vs (neighbours_of (get_or vs i 0) g.edges) i j) (is_near vs (take p items) i j) ne
-      ]
-        where
-          at : (a b : Bool) → i ≡ place → a ≡ b → (ltb i (place + 1) && a) ≡ ((ltb i place && a) || (eqb i place && b))
-          at a b e f = grind (arith, nat_tests, e, f)
-
-          other : (a b : Bool) → i ≢ place → (ltb i (place + 1) && a) ≡ ((ltb i place && a) || (eqb i place && b))
-          other a b ne = elim (cases_lt i place) [
-            | inl lt ↦ grind (arith, nat_tests, lt, ne)
-            | inr ge ↦ let far : place + 1 ≤ i = omega (arith, ge, ne) in grind (arith, nat_tests, ge, ne, far)
-          ]
-
   module _ (n : ℕ) (places : List ℕ) (num : AreNumbered n vs places) (few : length vs ≤ n) (h : place < length vs) (p : ℕ) (inside : p < length items) (below : get_or items p 0 < n) where
-    grown : (i j : ℕ) → so_far g vs place items (p + 1) i j ≡ so_far g vs place items p i j || (eqb i place && (ltb j i && eqb (get_or items p 0) (get_or vs j 0)))
-    grown i j = ap (λ b. in_rows g vs place i j || (eqb i place && (ltb j i && b))) (has_number-take (get_or vs j 0) items p inside) ∙ spread (in_rows g vs place i j) (eqb i place) (ltb j i) (has_number (get_or vs j 0) (take p items)) (eqb (get_or items p 0) (get_or vs j 0))
+    grown : (i j : ℕ) → so_far before vs place items (p + 1) i j ≡ so_far before vs place items p i j || (eqb i place && (ltb j i && eqb (get_or items p 0) (get_or vs j 0)))
+    grown i j = ap (λ b. before i j || (eqb i place && (ltb j i && b))) (has_number-take (get_or vs j 0) items p inside) ∙ spread (before i j) (eqb i place) (ltb j i) (has_number (get_or vs j 0) (take p items)) (eqb (get_or items p 0) (get_or vs j 0))
       where
         spread : (a b c d e : Bool) → (a || (b && (c && (d || e)))) ≡ ((a || (b && (c && d))) || (b && (c && e)))
         spread true b c d e = refl
@@ -74,8 +59,8 @@ module _ (g : GraphShape) (vs : List ℕ) (place : ℕ) (items : List ℕ) (pare
         spread false false c d e = refl
 
     -- the neighbour doesn't move, or has a place that isn't less
-    pub row_past : AreGathered (length vs) (so_far g vs place items p) parents → place ≤ get_or places (get_or items p 0) 0 → AreGathered (length vs) (so_far g vs place items (p + 1)) parents
-    row_past a high = gathered_same (length vs) (so_far g vs place items p) (so_far g vs place items (p + 1)) parents a (λ i j hi hj. grown i j ∙ nothing i j hj (so_far g vs place items p i j))
+    pub row_past : AreGathered (length vs) (so_far before vs place items p) parents → place ≤ get_or places (get_or items p 0) 0 → AreGathered (length vs) (so_far before vs place items (p + 1)) parents
+    row_past a high = gathered_same (length vs) (so_far before vs place items p) (so_far before vs place items (p + 1)) parents a (λ i j hi hj. grown i j ∙ nothing i j hj (so_far before vs place items p i j))
       where
         nothing : (i j : ℕ) → j < length vs → (b : Bool) → (b || (eqb i place && (ltb j i && eqb (get_or items p 0) (get_or vs j 0)))) ≡ b
         nothing i j hj b = elim (cases_eq (get_or items p 0) (get_or vs j 0)) [
@@ -95,11 +80,11 @@ module _ (g : GraphShape) (vs : List ℕ) (place : ℕ) (items : List ℕ) (pare
             no b c d e (inr (inr f)) = grind (arith, nat_tests, f)
 
     -- the neighbour moves and has a lesser place
-    pub row_link : (a : AreGathered (length vs) (so_far g vs place items p) parents) (new : List ℕ) (other : ℕ) → other ≡ get_or places (get_or items p 0) 0 → other < place → length new ≡ length parents → IsForest new (merged place other a.roots) → AreGathered (length vs) (so_far g vs place items (p + 1)) new
+    pub row_link : (a : AreGathered (length vs) (so_far before vs place items p) parents) (new : List ℕ) (other : ℕ) → other ≡ get_or places (get_or items p 0) 0 → other < place → length new ≡ length parents → IsForest new (merged place other a.roots) → AreGathered (length vs) (so_far before vs place items (p + 1)) new
     row_link a new other is less long f =
-        gathered_more (length vs) (so_far g vs place items p) (so_far g vs place items (p + 1)) parents a place other new h (omega (arith, less, h))
-        (grown place other ∙ yes (so_far g vs place items p place other) (eqb place place) (ltb other place) (eqb (get_or items p 0) (get_or vs other 0)) (grind (arith, nat_tests)) (grind (arith, nat_tests, less)) (grind (arith, nat_tests, vertex)))
-        (λ i j hi hj e. grown i j ∙ more (so_far g vs place items p i j) (eqb i place && (ltb j i && eqb (get_or items p 0) (get_or vs j 0))) e)
+        gathered_more (length vs) (so_far before vs place items p) (so_far before vs place items (p + 1)) parents a place other new h (omega (arith, less, h))
+        (grown place other ∙ yes (so_far before vs place items p place other) (eqb place place) (ltb other place) (eqb (get_or items p 0) (get_or vs other 0)) (grind (arith, nat_tests)) (grind (arith, nat_tests, less)) (grind (arith, nat_tests, vertex)))
+        (λ i j hi hj e. grown i j ∙ more (so_far before vs place items p i j) (eqb i place && (ltb j i && eqb (get_or items p 0) (get_or vs j 0))) e)
         (λ i j hi hj e. only i j hj (sym (grown i j) ∙ e))
         long f
       where
@@ -112,11 +97,11 @@ module _ (g : GraphShape) (vs : List ℕ) (place : ℕ) (items : List ℕ) (pare
         more : (a b : Bool) → a ≡ true → (a || b) ≡ true
         more a b e = grind (arith, nat_tests, e)
 
-        only : (i j : ℕ) → j < length vs → (so_far g vs place items p i j || (eqb i place && (ltb j i && eqb (get_or items p 0) (get_or vs j 0)))) ≡ true → (so_far g vs place items p i j ≡ true) ⊎ ((i ≡ place) × (j ≡ other))
-        only i j hj e = elim (cases_Bool (so_far g vs place items p i j)) [
+        only : (i j : ℕ) → j < length vs → (so_far before vs place items p i j || (eqb i place && (ltb j i && eqb (get_or items p 0) (get_or vs j 0)))) ≡ true → (so_far before vs place items p i j ≡ true) ⊎ ((i ≡ place) × (j ≡ other))
+        only i j hj e = elim (cases_Bool (so_far before vs place items p i j)) [
           | inl old ↦ inl old
           | inr none ↦
-              let new : (eqb i place && (ltb j i && eqb (get_or items p 0) (get_or vs j 0))) ≡ true = later (so_far g vs place items p i j) (eqb i place && (ltb j i && eqb (get_or items p 0) (get_or vs j 0))) none e in
+              let new : (eqb i place && (ltb j i && eqb (get_or items p 0) (get_or vs j 0))) ≡ true = later (so_far before vs place items p i j) (eqb i place && (ltb j i && eqb (get_or items p 0) (get_or vs j 0))) none e in
               let i_is : i ≡ place = grind (arith, nat_tests, new) in
               let v_is : get_or items p 0 ≡ get_or vs j 0 = grind (arith, nat_tests, new) in
               inr (i_is, rises_apart vs 0 j other num.rises hj (omega (arith, less, h)) (sym v_is ∙ sym vertex))
@@ -125,29 +110,23 @@ module _ (g : GraphShape) (vs : List ℕ) (place : ℕ) (items : List ℕ) (pare
             later : (a b : Bool) → a ≡ false → (a || b) ≡ true → b ≡ true
             later a b f t = grind (arith, nat_tests, f, t)
 
-pub rows_first : (m : ℕ) (g : GraphShape) (vs parents : List ℕ) → AreGathered m (λ i j. false) parents → AreGathered m (in_rows g vs 0) parents
-rows_first m g vs parents a = gathered_same m (λ i j. false) (in_rows g vs 0) parents a (λ i j hi hj. none i (is_near vs (neighbours_of (get_or vs i 0) g.edges) i j))
-  where
-    none : (i : ℕ) (b : Bool) → (ltb i 0 && b) ≡ false
-    none i b = grind (arith, nat_tests)
+-- the links of before, and those of the first k edges
+abbrev pub with_first : (ℕ → ℕ → Bool) → List ℕ → List Pair → ℕ → ℕ → ℕ → Bool
+with_first before vs edges k i j = before i j || in_edges (take k edges) vs i j
 
--- the links in the graph, and those of the first k edges of the phase
-abbrev pub with_first : GraphShape → List ℕ → ℕ → List Pair → ℕ → ℕ → ℕ → Bool
-with_first g vs m edges k i j = in_rows g vs m i j || in_edges (take k edges) vs i j
-
-module _ (g : GraphShape) (vs : List ℕ) (m : ℕ) (edges : List Pair) (parents : List ℕ) where
-  pub edges_first : AreGathered m (in_rows g vs m) parents → AreGathered m (with_first g vs m edges 0) parents
-  edges_first a = gathered_same m (in_rows g vs m) (with_first g vs m edges 0) parents a (λ i j hi hj. none (in_rows g vs m i j))
+module _ (before : ℕ → ℕ → Bool) (vs : List ℕ) (m : ℕ) (edges : List Pair) (parents : List ℕ) where
+  pub edges_first : AreGathered m before parents → AreGathered m (with_first before vs edges 0) parents
+  edges_first a = gathered_same m before (with_first before vs edges 0) parents a (λ i j hi hj. none (before i j))
     where
       none : (b : Bool) → (b || false) ≡ b
       none b = grind (arith, nat_tests)
 
-  pub edges_last : (k : ℕ) → k ≡ length edges → AreGathered m (with_first g vs m edges k) parents → AreGathered m (λ i j. in_rows g vs m i j || in_edges edges vs i j) parents
-  edges_last k whole a = gathered_same m (with_first g vs m edges k) (λ i j. in_rows g vs m i j || in_edges edges vs i j) parents a (λ i j hi hj. ap (λ es. in_rows g vs m i j || in_edges es vs i j) (sym (ap (λ u. take u edges) whole ∙ take-length edges)))
+  pub edges_last : (k : ℕ) → k ≡ length edges → AreGathered m (with_first before vs edges k) parents → AreGathered m (λ i j. before i j || in_edges edges vs i j) parents
+  edges_last k whole a = gathered_same m (with_first before vs edges k) (λ i j. before i j || in_edges edges vs i j) parents a (λ i j hi hj. ap (λ es. before i j || in_edges es vs i j) (sym (ap (λ u. take u edges) whole ∙ take-length edges)))
 
   module _ (n : ℕ) (places : List ℕ) (num : AreNumbered n vs places) (few : length vs ≤ n) (long : length vs ≡ m) (k : ℕ) (d : Pair) (inside : k < length edges) (low : ((get_or edges k d).0 < n) × ((get_or edges k d).1 < n)) where
-    more_edges : (i j : ℕ) → with_first g vs m edges (k + 1) i j ≡ with_first g vs m edges k i j || same_edge (get_or vs i 0, get_or vs j 0) (get_or edges k d)
-    more_edges i j = ap (λ b. in_rows g vs m i j || b) (has_edge-take (get_or vs i 0, get_or vs j 0) d edges k inside) ∙ spread (in_rows g vs m i j) (in_edges (take k edges) vs i j) (same_edge (get_or vs i 0, get_or vs j 0) (get_or edges k d))
+    more_edges : (i j : ℕ) → with_first before vs edges (k + 1) i j ≡ with_first before vs edges k i j || same_edge (get_or vs i 0, get_or vs j 0) (get_or edges k d)
+    more_edges i j = ap (λ b. before i j || b) (has_edge-take (get_or vs i 0, get_or vs j 0) d edges k inside) ∙ spread (before i j) (in_edges (take k edges) vs i j) (same_edge (get_or vs i 0, get_or vs j 0) (get_or edges k d))
       where
         spread : (a b c : Bool) → (a || (b || c)) ≡ ((a || b) || c)
         spread true b c = refl
@@ -157,8 +136,8 @@ module _ (g : GraphShape) (vs : List ℕ) (m : ℕ) (edges : List Pair) (parents
     place_is j v hj e = ap (λ w. get_or places w 0) (sym e) ∙ num.at j (omega (arith, hj, long))
 
     -- an end of the edge doesn't move
-    pub edge_past : AreGathered m (with_first g vs m edges k) parents → (m ≤ get_or places (get_or edges k d).0 0) ⊎ (m ≤ get_or places (get_or edges k d).1 0) → AreGathered m (with_first g vs m edges (k + 1)) parents
-    edge_past a high = gathered_same m (with_first g vs m edges k) (with_first g vs m edges (k + 1)) parents a (λ i j hi hj. more_edges i j ∙ no (with_first g vs m edges k i j) (eqb (get_or vs i 0) (get_or edges k d).0) (eqb (get_or vs j 0) (get_or edges k d).1) (out i j hi hj))
+    pub edge_past : AreGathered m (with_first before vs edges k) parents → (m ≤ get_or places (get_or edges k d).0 0) ⊎ (m ≤ get_or places (get_or edges k d).1 0) → AreGathered m (with_first before vs edges (k + 1)) parents
+    edge_past a high = gathered_same m (with_first before vs edges k) (with_first before vs edges (k + 1)) parents a (λ i j hi hj. more_edges i j ∙ no (with_first before vs edges k i j) (eqb (get_or vs i 0) (get_or edges k d).0) (eqb (get_or vs j 0) (get_or edges k d).1) (out i j hi hj))
       where
         no : (a b c : Bool) → (b ≡ false) ⊎ (c ≡ false) → (a || (b && c)) ≡ a
         no a b c (inl f) = grind (arith, nat_tests, f)
@@ -171,11 +150,11 @@ module _ (g : GraphShape) (vs : List ℕ) (m : ℕ) (edges : List Pair) (parents
         out i j hi hj = elim high [ inl le ↦ inl (far i (get_or edges k d).0 hi le) | inr le ↦ inr (far j (get_or edges k d).1 hj le) ]
 
     -- both ends of the edge move
-    pub edge_link : (a : AreGathered m (with_first g vs m edges k) parents) (new : List ℕ) (first second : ℕ) → first ≡ get_or places (get_or edges k d).0 0 → second ≡ get_or places (get_or edges k d).1 0 → first < m → second < m → length new ≡ length parents → IsForest new (merged first second a.roots) → AreGathered m (with_first g vs m edges (k + 1)) new
+    pub edge_link : (a : AreGathered m (with_first before vs edges k) parents) (new : List ℕ) (first second : ℕ) → first ≡ get_or places (get_or edges k d).0 0 → second ≡ get_or places (get_or edges k d).1 0 → first < m → second < m → length new ≡ length parents → IsForest new (merged first second a.roots) → AreGathered m (with_first before vs edges (k + 1)) new
     edge_link a new first second is_first is_second hf hs same f =
-        gathered_more m (with_first g vs m edges k) (with_first g vs m edges (k + 1)) parents a first second new hf hs
-        (more_edges first second ∙ yes (with_first g vs m edges k first second) (eqb (get_or vs first 0) (get_or edges k d).0) (eqb (get_or vs second 0) (get_or edges k d).1) (grind (arith, nat_tests, at first (get_or edges k d).0 is_first hf low.0)) (grind (arith, nat_tests, at second (get_or edges k d).1 is_second hs low.1)))
-        (λ i j hi hj e. more_edges i j ∙ still (with_first g vs m edges k i j) (same_edge (get_or vs i 0, get_or vs j 0) (get_or edges k d)) e)
+        gathered_more m (with_first before vs edges k) (with_first before vs edges (k + 1)) parents a first second new hf hs
+        (more_edges first second ∙ yes (with_first before vs edges k first second) (eqb (get_or vs first 0) (get_or edges k d).0) (eqb (get_or vs second 0) (get_or edges k d).1) (grind (arith, nat_tests, at first (get_or edges k d).0 is_first hf low.0)) (grind (arith, nat_tests, at second (get_or edges k d).1 is_second hs low.1)))
+        (λ i j hi hj e. more_edges i j ∙ still (with_first before vs edges k i j) (same_edge (get_or vs i 0, get_or vs j 0) (get_or edges k d)) e)
         (λ i j hi hj e. only i j hi hj (sym (more_edges i j) ∙ e))
         same f
       where
@@ -188,11 +167,11 @@ module _ (g : GraphShape) (vs : List ℕ) (m : ℕ) (edges : List Pair) (parents
         still : (a b : Bool) → a ≡ true → (a || b) ≡ true
         still a b e = grind (arith, nat_tests, e)
 
-        only : (i j : ℕ) → i < m → j < m → (with_first g vs m edges k i j || same_edge (get_or vs i 0, get_or vs j 0) (get_or edges k d)) ≡ true → (with_first g vs m edges k i j ≡ true) ⊎ ((i ≡ first) × (j ≡ second))
-        only i j hi hj e = elim (cases_Bool (with_first g vs m edges k i j)) [
+        only : (i j : ℕ) → i < m → j < m → (with_first before vs edges k i j || same_edge (get_or vs i 0, get_or vs j 0) (get_or edges k d)) ≡ true → (with_first before vs edges k i j ≡ true) ⊎ ((i ≡ first) × (j ≡ second))
+        only i j hi hj e = elim (cases_Bool (with_first before vs edges k i j)) [
           | inl old ↦ inl old
           | inr none ↦
-              let new : (eqb (get_or vs i 0) (get_or edges k d).0 && eqb (get_or vs j 0) (get_or edges k d).1) ≡ true = later (with_first g vs m edges k i j) (same_edge (get_or vs i 0, get_or vs j 0) (get_or edges k d)) none e in
+              let new : (eqb (get_or vs i 0) (get_or edges k d).0 && eqb (get_or vs j 0) (get_or edges k d).1) ≡ true = later (with_first before vs edges k i j) (same_edge (get_or vs i 0, get_or vs j 0) (get_or edges k d)) none e in
               let one : get_or vs i 0 ≡ (get_or edges k d).0 = grind (arith, nat_tests, new) in
               let two : get_or vs j 0 ≡ (get_or edges k d).1 = grind (arith, nat_tests, new) in
               inr (sym (is_first ∙ place_is i (get_or edges k d).0 hi one), sym (is_second ∙ place_is j (get_or edges k d).1 hj two))

@@ -1,9 +1,9 @@
 // The moves of a phase, gathered into a tree for each group.
-ghost use Rattle.std.specs.Prelude.{◌≡◌, ℕ, Bool, ◌+◌, ◌<◌, ◌≤◌, ◌||◌, IfOk, false, true, length, slice_index};
+ghost use Rattle.std.specs.Prelude.{◌≡◌, ℕ, List, Bool, ◌<◌, ◌≤◌, ◌||◌, IfOk, false, true, length, slice_index};
 ghost use Rattle.kc_graph.specs.Shape.{EdgesFrom};
-ghost use Rattle.kc_groups.specs.private.Forest.{AreGathered};
+ghost use Rattle.kc_groups.specs.private.Forest.{AreGathered, IsForest};
 ghost use Rattle.kc_groups.specs.Gathering.{vertices};
-ghost use Rattle.kc_groups.specs.private.Gathering.{AreNumbered, in_rows, in_edges};
+ghost use Rattle.kc_groups.specs.private.Gathering.{AreNumbered, in_row, in_piece, in_edges};
 
 use crate::forest::join;
 use kc_graph::{Edge, Graph, MAX_VERTICES};
@@ -53,8 +53,9 @@ fn vertex_in_turn(graph: &Graph, moves: &[Move], place: u32) -> u32
 fn link_row(graph: &Graph, moves: &[Move], places: &[u32], parents: &mut Vec<u32>, place: u32)
     requires inside { place < length moves.now }
     requires numbered { AreNumbered graph.now.vertices (vertices moves.now) places.now }
-    requires gathered { AreGathered (length moves.now) (in_rows graph.now (vertices moves.now) place) parents.old.items }
-    ensures { AreGathered (length moves.now) (in_rows graph.now (vertices moves.now) (place + 1)) parents.new.items }
+    requires many { length parents.old.items ≡ length moves.now }
+    requires forest { (roots : List ℕ) × IsForest parents.old.items roots }
+    ensures { (before : ℕ → ℕ → Bool) → AreGathered (length moves.now) before parents.old.items → AreGathered (length moves.now) (λ i j. before i j || in_row graph.now (vertices moves.now) place i j) parents.new.items }
 {
     for w in graph.neighbours(vertex_in_turn(graph, moves, place)) {
         let other = places[*w as usize];
@@ -64,30 +65,43 @@ fn link_row(graph: &Graph, moves: &[Move], places: &[u32], parents: &mut Vec<u32
     }
 }
 
-// A forest over the moves in which those that an edge of the graph or one that is gone leads between are in one tree.
-pub(crate) fn gather(
+// A forest over all moves, in which each from place `from` to place `to` is joined with those of its neighbours at lesser places.
+pub(crate) fn link_rows(
     alloc: Global,
     graph: &Graph,
-    gone: &[Edge],
     moves: &[Move],
     places: &[u32],
+    from: u32,
+    to: u32,
 ) -> Result<Vec<u32>, AllocError>
     requires small { length moves.now ≤ MAX_VERTICES }
     requires numbered { AreNumbered graph.now.vertices (vertices moves.now) places.now }
-    requires ascending { EdgesFrom graph.now.vertices 0 0 gone.now }
-    ensures { IfOk result (λ parents. AreGathered (length moves.now) (λ i j. in_rows graph.now (vertices moves.now) (length moves.now) i j || in_edges gone.now (vertices moves.now) i j) parents.items) }
+    requires order { from ≤ to }
+    requires inside { to ≤ length moves.now }
+    ensures { IfOk result (λ parents. AreGathered (length moves.now) (in_piece graph.now (vertices moves.now) from to) parents.items) }
 {
-    let m = moves.len() as u32;
-    let mut parents = lone_places(alloc, m)?;
-    for place in 0..m {
+    let mut parents = lone_places(alloc, moves.len() as u32)?;
+    for place in from..to {
         link_row(graph, moves, places, &mut parents, place);
     }
-    for e in gone {
+    Ok(parents)
+}
+
+// Joins the moves that one of the edges leads between.
+pub(crate) fn link_edges(edges: &[Edge], moves: &[Move], places: &[u32], parents: &mut Vec<u32>)
+    requires small { length moves.now ≤ MAX_VERTICES }
+    requires numbered { AreNumbered (length places.now) (vertices moves.now) places.now }
+    requires ascending { EdgesFrom (length places.now) 0 0 edges.now }
+    requires many { length parents.old.items ≡ length moves.now }
+    requires forest { (roots : List ℕ) × IsForest parents.old.items roots }
+    ensures { (before : ℕ → ℕ → Bool) → AreGathered (length moves.now) before parents.old.items → AreGathered (length moves.now) (λ i j. before i j || in_edges edges.now (vertices moves.now) i j) parents.new.items }
+{
+    let m = moves.len() as u32;
+    for e in edges {
         let first = places[e.a as usize];
         let second = places[e.b as usize];
         if first < m && second < m {
-            join(&mut parents, first, second);
+            join(parents, first, second);
         }
     }
-    Ok(parents)
 }

@@ -1,20 +1,85 @@
-ghost use Rattle.std.specs.Prelude.{◌≡◌, ℕ, List, IfOk, OnOk, IsTrue, length, true, false};
+ghost use Rattle.std.specs.Prelude.{◌≡◌, ◌≤◌, ℕ, List, IfOk, OnOk, IsTrue, length, true, false};
 ghost use Rattle.kc_graph.specs.Shape.{EdgesFrom, with_edges};
 ghost use Rattle.kc_graph.specs.Changes.{AllPresent};
 ghost use Rattle.kc_levels.specs.LevelList.{IsBelow};
 ghost use Rattle.kc_groups.specs.Entries.{AreEntries};
-ghost use Rattle.kc_groups.specs.Gathering.{clean, AreInOrder, AreMovesOf};
+ghost use Rattle.kc_groups.specs.Gathering.{vertices, clean, AreInOrder, AreMovesOf};
+ghost use Rattle.kc_groups.specs.private.Forest.{AreGathered};
+ghost use Rattle.kc_groups.specs.private.Gathering.{AreNumbered, in_rows};
 ghost use Rattle.kc_groups.specs.WellFormed.{IsWellFormed};
 
 use crate::dealing::{deal_edges, deal_moves, open_groups};
-use crate::linking::gather;
+use crate::linking::{link_edges, link_rows};
 use crate::moved::find_moves;
+use crate::pieces::{Planners, gather_rows, piece_count};
 use crate::work::{GroupWork, clear, label, number};
 use crate::{Phase, PhasePlan};
 use kc_graph::{Edge, Graph};
 use kc_history::{Entries, Entry};
 use kc_levels::Levels;
 use std::alloc::{AllocError, Global};
+use std::thread::Threads;
+
+// The plan of a phase from a forest of its moves (`gather_rows`): the moves that `gone` leads between are joined too, and each tree
+// is a group. `places` has the place of each move, and is clean afterwards.
+fn plan_trees(
+    alloc: Global,
+    phase: &Phase<'_>,
+    graph: &Graph,
+    gone: &[Edge],
+    places: &mut Vec<u32>,
+    mut parents: Vec<u32>,
+) -> Result<PhasePlan, AllocError>
+    requires order { AreInOrder graph.now.vertices phase.now.moves.now }
+    requires numbered { AreNumbered graph.now.vertices (vertices phase.now.moves.now) places.old.items }
+    requires gathered { AreGathered (length phase.now.moves.now) (in_rows graph.now (vertices phase.now.moves.now) (length phase.now.moves.now)) parents.items }
+    requires ascending { EdgesFrom graph.now.vertices 0 0 gone.now }
+    requires present { AllPresent (with_edges graph.now gone.now) phase.now.edges.now }
+    ensures clean { OnOk result (places.new.items ≡ clean graph.now.vertices) }
+    ensures entries { IfOk result (λ plan. (before after : List ℕ) → AreMovesOf graph.now.vertices before after phase.now.moves.now → AreEntries phase.now.number phase.now.add phase.now.edges.now before after (with_edges graph.now gone.now) plan) }
+{
+    // Its contract says how many vertices there are at most.
+    let _n = graph.vertices();
+    let moves = phase.moves.as_slice();
+    link_edges(gone, moves, places, &mut parents);
+    label(moves, &parents, places);
+    let mut groups = Vec::new(alloc);
+    let mut quiet = Entry::new(alloc, phase.number, None, phase.add);
+    open_groups(alloc, phase.number, phase.add, moves, places, &mut groups)?;
+    deal_moves(moves, places, &mut groups)?;
+    deal_edges(places, phase.edges, &mut quiet.edges, &mut groups)?;
+    clear(moves, places);
+    Ok(PhasePlan {
+        quiet,
+        groups: Entries::from_vec(groups),
+    })
+}
+
+// As `plan_moves`, with the moves cut into this many pieces.
+pub(crate) fn plan_in_pieces<R: Threads + Sync>(
+    planners: &Planners<'_, R>,
+    phase: &Phase<'_>,
+    graph: &Graph,
+    gone: &[Edge],
+    work: &mut GroupWork,
+    pieces: u32,
+) -> Result<PhasePlan, AllocError>
+    requires pieces { 1 ≤ pieces }
+    requires clean { work.old ≡ clean graph.now.vertices }
+    requires order { AreInOrder graph.now.vertices phase.now.moves.now }
+    requires ascending { EdgesFrom graph.now.vertices 0 0 gone.now }
+    requires present { AllPresent (with_edges graph.now gone.now) phase.now.edges.now }
+    ensures clean { OnOk result (work.new ≡ clean graph.now.vertices) }
+    ensures entries { IfOk result (λ plan. (before after : List ℕ) → AreMovesOf graph.now.vertices before after phase.now.moves.now → AreEntries phase.now.number phase.now.add phase.now.edges.now before after (with_edges graph.now gone.now) plan) }
+{
+    // As in `plan_trees`.
+    let _n = graph.vertices();
+    let moves = phase.moves.as_slice();
+    let places = &mut work.places;
+    number(moves, places);
+    let parents = gather_rows(planners, graph, moves, places, pieces)?;
+    plan_trees(planners.alloc, phase, graph, gone, places, parents)
+}
 
 /// The entries of a phase, as `AreEntries` says: by the levels before and after it, whatever they are, that its moves lead between
 /// (`AreMovesOf`), and the graph with all its edges.
@@ -22,10 +87,14 @@ use std::alloc::{AllocError, Global};
 /// `graph` is the graph after the phase, or the one before it, and `gone` has those edges of the phase that it lacks: for the graph
 /// after an insertion none, and for the one after a deletion all. They ascend, and so do the vertices of the moves.
 ///
-/// Looks only at the vertices that move, their neighbours and the edges of the phase, whatever the number of vertices. The
-/// workspace is clean before and afterwards. Fails only if memory runs out; the workspace is then of no further use.
-pub fn plan_moves(
-    alloc: Global,
+/// Looks only at the vertices that move, their neighbours and the edges of the phase, whatever the number of vertices. To the
+/// neighbours go threads: the moves are cut into as many pieces as there are workers, but no more than 8 and than the moves have
+/// full 8,192s; the rest is one thread's. Takes 4 bytes a move for each piece, besides the plan. The plan doesn't depend on the
+/// workers.
+///
+/// The workspace is clean before and afterwards. Fails only if memory runs out; the workspace is then of no further use.
+pub fn plan_moves<R: Threads + Sync>(
+    planners: &Planners<'_, R>,
     phase: &Phase<'_>,
     graph: &Graph,
     gone: &[Edge],
@@ -38,23 +107,8 @@ pub fn plan_moves(
     ensures clean { OnOk result (work.new ≡ clean graph.now.vertices) }
     ensures entries { IfOk result (λ plan. (before after : List ℕ) → AreMovesOf graph.now.vertices before after phase.now.moves.now → AreEntries phase.now.number phase.now.add phase.now.edges.now before after (with_edges graph.now gone.now) plan) }
 {
-    // Its contract says how many vertices there are at most.
-    let _n = graph.vertices();
-    let moves = phase.moves.as_slice();
-    let places = &mut work.places;
-    number(moves, places);
-    let parents = gather(alloc, graph, gone, moves, places)?;
-    label(moves, &parents, places);
-    let mut groups = Vec::new(alloc);
-    let mut quiet = Entry::new(alloc, phase.number, None, phase.add);
-    open_groups(alloc, phase.number, phase.add, moves, places, &mut groups)?;
-    deal_moves(moves, places, &mut groups)?;
-    deal_edges(places, phase.edges, &mut quiet.edges, &mut groups)?;
-    clear(moves, places);
-    Ok(PhasePlan {
-        quiet,
-        groups: Entries::from_vec(groups),
-    })
+    let pieces = piece_count(planners.workers, phase.moves.len());
+    plan_in_pieces(planners, phase, graph, gone, work, pieces)
 }
 
 /// The entries of phase `phase`, whose edges come in if `add` is true and else leave, and which changes the levels `before` to
@@ -86,11 +140,15 @@ pub fn plan_phase(
     let n = graph.vertices();
     let moves = find_moves(alloc, n, before.as_slice(), after.as_slice())?;
     let mut work = GroupWork::new(alloc, n)?;
+    let places = &mut work.places;
+    let list = moves.as_slice();
+    number(list, places);
+    let parents = link_rows(alloc, graph, list, places, 0, list.len() as u32)?;
     let phase = Phase {
         number: phase,
         add,
         edges,
         moves: &moves,
     };
-    plan_moves(alloc, &phase, graph, &[], &mut work)
+    plan_trees(alloc, &phase, graph, &[], places, parents)
 }

@@ -6,13 +6,15 @@ ghost use Rattle.kc_levels.specs.LevelList.{IsBelow};
 ghost use Rattle.kc_groups.specs.Gathering.{clean};
 
 use crate::moved::find_moves;
-use crate::{GroupWork, Phase, PhasePlan, plan_moves, plan_phase};
+use crate::planning::plan_in_pieces;
+use crate::{GroupWork, Phase, PhasePlan, Planners, plan_moves, plan_phase};
 use kc_graph::{Edge, Graph, MAX_EDGES, MAX_VERTICES};
 use kc_history::Move;
 use kc_levels::Levels;
 use std::alloc::{AllocError, Global};
 use std::process::Abort;
 use std::test::Fail;
+use std::thread::Threads;
 
 // Puts the edges into the graph.
 fn insert_all<R: Abort>(
@@ -107,8 +109,8 @@ fn plan<R: Abort>(
 }
 
 // The plan of a phase whose edges the graph lacks, by a workspace that other phases use too.
-fn plan_after(
-    alloc: Global,
+fn plan_after<R: Threads + Sync>(
+    planners: &Planners<'_, R>,
     step: &Step<'_>,
     graph: &Graph,
     work: &mut GroupWork,
@@ -119,14 +121,37 @@ fn plan_after(
     requires clean { work.old ≡ clean graph.now.vertices }
     ensures { OnOk result (work.new ≡ clean graph.now.vertices) }
 {
-    let moves = find_moves(alloc, graph.vertices(), step.before, step.after)?;
+    let moves = find_moves(planners.alloc, graph.vertices(), step.before, step.after)?;
     let phase = Phase {
         number: 7,
         add: step.add,
         edges: step.edges,
         moves: &moves,
     };
-    plan_moves(alloc, &phase, graph, step.edges, work)
+    plan_moves(planners, &phase, graph, step.edges, work)
+}
+
+// The same with the moves cut into so many pieces, few as they are.
+fn plan_cut<R: Threads + Sync>(
+    planners: &Planners<'_, R>,
+    step: &Step<'_>,
+    graph: &Graph,
+    pieces: u32,
+) -> Result<PhasePlan, AllocError>
+    requires pieces { 1 ≤ pieces }
+    requires before { length step.now.before.now ≡ graph.now.vertices }
+    requires after { length step.now.after.now ≡ graph.now.vertices }
+    requires ascending { EdgesFrom graph.now.vertices 0 0 step.now.edges.now }
+{
+    let moves = find_moves(planners.alloc, graph.vertices(), step.before, step.after)?;
+    let mut work = GroupWork::new(planners.alloc, graph.vertices())?;
+    let phase = Phase {
+        number: 7,
+        add: step.add,
+        edges: step.edges,
+        moves: &moves,
+    };
+    plan_in_pieces(planners, &phase, graph, step.edges, &mut work, pieces)
 }
 
 // The quiet entry has these edges, and there are so many groups.
@@ -320,11 +345,16 @@ fn groups_far_apart_rise(rt: HostRuntime) -> Result<(), Fail> {
 // A path leaves and its three vertices fall. Then two others rise, and an edge comes in between two of the three, which stay.
 #[test]
 fn a_workspace_is_clean_after_each_phase(rt: HostRuntime) -> Result<(), Fail> {
+    let planners = Planners {
+        rt: &rt,
+        alloc: rt.alloc(),
+        workers: 2,
+    };
     let graph = Graph::new(rt.alloc(), 6)?;
     let mut work = GroupWork::new(rt.alloc(), 6)?;
     let path = [edge(0, 2), edge(1, 2)];
     let fallen = plan_after(
-        rt.alloc(),
+        &planners,
         &Step {
             add: false,
             edges: &path,
@@ -344,7 +374,7 @@ fn a_workspace_is_clean_after_each_phase(rt: HostRuntime) -> Result<(), Fail> {
         &path,
     );
     let risen = plan_after(
-        rt.alloc(),
+        &planners,
         &Step {
             add: true,
             edges: &[edge(1, 2), edge(3, 5)],
@@ -356,5 +386,66 @@ fn a_workspace_is_clean_after_each_phase(rt: HostRuntime) -> Result<(), Fail> {
     )?;
     check_quiet(&rt, &risen, true, &[edge(1, 2)], 1);
     check_group(&rt, &risen, 0, 3, &[(3, 0, 1), (5, 0, 1)], &[edge(3, 5)]);
+    Ok(())
+}
+
+// Two paths, of the even and of the odd vertices, one of which loses its first edge: each leads through all pieces.
+#[test]
+fn groups_are_the_same_in_any_number_of_pieces(rt: HostRuntime) -> Result<(), Fail> {
+    let planners = Planners {
+        rt: &rt,
+        alloc: rt.alloc(),
+        workers: 1,
+    };
+    let mut graph = Graph::new(rt.alloc(), 12)?;
+    let even = [edge(2, 4), edge(4, 6), edge(6, 8), edge(8, 10)];
+    let odd = [edge(1, 3), edge(3, 5), edge(5, 7), edge(7, 9), edge(9, 11)];
+    insert_all(&rt, rt.alloc(), &mut graph, &even)?;
+    insert_all(&rt, rt.alloc(), &mut graph, &odd)?;
+    let removed = [edge(0, 2)];
+    for pieces in [1, 2, 3, 64] {
+        let plan = plan_cut(
+            &planners,
+            &Step {
+                add: false,
+                edges: &removed,
+                before: &[1; 12],
+                after: &[0; 12],
+            },
+            &graph,
+            pieces,
+        )?;
+        check_quiet(&rt, &plan, false, &[], 2);
+        check_group(
+            &rt,
+            &plan,
+            0,
+            0,
+            &[
+                (0, 1, 0),
+                (2, 1, 0),
+                (4, 1, 0),
+                (6, 1, 0),
+                (8, 1, 0),
+                (10, 1, 0),
+            ],
+            &removed,
+        );
+        check_group(
+            &rt,
+            &plan,
+            1,
+            1,
+            &[
+                (1, 1, 0),
+                (3, 1, 0),
+                (5, 1, 0),
+                (7, 1, 0),
+                (9, 1, 0),
+                (11, 1, 0),
+            ],
+            &[],
+        );
+    }
     Ok(())
 }

@@ -1,5 +1,5 @@
 -- How vertices that move are numbered, joined and labelled.
-use Rattle.std.specs.Prelude.{ℕ, ◌<◌, ◌≡◌, nat_lt, Bool, false, ◌&&◌, List, length, get_or}
+use Rattle.std.specs.Prelude.{ℕ, ◌<◌, ◌≡◌, ◌==◌, nat_le, nat_lt, Bool, false, ◌&&◌, List, length, get_or}
 use Rattle.kc_graph.specs.Numbers.{RisesFrom, AllBelow, has_number}
 use Rattle.kc_graph.specs.Shape.{GraphShape, Pair, neighbours_of, has_edge}
 use Rattle.kc_levels.specs.declared.moves.Move.{Move}
@@ -28,6 +28,14 @@ is_near movers items i j = nat_lt j i && has_number (get_or movers j 0) items
 -- whether the movers at places i and j, of which i is below k, are joined in the graph, j being the lesser place
 abbrev pub in_rows : GraphShape → List ℕ → ℕ → ℕ → ℕ → Bool
 in_rows g movers k i j = nat_lt i k && is_near movers (neighbours_of (get_or movers i 0) g.edges) i j
+
+-- the same of the movers at place k alone
+abbrev pub in_row : GraphShape → List ℕ → ℕ → ℕ → ℕ → Bool
+in_row g movers k i j = (i == k) && is_near movers (neighbours_of (get_or movers k 0) g.edges) i j
+
+-- the same of the movers from place `from` on
+abbrev pub in_piece : GraphShape → List ℕ → ℕ → ℕ → ℕ → ℕ → Bool
+in_piece g movers from k i j = nat_le from i && in_rows g movers k i j
 
 -- whether an edge leads from the mover at place i to the one at place j
 abbrev pub in_edges : List Pair → List ℕ → ℕ → ℕ → Bool

@@ -42,19 +42,19 @@ follow-requires-clause-moves g c =
     moves_inside n n c.args.adj.now.levels c.delete_phase.new.adj.levels c.in_ok-moves.moves refl c.in_ok-moves.ensures.moves
 
 pub plan_moves-requires-clause-clean : goal.plan_moves-requires-clause-clean
-plan_moves-requires-clause-clean g c =
+plan_moves-requires-clause-clean g c κs within =
     rw (c.graph-2.ensures, c.in_ok-moves.ensures.graph, vertices-without_edges c.args.adj.now.graph c.as_slice-edges.result.now) c.requires.ready.groups
 
 pub plan_moves-requires-clause-order : goal.plan_moves-requires-clause-order
-plan_moves-requires-clause-order g c =
+plan_moves-requires-clause-order g c κs within =
     rw c.graph-2.ensures (between_in_order c.delete_phase.new.adj.graph.vertices c.args.adj.now.levels c.delete_phase.new.adj.levels c.in_ok-moves.moves c.in_ok-moves.ensures.moves)
 
 pub plan_moves-requires-clause-ascending : goal.plan_moves-requires-clause-ascending
-plan_moves-requires-clause-ascending g c =
+plan_moves-requires-clause-ascending g c κs within =
     rw (c.graph-2.ensures, c.in_ok-moves.ensures.graph, c.as_slice-edges.ensures, vertices-without_edges c.args.adj.now.graph c.args.removed.now) c.requires.ascending
 
 pub plan_moves-requires-clause-present : goal.plan_moves-requires-clause-present
-plan_moves-requires-clause-present g c = present_after c.graph-2.result.now c.as_slice-edges.result.now
+plan_moves-requires-clause-present g c κs within = present_after c.graph-2.result.now c.as_slice-edges.result.now
 
 pub overflow_cast-len : goal.overflow_cast-len
 overflow_cast-len g c =

@@ -22,15 +22,15 @@ follow-requires g c =
     (same ∙ sym c.levels-levels.ensures.sized ∙ sym (ap (λ (x : List ℕ). length x) c.requires.ready.deletion.before)) c.in_ok-moves.ensures.moves
 
 pub plan_moves-requires-clause-clean : goal.plan_moves-requires-clause-clean
-plan_moves-requires-clause-clean g c =
+plan_moves-requires-clause-clean g c κs within =
     rw (c.graph-2.ensures, c.in_ok-moves.ensures.graph, vertices-with_edges c.args.adj.now.graph c.as_slice-edges.result.now) c.requires.ready.groups
 
 pub plan_moves-requires-clause-order : goal.plan_moves-requires-clause-order
-plan_moves-requires-clause-order g c =
+plan_moves-requires-clause-order g c κs within =
     rw c.graph-2.ensures (between_in_order c.insert_phase.new.adj.graph.vertices c.args.adj.now.levels c.insert_phase.new.adj.levels c.in_ok-moves.moves c.in_ok-moves.ensures.moves)
 
 pub plan_moves-requires-clause-present : goal.plan_moves-requires-clause-present
-plan_moves-requires-clause-present g c = rw (c.graph-2.ensures, c.in_ok-moves.ensures.graph) (present_after c.args.adj.now.graph c.as_slice-edges.result.now)
+plan_moves-requires-clause-present g c κs within = rw (c.graph-2.ensures, c.in_ok-moves.ensures.graph) (present_after c.args.adj.now.graph c.as_slice-edges.result.now)
 
 pub overflow_cast-len : goal.overflow_cast-len
 overflow_cast-len g c =

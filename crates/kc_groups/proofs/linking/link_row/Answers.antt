@@ -1,6 +1,7 @@
 use Rattle.std.proofs.Common.{◌≡◌, ◌<◌, ◌≤◌, length, get_or, refl, ap, ◌∙◌, arith}
 use Rattle.kc_graph.specs.Shape.{neighbours_of}
 use Rattle.kc_graph.proofs.lemmas.Numbers.{length-rising}
+use Rattle.kc_groups.specs.private.Forest.{merged}
 use Rattle.kc_groups.specs.Gathering.{vertices}
 use Rattle.kc_groups.proofs.WorkLemmas.{vertex_at, vertex_inside, many}
 use Rattle.kc_groups.proofs.LinkLemmas.{row_first, row_last, row_past, row_link}
@@ -11,36 +12,52 @@ pub neighbours-w-items-requires : goal.neighbours-w-items-requires
 neighbours-w-items-requires c = omega (arith, c.vertex_in_turn.ensures, vertex_at c.args.moves.now c.args.place c.requires.inside, vertex_inside c.args.graph.now.vertices c.args.moves.now c.args.place c.requires.numbered.below c.requires.inside)
 
 pub loop-w-init : goal.loop-w-init
-loop-w-init c =
-    row_first c.args.graph.now (vertices c.args.moves.now) c.args.place c.neighbours-w-items.result.now c.args.parents.now.items
-    (rw (many c.args.moves.now) c.requires.gathered)
+loop-w-init c = (
+  c.requires.many,
+  c.requires.forest,
+  λ before g. row_first before (vertices c.args.moves.now) c.args.place c.neighbours-w-items.result.now c.args.parents.now.items g,
+)
 
 pub join-requires-clause-first : goal.join-requires-clause-first
-join-requires-clause-first c = omega (arith, many c.args.moves.now, c.loop-w.invariant.sized, c.requires.inside)
+join-requires-clause-first c = omega (arith, c.loop-w.invariant.0, c.requires.inside)
 
 pub join-requires-clause-second : goal.join-requires-clause-second
-join-requires-clause-second c = omega (arith, many c.args.moves.now, c.loop-w.invariant.sized, c.requires.inside, c.if-other-place.true)
+join-requires-clause-second c = omega (arith, c.loop-w.invariant.0, c.requires.inside, c.if-other-place.true)
 
 pub loop-w-preserved : goal.loop-w-preserved
 loop-w-preserved c =
-    let g = c.args.graph.now in
+    let old = c.loop-w.invariant in
+    let place = c.args.place in
+    let n = c.args.graph.now.vertices in
     let vs = vertices c.args.moves.now in
+    let places = c.args.places.now in
     let items = c.neighbours-w-items.result.now in
+    let now = c.loop-w.parents.items in
     let few : length (vertices c.args.moves.now) ≤ c.args.graph.now.vertices = omega (arith, length-rising c.args.graph.now.vertices 0 vs c.requires.numbered.rises c.requires.numbered.below (omega arith)) in
     let h : c.args.place < length (vertices c.args.moves.now) = omega (arith, many c.args.moves.now, c.requires.inside) in
     let inside : c.loop-w.w-index < length c.neighbours-w-items.result.now = omega arith in
     let below : get_or c.neighbours-w-items.result.now c.loop-w.w-index 0 < c.args.graph.now.vertices = c.neighbours-w-items.ensures.below c.loop-w.w-index 0 inside in
+    let other = get_or c.args.places.now (get_or c.neighbours-w-items.result.now c.loop-w.w-index 0) 0 in
     elim c.if-other-place.branch [
       | then-other-place w ↦
-          rw (w.parents-is)
-          (row_link g vs c.args.place items c.loop-w.parents.items g.vertices c.args.places.now c.requires.numbered few h c.loop-w.w-index inside below c.loop-w.invariant _ _ refl w.if-other-place.true w.join.ensures.sized (w.join.ensures.forest c.loop-w.invariant.roots c.loop-w.invariant.forest))
+          rw (w.parents-is) (
+            w.join.ensures.sized ∙ old.0,
+            (merged place other old.1.0, w.join.ensures.forest old.1.0 old.1.1),
+            λ before g.
+                let so_far = old.2 before g in
+                row_link before vs place items now n places c.requires.numbered few h c.loop-w.w-index inside below so_far _ _ refl w.if-other-place.true w.join.ensures.sized (w.join.ensures.forest so_far.roots so_far.forest),
+          )
       | else-other-place w ↦
-          rw (w.parents-is)
-          (row_past g vs c.args.place items c.loop-w.parents.items g.vertices c.args.places.now c.requires.numbered few h c.loop-w.w-index inside below c.loop-w.invariant (omega arith))
+          rw (w.parents-is) (
+            old.0,
+            old.1,
+            λ before g. row_past before vs place items now n places c.requires.numbered few h c.loop-w.w-index inside below (old.2 before g) (omega arith),
+          )
     ]
 
 pub returns : goal.returns
-returns c =
+returns c before g =
+    let ms = c.args.moves.now in
     let vs = vertices c.args.moves.now in
     let is : c.neighbours-w-items.result.now ≡ neighbours_of (get_or (vertices c.args.moves.now) c.args.place 0) c.args.graph.now.edges = c.neighbours-w-items.ensures.value ∙ ap (λ v. neighbours_of v c.args.graph.now.edges) c.vertex_in_turn.ensures in
-    rw (many c.args.moves.now) at (row_last c.args.graph.now vs c.args.place c.neighbours-w-items.result.now c.loop-w.parents.items c.loop-w.w-index (omega arith) is c.loop-w.invariant)
+    rw (many ms) at (row_last before vs c.args.place c.neighbours-w-items.result.now c.loop-w.parents.items c.args.graph.now c.loop-w.w-index (omega arith) is (c.loop-w.invariant.2 before (rw (many ms) g)))

@@ -1,8 +1,11 @@
-use Rattle.std.proofs.Common.{length}
-use Rattle.kc_groups.specs.private.Forest.{AreGathered}
+use Rattle.std.proofs.Common.{ℕ, ◌≡◌, Bool, List, length}
+use Rattle.kc_groups.specs.private.Forest.{IsForest, AreGathered}
 use Rattle.kc_groups.specs.Gathering.{vertices}
 use Rattle.kc_groups.proofs.LinkLemmas.{so_far}
 use Rattle.kc_groups.proofs.linking.link_row.Given as goal
 
 abbrev pub invariant-loop-w : goal.invariant-loop-w
-invariant-loop-w l = AreGathered (length (vertices l.moves)) (so_far l.graph (vertices l.moves) l.place l.w-items l.w-index) l.parents.items
+invariant-loop-w l =
+    (length l.parents.items ≡ length l.moves)
+    × ((roots : List ℕ) × IsForest l.parents.items roots)
+    × ((before : ℕ → ℕ → Bool) → AreGathered (length (vertices l.moves)) before l.initial.parents.items → AreGathered (length (vertices l.moves)) (so_far before (vertices l.moves) l.place l.w-items l.w-index) l.parents.items)

@@ -5,9 +5,9 @@ use Rattle.kc_groups.proofs.PlanLemmas.{between_in_order}
 use Rattle.kc_groups.proofs.tests.plan_after.Goals as goal
 
 pub plan_moves-requires-clause-order : goal.plan_moves-requires-clause-order
-plan_moves-requires-clause-order c =
+plan_moves-requires-clause-order g c κs within =
     between_in_order c.args.graph.now.vertices c.args.step.now.before.now c.args.step.now.after.now c.in_ok-moves.moves
     (c.in_ok-moves.ensures ∙ ap (λ k. moves_between k c.args.step.now.before.now c.args.step.now.after.now) c.vertices.ensures.count)
 
 pub plan_moves-requires-clause-present : goal.plan_moves-requires-clause-present
-plan_moves-requires-clause-present c = present_after c.args.graph.now c.args.step.now.edges.now
+plan_moves-requires-clause-present g c κs within = present_after c.args.graph.now c.args.step.now.edges.now

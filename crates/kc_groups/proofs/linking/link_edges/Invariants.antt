@@ -1,0 +1,11 @@
+use Rattle.std.proofs.Common.{ℕ, ◌≡◌, Bool, List, length}
+use Rattle.kc_groups.specs.private.Forest.{IsForest, AreGathered}
+use Rattle.kc_groups.specs.Gathering.{vertices}
+use Rattle.kc_groups.proofs.LinkLemmas.{with_first}
+use Rattle.kc_groups.proofs.linking.link_edges.Given as goal
+
+abbrev pub invariant-loop-e : goal.invariant-loop-e
+invariant-loop-e l =
+    (length l.parents.items ≡ length l.moves)
+    × ((roots : List ℕ) × IsForest l.parents.items roots)
+    × ((before : ℕ → ℕ → Bool) → AreGathered (length l.moves) before l.initial.parents.items → AreGathered (length l.moves) (with_first before (vertices l.moves) l.edges l.e-index) l.parents.items)
