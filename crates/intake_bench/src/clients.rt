@@ -122,6 +122,7 @@ pub fn make_senders(
     requires few { count ≤ MAX_SCRIPT }
     ensures new { IfOk result (λ senders. All (IsNew intake.now) senders.items) }
     ensures count { IfOk result (λ senders. length senders.items ≡ length clients.items) }
+    ensures scripts { IfOk result (λ senders. All (λ s. length s.script.items ≡ count) senders.items) }
 {
     let mut numbers = Numbers { state: 31 };
     let mut senders = Vec::with_capacity(alloc, clients.len())?;
