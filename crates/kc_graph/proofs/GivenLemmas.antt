@@ -1,5 +1,5 @@
 -- The rows of a graph after both halves of some edges came in, or left.
-use Rattle.std.proofs.Common.{ℕ, suc, zero, ◌+◌, ◌-◌, ◌≤◌, ◌<◌, ◌≡◌, inl, inr, Bool, true, false, ◌||◌, ◌&&◌, List, [], ◌∷◌, length, get_or, refl, ap, sym, ◌∙◌, arith, subst, true≢false}
+use Rattle.std.proofs.Common.{ℕ, suc, ◌+◌, ◌-◌, ◌≤◌, ◌<◌, ◌≡◌, inl, inr, Bool, true, false, ◌||◌, ◌&&◌, List, [], ◌∷◌, length, get_or, refl, ap, sym, ◌∙◌, arith, subst, true≢false}
 use Rattle.std.proofs.lemmas.Bool.{cases_lt}
 use Rattle.std.proofs.lemmas.List.{ext_get_or}
 use Rattle.std.proofs.lemmas.List.Elements.{All-head, All-tail}
@@ -47,35 +47,33 @@ parts_kept n count a b rows (e ∷ es) kept up can =
     let some : 1 ≤ count = some_edge n count e rows kept up.1 up.2 can.1 in
     (subst (λ m. IsKept n (parts (rows_parted rows e.0 e.1) es) m) (omega arith) rest.0, rest.1 ∙ ap (λ (fs : List Pair). (without_edges (record { vertices = n; edges = fs }) es).edges) is, omega (arith, rest.2))
 
-pub rows_rise : (n count : ℕ) (rows : List (List ℕ)) → IsKept n rows count → (v : ℕ) → RisesFrom 0 (get_or rows v [])
-rows_rise n count rows kept v = elim (cases_lt v n) [
-  | inl lt ↦ rw (kept.rows_are v lt) (neighbours_rise n v (edges_of 0 rows) kept.rising)
-  | inr ge ↦ rw (get_or_past rows v (omega (arith, kept.sized))) tt
-]
-  where
-    get_or_past : (rs : List (List ℕ)) (k : ℕ) → length rs ≤ k → get_or rs k [] ≡ []
-    get_or_past [] k h = refl
-    get_or_past (r ∷ rs) zero h = absurd (omega arith)
-    get_or_past (r ∷ rs) (suc k) h = get_or_past rs k (omega arith)
+pub rows_rise : (n count : ℕ) (rows : List (List ℕ)) → IsKept n rows count → (v : ℕ) → v < n → RisesFrom 0 (get_or rows v [])
+rows_rise n count rows kept v lt = rw (kept.rows_are v lt) (neighbours_rise n v (edges_of 0 rows) kept.rising)
 
 row_has : (n count : ℕ) (rows : List (List ℕ)) → IsKept n rows count → (v x : ℕ) → v < n → has_number x (get_or rows v []) ≡ joined v x (edges_of 0 rows)
 row_has n count rows kept v x h = ap (has_number x) (kept.rows_are v h) ∙ has_number-neighbours_of v x (edges_of 0 rows)
 
 -- rows that ascend and have the same numbers are the same
-same_rows : (n : ℕ) (rows others : List (List ℕ)) → length rows ≡ n → length others ≡ n → ((v : ℕ) → RisesFrom 0 (get_or rows v [])) → ((v : ℕ) → RisesFrom 0 (get_or others v [])) → ((v x : ℕ) → v < n → has_number x (get_or rows v []) ≡ has_number x (get_or others v [])) → rows ≡ others
-same_rows n rows others is1 is2 up vp same = ext_get_or [] rows others (is1 ∙ sym is2) (λ v h. same_rising 0 (get_or rows v []) (get_or others v []) (up v) (vp v) (λ x. same v x (omega (arith, is1, h))))
+same_rows : (n : ℕ) (rows others : List (List ℕ)) → length rows ≡ n → length others ≡ n → ((v : ℕ) → v < n → RisesFrom 0 (get_or rows v [])) → ((v : ℕ) → v < n → RisesFrom 0 (get_or others v [])) → ((v x : ℕ) → v < n → has_number x (get_or rows v []) ≡ has_number x (get_or others v [])) → rows ≡ others
+same_rows n rows others is1 is2 up vp same = ext_get_or [] rows others (is1 ∙ sym is2) (λ v h. same_rising 0 (get_or rows v []) (get_or others v []) (up v (omega (arith, is1, h))) (vp v (omega (arith, is1, h))) (λ x. same v x (omega (arith, is1, h))))
 
 pub halves_inside : (n a b : ℕ) (es : List Pair) → EdgesFrom n a b es → (v x : ℕ) → joined v x es ≡ true → v < n
 halves_inside n a b es up v x there = (joined_inside n a b v x es up there).0
 
 module _ (n count : ℕ) (rows new : List (List ℕ)) (es halves : List Pair) (kept : IsKept n rows count) (up : EdgesFrom n 0 0 es) (both : (v x : ℕ) → has_edge (v, x) halves ≡ joined v x es) where
-  is_given : AreGiven rows new halves → CanAdd (graph_of n rows) es → new ≡ joins rows es
+  -- where the first row is that of 0
+  own_halves : (v x : ℕ) → has_edge (0 + v, x) halves ≡ joined v x es
+  own_halves v x =
+      let same : 0 + v ≡ v = omega arith in
+      rw same (both v x)
+
+  is_given : AreGiven 0 rows new halves → CanAdd (graph_of n rows) es → new ≡ joins rows es
   is_given given can =
       let r = joins_kept n count 0 0 rows es kept up can in
-      same_rows n new (joins rows es) (given.sized ∙ kept.sized) r.0.sized (given.rise (rows_rise n count rows kept)) (rows_rise n (count + length es) (joins rows es) r.0) (λ v x h.
+      same_rows n new (joins rows es) (given.sized ∙ kept.sized) r.0.sized (λ v h. given.rise v (omega (arith, kept.sized, h)) (rows_rise n count rows kept v h)) (rows_rise n (count + length es) (joins rows es) r.0) (λ v x h.
       given.has v x (omega (arith, kept.sized))
-      ∙ ap (λ b. b || has_edge (v, x) halves) (row_has n count rows kept v x h)
-      ∙ ap (λ b. joined v x (edges_of 0 rows) || b) (both v x)
+      ∙ ap (λ b. b || has_edge (0 + v, x) halves) (row_has n count rows kept v x h)
+      ∙ ap (λ b. joined v x (edges_of 0 rows) || b) (own_halves v x)
       ∙ regroup (has_edge (v, x) (edges_of 0 rows)) (has_edge (x, v) (edges_of 0 rows)) (has_edge (v, x) es) (has_edge (x, v) es)
       ∙ sym (rw (row_has n (count + length es) (joins rows es) r.0 v x h, r.1, has_edge-with_edges (v, x) (graph_of n rows) es, has_edge-with_edges (x, v) (graph_of n rows) es) refl))
     where
@@ -89,23 +87,23 @@ module _ (n count : ℕ) (rows new : List (List ℕ)) (es halves : List Pair) (k
       regroup false false false true = refl
       regroup false false false false = refl
 
-  pub kept_given : AreGiven rows new halves → CanAdd (graph_of n rows) es → IsKept n new (count + length es)
+  pub kept_given : AreGiven 0 rows new halves → CanAdd (graph_of n rows) es → IsKept n new (count + length es)
   kept_given given can = rw (is_given given can) (joins_kept n count 0 0 rows es kept up can).0
 
-  pub edges_given : AreGiven rows new halves → CanAdd (graph_of n rows) es → edges_of 0 new ≡ (with_edges (graph_of n rows) es).edges
+  pub edges_given : AreGiven 0 rows new halves → CanAdd (graph_of n rows) es → edges_of 0 new ≡ (with_edges (graph_of n rows) es).edges
   edges_given given can = rw (is_given given can) (joins_kept n count 0 0 rows es kept up can).1
 
   -- of two vertices the lesser comes first in the edges
   one_way : (v x : ℕ) (fs : List Pair) → EdgesFrom n 0 0 fs → x ≤ v → has_edge (v, x) fs ≡ false
   one_way v x fs vp le = has_edge_turned n 0 0 x v fs vp le
 
-  is_taken : AreTaken rows new halves → CanRemove (graph_of n rows) es → new ≡ parts rows es
+  is_taken : AreTaken 0 rows new halves → CanRemove (graph_of n rows) es → new ≡ parts rows es
   is_taken taken can =
       let r = parts_kept n count 0 0 rows es kept up can in
-      same_rows n new (parts rows es) (taken.sized ∙ kept.sized) r.0.sized (taken.rise (rows_rise n count rows kept)) (rows_rise n (count - length es) (parts rows es) r.0) (λ v x h.
+      same_rows n new (parts rows es) (taken.sized ∙ kept.sized) r.0.sized (λ v h. taken.rise v (omega (arith, kept.sized, h)) (rows_rise n count rows kept v h)) (rows_rise n (count - length es) (parts rows es) r.0) (λ v x h.
       taken.has v x (omega (arith, kept.sized))
-      ∙ ap (λ b. not (has_edge (v, x) halves) && b) (row_has n count rows kept v x h)
-      ∙ ap (λ b. not b && joined v x (edges_of 0 rows)) (both v x)
+      ∙ ap (λ b. not (has_edge (0 + v, x) halves) && b) (row_has n count rows kept v x h)
+      ∙ ap (λ b. not b && joined v x (edges_of 0 rows)) (own_halves v x)
       ∙ sides v x
       ∙ sym (rw (row_has n (count - length es) (parts rows es) r.0 v x h, r.1, has_edge-without_edges (v, x) (graph_of n rows) es, has_edge-without_edges (x, v) (graph_of n rows) es) refl))
     where
@@ -124,10 +122,10 @@ module _ (n count : ℕ) (rows new : List (List ℕ)) (es halves : List Pair) (k
         | inr ge ↦ rw (one_way v x es up ge, one_way v x (edges_of 0 rows) kept.rising ge) (high (has_edge (x, v) (edges_of 0 rows)) (has_edge (x, v) es))
       ]
 
-  pub kept_taken : AreTaken rows new halves → CanRemove (graph_of n rows) es → IsKept n new (count - length es)
+  pub kept_taken : AreTaken 0 rows new halves → CanRemove (graph_of n rows) es → IsKept n new (count - length es)
   kept_taken taken can = rw (is_taken taken can) (parts_kept n count 0 0 rows es kept up can).0
 
-  pub edges_taken : AreTaken rows new halves → CanRemove (graph_of n rows) es → edges_of 0 new ≡ (without_edges (graph_of n rows) es).edges
+  pub edges_taken : AreTaken 0 rows new halves → CanRemove (graph_of n rows) es → edges_of 0 new ≡ (without_edges (graph_of n rows) es).edges
   edges_taken taken can = rw (is_taken taken can) (parts_kept n count 0 0 rows es kept up can).1
 
   pub no_more_edges : CanRemove (graph_of n rows) es → length es ≤ count
@@ -142,13 +140,13 @@ module _ (n count : ℕ) (rows new : List (List ℕ)) (es halves : List Pair) (k
       go false is t rest = rest t
 
   -- what came in of edges that were not there, and left again
-  pub undone_all : (some : List (List ℕ)) → AreGivenSome rows some halves → AreTaken some new halves → AllAbsent (graph_of n rows) es → new ≡ rows
-  undone_all some given taken absent = same_rows n new rows (taken.sized ∙ given.sized ∙ kept.sized) kept.sized (taken.rise (given.rise (rows_rise n count rows kept))) (rows_rise n count rows kept) (λ v x h.
+  pub undone_all : (some : List (List ℕ)) → AreGivenSome 0 rows some halves → AreTaken 0 some new halves → AllAbsent (graph_of n rows) es → new ≡ rows
+  undone_all some given taken absent = same_rows n new rows (taken.sized ∙ given.sized ∙ kept.sized) kept.sized (λ v h. taken.rise v (omega (arith, kept.sized, given.sized, h)) (given.rise v (omega (arith, kept.sized, h)) (rows_rise n count rows kept v h))) (rows_rise n count rows kept) (λ v x h.
       taken.has v x (omega (arith, kept.sized, given.sized))
-      ∙ ap (λ b. not b && has_number x (get_or some v [])) (both v x)
+      ∙ ap (λ b. not b && has_number x (get_or some v [])) (own_halves v x)
       ∙ back (has_number x (get_or rows v [])) (has_number x (get_or some v [])) (joined v x es)
-      (given.kept v x)
-      (λ there. ap (λ b. has_number x (get_or rows v []) || b) (sym (both v x)) ∙ given.only v x (omega (arith, kept.sized)) there)
+      (given.kept v x (omega (arith, kept.sized, h)))
+      (λ there. ap (λ b. has_number x (get_or rows v []) || b) (sym (own_halves v x)) ∙ given.only v x (omega (arith, kept.sized)) there)
       (λ there. apart v x (sym (row_has n count rows kept v x h) ∙ there)))
     where
       back : (a b j : Bool) → (a ≡ true → b ≡ true) → (b ≡ true → (a || j) ≡ true) → (a ≡ true → j ≡ false) → (not j && b) ≡ a
@@ -177,12 +175,12 @@ module _ (n count : ℕ) (rows new : List (List ℕ)) (es halves : List Pair) (k
           first_of false b none t = absurd (true≢false (sym t ∙ none))
 
 module _ (n count : ℕ) (rows new : List (List ℕ)) (es halves : List Pair) (kept : IsKept n rows count) (up : EdgesFrom n 0 0 es) (both : (v x : ℕ) → has_edge (v, x) halves ≡ joined v x es) where
-  pub graph_given : AreGiven rows new halves → CanAdd (graph_of n rows) es → graph_of n new ≡ with_edges (graph_of n rows) es
+  pub graph_given : AreGiven 0 rows new halves → CanAdd (graph_of n rows) es → graph_of n new ≡ with_edges (graph_of n rows) es
   graph_given given can =
       ap (λ (fs : List Pair). record { vertices = n; edges = fs }) (edges_given n count rows new es halves kept up both given can)
       ∙ ap (λ m. record { vertices = m; edges = (with_edges (graph_of n rows) es).edges }) (sym (vertices-with_edges (graph_of n rows) es))
 
-  pub graph_taken : AreTaken rows new halves → CanRemove (graph_of n rows) es → graph_of n new ≡ without_edges (graph_of n rows) es
+  pub graph_taken : AreTaken 0 rows new halves → CanRemove (graph_of n rows) es → graph_of n new ≡ without_edges (graph_of n rows) es
   graph_taken taken can =
       ap (λ (fs : List Pair). record { vertices = n; edges = fs }) (edges_taken n count rows new es halves kept up both taken can)
       ∙ ap (λ m. record { vertices = m; edges = (without_edges (graph_of n rows) es).edges }) (sym (vertices-without_edges (graph_of n rows) es))

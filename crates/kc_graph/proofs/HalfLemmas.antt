@@ -6,11 +6,11 @@ use Rattle.std.proofs.lemmas.List.{length-set, get_or-set_same, get_or-set_other
 use Rattle.std.proofs.lemmas.List.Sorted.{list_any-IsPermutation}
 use Rattle.std.specs.List.{list_any}
 use Rattle.std.specs.List.Sorted.{IsPermutation}
-use Rattle.std.specs.Prelude.{filter, not, Result, Ok, Err, OnErr, OnOk}
+use Rattle.std.specs.Prelude.{filter, not, Result, Ok, Err, OnOk}
 use Rattle.kc_graph.specs.Numbers.{RisesFrom, has_number}
 use Rattle.kc_graph.specs.Shape.{Pair, same_edge, has_edge, joined}
 use Rattle.kc_graph.specs.private.Numbers.{put}
-use Rattle.kc_graph.specs.private.Halves.{has_second, AreOf, AreGiven, AreGivenSome, AreTaken}
+use Rattle.kc_graph.specs.private.Halves.{has_second, AreOf, AreInside, AreGiven, AreGivenSome, AreTaken}
 use Rattle.kc_graph.proofs.NumberLemmas.{has_number-put}
 
 pub has_edge-append : (e : Pair) (es fs : List Pair) → has_edge e (es ++ fs) ≡ has_edge e es || has_edge e fs
@@ -111,56 +111,53 @@ of_other v u x (h ∷ hs) all ne =
     let later : has_edge (u, x) hs ≡ false = of_other v u x hs (of_later v h hs all) ne in
     grind (arith, nat_tests)
 
--- the vertices of all halves have rows
-abbrev pub AreInside : ℕ → List Pair → Type 0
-AreInside n hs = (v x : ℕ) → has_edge (v, x) hs ≡ true → v < n
+-- the vertex of the first half has a row
+pub first_inside : (first n : ℕ) (h : Pair) (hs : List Pair) → AreInside first n hs → 0 < length hs → h ≡ get_or hs 0 (0, 0) → (first ≤ h.0) × (h.0 - first < n) × (first + (h.0 - first) ≡ (get_or hs 0 (0, 0)).0)
+first_inside first n h [] inside some is = absurd (omega (arith, some))
+first_inside first n h (f ∷ fs) inside some is =
+    let at = inside f.0 f.1 (grind (arith, nat_tests)) in
+    let v_is : h.0 ≡ f.0 = ap (λ (p : Pair). p.0) is in
+    (omega (arith, at.0, v_is), omega (arith, at.0, at.1, v_is), omega (arith, at.0, v_is))
 
-pub first_inside : (n : ℕ) (hs : List Pair) → AreInside n hs → 0 < length hs → (get_or hs 0 (0, 0)).0 < n
-first_inside n [] inside h = absurd (omega arith)
-first_inside n (f ∷ fs) inside h = inside f.0 f.1 (grind (arith, nat_tests))
-
-later_inside : (n : ℕ) (run later : List Pair) → AreInside n (run ++ later) → AreInside n later
-later_inside n run later inside v x there = inside v x (has_edge-append (v, x) run later ∙ ap (λ b. has_edge (v, x) run || b) there ∙ or_true (has_edge (v, x) run))
+later_inside : (first n : ℕ) (run later : List Pair) → AreInside first n (run ++ later) → AreInside first n later
+later_inside first n run later inside v x there = inside v x (has_edge-append (v, x) run later ∙ ap (λ b. has_edge (v, x) run || b) there ∙ or_true (has_edge (v, x) run))
   where
     or_true : (b : Bool) → b || true ≡ true
     or_true true = refl
     or_true false = refl
 
-rise_set : (rows : List (List ℕ)) (v : ℕ) (row : List ℕ) → v < length rows → RisesFrom 0 row → ((u : ℕ) → RisesFrom 0 (get_or rows u [])) → (u : ℕ) → RisesFrom 0 (get_or (set rows v row) u [])
-rise_set rows v row h up all u = elim (cases_eq u v) [
-  | inl e ↦ rw (e, get_or-set_same rows v row [] h) up
-  | inr ne ↦ rw (get_or-set_other rows v u row [] ne) (all u)
-]
-
 -- halves come into rows, and `rest` is to come
-pub record IsGiving (old rows : List (List ℕ)) (rest halves : List Pair) : Type 0 where
+pub record IsGiving (first : ℕ) (old rows : List (List ℕ)) (rest halves : List Pair) : Type 0 where
   pub sized : length rows ≡ length old
-  pub inside : AreInside (length old) rest
-  pub rise : ((v : ℕ) → RisesFrom 0 (get_or old v [])) → (v : ℕ) → RisesFrom 0 (get_or rows v [])
-  pub kept : (v x : ℕ) → has_number x (get_or old v []) ≡ true → has_number x (get_or rows v []) ≡ true
-  pub has : (v x : ℕ) → v < length old → has_number x (get_or rows v []) || has_edge (v, x) rest ≡ has_number x (get_or old v []) || has_edge (v, x) halves
+  pub inside : AreInside first (length old) rest
+  pub rise : (v : ℕ) → v < length old → RisesFrom 0 (get_or old v []) → RisesFrom 0 (get_or rows v [])
+  pub kept : (v x : ℕ) → v < length old → has_number x (get_or old v []) ≡ true → has_number x (get_or rows v []) ≡ true
+  pub has : (v x : ℕ) → v < length old → has_number x (get_or rows v []) || has_edge (first + v, x) rest ≡ has_number x (get_or old v []) || has_edge (first + v, x) halves
 
-pub giving_first : (rows : List (List ℕ)) (halves : List Pair) → AreInside (length rows) halves → IsGiving rows rows halves halves
-giving_first rows halves inside = record {
+pub giving_first : (first : ℕ) (rows : List (List ℕ)) (halves : List Pair) → AreInside first (length rows) halves → IsGiving first rows rows halves halves
+giving_first first rows halves inside = record {
   sized = refl;
   inside = inside;
-  rise = λ all. all;
-  kept = λ v x there. there;
+  rise = λ v h up. up;
+  kept = λ v x h there. there;
   has = λ v x h. refl;
 }
 
-pub giving_next : (old rows : List (List ℕ)) (rest halves run later : List Pair) (v : ℕ) (row : List ℕ) → IsGiving old rows rest halves → rest ≡ run ++ later → AreOf v run → v < length rows → RisesFrom 0 row → ((x : ℕ) → has_number x row ≡ has_number x (get_or rows v []) || has_second x run) → IsGiving old (set rows v row) later halves
-giving_next old rows rest halves run later v row s split of h up new = record {
+pub giving_next : (first : ℕ) (old rows : List (List ℕ)) (rest halves run later : List Pair) (v : ℕ) (row : List ℕ) → IsGiving first old rows rest halves → rest ≡ run ++ later → AreOf (first + v) run → v < length rows → RisesFrom 0 row → ((x : ℕ) → has_number x row ≡ has_number x (get_or rows v []) || has_second x run) → IsGiving first old (set rows v row) later halves
+giving_next first old rows rest halves run later v row s split of h up new = record {
   sized = length-set rows v row ∙ s.sized;
-  inside = later_inside (length old) run later (rw split at s.inside);
-  rise = λ all. rise_set rows v row h up (s.rise all);
-  kept = λ u x there. elim (cases_eq u v) [
-    | inl e ↦ rw (e, get_or-set_same rows v row [] h) (new x ∙ ap (λ b. b || has_second x run) (s.kept v x (rw e at there)))
-    | inr ne ↦ rw (get_or-set_other rows v u row [] ne) (s.kept u x there)
+  inside = later_inside first (length old) run later (rw split at s.inside);
+  rise = λ u lt before. elim (cases_eq u v) [
+    | inl e ↦ rw (e, get_or-set_same rows v row [] h) up
+    | inr ne ↦ rw (get_or-set_other rows v u row [] ne) (s.rise u lt before)
+  ];
+  kept = λ u x lt there. elim (cases_eq u v) [
+    | inl e ↦ rw (e, get_or-set_same rows v row [] h) (new x ∙ ap (λ b. b || has_second x run) (s.kept v x (rw e at lt) (rw e at there)))
+    | inr ne ↦ rw (get_or-set_other rows v u row [] ne) (s.kept u x lt there)
   ];
   has = λ u x lt. elim (cases_eq u v) [
-    | inl e ↦ rw (e, get_or-set_same rows v row [] h, new x) (regroup (has_number x (get_or rows v [])) (has_second x run) (has_edge (v, x) later) ∙ told v x (of_same v x run of) ∙ s.has v x (rw e at lt))
-    | inr ne ↦ rw (get_or-set_other rows v u row [] ne) (told u x (of_other v u x run of ne) ∙ s.has u x lt)
+    | inl e ↦ rw (e, get_or-set_same rows v row [] h, new x) (regroup (has_number x (get_or rows v [])) (has_second x run) (has_edge (first + v, x) later) ∙ told v x (of_same (first + v) x run of) ∙ s.has v x (rw e at lt))
+    | inr ne ↦ rw (get_or-set_other rows v u row [] ne) (told u x (of_other (first + v) (first + u) x run of (λ e. ne (omega (arith, e)))) ∙ s.has u x lt)
   ];
 }
   where
@@ -168,36 +165,36 @@ giving_next old rows rest halves run later v row s split of h up new = record {
     regroup true b c = refl
     regroup false b c = refl
 
-    told : (u x : ℕ) {b : Bool} → has_edge (u, x) run ≡ b → (has_number x (get_or rows u []) || (b || has_edge (u, x) later)) ≡ (has_number x (get_or rows u []) || has_edge (u, x) rest)
-    told u x is = ap (λ c. has_number x (get_or rows u []) || c) (ap (λ c. c || has_edge (u, x) later) (sym is) ∙ sym (has_edge-append (u, x) run later) ∙ ap (λ (es : List Pair). has_edge (u, x) es) (sym split))
+    told : (u x : ℕ) {b : Bool} → has_edge (first + u, x) run ≡ b → (has_number x (get_or rows u []) || (b || has_edge (first + u, x) later)) ≡ (has_number x (get_or rows u []) || has_edge (first + u, x) rest)
+    told u x is = ap (λ c. has_number x (get_or rows u []) || c) (ap (λ c. c || has_edge (first + u, x) later) (sym is) ∙ sym (has_edge-append (first + u, x) run later) ∙ ap (λ (es : List Pair). has_edge (first + u, x) es) (sym split))
 
-pub given : (old rows : List (List ℕ)) (rest halves : List Pair) → IsGiving old rows rest halves → rest ≡ [] → AreGiven old rows halves
-given old rows rest halves s none = record {
+pub given : (first : ℕ) (old rows : List (List ℕ)) (rest halves : List Pair) → IsGiving first old rows rest halves → rest ≡ [] → AreGiven first old rows halves
+given first old rows rest halves s none = record {
   sized = s.sized;
   rise = s.rise;
-  has = λ v x h. sym (or_false (has_number x (get_or rows v []))) ∙ ap (λ (es : List Pair). has_number x (get_or rows v []) || has_edge (v, x) es) (sym none) ∙ s.has v x h;
+  has = λ v x h. sym (or_false (has_number x (get_or rows v []))) ∙ ap (λ (es : List Pair). has_number x (get_or rows v []) || has_edge (first + v, x) es) (sym none) ∙ s.has v x h;
 }
 
-pub given_some : (old rows : List (List ℕ)) (rest halves : List Pair) → IsGiving old rows rest halves → AreGivenSome old rows halves
-given_some old rows rest halves s = record {
+pub given_some : (first : ℕ) (old rows : List (List ℕ)) (rest halves : List Pair) → IsGiving first old rows rest halves → AreGivenSome first old rows halves
+given_some first old rows rest halves s = record {
   sized = s.sized;
   rise = s.rise;
   kept = s.kept;
-  only = λ v x h there. sym (s.has v x h) ∙ ap (λ b. b || has_edge (v, x) rest) there;
+  only = λ v x h there. sym (s.has v x h) ∙ ap (λ b. b || has_edge (first + v, x) rest) there;
 }
 
 -- halves leave rows, and `rest` is to leave
-pub record IsTaking (old rows : List (List ℕ)) (rest halves : List Pair) : Type 0 where
+pub record IsTaking (first : ℕ) (old rows : List (List ℕ)) (rest halves : List Pair) : Type 0 where
   pub sized : length rows ≡ length old
-  pub inside : AreInside (length old) rest
-  pub rise : ((v : ℕ) → RisesFrom 0 (get_or old v [])) → (v : ℕ) → RisesFrom 0 (get_or rows v [])
-  pub has : (v x : ℕ) → v < length old → not (has_edge (v, x) rest) && has_number x (get_or rows v []) ≡ not (has_edge (v, x) halves) && has_number x (get_or old v [])
+  pub inside : AreInside first (length old) rest
+  pub rise : (v : ℕ) → v < length old → RisesFrom 0 (get_or old v []) → RisesFrom 0 (get_or rows v [])
+  pub has : (v x : ℕ) → v < length old → not (has_edge (first + v, x) rest) && has_number x (get_or rows v []) ≡ not (has_edge (first + v, x) halves) && has_number x (get_or old v [])
 
-pub taking_first : (rows : List (List ℕ)) (halves : List Pair) → AreInside (length rows) halves → IsTaking rows rows halves halves
-taking_first rows halves inside = record {
+pub taking_first : (first : ℕ) (rows : List (List ℕ)) (halves : List Pair) → AreInside first (length rows) halves → IsTaking first rows rows halves halves
+taking_first first rows halves inside = record {
   sized = refl;
   inside = inside;
-  rise = λ all. all;
+  rise = λ v h up. up;
   has = λ v x h. refl;
 }
 
@@ -226,14 +223,17 @@ has_number-filter x p (y ∷ ys) = elim (cases_eq y x) [
     other true rest ne = rw ne rest
     other false rest ne = rw ne rest
 
-pub taking_next : (old rows : List (List ℕ)) (rest halves run later : List Pair) (v : ℕ) (row : List ℕ) → IsTaking old rows rest halves → rest ≡ run ++ later → AreOf v run → v < length rows → RisesFrom 0 row → row ≡ filter (λ x. not (has_second x run)) (get_or rows v []) → IsTaking old (set rows v row) later halves
-taking_next old rows rest halves run later v row s split of h up new = record {
+pub taking_next : (first : ℕ) (old rows : List (List ℕ)) (rest halves run later : List Pair) (v : ℕ) (row : List ℕ) → IsTaking first old rows rest halves → rest ≡ run ++ later → AreOf (first + v) run → v < length rows → RisesFrom 0 row → row ≡ filter (λ x. not (has_second x run)) (get_or rows v []) → IsTaking first old (set rows v row) later halves
+taking_next first old rows rest halves run later v row s split of h up new = record {
   sized = length-set rows v row ∙ s.sized;
-  inside = later_inside (length old) run later (rw split at s.inside);
-  rise = λ all. rise_set rows v row h up (s.rise all);
+  inside = later_inside first (length old) run later (rw split at s.inside);
+  rise = λ u lt before. elim (cases_eq u v) [
+    | inl e ↦ rw (e, get_or-set_same rows v row [] h) up
+    | inr ne ↦ rw (get_or-set_other rows v u row [] ne) (s.rise u lt before)
+  ];
   has = λ u x lt. elim (cases_eq u v) [
-    | inl e ↦ rw (e, get_or-set_same rows v row [] h, new, has_number-filter x (λ y. not (has_second y run)) (get_or rows v [])) (regroup (has_number x (get_or rows v [])) (has_second x run) (has_edge (v, x) later) ∙ told v x (of_same v x run of) ∙ s.has v x (rw e at lt))
-    | inr ne ↦ rw (get_or-set_other rows v u row [] ne) (told u x (of_other v u x run of ne) ∙ s.has u x lt)
+    | inl e ↦ rw (e, get_or-set_same rows v row [] h, new, has_number-filter x (λ y. not (has_second y run)) (get_or rows v [])) (regroup (has_number x (get_or rows v [])) (has_second x run) (has_edge (first + v, x) later) ∙ told v x (of_same (first + v) x run of) ∙ s.has v x (rw e at lt))
+    | inr ne ↦ rw (get_or-set_other rows v u row [] ne) (told u x (of_other (first + v) (first + u) x run of (λ e. ne (omega (arith, e)))) ∙ s.has u x lt)
   ];
 }
   where
@@ -243,20 +243,15 @@ taking_next old rows rest halves run later v row s split of h up new = record {
     regroup a false true = refl
     regroup a false false = refl
 
-    told : (u x : ℕ) {b : Bool} → has_edge (u, x) run ≡ b → (not (b || has_edge (u, x) later) && has_number x (get_or rows u [])) ≡ (not (has_edge (u, x) rest) && has_number x (get_or rows u []))
-    told u x is = ap (λ c. not c && has_number x (get_or rows u [])) (ap (λ c. c || has_edge (u, x) later) (sym is) ∙ sym (has_edge-append (u, x) run later) ∙ ap (λ (es : List Pair). has_edge (u, x) es) (sym split))
+    told : (u x : ℕ) {b : Bool} → has_edge (first + u, x) run ≡ b → (not (b || has_edge (first + u, x) later) && has_number x (get_or rows u [])) ≡ (not (has_edge (first + u, x) rest) && has_number x (get_or rows u []))
+    told u x is = ap (λ c. not c && has_number x (get_or rows u [])) (ap (λ c. c || has_edge (first + u, x) later) (sym is) ∙ sym (has_edge-append (first + u, x) run later) ∙ ap (λ (es : List Pair). has_edge (first + u, x) es) (sym split))
 
-pub taken : (old rows : List (List ℕ)) (rest halves : List Pair) → IsTaking old rows rest halves → rest ≡ [] → AreTaken old rows halves
-taken old rows rest halves s none = record {
+pub taken : (first : ℕ) (old rows : List (List ℕ)) (rest halves : List Pair) → IsTaking first old rows rest halves → rest ≡ [] → AreTaken first old rows halves
+taken first old rows rest halves s none = record {
   sized = s.sized;
   rise = s.rise;
-  has = λ v x h. ap (λ (es : List Pair). not (has_edge (v, x) es) && has_number x (get_or rows v [])) (sym none) ∙ s.has v x h;
+  has = λ v x h. ap (λ (es : List Pair). not (has_edge (first + v, x) es) && has_number x (get_or rows v [])) (sym none) ∙ s.has v x h;
 }
-
--- what holds whatever the result is holds of an error
-pub on_err : {A E : Type 0} (r : Result A E) (P : Type 0) → P → OnErr r P
-on_err (Ok x) P p = tt
-on_err (Err e) P p = p
 
 pub on_ok : {A E : Type 0} (r : Result A E) (P Q : Type 0) → (P → Q) → OnOk r P → OnOk r Q
 on_ok (Ok x) P Q then p = then p

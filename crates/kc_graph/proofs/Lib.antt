@@ -18,3 +18,4 @@ mod CleaningLawLemmas
 mod MergeLemmas
 mod HalfLemmas
 mod GivenLemmas
+mod SharingLemmas

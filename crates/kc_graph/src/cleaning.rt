@@ -1,7 +1,7 @@
-ghost use Rattle.std.specs.Prelude.{◌≡◌, ◌<◌, ◌≤◌, [], false, length, All, IfOk, OnOk};
+ghost use Rattle.std.specs.Prelude.{◌≡◌, ◌<◌, ◌≤◌, [], true, false, length, All, IfOk, OnOk};
 ghost use Rattle.std.specs.List.{list_any};
 ghost use Rattle.kc_graph.specs.Cleaning.{IsInside, cleaned};
-ghost use Rattle.kc_graph.specs.private.Keys.{is_isolation};
+ghost use Rattle.kc_graph.specs.private.Keys.{is_isolation, is_last_of_pair};
 ghost use Rattle.kc_graph.specs.Keys.{decided};
 
 use crate::edge_lists::Edges;
@@ -68,6 +68,32 @@ impl Cleaned {
     }
 }
 
+// The rows of so many keys are looked at together.
+const TOGETHER: usize = 16;
+
+// Whether the rows of the lesser vertices of the first keys are at hand, which they are after a look at each.
+fn are_at_hand(graph: &Graph, keys: &[Key]) -> bool
+    ensures { result ≡ true }
+{
+    for k in 0..keys.len().min(TOGETHER) {
+        if !graph.is_at_hand(keys[k].a) {
+            return false;
+        }
+    }
+    true
+}
+
+// Whether the key is the last of its pair (`is_last_of_pair`). Before 16 of the later keys have their turn, their rows are looked at
+// together.
+fn is_last_in_turn(graph: &Graph, key: &Key, later: &[Key]) -> bool
+    ensures { result ≡ is_last_of_pair key.now later.now }
+{
+    if later.len() % TOGETHER == 0 && !are_at_hand(graph, later) {
+        return false;
+    }
+    key.is_last_of_pair(later)
+}
+
 // What the items of a batch without isolations come to, by a walk over their sorted keys.
 fn clean_pairs<R: Threads + Sync>(
     rt: &R,
@@ -86,7 +112,7 @@ fn clean_pairs<R: Threads + Sync>(
     let mut cleaned = Cleaned::of_loops(alloc, (items.len() - keys.len()) as u32);
     let mut rest = keys.as_slice();
     while let Some((key, later)) = rest.split_first() {
-        if key.is_last_of_pair(later) {
+        if is_last_in_turn(graph, key, later) {
             cleaned.decide(graph, key)?;
         } else {
             cleaned.repeats += 1;

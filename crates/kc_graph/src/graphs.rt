@@ -8,8 +8,10 @@ use crate::halves::sorted_halves;
 use crate::limits::{MAX_EDGES, MAX_VERTICES};
 use crate::links;
 use crate::rows::Row;
+use crate::sharing::{give_by, take_by};
 use std::alloc::{AllocError, Global};
 use std::marker::Model;
+use std::thread::Threads;
 
 // So many rows are looked at together.
 const TOGETHER: usize = 16;
@@ -157,11 +159,21 @@ impl Graph {
 
     /// Puts in ascending edges that are not there (`with_edges`); at most `MAX_EDGES` edges are there afterwards.
     ///
+    /// `workers` is 1 to 64. The graph doesn't depend on it: so many threads put edges in where they are many, each at rows of its own.
+    ///
     /// Fails only if memory runs out, and the graph is then unchanged.
     ///
     /// Costs a sort of one pair an edge and a merge, for which it takes memory, and for each vertex that gets neighbours one pass over them
-    /// and over those that it had above the least of them.
-    pub fn insert_all(&mut self, alloc: Global, edges: &[Edge]) -> Result<(), AllocError>
+    /// and over those that it had above the least of them. Threads share these passes: where there are 16,384 edges or more two of them, and
+    /// up to as many as workers where there are 8,192 edges for each. To share them costs a few passes over the pairs.
+    pub fn insert_all<R: Threads + Sync>(
+        &mut self,
+        rt: &R,
+        alloc: Global,
+        workers: u32,
+        edges: &[Edge],
+    ) -> Result<(), AllocError>
+        requires few_workers { (1 ≤ workers) × (workers ≤ 64) }
         requires ascending { EdgesFrom self.old.vertices 0 0 edges.now }
         requires absent { AllAbsent self.old edges.now }
         requires room { length self.old.edges + length edges.now ≤ MAX_EDGES }
@@ -169,8 +181,8 @@ impl Graph {
         ensures err { OnErr result (self.new ≡ self.old) }
     {
         let halves = sorted_halves(alloc, edges)?;
-        if let Err(error) = links::give_all(&mut self.rows, &halves) {
-            links::take_all(&mut self.rows, &halves);
+        if let Err(error) = give_by(rt, workers, &halves, &mut self.rows) {
+            take_by(rt, workers, &halves, &mut self.rows);
             return Err(error);
         }
         self.count += edges.len() as u32;
@@ -179,18 +191,28 @@ impl Graph {
 
     /// Takes out ascending edges that are there (`without_edges`).
     ///
+    /// `workers` is 1 to 64. The graph doesn't depend on it: so many threads take edges out where they are many, each at rows of its own.
+    ///
     /// Fails only if memory runs out, and the graph is then unchanged.
     ///
     /// Costs a sort of one pair an edge and a merge, for which it takes memory, and for each vertex that loses neighbours at most one pass
-    /// over those that it had, or, where it loses few of many, a binary search for each and one move of those that stay.
-    pub fn remove_all(&mut self, alloc: Global, edges: &[Edge]) -> Result<(), AllocError>
+    /// over those that it had, or, where it loses few of many, a binary search for each and one move of those that stay. Threads share
+    /// these passes as in `insert_all`.
+    pub fn remove_all<R: Threads + Sync>(
+        &mut self,
+        rt: &R,
+        alloc: Global,
+        workers: u32,
+        edges: &[Edge],
+    ) -> Result<(), AllocError>
+        requires few_workers { (1 ≤ workers) × (workers ≤ 64) }
         requires ascending { EdgesFrom self.old.vertices 0 0 edges.now }
         requires present { AllPresent self.old edges.now }
         ensures ok { OnOk result (self.new ≡ without_edges self.old edges.now) }
         ensures err { OnErr result (self.new ≡ self.old) }
     {
         let halves = sorted_halves(alloc, edges)?;
-        links::take_all(&mut self.rows, &halves);
+        take_by(rt, workers, &halves, &mut self.rows);
         self.count -= edges.len() as u32;
         Ok(())
     }

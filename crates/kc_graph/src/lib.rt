@@ -17,6 +17,7 @@ mod limits;
 mod links;
 mod merging;
 mod rows;
+mod sharing;
 mod touched;
 
 pub use cleaning::{Cleaned, clean};

@@ -1,8 +1,7 @@
-ghost use Rattle.std.specs.Prelude.{◌≡◌, ℕ, ◌<◌, [], length, true, false, slice_index_or, OnOk, OnErr};
+ghost use Rattle.std.specs.Prelude.{◌≡◌, ◌<◌, [], length, false, slice_index_or, OnOk, OnErr};
 ghost use Rattle.kc_graph.specs.Numbers.{has_number};
-ghost use Rattle.kc_graph.specs.Shape.{has_edge};
 ghost use Rattle.kc_graph.specs.private.KeptRows.{rows_joined, rows_parted};
-ghost use Rattle.kc_graph.specs.private.Halves.{AreGiven, AreGivenSome, AreTaken};
+ghost use Rattle.kc_graph.specs.private.Halves.{AreInside, AreGiven, AreGivenSome, AreTaken};
 
 use crate::halves::{Half, run_len};
 use crate::rows::Row;
@@ -38,9 +37,9 @@ pub fn part(rows: &mut Vec<Row>, a: u32, b: u32)
 const AHEAD: usize = 32;
 
 // Whether the rows of the first halves are at hand, which they are after a look at each.
-fn are_at_hand(rows: &[Row], halves: &[Half]) -> bool {
+fn are_at_hand(rows: &[Row], first: u32, halves: &[Half]) -> bool {
     for k in 0..halves.len().min(AHEAD) {
-        if let Some(row) = rows.get(halves[k].vertex() as usize) {
+        if let Some(row) = rows.get(halves[k].vertex().saturating_sub(first) as usize) {
             if !row.is_at_hand() {
                 return false;
             }
@@ -49,44 +48,44 @@ fn are_at_hand(rows: &[Row], halves: &[Half]) -> bool {
     true
 }
 
-/// Puts the other end of each half into the row of its vertex, by one merge for each run of halves of one vertex. After a refusal
-/// some may have been put in.
-pub fn give_all(rows: &mut Vec<Row>, halves: &[Half]) -> Result<(), AllocError>
-    requires { (v x : ℕ) → has_edge (v, x) halves.now ≡ true → v < length rows.old.items }
-    ensures ok { OnOk result (AreGiven rows.old.items rows.new.items halves.now) }
-    ensures err { OnErr result (AreGivenSome rows.old.items rows.new.items halves.now) }
+/// Puts the other end of each half into the row of its vertex, by one merge for each run of halves of one vertex. The first row is
+/// that of `first`. After a refusal some may have been put in.
+pub fn give_all(first: u32, halves: &[Half], rows: &mut [Row]) -> Result<(), AllocError>
+    requires { AreInside first (length rows.old) halves.now }
+    ensures ok { OnOk result (AreGiven first rows.old rows.new halves.now) }
+    ensures some { AreGivenSome first rows.old rows.new halves.now }
 {
     let mut rest = halves;
     let mut looked = rest.len();
-    while let Some(first) = rest.first() {
+    while let Some(half) = rest.first() {
         let mut near = true;
         if rest.len() <= looked {
-            near = are_at_hand(rows, rest);
+            near = are_at_hand(rows, first, rest);
             looked = rest.len().saturating_sub(AHEAD);
         }
         let (run, later) = rest.split_at(run_len(rest, near));
-        rows[first.v as usize].insert_all(run)?;
+        rows[(half.v - first) as usize].insert_all(run)?;
         rest = later;
     }
     Ok(())
 }
 
 /// Takes the other end of each half out of the row of its vertex, where it is there, by one pass for each run of halves of one
-/// vertex.
-pub fn take_all(rows: &mut Vec<Row>, halves: &[Half])
-    requires { (v x : ℕ) → has_edge (v, x) halves.now ≡ true → v < length rows.old.items }
-    ensures { AreTaken rows.old.items rows.new.items halves.now }
+/// vertex. The first row is that of `first`.
+pub fn take_all(first: u32, halves: &[Half], rows: &mut [Row])
+    requires { AreInside first (length rows.old) halves.now }
+    ensures { AreTaken first rows.old rows.new halves.now }
 {
     let mut rest = halves;
     let mut looked = rest.len();
-    while let Some(first) = rest.first() {
+    while let Some(half) = rest.first() {
         let mut near = true;
         if rest.len() <= looked {
-            near = are_at_hand(rows, rest);
+            near = are_at_hand(rows, first, rest);
             looked = rest.len().saturating_sub(AHEAD);
         }
         let (run, later) = rest.split_at(run_len(rest, near));
-        rows[first.v as usize].remove_all(run);
+        rows[(half.v - first) as usize].remove_all(run);
         rest = later;
     }
 }

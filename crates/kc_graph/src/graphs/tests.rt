@@ -138,9 +138,10 @@ fn are_absent(graph: &Graph, edges: &[Edge]) -> bool
 }
 
 // Puts 0-2, 1-3 and then the edges into a graph on 5 vertices, and takes them out again. Each row is as these edges say.
-fn check_together(
-    rt: &impl Abort,
+fn check_together<R: Abort + Threads + Sync>(
+    rt: &R,
     alloc: Global,
+    workers: u32,
     edges: &[Edge],
     v: u32,
     with: &[u32],
@@ -148,17 +149,18 @@ fn check_together(
 ) -> Result<(), Fail>
     requires ascending { EdgesFrom 5 0 0 edges.now }
     requires few { length edges.now ≤ 10 }
+    requires few_workers { (1 ≤ workers) × (workers ≤ 64) }
 {
     let mut graph = Graph::new(alloc, 5)?;
     put_in(rt, alloc, &mut graph, (0, 2))?;
     put_in(rt, alloc, &mut graph, (1, 3))?;
     assert!(rt; graph.vertices() == 5 && graph.edge_count() == 2);
     assert!(rt; are_absent(&graph, edges));
-    graph.insert_all(alloc, edges)?;
+    graph.insert_all(rt, alloc, workers, edges)?;
     assert_shape(rt, &graph, 2 + edges.len(), v, with);
     assert!(rt; graph.vertices() == 5);
     assert!(rt; are_present(&graph, edges));
-    graph.remove_all(alloc, edges)?;
+    graph.remove_all(rt, alloc, workers, edges)?;
     assert_shape(rt, &graph, 2, v, without);
     Ok(())
 }
@@ -173,8 +175,8 @@ const TOGETHER: [Edge; 5] = [
 
 #[test]
 fn edges_come_and_leave_together(rt: HostRuntime) -> Result<(), Fail> {
-    check_together(&rt, rt.alloc(), &TOGETHER, 0, &[1, 2, 3, 4], &[2])?;
-    check_together(&rt, rt.alloc(), &TOGETHER, 2, &[0, 1, 3], &[0])?;
-    check_together(&rt, rt.alloc(), &TOGETHER, 3, &[0, 1, 2], &[1])?;
-    check_together(&rt, rt.alloc(), &TOGETHER, 4, &[0], &[])
+    check_together(&rt, rt.alloc(), 1, &TOGETHER, 0, &[1, 2, 3, 4], &[2])?;
+    check_together(&rt, rt.alloc(), 1, &TOGETHER, 2, &[0, 1, 3], &[0])?;
+    check_together(&rt, rt.alloc(), 3, &TOGETHER, 3, &[0, 1, 2], &[1])?;
+    check_together(&rt, rt.alloc(), 64, &TOGETHER, 4, &[0], &[])
 }

@@ -40,7 +40,7 @@ loop-key-preserved-in_ok-decide g c =
     let counts = decided_counts edges key before c.decide.new.self here in
     record {
       known =
-          walked_decided edges c.loop-key.rest.now later key before c.decide.new.self first.0 c.if-is_last_of_pair.ensures here
+          walked_decided edges c.loop-key.rest.now later key before c.decide.new.self first.0 c.if-is_last_in_turn.ensures here
           ∙ c.loop-key.invariant.known;
       inside = later_inside c.args.graph.now.vertices c.loop-key.rest.now later key first.0 c.loop-key.invariant.inside;
       repeats = omega (arith, counts.0, first.1, c.loop-key.invariant.repeats);
@@ -56,7 +56,7 @@ loop-key-preserved g c =
     let first = c.in-Some.ensures.cases in
     record {
       known =
-          walked_repeated edges c.loop-key.rest.now later key before first.0 c.if-is_last_of_pair.ensures
+          walked_repeated edges c.loop-key.rest.now later key before first.0 c.if-is_last_in_turn.ensures
           ∙ c.loop-key.invariant.known;
       inside = later_inside c.args.graph.now.vertices c.loop-key.rest.now later key first.0 c.loop-key.invariant.inside;
       repeats = omega (arith, first.1, c.loop-key.invariant.repeats);

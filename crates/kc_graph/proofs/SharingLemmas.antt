@@ -1,0 +1,147 @@
+-- Lemmas on rows that are cut in two, and so are the half-edges that come into them or leave them.
+use Rattle.std.proofs.Common.{ℕ, suc, zero, ◌+◌, ◌-◌, ◌/◌, ◌≤◌, ◌<◌, ◌≡◌, inl, inr, Bool, true, false, eqb, ◌||◌, ◌&&◌, List, [], ◌∷◌, ◌++◌, length, get_or, take, drop, refl, ap, sym, ◌∙◌, arith, subst, true≢false}
+use Rattle.std.proofs.lemmas.Bool.{cases_lt, eqb-true}
+use Rattle.std.proofs.lemmas.Bool.Decides.{nat_tests}
+use Rattle.std.proofs.lemmas.List.{get_or_append_left, get_or-append_right, length-append, take-append-drop, take_all}
+use Rattle.std.proofs.lemmas.List.Elements.{All-head, All-tail}
+use Rattle.std.specs.Bool.{OnTrue}
+use Rattle.std.specs.Prelude.{All, not, Result, Ok, Err, OnOk}
+use Rattle.kc_graph.specs.Numbers.{RisesFrom, has_number}
+use Rattle.kc_graph.specs.Shape.{Pair, same_edge, has_edge}
+use Rattle.kc_graph.specs.private.Halves.{IsCut, AreInside, AreGiven, AreGivenSome, AreTaken}
+use Rattle.kc_graph.proofs.HalfLemmas.{has_edge-append}
+
+none_low : (v u x : ℕ) (hs : List Pair) → All (λ h. h.0 < v) hs → v ≤ u → has_edge (u, x) hs ≡ false
+none_low v u x [] all le = refl
+none_low v u x (h ∷ hs) all le =
+    let here : h.0 < v = All-head (λ (g : Pair). g.0 < v) h hs all in
+    let later : has_edge (u, x) hs ≡ false = none_low v u x hs (All-tail (λ (g : Pair). g.0 < v) h hs all) le in
+    grind (arith, nat_tests)
+
+none_high : (v u x : ℕ) (hs : List Pair) → All (λ h. v ≤ h.0) hs → u < v → has_edge (u, x) hs ≡ false
+none_high v u x [] all lt = refl
+none_high v u x (h ∷ hs) all lt =
+    let here : v ≤ h.0 = All-head (λ (g : Pair). v ≤ g.0) h hs all in
+    let later : has_edge (u, x) hs ≡ false = none_high v u x hs (All-tail (λ (g : Pair). v ≤ g.0) h hs all) lt in
+    grind (arith, nat_tests)
+
+or_false : (b : Bool) → b || false ≡ b
+or_false true = refl
+or_false false = refl
+
+module _ (first v : ℕ) (low high : List Pair) (are_low : All (λ h. h.0 < v) low) (are_high : All (λ h. v ≤ h.0) high) where
+  in_low : (u x : ℕ) → u < v → has_edge (u, x) (low ++ high) ≡ has_edge (u, x) low
+  in_low u x lt = has_edge-append (u, x) low high ∙ ap (λ b. has_edge (u, x) low || b) (none_high v u x high are_high lt) ∙ or_false (has_edge (u, x) low)
+
+  in_high : (u x : ℕ) → v ≤ u → has_edge (u, x) (low ++ high) ≡ has_edge (u, x) high
+  in_high u x le = has_edge-append (u, x) low high ∙ ap (λ b. b || has_edge (u, x) high) (none_low v u x low are_low le)
+
+  -- what is said of each row of both parts, and of the half-edges of its vertex, is said of each row of all
+  each_row : (P : ℕ → ℕ → List Pair → List ℕ → List ℕ → Type 0) → ((u x : ℕ) (hs gs : List Pair) (old new : List ℕ) → has_edge (u, x) gs ≡ has_edge (u, x) hs → P u x hs old new → P u x gs old new) → (front back front' back' : List (List ℕ)) → first ≤ v → length front ≡ v - first → length front' ≡ length front → length back' ≡ length back → ((u x : ℕ) → u < length front → P (first + u) x low (get_or front u []) (get_or front' u [])) → ((u x : ℕ) → u < length back → P (v + u) x high (get_or back u []) (get_or back' u [])) → (u x : ℕ) → u < length (front ++ back) → P (first + u) x (low ++ high) (get_or (front ++ back) u []) (get_or (front' ++ back') u [])
+  each_row P turn front back front' back' le len is1 is2 at_front at_back u x h = elim (cases_lt u (length front)) [
+    | inl lt ↦ rw (get_or_append_left front back [] u lt, get_or_append_left front' back' [] u (omega (arith, is1, lt))) (turn (first + u) x low (low ++ high) (get_or front u []) (get_or front' u []) (in_low (first + u) x (omega (arith, le, len, lt))) (at_front u x lt))
+    | inr ge ↦
+        let place : ℕ = u - length front in
+        let same : v + place ≡ first + u = omega (arith, le, len, ge) in
+        let there : P (v + place) x high (get_or back place []) (get_or back' place []) = at_back place x (omega (arith, ge, rw (length-append front back) at h)) in
+        rw (get_or-append_right front back (length front) u [] refl ge, get_or-append_right front' back' (length front) u [] is1 ge) (turn (first + u) x high (low ++ high) (get_or back place []) (get_or back' place []) (in_high (first + u) x (omega (arith, le, len, ge))) (rw same at there))
+  ]
+
+  module _ (front back front' back' : List (List ℕ)) (le : first ≤ v) (len : length front ≡ v - first) where
+    sizes : length front' ≡ length front → length back' ≡ length back → length (front' ++ back') ≡ length (front ++ back)
+    sizes is1 is2 = rw (length-append front' back', length-append front back, is1, is2) refl
+
+    both_given : AreGiven first front front' low → AreGiven v back back' high → AreGiven first (front ++ back) (front' ++ back') (low ++ high)
+    both_given s t = record {
+      sized = sizes s.sized t.sized;
+      rise = λ u h. each_row (λ w x hs old new. RisesFrom 0 old → RisesFrom 0 new) (λ w x hs gs old new is p. p) front back front' back' le len s.sized t.sized (λ w x lt. s.rise w lt) (λ w x lt. t.rise w lt) u 0 h;
+      has = λ u x h. each_row (λ w y hs old new. has_number y new ≡ has_number y old || has_edge (w, y) hs) (λ w y hs gs old new is p. p ∙ ap (λ b. has_number y old || b) (sym is)) front back front' back' le len s.sized t.sized s.has t.has u x h;
+    }
+
+    both_given_some : AreGivenSome first front front' low → AreGivenSome v back back' high → AreGivenSome first (front ++ back) (front' ++ back') (low ++ high)
+    both_given_some s t = record {
+      sized = sizes s.sized t.sized;
+      rise = λ u h. each_row (λ w x hs old new. RisesFrom 0 old → RisesFrom 0 new) (λ w x hs gs old new is p. p) front back front' back' le len s.sized t.sized (λ w x lt. s.rise w lt) (λ w x lt. t.rise w lt) u 0 h;
+      kept = λ u x h. each_row (λ w y hs old new. has_number y old ≡ true → has_number y new ≡ true) (λ w y hs gs old new is p. p) front back front' back' le len s.sized t.sized s.kept t.kept u x h;
+      only = λ u x h. each_row (λ w y hs old new. has_number y new ≡ true → has_number y old || has_edge (w, y) hs ≡ true) (λ w y hs gs old new is p there. ap (λ b. has_number y old || b) is ∙ p there) front back front' back' le len s.sized t.sized s.only t.only u x h;
+    }
+
+    both_taken : AreTaken first front front' low → AreTaken v back back' high → AreTaken first (front ++ back) (front' ++ back') (low ++ high)
+    both_taken s t = record {
+      sized = sizes s.sized t.sized;
+      rise = λ u h. each_row (λ w x hs old new. RisesFrom 0 old → RisesFrom 0 new) (λ w x hs gs old new is p. p) front back front' back' le len s.sized t.sized (λ w x lt. s.rise w lt) (λ w x lt. t.rise w lt) u 0 h;
+      has = λ u x h. each_row (λ w y hs old new. has_number y new ≡ not (has_edge (w, y) hs) && has_number y old) (λ w y hs gs old new is p. p ∙ ap (λ b. not b && has_number y old) (sym is)) front back front' back' le len s.sized t.sized s.has t.has u x h;
+    }
+
+at_place : (hs : List Pair) (k : ℕ) → k < length hs → has_edge (get_or hs k (0, 0)) hs ≡ true
+at_place [] k lt = absurd (omega (arith, lt))
+at_place (h ∷ hs) zero lt = grind (arith, nat_tests)
+at_place (h ∷ hs) (suc k) lt = rw (at_place hs k (omega (arith, lt))) (or_true (same_edge (get_or hs k (0, 0)) h))
+  where
+    or_true : (b : Bool) → b || true ≡ true
+    or_true true = refl
+    or_true false = refl
+
+module _ (first len v : ℕ) (halves : List Pair) (at : IsCut halves len v) where
+  whole : take len halves ++ drop len halves ≡ halves
+  whole = take-append-drop len halves
+
+  -- the vertex at which the halves are cut has a row
+  pub cut_row : (n : ℕ) → AreInside first n halves → (first ≤ v) × (v < first + n)
+  cut_row n inside = rw at.of (inside (get_or halves (length halves / 2) (0, 0)).0 (get_or halves (length halves / 2) (0, 0)).1 (at_place halves (length halves / 2) at.some))
+
+  pub low_inside : (n m : ℕ) → AreInside first n halves → m ≡ v - first → AreInside first m (take len halves)
+  low_inside n m inside is u x there =
+      let below : u < v = elim (cases_lt u v) [
+        | inl lt ↦ lt
+        | inr ge ↦ absurd (true≢false (sym there ∙ none_low v u x (take len halves) at.low ge))
+      ] in
+      let in_all : has_edge (u, x) halves ≡ true = rw (← whole) (has_edge-append (u, x) (take len halves) (drop len halves) ∙ ap (λ b. b || has_edge (u, x) (drop len halves)) there) in
+      let row = inside u x in_all in
+      (row.0, omega (arith, row.0, is, below))
+
+  pub high_inside : (n m : ℕ) → AreInside first n halves → m + (v - first) ≡ n → AreInside v m (drop len halves)
+  high_inside n m inside is u x there =
+      let from : v ≤ u = elim (cases_lt u v) [
+        | inl lt ↦ absurd (true≢false (sym there ∙ none_high v u x (drop len halves) at.high lt))
+        | inr ge ↦ ge
+      ] in
+      let in_all : has_edge (u, x) halves ≡ true = rw (← whole) (has_edge-append (u, x) (take len halves) (drop len halves) ∙ ap (λ b. has_edge (u, x) (take len halves) || b) there ∙ or_true (has_edge (u, x) (take len halves))) in
+      let row = inside u x in_all in
+      let cut = cut_row n inside in
+      (from, omega (arith, row.1, cut.0, cut.1, is, from))
+    where
+      or_true : (b : Bool) → b || true ≡ true
+      or_true true = refl
+      or_true false = refl
+
+  module _ (rows front back front' back' : List (List ℕ)) (split : rows ≡ front ++ back) (le : first ≤ v) (len_is : length front ≡ v - first) where
+    pub given_in_both : AreGiven first front front' (take len halves) → AreGiven v back back' (drop len halves) → AreGiven first rows (front' ++ back') halves
+    given_in_both s t = rw split (subst (λ (hs : List Pair). AreGiven first (front ++ back) (front' ++ back') hs) whole (both_given first v (take len halves) (drop len halves) at.low at.high front back front' back' le len_is s t))
+
+    pub given_some_in_both : AreGivenSome first front front' (take len halves) → AreGivenSome v back back' (drop len halves) → AreGivenSome first rows (front' ++ back') halves
+    given_some_in_both s t = rw split (subst (λ (hs : List Pair). AreGivenSome first (front ++ back) (front' ++ back') hs) whole (both_given_some first v (take len halves) (drop len halves) at.low at.high front back front' back' le len_is s t))
+
+    pub taken_in_both : AreTaken first front front' (take len halves) → AreTaken v back back' (drop len halves) → AreTaken first rows (front' ++ back') halves
+    taken_in_both s t = rw split (subst (λ (hs : List Pair). AreTaken first (front ++ back) (front' ++ back') hs) whole (both_taken first v (take len halves) (drop len halves) at.low at.high front back front' back' le len_is s t))
+
+-- what follows of two facts that hold where a call succeeds, holds there
+pub on_ok_both : {A E : Type 0} (r : Result A E) (P Q S : Type 0) → (P → Q → S) → OnOk r P → OnOk r Q → OnOk r S
+on_ok_both (Ok x) P Q S then p q = then p q
+on_ok_both (Err e) P Q S then p q = tt
+
+inside_below : (n : ℕ) (hs : List Pair) → All (λ h. h.0 < n) hs → AreInside 0 n hs
+inside_below n hs all u x there = elim (cases_lt u n) [
+  | inl lt ↦ (omega arith, omega (arith, lt))
+  | inr ge ↦ absurd (true≢false (sym there ∙ none_low n u x hs all ge))
+]
+
+-- where as many halves are of lesser vertices as there are, the vertices of all have rows
+pub inside_if_all : (n len : ℕ) (hs : List Pair) → All (λ h. h.0 < n) (take len hs) → OnTrue (eqb len (length hs)) (AreInside 0 n hs)
+inside_if_all n len hs low = go (eqb len (length hs)) refl
+  where
+    go : (b : Bool) → eqb len (length hs) ≡ b → OnTrue b (AreInside 0 n hs)
+    go true is =
+        let same : len ≡ length hs = eqb-true len (length hs) is in
+        inside_below n hs (rw (take_all len hs (omega (arith, same))) at low)
+    go false is = tt
