@@ -8,7 +8,7 @@ use crate::halves::sorted_halves;
 use crate::limits::{MAX_EDGES, MAX_VERTICES};
 use crate::links;
 use crate::rows::Row;
-use crate::sharing::{give_by, take_by};
+use crate::sharing::{give_alone, give_by, take_alone, take_by};
 use std::alloc::{AllocError, Global};
 use std::marker::Model;
 use std::thread::Threads;
@@ -159,14 +159,34 @@ impl Graph {
 
     /// Puts in ascending edges that are not there (`with_edges`); at most `MAX_EDGES` edges are there afterwards.
     ///
-    /// `workers` is 1 to 64. The graph doesn't depend on it: so many threads put edges in where they are many, each at rows of its own.
-    ///
     /// Fails only if memory runs out, and the graph is then unchanged.
     ///
     /// Costs a sort of one pair an edge and a merge, for which it takes memory, and for each vertex that gets neighbours one pass over them
-    /// and over those that it had above the least of them. Threads share these passes: where there are 16,384 edges or more two of them, and
+    /// and over those that it had above the least of them.
+    pub fn insert_all(&mut self, alloc: Global, edges: &[Edge]) -> Result<(), AllocError>
+        requires ascending { EdgesFrom self.old.vertices 0 0 edges.now }
+        requires absent { AllAbsent self.old edges.now }
+        requires room { length self.old.edges + length edges.now ≤ MAX_EDGES }
+        ensures ok { OnOk result (self.new ≡ with_edges self.old edges.now) }
+        ensures err { OnErr result (self.new ≡ self.old) }
+    {
+        let halves = sorted_halves(alloc, edges)?;
+        if let Err(error) = give_alone(&halves, &mut self.rows) {
+            take_alone(&halves, &mut self.rows);
+            return Err(error);
+        }
+        self.count += edges.len() as u32;
+        Ok(())
+    }
+
+    /// As `insert_all`, by threads where the edges are many, each at rows of its own. `workers` is 1 to 64, and the graph doesn't depend on
+    /// it.
+    ///
+    /// Fails only if memory runs out, and the graph is then unchanged.
+    ///
+    /// Costs what `insert_all` costs, but that threads share the passes over neighbours: where there are 16,384 edges or more two of them, and
     /// up to as many as workers where there are 8,192 edges for each. To share them costs a few passes over the pairs.
-    pub fn insert_all<R: Threads + Sync>(
+    pub fn par_insert_all<R: Threads + Sync>(
         &mut self,
         rt: &R,
         alloc: Global,
@@ -197,8 +217,8 @@ impl Graph {
     ///
     /// Costs a sort of one pair an edge and a merge, for which it takes memory, and for each vertex that loses neighbours at most one pass
     /// over those that it had, or, where it loses few of many, a binary search for each and one move of those that stay. Threads share
-    /// these passes as in `insert_all`.
-    pub fn remove_all<R: Threads + Sync>(
+    /// these passes as in `par_insert_all`.
+    pub fn par_remove_all<R: Threads + Sync>(
         &mut self,
         rt: &R,
         alloc: Global,

@@ -164,8 +164,25 @@ fn take_both<R: Threads + Sync>(
     join_mut(rt, &mut left, &mut right);
 }
 
-/// Puts the other end of each half into the row of its vertex; the rows are those of all vertices. Where the halves are many, up to so
-/// many threads do it, each at rows of its own. After a refusal some may have been put in.
+/// Puts the other end of each half into the row of its vertex; the rows are those of all vertices. After a refusal some may have been put
+/// in.
+pub fn give_alone(halves: &[Half], rows: &mut Vec<Row>) -> Result<(), AllocError>
+    requires { AreInside 0 (length rows.old.items) halves.now }
+    ensures ok { OnOk result (AreGiven 0 rows.old.items rows.new.items halves.now) }
+    ensures some { AreGivenSome 0 rows.old.items rows.new.items halves.now }
+{
+    give_all(0, halves, rows.as_mut_slice())
+}
+
+/// Takes the other end of each half out of the row of its vertex, where it is there; the rows are those of all vertices.
+pub fn take_alone(halves: &[Half], rows: &mut Vec<Row>)
+    requires { AreInside 0 (length rows.old.items) halves.now }
+    ensures { AreTaken 0 rows.old.items rows.new.items halves.now }
+{
+    take_all(0, halves, rows.as_mut_slice());
+}
+
+/// As `give_alone`. Where the halves are many, up to so many threads do it, each at rows of its own.
 pub fn give_by<R: Threads + Sync>(
     rt: &R,
     threads: u32,
@@ -179,8 +196,7 @@ pub fn give_by<R: Threads + Sync>(
     give_parts(rt, threads, LEAST_PART, 0, halves, rows.as_mut_slice())
 }
 
-/// Takes the other end of each half out of the row of its vertex, where it is there; the rows are those of all vertices. Where the
-/// halves are many, up to so many threads do it, each at rows of its own.
+/// As `take_alone`. Where the halves are many, up to so many threads do it, each at rows of its own.
 pub fn take_by<R: Threads + Sync>(rt: &R, threads: u32, halves: &[Half], rows: &mut Vec<Row>)
     requires { AreInside 0 (length rows.old.items) halves.now }
     ensures { AreTaken 0 rows.old.items rows.new.items halves.now }

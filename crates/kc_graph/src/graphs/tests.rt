@@ -156,11 +156,11 @@ fn check_together<R: Abort + Threads + Sync>(
     put_in(rt, alloc, &mut graph, (1, 3))?;
     assert!(rt; graph.vertices() == 5 && graph.edge_count() == 2);
     assert!(rt; are_absent(&graph, edges));
-    graph.insert_all(rt, alloc, workers, edges)?;
+    graph.par_insert_all(rt, alloc, workers, edges)?;
     assert_shape(rt, &graph, 2 + edges.len(), v, with);
     assert!(rt; graph.vertices() == 5);
     assert!(rt; are_present(&graph, edges));
-    graph.remove_all(rt, alloc, workers, edges)?;
+    graph.par_remove_all(rt, alloc, workers, edges)?;
     assert_shape(rt, &graph, 2, v, without);
     Ok(())
 }

@@ -4,7 +4,7 @@ use Rattle.kc_graph.specs.Changes.{CanRemove}
 use Rattle.kc_graph.specs.private.Halves.{AreTaken}
 use Rattle.kc_graph.proofs.ChangeLemmas.{can_remove_ascending}
 use Rattle.kc_graph.proofs.GivenLemmas.{graph_of, halves_inside, kept_taken, graph_taken, no_more_edges}
-use Rattle.kc_graph.proofs.graphs.Graph.remove_all.Goals as goal
+use Rattle.kc_graph.proofs.graphs.Graph.par_remove_all.Goals as goal
 
 pub take_by-requires-after_bounds : goal.take_by-requires-after_bounds
 take_by-requires-after_bounds g c κs within = λ v x there.
