@@ -22,22 +22,24 @@ fn text_of(alloc: Global, source: GenSource, piece: usize) -> Result<Vec<u8>, Fa
     Ok(text)
 }
 
-// A load has this text, whatever the pieces.
-fn expect_text<R: Abort>(
-    rt: &R,
-    alloc: Global,
+// A load, and the text that it is to have.
+#[derive(Drop)]
+struct Load<'a> {
     seed: u32,
     n: u32,
     batches: u32,
     items: u32,
-    wanted: &[u8],
-) -> Result<(), Fail>
-    requires { IsLoad n batches items }
+    text: &'a [u8],
+}
+
+// The load has its text, whatever the pieces.
+fn expect_text<R: Abort>(rt: &R, alloc: Global, load: &Load<'_>) -> Result<(), Fail>
+    requires { IsLoad load.now.n load.now.batches load.now.items }
 {
     for piece in [1, 7, 64, 1000] {
-        let source = GenSource::new(seed, n, batches, items);
+        let source = GenSource::new(load.seed, load.n, load.batches, load.items);
         let text = text_of(alloc, source, piece)?;
-        assert_eq!(rt; text.as_slice(), wanted);
+        assert_eq!(rt; text.as_slice(), load.text);
     }
     Ok(())
 }
@@ -49,40 +51,48 @@ fn loads_in_any_pieces(rt: HostRuntime) -> Result<(), Fail> {
     expect_text(
         &rt,
         alloc,
-        4_294_967_295,
-        17,
-        2,
-        2,
-        b"kcore 1\nvertices 17\nask 4 0 1 2 3 4 5 6 7 8 9 10 11 12 13 14 15\nask 4 0 1 2 3 4 5 6 7 8 9 10 11 12 13 14 15\nbatch\n- 14 3\n+ 4 14\nend\nbatch\n+ 2 3\n+ 8 14\nend\n",
+        &Load {
+            seed: 4_294_967_295,
+            n: 17,
+            batches: 2,
+            items: 2,
+            text: b"kcore 1\nvertices 17\nask 4 0 1 2 3 4 5 6 7 8 9 10 11 12 13 14 15\nask 4 0 1 2 3 4 5 6 7 8 9 10 11 12 13 14 15\nbatch\n- 14 3\n+ 4 14\nend\nbatch\n+ 2 3\n+ 8 14\nend\n",
+        },
     )?;
     // One vertex.
     expect_text(
         &rt,
         alloc,
-        7,
-        1,
-        1,
-        1,
-        b"kcore 1\nvertices 1\nask 4 0\nask 4 0\nbatch\n- 0 0\nend\n",
+        &Load {
+            seed: 7,
+            n: 1,
+            batches: 1,
+            items: 1,
+            text: b"kcore 1\nvertices 1\nask 4 0\nask 4 0\nbatch\n- 0 0\nend\n",
+        },
     )?;
     // As many vertices as a graph may have.
     expect_text(
         &rt,
         alloc,
-        1,
-        16_777_216,
-        1,
-        3,
-        b"kcore 1\nvertices 16777216\nask 4 0 1 2 3 4 5 6 7 8 9 10 11 12 13 14 15\nask 4 0 1 2 3 4 5 6 7 8 9 10 11 12 13 14 15\nbatch\n+ 3967065 6195333\n+ 11825978 847981\n+ 12998365 9331295\nend\n",
+        &Load {
+            seed: 1,
+            n: 16_777_216,
+            batches: 1,
+            items: 3,
+            text: b"kcore 1\nvertices 16777216\nask 4 0 1 2 3 4 5 6 7 8 9 10 11 12 13 14 15\nask 4 0 1 2 3 4 5 6 7 8 9 10 11 12 13 14 15\nbatch\n+ 3967065 6195333\n+ 11825978 847981\n+ 12998365 9331295\nend\n",
+        },
     )?;
     // Batches without items.
     expect_text(
         &rt,
         alloc,
-        3,
-        2,
-        3,
-        0,
-        b"kcore 1\nvertices 2\nask 4 0 1\nask 4 0 1\nbatch\nend\nbatch\nend\nbatch\nend\n",
+        &Load {
+            seed: 3,
+            n: 2,
+            batches: 3,
+            items: 0,
+            text: b"kcore 1\nvertices 2\nask 4 0 1\nask 4 0 1\nbatch\nend\nbatch\nend\nbatch\nend\n",
+        },
     )
 }
