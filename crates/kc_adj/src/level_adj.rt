@@ -13,6 +13,7 @@ use kc_levels::{Levels, Thresholds};
 use std::alloc::{AllocError, Global};
 use std::marker::Model;
 use std::sync::ledger::Ledger;
+use std::thread::Threads;
 
 /// A graph with a level for each vertex, where for each vertex the number of neighbours on its level or above, and on the
 /// level below or above, is at hand.
@@ -212,13 +213,16 @@ impl LevelAdj {
     ///
     /// Counts 3 steps an edge. Fails only if memory runs out, and all is then unchanged, the steps too.
     ///
-    /// Costs what `Graph::insert_all` costs.
-    pub fn link_all<L: Ledger>(
+    /// Costs what `Graph::insert_all` costs. `workers` is 1 to 64, and nothing but the time depends on it.
+    pub fn link_all<R: Threads + Sync, L: Ledger>(
         &mut self,
+        rt: &R,
         alloc: Global,
+        workers: u32,
         edges: &[Edge],
         steps: &mut Steps<L>,
     ) -> Result<(), AllocError>
+        requires few_workers { (1 ≤ workers) × (workers ≤ 64) }
         requires ascending { EdgesFrom self.old.graph.vertices 0 0 edges.now }
         requires absent { AllAbsent self.old.graph edges.now }
         requires room { length self.old.graph.edges + length edges.now ≤ MAX_EDGES }
@@ -228,7 +232,7 @@ impl LevelAdj {
         ensures steps_kept { OnErr result (steps.new ≡ steps.old) }
     {
         let _n = self.graph.vertices();
-        self.graph.insert_all(alloc, edges)?;
+        self.graph.insert_all(rt, alloc, workers, edges)?;
         links::link_all(&self.graph, &self.levels, &mut self.counts, edges);
         steps.add(edges.len());
         steps.add(edges.len());
@@ -240,13 +244,16 @@ impl LevelAdj {
     ///
     /// Counts 3 steps an edge. Fails only if memory runs out, and all is then unchanged, the steps too.
     ///
-    /// Costs what `Graph::remove_all` costs.
-    pub fn unlink_all<L: Ledger>(
+    /// Costs what `Graph::remove_all` costs. `workers` is 1 to 64, and nothing but the time depends on it.
+    pub fn unlink_all<R: Threads + Sync, L: Ledger>(
         &mut self,
+        rt: &R,
         alloc: Global,
+        workers: u32,
         edges: &[Edge],
         steps: &mut Steps<L>,
     ) -> Result<(), AllocError>
+        requires few_workers { (1 ≤ workers) × (workers ≤ 64) }
         requires ascending { EdgesFrom self.old.graph.vertices 0 0 edges.now }
         requires present { AllPresent self.old.graph edges.now }
         ensures ok { OnOk result (self.new ≡ record self.old { graph = without_edges self.old.graph edges.now }) }
@@ -255,7 +262,7 @@ impl LevelAdj {
         ensures steps_kept { OnErr result (steps.new ≡ steps.old) }
     {
         let _n = self.graph.vertices();
-        self.graph.remove_all(alloc, edges)?;
+        self.graph.remove_all(rt, alloc, workers, edges)?;
         links::unlink_all(&self.graph, &self.levels, &mut self.counts, edges);
         steps.add(edges.len());
         steps.add(edges.len());

@@ -73,6 +73,18 @@ impl<'a, R: Threads + Sync, G: Gate + Sync> Rounds<'a, R, G> {
         }
     }
 
+    /// What starts the threads.
+    pub fn runtime(&self) -> &R {
+        self.rt
+    }
+
+    /// The number of workers that rounds may use, 1 to 64.
+    pub fn workers(&self) -> u32
+        ensures { (1 ≤ result) × (result ≤ 64) }
+    {
+        self.workers
+    }
+
     /// One round: the candidates that pass, in order (`filter_round`). A round without candidates leaves a first one still to come.
     /// Fails only if memory runs out.
     pub fn movers<F: RoundTest + Sync>(
