@@ -9,8 +9,10 @@ ghost use Rattle.kc_insert.specs.private.BucketQueue.{IsFiling};
 use kc_adj::{LevelAdj, LevelLists, Steps};
 use kc_graph::{Edge, MAX_EDGES};
 use kc_levels::{Levels, Thresholds};
+use kc_rounds::{Gate, Rounds};
 use std::alloc::{AllocError, Global};
 use std::sync::ledger::Ledger;
+use std::thread::Threads;
 
 // The least number of edges whose halves are worth a sort, so that the row of each vertex is gone through once.
 const LEAST_TOGETHER: usize = 8_192;
@@ -32,10 +34,11 @@ fn link_each<L: Ledger>(
     Ok(())
 }
 
-/// Links the edges, which ascend. Levels stay. Counts 3 steps for each edge.
+/// Links the edges, which ascend, and many of them by the workers of `rounds`. Levels stay. Counts 3 steps for each edge.
 ///
 /// Fails only if memory runs out; the graph is then unspecified.
-pub fn link_edges<L: Ledger>(
+pub fn link_edges<R: Threads + Sync, G: Gate + Sync, L: Ledger>(
+    rounds: &Rounds<R, G>,
     alloc: Global,
     adj: &mut LevelAdj,
     added: &[Edge],
@@ -51,7 +54,7 @@ pub fn link_edges<L: Ledger>(
         link_each(alloc, adj, added, steps)?;
         return Ok(());
     }
-    adj.link_all(alloc, added, steps)?;
+    adj.link_all(rounds.runtime(), alloc, rounds.workers(), added, steps)?;
     Ok(())
 }
 

@@ -76,7 +76,7 @@ pub fn insert_phase<R: Threads + Sync, G: Gate + Sync, L: Ledger>(
 {
     let _levels = adj.levels();
     let _top = th.top();
-    link_edges(alloc, adj, added, steps)?;
+    link_edges(rounds, alloc, adj, added, steps)?;
     let counted = &mut work.sweep.counted;
     file_ends(
         th,
