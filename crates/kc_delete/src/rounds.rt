@@ -38,8 +38,9 @@ fn unlink_each<L: Ledger>(adj: &mut LevelAdj, removed: &[Edge], steps: &mut Step
     }
 }
 
-// Takes the edges out. Levels stay. Fails only if memory runs out.
-fn unlink_edges<L: Ledger>(
+// Takes the edges out, many of them by the workers of `rounds`. Levels stay. Fails only if memory runs out.
+fn unlink_edges<R: Threads + Sync, G: Gate + Sync, L: Ledger>(
+    rounds: &Rounds<R, G>,
     alloc: Global,
     adj: &mut LevelAdj,
     removed: &[Edge],
@@ -53,7 +54,7 @@ fn unlink_edges<L: Ledger>(
         unlink_each(adj, removed, steps);
         return Ok(());
     }
-    adj.unlink_all(alloc, removed, steps)?;
+    adj.unlink_all(rounds.runtime(), alloc, rounds.workers(), removed, steps)?;
     Ok(())
 }
 
@@ -123,7 +124,7 @@ pub fn delete_phase<R: Threads + Sync, G: Gate + Sync, L: Ledger>(
 {
     let _n = adj.graph().vertices();
     let _levels = adj.levels();
-    unlink_edges(alloc, adj, removed, steps)?;
+    unlink_edges(rounds, alloc, adj, removed, steps)?;
     add_short_ends(adj, th, removed, &mut work.waiting)?;
     settle(rounds, th, adj, work, steps)?;
     let moves = work.fallen.take_moves(alloc, adj.levels())?;
