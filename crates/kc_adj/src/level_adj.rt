@@ -213,7 +213,7 @@ impl LevelAdj {
     ///
     /// Counts 3 steps an edge. Fails only if memory runs out, and all is then unchanged, the steps too.
     ///
-    /// Costs what `Graph::insert_all` costs. `workers` is 1 to 64, and nothing but the time depends on it.
+    /// Costs what `Graph::par_insert_all` costs. `workers` is 1 to 64, and nothing but the time depends on it.
     pub fn link_all<R: Threads + Sync, L: Ledger>(
         &mut self,
         rt: &R,
@@ -232,7 +232,7 @@ impl LevelAdj {
         ensures steps_kept { OnErr result (steps.new ≡ steps.old) }
     {
         let _n = self.graph.vertices();
-        self.graph.insert_all(rt, alloc, workers, edges)?;
+        self.graph.par_insert_all(rt, alloc, workers, edges)?;
         links::link_all(&self.graph, &self.levels, &mut self.counts, edges);
         steps.add(edges.len());
         steps.add(edges.len());
@@ -244,7 +244,7 @@ impl LevelAdj {
     ///
     /// Counts 3 steps an edge. Fails only if memory runs out, and all is then unchanged, the steps too.
     ///
-    /// Costs what `Graph::remove_all` costs. `workers` is 1 to 64, and nothing but the time depends on it.
+    /// Costs what `Graph::par_remove_all` costs. `workers` is 1 to 64, and nothing but the time depends on it.
     pub fn unlink_all<R: Threads + Sync, L: Ledger>(
         &mut self,
         rt: &R,
@@ -262,7 +262,7 @@ impl LevelAdj {
         ensures steps_kept { OnErr result (steps.new ≡ steps.old) }
     {
         let _n = self.graph.vertices();
-        self.graph.remove_all(rt, alloc, workers, edges)?;
+        self.graph.par_remove_all(rt, alloc, workers, edges)?;
         links::unlink_all(&self.graph, &self.levels, &mut self.counts, edges);
         steps.add(edges.len());
         steps.add(edges.len());
