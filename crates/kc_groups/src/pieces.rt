@@ -12,8 +12,8 @@ use std::alloc::{AllocError, Global};
 use std::thread;
 use std::thread::Threads;
 
-// The moves are cut into no more pieces than they have full ones of this length: to start a thread and to join it, and to unite
-// its forest with the others, costs as much as the rows of some thousands of moves.
+// The moves are cut into no more pieces than they have full ones of this length: a piece is to cost far more than to start a thread and
+// to join it, and to unite its forest with the others.
 const LEAST_LINKED: usize = 8_192;
 
 // The forest of a piece is over all moves, 4 bytes each, and is united with the others in one thread.
