@@ -238,7 +238,8 @@ fn path(alloc: Global) -> Result<Graph, AllocError>
     ensures { IfOk result (λ g. g.vertices ≡ 5) }
 {
     let mut graph = Graph::new(alloc, 5)?;
-    graph.insert_all(alloc, &[Edge { a: 0, b: 1 }, Edge { a: 1, b: 2 }])?;
+    graph.insert(alloc, Edge { a: 0, b: 1 })?;
+    graph.insert(alloc, Edge { a: 1, b: 2 })?;
     Ok(graph)
 }
 

@@ -214,6 +214,7 @@ fn pieces_are_told_before_they_are_tested(rt: HostRuntime) -> Result<(), Fail> {
 fn later_short_rounds_have_one_piece(rt: HostRuntime) -> Result<(), Fail> {
     let gate = Told::new();
     let rounds = Rounds::new(&rt, rt.alloc(), &gate, 3);
+    assert_eq!(rt; rounds.workers(), 3);
     let mut first = FirstRound::new();
     for (candidates, kept, pieces) in [
         ([].as_slice(), [].as_slice(), 0),
