@@ -12,6 +12,36 @@ use std::thread::{Threads, join_mut};
 // Where a part has fewer halves, no thread is made for it: to start one and to join it costs as much as some thousand halves.
 const LEAST_PART: usize = 16_384;
 
+// Who goes through the halves.
+#[derive(Drop)]
+struct Crew<'a, R> {
+    rt: &'a R,
+    // Up to how many threads do it; 0 counts as 1.
+    threads: u32,
+    // Halves that are fewer than twice as many aren't cut into parts.
+    least: usize,
+}
+
+impl<'a, R> Crew<'a, R> {
+    // The same with so many threads.
+    fn with(&self, threads: u32) -> Crew<'a, R>
+        ensures { result.threads ≡ threads }
+    {
+        Crew {
+            rt: self.rt,
+            threads,
+            least: self.least,
+        }
+    }
+}
+
+// Halves of vertices from `first` on; the first of the rows that they are for is that of `first`.
+#[derive(Clone, Copy)]
+struct Part<'a> {
+    first: u32,
+    halves: &'a [Half],
+}
+
 // How many halves stand before the first one whose vertex is v or greater.
 fn len_below(halves: &[Half], v: u32) -> usize
     ensures within { result ≤ length halves.now }
@@ -50,118 +80,116 @@ fn cut(halves: &[Half]) -> Option<(usize, u32)>
     }
 }
 
-// As `give_all` says, by up to so many threads, where the halves are twice the least number of a part or more. Each thread has the
-// rows of vertices that follow one another for itself, and the halves of these.
+// As `give_all` says, by the threads of the crew, where the halves are enough to be cut. Each thread has the rows of vertices that
+// follow one another for itself, and the halves of these.
 #[cycle(giving)]
 fn give_parts<R: Threads + Sync>(
-    rt: &R,
-    threads: u32,
-    least: usize,
-    first: u32,
-    halves: &[Half],
+    crew: &Crew<'_, R>,
+    part: Part<'_>,
     rows: &mut [Row],
 ) -> Result<(), AllocError>
-    requires { AreInside first (length rows.old) halves.now }
-    ensures ok { OnOk result (AreGiven first rows.old rows.new halves.now) }
-    ensures some { AreGivenSome first rows.old rows.new halves.now }
+    requires { AreInside part.first (length rows.old) part.halves.now }
+    ensures ok { OnOk result (AreGiven part.entry.first rows.old rows.new part.entry.halves.now) }
+    ensures some { AreGivenSome part.entry.first rows.old rows.new part.entry.halves.now }
 {
-    if threads >= 2 && least <= halves.len() / 2 {
-        if let Some((len, v)) = cut(halves) {
-            let (low, high) = halves.split_at(len);
-            let (front, back) = rows.split_at_mut((v - first) as usize);
-            return give_both(rt, threads, least, first, low, v, high, front, back);
+    if crew.threads >= 2 && crew.least <= part.halves.len() / 2 {
+        if let Some((len, v)) = cut(part.halves) {
+            let (low, high) = part.halves.split_at(len);
+            let low = Part {
+                first: part.first,
+                halves: low,
+            };
+            let high = Part {
+                first: v,
+                halves: high,
+            };
+            let (front, back) = rows.split_at_mut((v - part.first) as usize);
+            return give_both(crew, low, high, front, back);
         }
     }
-    give_all(first, halves, rows)
+    give_all(part.first, part.halves, rows)
 }
 
 #[cycle(giving)]
 fn give_both<R: Threads + Sync>(
-    rt: &R,
-    threads: u32,
-    least: usize,
-    first: u32,
-    low: &[Half],
-    v: u32,
-    high: &[Half],
+    crew: &Crew<'_, R>,
+    low: Part<'_>,
+    high: Part<'_>,
     front: &mut [Row],
     back: &mut [Row],
 ) -> Result<(), AllocError>
-    requires several { 2 ≤ threads }
-    requires front { AreInside first (length front.old) low.now }
-    requires back { AreInside v (length back.old) high.now }
-    ensures front { OnOk result (AreGiven first front.old front.new low.now) }
-    ensures back { OnOk result (AreGiven v back.old back.new high.now) }
-    ensures some_front { AreGivenSome first front.old front.new low.now }
-    ensures some_back { AreGivenSome v back.old back.new high.now }
+    requires several { 2 ≤ crew.now.threads }
+    requires front { AreInside low.first (length front.old) low.halves.now }
+    requires back { AreInside high.first (length back.old) high.halves.now }
+    ensures front { OnOk result (AreGiven low.entry.first front.old front.new low.entry.halves.now) }
+    ensures back { OnOk result (AreGiven high.entry.first back.old back.new high.entry.halves.now) }
+    ensures some_front { AreGivenSome low.entry.first front.old front.new low.entry.halves.now }
+    ensures some_back { AreGivenSome high.entry.first back.old back.new high.entry.halves.now }
 {
     let mut left = || -> Result<(), AllocError>
-        requires { IsSync R.row × (2 ≤ threads) × AreInside first (length front.now) low.now }
-        ensures ok { OnOk result (AreGiven first front.entry.now front.exit.now low.entry.now) }
-        ensures some { AreGivenSome first front.entry.now front.exit.now low.entry.now }
-    { give_parts(rt, threads / 2, least, first, low, front) };
+        requires { IsSync R.row × (2 ≤ crew.now.threads) × AreInside low.first (length front.now) low.halves.now }
+        ensures ok { OnOk result (AreGiven low.entry.first front.entry.now front.exit.now low.entry.halves.now) }
+        ensures some { AreGivenSome low.entry.first front.entry.now front.exit.now low.entry.halves.now }
+    { give_parts(&crew.with(crew.threads / 2), low, front) };
     let mut right = || -> Result<(), AllocError>
-        requires { IsSync R.row × (2 ≤ threads) × AreInside v (length back.now) high.now }
-        ensures ok { OnOk result (AreGiven v back.entry.now back.exit.now high.entry.now) }
-        ensures some { AreGivenSome v back.entry.now back.exit.now high.entry.now }
-    { give_parts(rt, threads - threads / 2, least, v, high, back) };
-    let (given_front, given_back) = join_mut(rt, &mut left, &mut right);
+        requires { IsSync R.row × (2 ≤ crew.now.threads) × AreInside high.first (length back.now) high.halves.now }
+        ensures ok { OnOk result (AreGiven high.entry.first back.entry.now back.exit.now high.entry.halves.now) }
+        ensures some { AreGivenSome high.entry.first back.entry.now back.exit.now high.entry.halves.now }
+    { give_parts(&crew.with(crew.threads - crew.threads / 2), high, back) };
+    let (given_front, given_back) = join_mut(crew.rt, &mut left, &mut right);
     given_front?;
     given_back
 }
 
-// As `take_all` says, by up to so many threads, where the halves are twice the least number of a part or more. Each thread has the
-// rows of vertices that follow one another for itself, and the halves of these.
+// As `take_all` says, by the threads of the crew, where the halves are enough to be cut. Each thread has the rows of vertices that
+// follow one another for itself, and the halves of these.
 #[cycle(taking)]
-fn take_parts<R: Threads + Sync>(
-    rt: &R,
-    threads: u32,
-    least: usize,
-    first: u32,
-    halves: &[Half],
-    rows: &mut [Row],
-)
-    requires { AreInside first (length rows.old) halves.now }
-    ensures { AreTaken first rows.old rows.new halves.now }
+fn take_parts<R: Threads + Sync>(crew: &Crew<'_, R>, part: Part<'_>, rows: &mut [Row])
+    requires { AreInside part.first (length rows.old) part.halves.now }
+    ensures { AreTaken part.entry.first rows.old rows.new part.entry.halves.now }
 {
-    if threads >= 2 && least <= halves.len() / 2 {
-        if let Some((len, v)) = cut(halves) {
-            let (low, high) = halves.split_at(len);
-            let (front, back) = rows.split_at_mut((v - first) as usize);
-            take_both(rt, threads, least, first, low, v, high, front, back);
+    if crew.threads >= 2 && crew.least <= part.halves.len() / 2 {
+        if let Some((len, v)) = cut(part.halves) {
+            let (low, high) = part.halves.split_at(len);
+            let low = Part {
+                first: part.first,
+                halves: low,
+            };
+            let high = Part {
+                first: v,
+                halves: high,
+            };
+            let (front, back) = rows.split_at_mut((v - part.first) as usize);
+            take_both(crew, low, high, front, back);
             return;
         }
     }
-    take_all(first, halves, rows);
+    take_all(part.first, part.halves, rows);
 }
 
 #[cycle(taking)]
 fn take_both<R: Threads + Sync>(
-    rt: &R,
-    threads: u32,
-    least: usize,
-    first: u32,
-    low: &[Half],
-    v: u32,
-    high: &[Half],
+    crew: &Crew<'_, R>,
+    low: Part<'_>,
+    high: Part<'_>,
     front: &mut [Row],
     back: &mut [Row],
 )
-    requires several { 2 ≤ threads }
-    requires front { AreInside first (length front.old) low.now }
-    requires back { AreInside v (length back.old) high.now }
-    ensures front { AreTaken first front.old front.new low.now }
-    ensures back { AreTaken v back.old back.new high.now }
+    requires several { 2 ≤ crew.now.threads }
+    requires front { AreInside low.first (length front.old) low.halves.now }
+    requires back { AreInside high.first (length back.old) high.halves.now }
+    ensures front { AreTaken low.entry.first front.old front.new low.entry.halves.now }
+    ensures back { AreTaken high.entry.first back.old back.new high.entry.halves.now }
 {
     let mut left = ||
-        requires { IsSync R.row × (2 ≤ threads) × AreInside first (length front.now) low.now }
-        ensures { AreTaken first front.entry.now front.exit.now low.entry.now }
-    { take_parts(rt, threads / 2, least, first, low, front) };
+        requires { IsSync R.row × (2 ≤ crew.now.threads) × AreInside low.first (length front.now) low.halves.now }
+        ensures { AreTaken low.entry.first front.entry.now front.exit.now low.entry.halves.now }
+    { take_parts(&crew.with(crew.threads / 2), low, front) };
     let mut right = ||
-        requires { IsSync R.row × (2 ≤ threads) × AreInside v (length back.now) high.now }
-        ensures { AreTaken v back.entry.now back.exit.now high.entry.now }
-    { take_parts(rt, threads - threads / 2, least, v, high, back) };
-    join_mut(rt, &mut left, &mut right);
+        requires { IsSync R.row × (2 ≤ crew.now.threads) × AreInside high.first (length back.now) high.halves.now }
+        ensures { AreTaken high.entry.first back.entry.now back.exit.now high.entry.halves.now }
+    { take_parts(&crew.with(crew.threads - crew.threads / 2), high, back) };
+    join_mut(crew.rt, &mut left, &mut right);
 }
 
 /// Puts the other end of each half into the row of its vertex; the rows are those of all vertices. After a refusal some may have been put
@@ -193,7 +221,15 @@ pub fn give_by<R: Threads + Sync>(
     ensures ok { OnOk result (AreGiven 0 rows.old.items rows.new.items halves.now) }
     ensures some { AreGivenSome 0 rows.old.items rows.new.items halves.now }
 {
-    give_parts(rt, threads, LEAST_PART, 0, halves, rows.as_mut_slice())
+    give_parts(
+        &Crew {
+            rt,
+            threads,
+            least: LEAST_PART,
+        },
+        Part { first: 0, halves },
+        rows.as_mut_slice(),
+    )
 }
 
 /// As `take_alone`. Where the halves are many, up to so many threads do it, each at rows of its own.
@@ -201,7 +237,15 @@ pub fn take_by<R: Threads + Sync>(rt: &R, threads: u32, halves: &[Half], rows: &
     requires { AreInside 0 (length rows.old.items) halves.now }
     ensures { AreTaken 0 rows.old.items rows.new.items halves.now }
 {
-    take_parts(rt, threads, LEAST_PART, 0, halves, rows.as_mut_slice());
+    take_parts(
+        &Crew {
+            rt,
+            threads,
+            least: LEAST_PART,
+        },
+        Part { first: 0, halves },
+        rows.as_mut_slice(),
+    );
 }
 
 #[cfg(test)]

@@ -74,10 +74,16 @@ fn check_parts<R: Abort + Threads + Sync>(
 ) -> Result<(), Fail> {
     let mut rows = rows_before(alloc)?;
     assert!(rt; rows.len() == 5 && are_inside(halves, 5));
-    give_parts(rt, threads, 1, 0, halves, rows.as_mut_slice())?;
+    let crew = Crew {
+        rt,
+        threads,
+        least: 1,
+    };
+    let part = Part { first: 0, halves };
+    give_parts(&crew, part, rows.as_mut_slice())?;
     assert_rows(rt, &rows, &AFTER);
     assert!(rt; rows.len() == 5);
-    take_parts(rt, threads, 1, 0, halves, rows.as_mut_slice());
+    take_parts(&crew, part, rows.as_mut_slice());
     assert_rows(rt, &rows, &BEFORE);
     Ok(())
 }
