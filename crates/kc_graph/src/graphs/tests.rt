@@ -137,15 +137,21 @@ fn are_absent(graph: &Graph, edges: &[Edge]) -> bool
     true
 }
 
-// Puts 0-2, 1-3 and then the edges into a graph on 5 vertices, and takes them out again. Each row is as these edges say.
+// The neighbours that a vertex is to have where edges are there, and where they aren't.
+#[derive(Drop)]
+struct Wanted<'a> {
+    v: u32,
+    with: &'a [u32],
+    without: &'a [u32],
+}
+
+// Puts 0-2, 1-3 and then the edges into a graph on 5 vertices, and takes them out again. A row is as it is wanted.
 fn check_together<R: Abort + Threads + Sync>(
     rt: &R,
     alloc: Global,
     workers: u32,
     edges: &[Edge],
-    v: u32,
-    with: &[u32],
-    without: &[u32],
+    wanted: &Wanted<'_>,
 ) -> Result<(), Fail>
     requires ascending { EdgesFrom 5 0 0 edges.now }
     requires few { length edges.now ≤ 10 }
@@ -157,11 +163,11 @@ fn check_together<R: Abort + Threads + Sync>(
     assert!(rt; graph.vertices() == 5 && graph.edge_count() == 2);
     assert!(rt; are_absent(&graph, edges));
     graph.par_insert_all(rt, alloc, workers, edges)?;
-    assert_shape(rt, &graph, 2 + edges.len(), v, with);
+    assert_shape(rt, &graph, 2 + edges.len(), wanted.v, wanted.with);
     assert!(rt; graph.vertices() == 5);
     assert!(rt; are_present(&graph, edges));
     graph.par_remove_all(rt, alloc, workers, edges)?;
-    assert_shape(rt, &graph, 2, v, without);
+    assert_shape(rt, &graph, 2, wanted.v, wanted.without);
     Ok(())
 }
 
@@ -175,8 +181,48 @@ const TOGETHER: [Edge; 5] = [
 
 #[test]
 fn edges_come_and_leave_together(rt: HostRuntime) -> Result<(), Fail> {
-    check_together(&rt, rt.alloc(), 1, &TOGETHER, 0, &[1, 2, 3, 4], &[2])?;
-    check_together(&rt, rt.alloc(), 1, &TOGETHER, 2, &[0, 1, 3], &[0])?;
-    check_together(&rt, rt.alloc(), 3, &TOGETHER, 3, &[0, 1, 2], &[1])?;
-    check_together(&rt, rt.alloc(), 64, &TOGETHER, 4, &[0], &[])
+    check_together(
+        &rt,
+        rt.alloc(),
+        1,
+        &TOGETHER,
+        &Wanted {
+            v: 0,
+            with: &[1, 2, 3, 4],
+            without: &[2],
+        },
+    )?;
+    check_together(
+        &rt,
+        rt.alloc(),
+        1,
+        &TOGETHER,
+        &Wanted {
+            v: 2,
+            with: &[0, 1, 3],
+            without: &[0],
+        },
+    )?;
+    check_together(
+        &rt,
+        rt.alloc(),
+        3,
+        &TOGETHER,
+        &Wanted {
+            v: 3,
+            with: &[0, 1, 2],
+            without: &[1],
+        },
+    )?;
+    check_together(
+        &rt,
+        rt.alloc(),
+        64,
+        &TOGETHER,
+        &Wanted {
+            v: 4,
+            with: &[0],
+            without: &[],
+        },
+    )
 }
