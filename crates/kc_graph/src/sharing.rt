@@ -9,7 +9,7 @@ use crate::rows::Row;
 use std::alloc::AllocError;
 use std::thread::{Threads, join_mut};
 
-// Where a part has fewer halves, no thread is made for it: to start one and to join it costs as much as some thousand halves.
+// Fewer than twice so many halves aren't cut: to start threads and to join them costs about a hundred microseconds.
 const LEAST_PART: usize = 16_384;
 
 // Who goes through the halves.
