@@ -96,10 +96,15 @@ def long_texts(kserve):
             trial.ended(f"{kind} {number}", ended, {fault: how} if ended.calls["failed"] else {status: "whole"}, whole)
         yield trial
     trial = Trial("kserve 3, four clients with 11,510 updates, one allocation refused")
-    count = kserve.program.run(["3"], data, Failing()).calls["allocations"]
+    begun = kserve.program.run(["3"], data, Failing()).calls
+    count = begun["allocations"]
     for number in range(1, count, count // 100 + 1):
         ended = kserve.program.run(["3"], data, Failing("allocation", number, error=errno.ENOMEM))
-        trial.ended(f"allocation {number}", ended, {NO_MEMORY: "prefix", **({} if ended.calls["failed"] else {status: "whole"})}, whole)
+        wanted = {NO_MEMORY: "prefix"}
+        if not ended.calls["failed"] or ended.calls["threads"] < begun["threads"]:
+            # If one failed, it was the memory of a thread, whose part is done without it.
+            wanted[status] = "whole"
+        trial.ended(f"allocation {number}", ended, wanted, whole)
     trial.notes.append(f"of about {count}")
     yield trial
 
