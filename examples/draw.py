@@ -63,18 +63,30 @@ class RunText:
 def edges_of(path, refused):
     """The edges after the last batch of an input, in which the batches with these numbers are refused."""
     edges, batch, number = set(), None, 0
+    for words in lines_after_header(path):
+        if batch is None:
+            # Any line begins a batch; one that isn't `batch` is a fault of it.
+            batch, number = set(edges), number + 1
+            if words == ["batch"]:
+                continue
+        if words == ["end"]:
+            edges, batch = edges if number in refused else batch, None
+        elif number not in refused:
+            change(batch, words)
+    return edges
+
+
+def lines_after_header(path):
+    """The words of each line after the header of an input, but for empty lines and comments."""
+    in_header = True
     with open(path, encoding="ascii") as file:
         for line in file:
             words = line.split()
             if not words or words[0].startswith("#"):
                 continue
-            if words == ["batch"]:
-                batch, number = set(edges), number + 1
-            elif words == ["end"]:
-                edges, batch = edges if number in refused else batch, None
-            elif batch is not None and number not in refused:
-                change(batch, words)
-    return edges
+            in_header = in_header and words[0] in ("kcore", "vertices", "ask")
+            if not in_header:
+                yield words
 
 
 def change(edges, words):
