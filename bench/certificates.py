@@ -11,12 +11,14 @@ batches of 1,000,000. Prints seconds of processor time, each of the best of N ru
                   difference of two runs
 - check           of what `final` wrote, and the ratio to `read`
 
-It judges nothing: times on a shared machine are ratios at best.
+With each peak memory. It judges nothing: times on a shared machine are ratios at best.
 """
 import argparse
+import multiprocessing
 import os
 import random
 import subprocess
+import sys
 import tempfile
 
 from bench import in_batches, input_path, run_once, write_input
@@ -35,22 +37,44 @@ def edges_by_chance(n, m):
     return list(edges)
 
 
-def best(program, words, path, runs):
-    return min(run_once(program, words, path)[0] for _ in range(runs))
-
-
-def print_row(program, folder, n, m, runs):
+def make_inputs(folder, n, m):
     batches = in_batches(edges_by_chance(n, m), BATCH)
     write_input(folder, "once", n, batches)
     write_input(folder, "twice", n, batches * 2)
-    once, twice, certificate = (input_path(folder, name) for name in ("once", "twice", "certificate"))
+
+
+def best(program, words, path, runs):
+    """The least seconds, and the most MiB."""
+    results = [run_once(program, words, path) for _ in range(runs)]
+    return min(seconds for seconds, _, _ in results), max(memory for _, memory, _ in results) / 1024
+
+
+def certify(program, once, certificate):
+    """What `final` writes of an input, which `check` has to certify."""
     with open(once, "rb") as source, open(certificate, "wb") as sink:
         subprocess.run([program, "final", "1"], stdin=source, stdout=sink, check=True)
-    run, final = best(program, ["run", "1"], once, runs), best(program, ["final", "1"], once, runs)
-    read, check = best(program, ["run", "1"], twice, runs) - run, best(program, ["check"], certificate, runs)
+    with open(certificate, "rb") as source:
+        said = subprocess.run([program, "check"], stdin=source, capture_output=True, check=True).stdout
+    if not said.startswith(b"certified "):
+        sys.exit(f"{program} check says {said!r} of what final wrote")
+
+
+def print_row(program, folder, n, m, runs):
+    # In a process of its own: the memory of this one would count as that of the programs that it starts.
+    maker = multiprocessing.Process(target=make_inputs, args=(folder, n, m))
+    maker.start()
+    maker.join()
+    if maker.exitcode != 0:
+        sys.exit("the inputs couldn't be made")
+    once, twice, certificate = (input_path(folder, name) for name in ("once", "twice", "certificate"))
+    certify(program, once, certificate)
+    run, run_memory = best(program, ["run", "1"], once, runs)
+    final, final_memory = best(program, ["final", "1"], once, runs)
+    read = best(program, ["run", "1"], twice, runs)[0] - run
+    check, check_memory = best(program, ["check"], certificate, runs)
     print(f"{m} edges between {n} vertices")
-    print(f"  run {run:.3f} s, final {final:.3f} s: {final / run:.2f} times")
-    print(f"  read {read:.3f} s, check {check:.3f} s: {check / read:.2f} times", flush=True)
+    print(f"  run {run:.3f} s, {run_memory:.0f} MiB; final {final:.3f} s, {final_memory:.0f} MiB: {final / run:.2f} times")
+    print(f"  read {read:.3f} s; check {check:.3f} s, {check_memory:.0f} MiB: {check / read:.2f} times", flush=True)
 
 
 def main():

@@ -63,6 +63,22 @@ def great_inputs(kcore):
     yield great(kcore, "1 GiB of line feeds", b"", b"\n" * MEBIBYTE, GIBIBYTE, b"refused line %d header\n" % (GIBIBYTE + 1), GIBIBYTE)
 
 
+def great_certificates(kcore):
+    """A misfit is answered where it stands, whatever comes after it and however many edges are promised."""
+    small = b"kcore-cert 1\nprofile 1\nvertices 1\nedges 0\nlevel 0 0\n"
+    comments = b"#" * 63 + b"\n"
+    lines = 6 + (GIBIBYTE - len(small)) // len(comments)
+    yield great(kcore, "comments before the end", small, comments * 16384, GIBIBYTE, b"refused line %d input-limit\n" % lines, command="check")
+    start = small + b"end\n"
+    lines = 7 + (GIBIBYTE - len(start)) // len(comments)
+    yield great(kcore, "comments after the end", start, comments * 16384, GIBIBYTE, b"refused line %d input-limit\n" % lines, command="check")
+    yield great(kcore, "lines after the end", start, b"end\n" * 4096, MEBIBYTE, b"refused line 7 bad-line\n", command="check")
+    promise = b"kcore-cert 1\nprofile 1\nvertices 5\nedges 16777216\n"
+    yield great(kcore, "an edge over and over", promise, b"edge 0 1\n" * 4096, MEBIBYTE, b"refused line 6 bad-line\n", command="check")
+    yield great(kcore, "levels in place of edges", promise, b"level 0 0\n" * 4096, MEBIBYTE, b"refused line 5 bad-line\n", command="check")
+    yield great(kcore, "one line in place of an edge", promise, b"x" * MEBIBYTE, GIBIBYTE, b"refused line 5 line-long\n", command="check")
+
+
 def great(kcore, name, start, more, most, text, size=1 << 40, command="run 1", of=""):
     """Runs a command on a beginning and then this over and over, up to a size. It is refused, and reads not much more than `most`."""
     def pieces():
@@ -109,11 +125,14 @@ def byte_values(kcore):
 def random_inputs(kcore):
     trial = Trial("random bytes, and lines of inputs in a random order")
     chance = random.Random(1)
-    lines = b"".join(example(name) for name in BATCHES).splitlines(True)
     for command in kcore.commands:
+        examples = [example(name) for name in command.inputs]
+        lines = b"".join(examples).splitlines(True) or [b"\n"]
+        heads = [b"".join(data.splitlines(True)[:size]) for data in examples for size in range(1, 6)]
         for _ in range(300):
             some = b"".join(chance.choices(lines, k=chance.randrange(30)))
-            data = chance.choice([chance.randbytes(chance.randrange(300)), some, HEAD + some, HEAD + chance.randbytes(30) + some])
+            head = chance.choice(heads)
+            data = chance.choice([chance.randbytes(chance.randrange(300)), some, head + some, head + chance.randbytes(30) + some])
             ended = kcore.program.run(command.words.split(), data)
             trial.ended(f"{command.words} of {data!r}", ended, {DONE: "whole", REFUSED: "whole"}, ended.text)
     yield trial
@@ -154,4 +173,4 @@ def workers(kcore):
     yield trial
 
 
-TRIALS = [words, workers, cuts, cut_certificates, byte_values, random_inputs, asks_without_end, great_inputs]
+TRIALS = [words, workers, cuts, cut_certificates, byte_values, random_inputs, asks_without_end, great_certificates, great_inputs]
