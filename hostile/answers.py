@@ -3,8 +3,8 @@
 
     hostile/answers.py
 
-Each call of the page has to be there, with each clause that is named beside it; each public call that returns a `Result` has to be
-on the page; and a call of its last section has no allocator in its signature (but those marked so) and no case for want of memory.
+Each call of the page has to be there, with each clause that is named beside it; each public call that returns a `Result` or an `Option` has
+to be on the page; and a call of its last section has no allocator in its signature (but those marked so) and no case for a refusal of memory.
 Prints what is wrong, and a last line that counts; the exit number is 1 where something is wrong.
 """
 import os
@@ -105,9 +105,9 @@ def main():
             continue
         public = exported(crate)
         for name, call in calls_of(crate).items():
-            if call.is_public and name.split("::")[0] in public and "Result<" in call.result and name not in names:
-                if f"{name.split('::')[0]}" in public and not name.endswith("::fmt"):
-                    wrong.append(f"{crate}: {name} isn't on the page")
+            is_answer = call.is_public and re.search("Result<|Option<", call.result)
+            if is_answer and name.split("::")[0] in public and name not in names and not name.endswith("::fmt"):
+                wrong.append(f"{crate}: {name} isn't on the page")
     for what in wrong:
         print(what)
     print(f"{rows} rows, {len(wrong)} wrong")
