@@ -51,13 +51,13 @@ fn status_of(ended: Result<bool, SessionFault>) -> Status
 /// There is one text of `exact`. In each state that the input leads to both invariants hold, and what is printed of a vertex bounds
 /// its coreness likewise; on each line of a vertex it bounds the coreness that stands there.
 ///
-/// There is one text of `final`: the certificate of the last state, in which both invariants hold, and which is the same for every number
-/// of workers. The text of `check` is one line: the verdict of the certificate that the bytes are (`IsVerdict` of `kc_cert`), or the first
+/// There is one text of `final`, the same for every number of workers. Where the header isn't refused it ends in the certificate of the
+/// last state, in which both invariants hold, and within the limit of an input `check` certifies it ([`laws`](crate::laws)). The text of `check` is one line: the verdict of the certificate that the bytes are (`IsVerdict` of `kc_cert`), or the first
 /// line that doesn't fit and why; it is refused where it isn't `certified`.
 ///
 /// The text of `audit` is one line too: whether the group lines of the run that the bytes are explain its readers (`IsVerdict` of
 /// `kc_audit`), or the first line that doesn't fit and why; it is refused where it isn't `explained`. What `run` writes is
-/// explained, where it isn't longer than an input may be ([`laws`](crate::laws)).
+/// explained, where the header isn't refused and the text isn't longer than an input may be ([`laws`](crate::laws)).
 ///
 /// There is one text of `orient` too, whatever the number of workers. The graph after the batches is oriented by the levels after
 /// them: no vertex has more out-neighbours than six times its coreness, and where the header gives the second profile than four
