@@ -57,6 +57,16 @@ for text in *.txt cases/*.txt; do
   [ $? = 0 ] && grep -qx explained "$out" || wrong "$text isn't explained"
 done
 
+# says LINE WORDS.. <DOCUMENT: a document that isn't right is told so.
+says() {
+  "$program" "${@:2}" >"$out"
+  [ $? = 1 ] && echo "$1" | cmp -s - "$out" || wrong "another line of ${*:2} than '$1'"
+}
+says 'upper 2' check <breach.cert
+says 'refused line 1 bad-line' check <karate.txt
+says 'unexplained reader 0 ask 2' audit <unexplained.run
+says 'refused line 1 bad-line' audit <karate.kc
+
 for text in *_dense.txt cases/*_dense.txt; do
   writes "${text%_dense.txt}.kc" "$text" dense
 done

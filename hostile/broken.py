@@ -12,6 +12,7 @@ MOST_MEMORY = 64 * 1024  # KiB, for a small graph
 MEBIBYTE, GIBIBYTE = 1 << 20, 1 << 30
 RUN, CHECK = Command("run 1", BATCHES, False), Command("check", [], False)
 HEAD = b"kcore 1\nvertices 5\n"
+PROMISE = b"kcore-cert 1\nprofile 1\nvertices 5\nedges 16777216\n"
 
 
 def cuts(kcore):
@@ -61,10 +62,26 @@ def great_inputs(kcore):
                 with_refusal(nothing, (1, 4, b"input-limit"), False))
     yield great(kcore, "line feeds without end", b"", b"\n" * MEBIBYTE, GIBIBYTE, b"refused line %d header\n" % (GIBIBYTE + 1))
     yield great(kcore, "1 GiB of line feeds", b"", b"\n" * MEBIBYTE, GIBIBYTE, b"refused line %d header\n" % (GIBIBYTE + 1), GIBIBYTE)
+    for command in "check", "audit":
+        limit, end = (b"refused line %d %s\n" % (GIBIBYTE + 1, reason) for reason in (b"input-limit", b"truncated"))
+        yield great(kcore, "line feeds without end", b"", b"\n" * MEBIBYTE, GIBIBYTE, limit, command=command)
+        yield great(kcore, "1 GiB of line feeds", b"", b"\n" * MEBIBYTE, GIBIBYTE, end, GIBIBYTE, command=command)
+    # A line of a run text may be as long as the whole input, and is kept whole.
+    run = b"kcore-run 1\nvertices 1\n"
+    yield great(kcore, "one line without end", run, b"x" * MEBIBYTE, GIBIBYTE, b"refused line 3 input-limit\n", command="audit", memory=3 << 20)
+    lines = 3 + (GIBIBYTE - len(run)) // len(comments)
+    yield great(kcore, "comments without end", run, comments * 16384, GIBIBYTE, b"refused line %d input-limit\n" % lines, command="audit")
+
+
+def promises(kcore):
+    """A misfit of a certificate is answered where it stands, whatever comes after it and however many edges are promised."""
+    ended = b"kcore-cert 1\nprofile 1\nvertices 1\nedges 0\nlevel 0 0\nend\n"
+    yield great(kcore, "lines after the end", ended, b"end\n" * 4096, MEBIBYTE, b"refused line 7 bad-line\n", command="check")
+    yield great(kcore, "an edge over and over", PROMISE, b"edge 0 1\n" * 4096, MEBIBYTE, b"refused line 6 bad-line\n", command="check")
+    yield great(kcore, "levels in place of edges", PROMISE, b"level 0 0\n" * 4096, MEBIBYTE, b"refused line 5 bad-line\n", command="check")
 
 
 def great_certificates(kcore):
-    """A misfit is answered where it stands, whatever comes after it and however many edges are promised."""
     small = b"kcore-cert 1\nprofile 1\nvertices 1\nedges 0\nlevel 0 0\n"
     comments = b"#" * 63 + b"\n"
     lines = 6 + (GIBIBYTE - len(small)) // len(comments)
@@ -72,15 +89,12 @@ def great_certificates(kcore):
     start = small + b"end\n"
     lines = 7 + (GIBIBYTE - len(start)) // len(comments)
     yield great(kcore, "comments after the end", start, comments * 16384, GIBIBYTE, b"refused line %d input-limit\n" % lines, command="check")
-    yield great(kcore, "lines after the end", start, b"end\n" * 4096, MEBIBYTE, b"refused line 7 bad-line\n", command="check")
-    promise = b"kcore-cert 1\nprofile 1\nvertices 5\nedges 16777216\n"
-    yield great(kcore, "an edge over and over", promise, b"edge 0 1\n" * 4096, MEBIBYTE, b"refused line 6 bad-line\n", command="check")
-    yield great(kcore, "levels in place of edges", promise, b"level 0 0\n" * 4096, MEBIBYTE, b"refused line 5 bad-line\n", command="check")
-    yield great(kcore, "one line in place of an edge", promise, b"x" * MEBIBYTE, GIBIBYTE, b"refused line 5 line-long\n", command="check")
+    yield great(kcore, "one line in place of an edge", PROMISE, b"x" * MEBIBYTE, GIBIBYTE, b"refused line 5 input-limit\n", command="check")
 
 
-def great(kcore, name, start, more, most, text, size=1 << 40, command="run 1", of=""):
-    """Runs a command on a beginning and then this over and over, up to a size. It is refused, and reads not much more than `most`."""
+def great(kcore, name, start, more, most, text, size=1 << 40, command="run 1", of="", memory=MOST_MEMORY):
+    """Runs a command on a beginning and then this over and over, up to a size. It is refused, reads not much more than `most`, and takes
+    less than `memory` KiB."""
     def pieces():
         yield start
         for _ in range((size - len(start)) // len(more)):
@@ -89,7 +103,7 @@ def great(kcore, name, start, more, most, text, size=1 << 40, command="run 1", o
     trial = Trial(f"{of} {command}, {name}".strip())
     ended, given = kcore.program.feed(command.split(), pieces())
     trial.ended(name, ended, {REFUSED: "whole"}, text)
-    trial.holds(ended.memory < MOST_MEMORY, f"it took {ended.memory} KiB of memory")
+    trial.holds(ended.memory < memory, f"it took {ended.memory} KiB of memory")
     trial.holds(given <= most + MEBIBYTE, f"it read {given} bytes")
     trial.notes.append(f"{given} bytes in {ended.seconds:.1f} s, at most {ended.memory >> 10} MiB of memory")
     return trial
@@ -173,4 +187,4 @@ def workers(kcore):
     yield trial
 
 
-TRIALS = [words, workers, cuts, cut_certificates, byte_values, random_inputs, asks_without_end, great_certificates, great_inputs]
+TRIALS = [words, workers, cuts, cut_certificates, byte_values, random_inputs, asks_without_end, promises, great_certificates, great_inputs]
