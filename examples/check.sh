@@ -65,7 +65,7 @@ says() {
 says 'upper 2' check <breach.cert
 says 'refused line 1 bad-line' check <karate.txt
 says 'unexplained reader 0 ask 2' audit <unexplained.run
-says 'refused line 1 bad-line' audit <karate.kc
+says 'refused line 2 bad-line' audit <karate.kc
 
 for text in *_dense.txt cases/*_dense.txt; do
   writes "${text%_dense.txt}.kc" "$text" dense
