@@ -1,4 +1,4 @@
-// Clients that submit scripts, each in a thread of its own.
+//! Clients that submit scripts, each in a thread of its own.
 ghost use Rattle.std.specs.Prelude.{◌≡◌, ◌≤◌, ◌<◌, ◌++◌, ◌∷◌, [], true, false, length, All, IfOk};
 ghost use Rattle.std.specs.Thread.{IsSync};
 ghost use Rattle.intake_bench.specs.private.Senders.{IsNew, HasRun};
@@ -22,7 +22,9 @@ const VERTICES: u32 = 100_000;
 /// A client, and what it submits.
 #[derive(Drop)]
 pub struct Sender {
+    // Of the intake to which it submits, with nothing sent before the run.
     client: Client,
+    // The items that it submits, in order.
     script: Vec<Item>,
     /// It has submitted its script.
     pub done: bool,
@@ -85,6 +87,7 @@ pub fn run_all<R: Threads + Wait + Sync>(rt: &R, intake: &Intake, senders: &mut 
 // Numbers by chance, the same each time.
 #[derive(Drop)]
 struct Numbers {
+    // What the next number is made of, by a linear congruence.
     state: u64,
 }
 
@@ -98,7 +101,7 @@ impl Numbers {
     }
 }
 
-// A script of so many insertions.
+// A script of `count` insertions.
 fn make_script(alloc: Global, numbers: &mut Numbers, count: u32) -> Result<Vec<Item>, AllocError>
     ensures { IfOk result (λ script. length script.items ≡ count) }
 {
@@ -111,7 +114,7 @@ fn make_script(alloc: Global, numbers: &mut Numbers, count: u32) -> Result<Vec<I
     Ok(script)
 }
 
-/// The clients, which have submitted nothing, with scripts of so many items, 0 to `MAX_SCRIPT`.
+/// The clients, which have submitted nothing, with scripts of `count` items, 0 to `MAX_SCRIPT`.
 pub fn make_senders(
     alloc: Global,
     intake: &Intake,

@@ -1,4 +1,4 @@
-// The measurement.
+//! Eight clients submit while a server drains, and the time that this takes is measured, and what was drained counted.
 ghost use Rattle.std.specs.Prelude.{◌≡◌, ◌≤◌, ◌<◌, ◌*◌, ◌^◌, [], length, map, All, IfOk};
 ghost use Rattle.std.specs.Thread.{IsSync};
 ghost use Rattle.kc_intake.specs.Updates.{all_updates};
@@ -61,7 +61,7 @@ fn side_by_side<R: Threads + Wait + Sync>(
     .1
 }
 
-/// How many updates a server drained of `CLIENTS` clients that submit so many items each, 0 to `MAX_SCRIPT`, and the time that they took
+/// How many updates a server drained of `CLIENTS` clients that submit `each` items, 0 to `MAX_SCRIPT`, and the time that they took
 /// side by side. It is an error where these aren't all the updates.
 pub fn time_updates<R: Threads + Wait + Sync + Clock>(
     rt: &R,

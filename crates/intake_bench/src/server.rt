@@ -1,4 +1,4 @@
-// A server that only drains.
+//! A server that only drains.
 ghost use Rattle.std.specs.Prelude.{◌≡◌, ◌≤◌, ◌<◌, ◌^◌, [], length};
 ghost use Rattle.kc_intake.specs.declared.limits.TheConstants.{MAX_CAPACITY};
 ghost use Rattle.kc_intake.specs.Updates.{all_updates};
