@@ -1,3 +1,5 @@
+//! The two counts of neighbours that a level adjacency keeps for each vertex, and how a count gains or loses a neighbour.
+
 ghost use Rattle.std.specs.Prelude.{◌≡◌, ◌+◌, ◌-◌, ◌<◌, ◌≤◌, ◌^◌, cond, length, slice_index, slice_set};
 ghost use Rattle.kc_adj.specs.private.Moving.{is_passed};
 

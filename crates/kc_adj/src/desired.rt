@@ -1,3 +1,5 @@
+//! The greatest level on which a vertex has enough neighbours to stand, looked for from its own level down.
+
 ghost use Rattle.std.specs.Prelude.{◌≡◌, ◌<◌, ◌≤◌, ◌↔◌, ℕ, IsTrue, length, slice_index};
 ghost use Rattle.kc_levels.specs.Thresholds.{top_level};
 ghost use Rattle.kc_levels.specs.LevelList.{IsHeld, IsDesired};

@@ -1,3 +1,5 @@
+//! A graph with levels whose counts of neighbours follow each edge that comes or leaves, and each vertex that rises or falls.
+
 ghost use Rattle.std.specs.Prelude.{◌≡◌, ◌+◌, ◌*◌, ◌-◌, ◌<◌, ◌≤◌, ◌↔◌, [], IsTrue, OnOk, OnErr, IfOk, true, false, length, replicate, slice_index, slice_set};
 ghost use Rattle.kc_graph.specs.Shape.{EdgesFrom, IsGraph, neighbours_of, has_edge, with_edge, without_edge, with_edges, without_edges};
 ghost use Rattle.kc_graph.specs.Changes.{AllAbsent, AllPresent};
@@ -24,7 +26,9 @@ use std::thread::Threads;
 /// for themselves, and one for each half-edge that they visit: a neighbour of the vertex that moves, or an end of the edge.
 #[derive(Drop)]
 pub struct LevelAdj {
+    // The graph; `levels` and `counts` are for its vertices.
     graph: Graph,
+    // The level of each vertex, any from 0 to 65,535: the invariants of levels aren't asked for here.
     levels: Levels,
     // What `at_least` gives for each vertex from its level on, and from the level below on.
     counts: Counts,

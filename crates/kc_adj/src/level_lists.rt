@@ -1,15 +1,18 @@
+//! Items filed under levels, and the next level that has some: levels without items are passed over 64 at a time.
+
 ghost use Rattle.std.specs.Prelude.{◌≡◌, ◌+◌, ◌++◌, ◌∷◌, ◌<◌, ◌≤◌, ℕ, [], replicate, OnOk, OnErr, IfOk, slice_index_or, slice_set, length};
 
 use std::alloc::{AllocError, Global};
 use std::marker::Model;
 use std::mem;
 
-// So many levels share a mark.
+// The number of levels that share a mark.
 const SPAN: usize = 64;
 
 /// The items of one level, in the order in which they came.
 #[derive(Drop)]
 struct LevelList<T> {
+    // Those filed first stand first.
     items: Vec<T>,
 }
 
@@ -27,6 +30,7 @@ impl<T> Model for LevelList<T> {
 /// for 64 of them.
 #[derive(Drop)]
 pub struct LevelLists<T> {
+    // One for each level from 0 on; fewer than 65,536.
     lists: Vec<LevelList<T>>,
     // For each 64 levels whether one of them may have items.
     marks: Vec<bool>,

@@ -1,4 +1,4 @@
-// How the counts change when an edge comes in or leaves.
+//! How the counts change when an edge comes in or leaves.
 
 ghost use Rattle.std.specs.Prelude.{◌≡◌, ◌<◌, ◌≤◌, ◌^◌, length, slice_index};
 ghost use Rattle.kc_adj.specs.LeveledGraph.{IsAdjacency};

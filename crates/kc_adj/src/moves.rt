@@ -1,4 +1,4 @@
-// How the counts change when a vertex moves to another level.
+//! How the counts change when a vertex moves to another level.
 
 ghost use Rattle.std.specs.Prelude.{◌≡◌, ◌+◌, ◌-◌, ◌<◌, ◌≤◌, length, slice_index, slice_set};
 ghost use Rattle.kc_graph.specs.Shape.{neighbours_of};

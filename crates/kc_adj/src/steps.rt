@@ -1,3 +1,5 @@
+//! A count of steps for bounds on the work of a call: contracts and a proof see it, and a running program has none of it.
+
 ghost use Rattle.std.specs.Prelude.{ℕ, ◌≡◌, ◌+◌, ◌<◌};
 
 use std::marker::Model;
@@ -8,7 +10,9 @@ use std::sync::ledger::{Blank, Book, Ledger, Share};
 /// It takes no bytes and no time when the program runs, and only `tick` and `add` change it. The number is kept in the ledger `L`.
 #[derive(Drop)]
 pub struct Steps<L: Ledger> {
+    // What was added to the ledger in all: the number of steps.
     book: Book<L>,
+    // Parts of the same ledger, at least one: who adds to the book has to hold some.
     share: Share<L>,
 }
 
@@ -39,7 +43,7 @@ impl<L: Ledger> Steps<L> {
         self.book.add(&mut self.share, 1);
     }
 
-    /// Counts so many steps at once, as for a pass that threads made.
+    /// Counts `count` steps at once, as for a pass that threads made.
     pub fn add(&mut self, count: usize)
         ensures { self.new ≡ self.old + count }
     {

@@ -1,3 +1,5 @@
+//! Counts and desired levels of small graphs, worked out by hand, as edges and levels change, and items filed under levels.
+
 ghost use Rattle.std.specs.Prelude.{◌≡◌, ◌<◌, true};
 
 use crate::{LevelAdj, LevelLists, Steps};
