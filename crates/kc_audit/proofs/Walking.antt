@@ -16,7 +16,7 @@ use Rattle.kc_audit.specs.Verdicts.{IsVerdict}
 use Rattle.kc_audit.proofs.MoveLemmas.{moves_other, levels_next, length-history}
 use Rattle.kc_audit.proofs.Reaching.{IsAt, IsStuck, at_start, goes_on, passes, explained_so_far, explained_all, unexplained_next}
 
--- each reader has told so many of its replies, and is at the point p
+-- each reader has told the number of its replies in `told`, and is at the point p
 pub AreAt : ℕ → List Entry → List (List Reply) → List ℕ → ℕ → Type 0
 AreAt n history readers told p = (r : ℕ) → r < length readers → IsAt n history (get_or readers r []) (get_or told r 0) p
 

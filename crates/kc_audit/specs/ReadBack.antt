@@ -47,7 +47,7 @@ abbrev pub reader_kinds : ℕ → List (List Reply) → List Kind → List Kind
 reader_kinds r [] rest = rest
 reader_kinds r (x ∷ xs) rest = Reader r (pair_words 61 x) ∷ reader_kinds (suc r) xs rest
 
--- so many vertices from v on
+-- `more` vertices from v on
 abbrev pub vertex_kinds : ℕ → ℕ → List Kind → List Kind
 vertex_kinds v zero rest = rest
 vertex_kinds v (suc more) rest = Vertex v ∷ vertex_kinds (suc v) more rest

@@ -104,6 +104,7 @@ fn group_lines(rt: HostRuntime) -> Result<(), Fail> {
 // Numbers that look drawn, each below `bound`.
 #[derive(Drop)]
 struct Draws {
+    // What the next number is made of.
     state: u32,
 }
 

@@ -43,6 +43,7 @@ pub enum Form {
 /// A line by its form, which says at which of its bytes it goes on.
 #[derive(Drop)]
 pub struct FormLine<'a> {
+    /// What the line is by its form.
     pub form: Form,
     /// The line's bytes; none where it isn't a text.
     pub text: &'a [u8],

@@ -1,4 +1,4 @@
-//! The group lines of a run.
+//! The group lines of a run, each with the new levels of its members.
 ghost use Rattle.std.specs.Prelude.{◌≡◌, ◌↔◌, ◌<◌, ◌≤◌, [], ◌∷◌, ◌++◌, length, slice_get, IfSome, IsTrue, OnOk, OnErr};
 ghost use Rattle.std.specs.List.{slice_range};
 ghost use Rattle.kc_audit.specs.private.Flat.{start_of};
@@ -23,6 +23,7 @@ pub struct GroupLine {
 /// `Vec`, so that a line of few members takes little more than these: 16 bytes, and 8 for each member.
 #[derive(Drop)]
 pub struct GroupLines {
+    // one for each line, in order; none ends before the one ahead of it
     heads: Vec<Head>,
     // the members of all lines, one line after another; the last one ends with them
     members: Vec<Reply>,

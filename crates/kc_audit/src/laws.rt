@@ -1,4 +1,4 @@
-// Laws of the definitions. The functions do nothing: each has laws as its contract.
+//! What verdicts on runs come to, and that printed runs are read back. The functions do nothing: each has laws as its contract.
 
 ghost use Rattle.kc_audit.specs.Laws.{ExplainedPasses, HasVerdict, IsOneVerdict, LinesExplain};
 ghost use Rattle.kc_audit.specs.Printed.{LinesSayKinds, PrintedRunIsReadBack};

@@ -1,4 +1,4 @@
-//! Reading a run text.
+//! A run text is read line by line into what an audit looks at, or refused at its first line that doesn't fit.
 ghost use Rattle.std.specs.Prelude.{◌≡◌, IfOk};
 ghost use Rattle.kc_text.specs.Kept.{kept_left};
 ghost use Rattle.kc_audit.specs.Runs.{IsAuditable};

@@ -1,4 +1,4 @@
-//! The replies of the readers of a run.
+//! What each reader of a run was told, as a list for each of them.
 ghost use Rattle.std.specs.Prelude.{◌≡◌, ◌↔◌, [], ◌∷◌, ◌++◌, length, IsTrue, OnOk, OnErr};
 
 use kc_history::Replies;
@@ -8,6 +8,7 @@ use std::marker::Model;
 /// The replies of reader 0, of reader 1 and so on. Contracts see them as a list of lists of replies.
 #[derive(Drop)]
 pub struct Readers {
+    // Those of each reader in the order of its line.
     lists: Vec<Replies>,
 }
 

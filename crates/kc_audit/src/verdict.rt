@@ -1,3 +1,5 @@
+//! The answer of an audit: the replies of all readers are explained, or one is named up to which they aren't.
+
 /// What an audit says of a run.
 #[derive(Clone, Copy, Debug, PartialEq, Eq)]
 pub enum AuditVerdict {

@@ -82,7 +82,7 @@ fn show(levels: &mut [u16], awaited: &[bool], members: &[Reply]) -> bool
     met
 }
 
-// The verdict where each reader has told so many of its replies, and can tell no more.
+// The verdict where each reader has told the number of its replies in `told`, and can tell no more.
 fn verdict_of(readers: &[Replies], told: &[usize]) -> AuditVerdict
     requires within { AreWithin readers.now told.now }
     requires few { length readers.now ≤ 4294967294 }

@@ -14,7 +14,7 @@ pub use Rattle.kc_audit.proofs.PrintedParts.{prints_both}
 pub use Rattle.kc_audit.proofs.PrintedParts.{prints_as}
 -- the words of a group line
 pub use Rattle.kc_audit.proofs.PrintedParts.{group_words}
--- they say the group
+-- the words of a group line say its group
 pub use Rattle.kc_audit.proofs.PrintedParts.{group_says}
 -- the words of a reader's line say its replies
 pub use Rattle.kc_audit.proofs.PrintedParts.{reader_says}
