@@ -1,4 +1,4 @@
-//! The ask lines of a header.
+//! What a reader asks, as the line `ask TIMES V V ..` of a header says it.
 ghost use Rattle.std.specs.Prelude.{◌≡◌, ◌<◌, [], ◌∷◌, ◌++◌, length, nat_lt, None, true, if◌then◌else◌, IfOk, IfSome, OnOk, OnErr};
 ghost use Rattle.kc_text.specs.Words.{words};
 
@@ -16,6 +16,7 @@ const MAX_QUESTIONS: u64 = 65_536;
 /// Vertices that a contract sees as a list.
 #[derive(Drop, Debug)]
 pub struct Vertices {
+    // In the order in which they are asked for, some maybe more than once.
     items: Vec<u32>,
 }
 
@@ -74,13 +75,16 @@ impl Vertices {
 /// `times` times the number of vertices is at most 65,536: `IsAsk` of `specs/Headers`.
 #[derive(Drop, Debug)]
 pub struct Ask {
+    /// How often the whole list is asked for.
     pub times: u32,
+    /// The vertices of the list, in order.
     pub vertices: Vertices,
 }
 
 /// Asks that a contract sees as a list.
 #[derive(Drop, Debug)]
 pub struct Asks {
+    // One for each reader, in the order of the header's lines.
     items: Vec<Ask>,
 }
 

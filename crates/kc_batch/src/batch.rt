@@ -1,4 +1,4 @@
-//! The batches of a batch input.
+//! The next batch of an input: its items, or the line and kind of its first fault.
 ghost use Rattle.std.specs.Prelude.{◌≡◌, ◌≤◌, [], IfOk, OnOk};
 ghost use Rattle.std.specs.Option.{option_map};
 ghost use Rattle.kc_text.specs.Causes.{ReadCause};

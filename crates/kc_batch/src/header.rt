@@ -1,4 +1,4 @@
-//! The header of a batch input.
+//! The header of a batch input: its profile, its number of vertices and its asks, or the line at which it is refused.
 ghost use Rattle.std.specs.Prelude.{◌≡◌, ◌+◌, ◌<◌, ◌≤◌, [], true, IfOk, OnOk, IfSome};
 ghost use Rattle.kc_text.specs.Reading.{budget};
 ghost use Rattle.kc_text.specs.Words.{words};

@@ -1,4 +1,4 @@
-//! Lists of items.
+//! A `Vec` of items that contracts see as a list of them.
 ghost use Rattle.std.specs.Prelude.{◌≡◌, [], ◌∷◌, ◌++◌, length, OnOk, OnErr};
 
 use kc_graph::Item;
@@ -8,6 +8,7 @@ use std::marker::Model;
 /// Items that a contract sees as a list.
 #[derive(Drop, Debug)]
 pub struct Items {
+    // In the order in which they came.
     items: Vec<Item>,
 }
 

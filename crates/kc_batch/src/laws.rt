@@ -1,4 +1,4 @@
-//! What the definitions of `specs/` come to. Each function does nothing; its contract is a law.
+//! What the definitions of headers and batches come to. Each function does nothing; its contract is a law.
 ghost use Rattle.kc_batch.specs.FaultLaw.{FirstFaultDecides};
 ghost use Rattle.kc_batch.specs.HeaderLaw.{FirstOtherLineEnds};
 ghost use Rattle.kc_batch.specs.RangeLaw.{BatchesKeepRanges};

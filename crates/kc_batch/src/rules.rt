@@ -1,3 +1,5 @@
+//! What a header settles for the batches below it: how many vertices there are, the profile, and how long a batch may be.
+
 use kc_levels::Profile;
 
 /// What the batches of an input have to keep to.
