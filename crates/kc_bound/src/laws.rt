@@ -1,4 +1,4 @@
-// Laws of the definitions. The functions do nothing: each has a law as its contract.
+//! What coreness comes to, and how the invariants of levels bound it. The functions do nothing: each has a law as its contract.
 
 ghost use Rattle.kc_bound.specs.Laws.{CoresAreLists, EachHasCoreness, CorenessIsOne, HighBoundsCoreness, LoBoundsCoreness, EstimateIsNearCoreness, BothAreNear, EachPointIsNear};
 

@@ -1,3 +1,5 @@
+//! The coreness of the vertices of small graphs, worked out by hand, and of a large graph without edges.
+
 mod points;
 
 use crate::exact_coreness;

@@ -2,9 +2,9 @@
 
 -- each vertex has a coreness
 pub use Rattle.kc_bound.proofs.Existence.{each_has_coreness}
--- and only one
+-- no vertex has two corenesses
 pub use Rattle.kc_bound.proofs.LevelBounds.{coreness_is_one}
 -- where both invariants hold, the bounds and the estimate are near the coreness
 pub use Rattle.kc_bound.proofs.PointLaw.{both_are_near}
--- so are they at each point of phases, one after another
+-- at each point of phases, one after another, the bounds and the estimate are near the coreness
 pub use Rattle.kc_bound.proofs.PointLaw.{each_point_is_near}

@@ -1,4 +1,4 @@
-// Histories, walked point by point. The entries were worked out by hand.
+//! Histories, walked point by point. The entries were worked out by hand.
 use crate::exact_coreness;
 use kc_graph::{Edge, Graph, MAX_EDGES};
 use kc_levels::{Levels, Profile, Thresholds, check_lower, check_upper};
