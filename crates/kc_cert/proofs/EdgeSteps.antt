@@ -101,7 +101,7 @@ rest_is_absent g [] up = All-nil (λ f. has_edge f g.edges ≡ false)
 rest_is_absent g (e ∷ es) up =
     All-cons (λ f. has_edge f g.edges ≡ false) e es (absent_last g.vertices 0 0 g.edges e es up) (rest_is_absent g es (without_one g.vertices 0 0 g.edges e es up))
 
--- and they come in behind them
+-- and they come in after them
 pub let_in_edges : (g h : GraphShape) (es : List Pair) → EdgesFrom g.vertices 0 0 (g.edges ++ es) → h ≡ with_edges g es → h ≡ record { vertices = g.vertices; edges = g.edges ++ es }
 let_in_edges g h es up e = e ∙ added_behind g.vertices g.edges es up
 

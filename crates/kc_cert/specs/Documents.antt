@@ -23,7 +23,7 @@ pub data Stage : Type 0 where
   AtProfile : Stage
   AtVertices : (p : Profile) → Stage
   AtEdgeCount : (p : Profile) (n : ℕ) → Stage
-  -- so many edges, the next not before (a, b), then so many levels, and then `end`; `cert` has the edges and levels that were read
+  -- `edges` edges, the next not before (a, b), then `levels` levels, and then `end`; `cert` has the edges and levels that were read
   AtBody : (cert : Certificate) (edges a b levels : ℕ) → Stage
   -- the end of the input
   AtInputEnd : (cert : Certificate) → Stage

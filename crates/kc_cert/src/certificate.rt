@@ -1,3 +1,5 @@
+//! A certificate as a value: what its text says once it is read, and what is written as its text.
+
 use kc_graph::Graph;
 use kc_levels::{Levels, Profile};
 
@@ -6,6 +8,7 @@ use kc_levels::{Levels, Profile};
 pub struct Certificate {
     /// Which thresholds the levels go by.
     pub profile: Profile,
+    /// The graph.
     pub graph: Graph,
     /// The level of each vertex, in order.
     pub levels: Levels,

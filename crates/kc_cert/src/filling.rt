@@ -5,7 +5,7 @@ ghost use Rattle.kc_graph.specs.Shape.{EdgesFrom};
 use kc_graph::{Edge, Graph, MAX_EDGES};
 use std::alloc::{AllocError, Global};
 
-// So many edges wait at most: 2^20.
+// The most edges that wait: 2^20.
 const TOGETHER: usize = 1_048_576;
 
 /// Puts the edges that wait, which follow those of the graph, into it. Cost: that of `Graph::insert_all`.
@@ -21,7 +21,7 @@ pub fn let_in(alloc: Global, graph: &mut Graph, waiting: &mut Vec<Edge>) -> Resu
     Ok(())
 }
 
-/// Puts an edge that follows all others behind those that wait. Where 1,048,576 wait, they come into the graph first.
+/// Puts an edge that follows all others after those that wait. Where 1,048,576 wait, they come into the graph first.
 #[inline(always)]
 pub fn add_edge(
     alloc: Global,

@@ -1,4 +1,4 @@
-//! What the definitions of `specs/` come to. Each function does nothing; its contract is a law.
+//! What the definitions of certificates and verdicts come to. Each function does nothing; its contract is a law.
 ghost use Rattle.kc_cert.specs.Laws.{CertificateIsReadBack, HasVerdict, VerdictIsOne, VerdictIsCertified, ReadsCertificates};
 
 use kc_levels::laws::thresholds_fit;

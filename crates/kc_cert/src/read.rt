@@ -1,4 +1,4 @@
-//! Reading a certificate.
+//! A certificate is read line by line into a graph and its levels, or refused at its first line that doesn't fit.
 ghost use Rattle.std.specs.Prelude.{◌≡◌, ℕ, ◌≤◌, [], length, IfOk, IfSome};
 ghost use Rattle.kc_cert.specs.Tokens.{tokens_left};
 ghost use Rattle.kc_cert.specs.Documents.{AtProfile, AtVertices, AtEdgeCount, AtBody, AtInputEnd, empty_certificate, document_of};
@@ -249,7 +249,7 @@ fn read_profile<S: Source>(
 /// each of the three the reader isn't used again, since lines of the certificate are gone.
 ///
 /// Cost: one pass over the lines, and the work of `Graph::insert_all` for each 1,048,576 edges. Beside the graph and the
-/// levels, whose memory is taken once their number of vertices was read, there is the memory of one line and of so many
+/// levels, whose memory is taken once their number of vertices was read, there is the memory of one line and of 1,048,576
 /// edges.
 pub fn read_certificate<S: Source>(
     alloc: Global,

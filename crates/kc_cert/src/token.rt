@@ -41,7 +41,9 @@ pub enum Kind {
 /// A line that isn't skipped: its number, counted from 1 over all lines, and what it says.
 #[derive(Clone, Copy, Debug, PartialEq, Eq)]
 pub struct Token {
+    /// The number of the line.
     pub number: u32,
+    /// What the line says.
     pub kind: Kind,
 }
 

@@ -1,4 +1,4 @@
-//! Writing a certificate.
+//! A graph with its levels is written as a certificate: a line for each edge and for each level.
 ghost use Rattle.std.specs.Prelude.{◌≡◌, ◌++◌, ◌∷◌, [], length, map, codes, OnOk, decimal};
 ghost use Rattle.kc_text.specs.Printing.{printed};
 ghost use Rattle.kc_text.specs.Writing.{Appends, WriteCause};
