@@ -1,3 +1,5 @@
+//! The record of who fell in a deletion phase, from which the phase's moves are made at its end.
+
 ghost use Rattle.std.specs.Prelude.{◌≡◌, ℕ, ◌<◌, ◌≤◌, List, [], IfOk, OnOk, length, slice_index, slice_set};
 ghost use Rattle.kc_levels.specs.Moved.{moves_between};
 ghost use Rattle.kc_delete.specs.private.Fallen.{AreFallen};

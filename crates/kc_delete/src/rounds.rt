@@ -1,3 +1,5 @@
+//! A deletion phase from end to end: edges leave, and rounds of falls go on until each vertex has neighbours enough on its level.
+
 ghost use Rattle.std.specs.Prelude.{◌≡◌, ℕ, ◌<◌, ◌≤◌, OnOk, IfOk, length, true};
 ghost use Rattle.kc_graph.specs.Numbers.{has_number};
 ghost use Rattle.kc_graph.specs.Shape.{EdgesFrom, without_edges};

@@ -1,4 +1,4 @@
-// Falls of vertices that have too few neighbours to stand on their level.
+//! Falls of vertices that have too few neighbours to stand on their level.
 
 ghost use Rattle.std.specs.Prelude.{◌≡◌, ℕ, ◌<◌, ◌≤◌, ◌-◌, [], false, OnOk, length, slice_index, slice_index_or};
 ghost use Rattle.std.specs.Bool.{OnTrue, OnFalse};

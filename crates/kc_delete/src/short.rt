@@ -1,4 +1,4 @@
-// Which vertices have too few neighbours to stand on their level.
+//! Which vertices have too few neighbours to stand on their level.
 
 ghost use Rattle.std.specs.Prelude.{◌≡◌, ◌<◌, ◌≤◌, slice_index};
 ghost use Rattle.std.specs.Bool.{OnFalse};
@@ -25,8 +25,11 @@ pub fn is_short(adj: &LevelAdj, th: &Thresholds, v: u32) -> bool
 /// Tests whether a vertex waits and has too few neighbours to stand on its level.
 #[derive(Drop)]
 pub struct Short<'a> {
+    /// The graph with its levels, of whose vertices the tested ones are.
     pub adj: &'a LevelAdj,
+    /// The thresholds for its number of vertices; no tested vertex is above their top.
     pub th: &'a Thresholds,
+    /// For each vertex whether it waits.
     pub marks: &'a Vec<bool>,
 }
 

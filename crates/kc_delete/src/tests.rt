@@ -1,3 +1,5 @@
+//! Deletion phases on small graphs, whose levels were worked out by hand, by one worker and by several.
+
 ghost use Rattle.std.specs.Prelude.{◌≡◌, ℕ, ◌<◌, ◌≤◌, IfOk, length};
 ghost use Rattle.std.specs.Bool.{OnTrue};
 ghost use Rattle.kc_graph.specs.Shape.{EdgesFrom};
@@ -128,7 +130,7 @@ fn check_counting<R: Threads + Sync + Abort, G: Gate + Sync, L: Ledger>(
     Ok(())
 }
 
-// The phase gives its levels, and moves so many vertices, by any number of workers.
+// The phase gives its levels, and moves as many vertices as it says, by any number of workers.
 fn check<R: Threads + Sync + Abort>(
     rt: &R,
     alloc: Global,
@@ -243,11 +245,14 @@ fn nobody_falls_where_no_edge_leaves(rt: HostRuntime) -> Result<(), Fail> {
 
 const TURNS: u64 = 10_000_000;
 
-// Holds the first piece 0 that it is told until it was told piece 1, for at most so many turns.
+// Holds the first piece 0 that it is told until it was told piece 1, for at most `TURNS` turns.
 #[derive(Drop)]
 struct Holding {
+    // Whether a first piece 0 was told, which alone is held.
     has_held: AtomicBool,
+    // Whether piece 1 was told.
     told: AtomicBool,
+    // How many turns were left when the other came; 0 where it never did.
     turns_left: AtomicU64,
 }
 

@@ -1,3 +1,5 @@
+//! The queue of a deletion phase: vertices wait under levels, and those under the least one are the next round.
+
 ghost use Rattle.std.specs.Prelude.{◌≡◌, ℕ, ◌<◌, ◌≤◌, ◌-◌, ◌⊎◌, ◌&&◌, ◌||◌, List, Bool, true, false, not, [], All, IfOk, IfSome, IfNone, OnOk, OnErr, length, replicate, slice_index_or, slice_set};
 ghost use Rattle.kc_graph.specs.Numbers.{has_number};
 ghost use Rattle.kc_levels.specs.LevelList.{IsCapped};
@@ -27,6 +29,7 @@ pub struct Waiting {
     level: u16,
     // for each vertex whether it waits
     marks: Vec<bool>,
+    // where the memory of the lists comes from
     alloc: Global,
 }
 

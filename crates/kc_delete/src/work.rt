@@ -1,3 +1,5 @@
+//! The workspace that deletion phases share, one after another.
+
 ghost use Rattle.std.specs.Prelude.{◌≡◌, ◌<◌, All, IfOk, length};
 ghost use Rattle.kc_levels.specs.Moved.{moves_between};
 ghost use Rattle.kc_adj.specs.LeveledGraph.{LeveledGraph};
@@ -17,7 +19,9 @@ use std::marker::Model;
 /// is left of a phase. An insertion phase changes the levels, and `follow` tells it so. Takes 3 bytes a vertex.
 #[derive(Drop)]
 pub struct DeletionWork {
+    // Who is still to be looked at in the phase: nobody between phases.
     pub(crate) waiting: Waiting,
+    // The levels before the phase, and who fell in it: nobody between phases, when the levels are those of the graph.
     pub(crate) fallen: Fallen,
     // Whether no round with candidates has been yet.
     pub(crate) first: FirstRound,

@@ -1,4 +1,4 @@
-// Deletion rounds beside a plain body that counts all neighbours anew at each step, on graphs and batches without an order.
+//! Deletion rounds beside a plain body that counts all neighbours anew at each step, on graphs and batches without an order.
 
 ghost use Rattle.std.specs.Prelude.{◌≡◌, ◌<◌, ◌≤◌, IfOk, OnOk, length, All};
 ghost use Rattle.kc_graph.specs.Cleaning.{IsInside};
