@@ -1,3 +1,5 @@
+//! From the peeling list of a graph to its dense part: the members of the densest suffix, ascending.
+
 ghost use Rattle.std.specs.Prelude.{◌≡◌, ◌≤◌, length, IfOk};
 ghost use Rattle.kc_dense.specs.Sets.{members_of, edges_within};
 ghost use Rattle.kc_dense.specs.Dense.{IsDensePart, IsHalfAsDenseAsAny};

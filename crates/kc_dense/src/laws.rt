@@ -1,4 +1,4 @@
-// Laws of the definitions. The functions do nothing: each has a law as its contract.
+//! What peeling lists and dense parts come to. The functions do nothing: each has a law as its contract.
 
 ghost use Rattle.kc_dense.specs.Laws.{EachHasPeelingList, PeelingListIsOne, EachHasDensePart, DensePartIsOne, DensePartIsHalfAsDense};
 

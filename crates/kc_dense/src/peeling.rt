@@ -1,3 +1,6 @@
+//! Peeling takes vertex after vertex away, and the edges that are left after each are counted on the way, so that the densest
+//! suffix is known at the end.
+
 ghost use Rattle.std.specs.Prelude.{◌≡◌, ◌-◌, ◌*◌, ◌<◌, ℕ, cond, nat_lt, drop, IfOk};
 ghost use Rattle.kc_graph.specs.declared.limits.TheConstants.{MAX_VERTICES};
 ghost use Rattle.kc_dense.specs.Sets.{members_of, edges_within};

@@ -1,3 +1,5 @@
+//! The vertices that peeling hasn't taken yet, each with its number of neighbours among them, and how the next is taken.
+
 ghost use Rattle.std.specs.Prelude.{◌≡◌, ◌≢◌, ◌≤◌, ◌<◌, ℕ, true, length, nat_lt, set, slice_index, IfOk};
 ghost use Rattle.kc_graph.specs.Shape.{IsGraph, neighbours_of};
 ghost use Rattle.kc_graph.specs.declared.limits.TheConstants.{MAX_VERTICES};

@@ -1,3 +1,5 @@
+//! The dense parts of small graphs, worked out by hand, and of a large graph without edges.
+
 mod small;
 
 use crate::densest;

@@ -1,3 +1,6 @@
+//! A tournament tree: numbers at the leaves, and at each node above them the lesser of its children, so that the least of all is
+//! at the root.
+
 ghost use Rattle.std.specs.Prelude.{◌≡◌, ◌+◌, ◌*◌, ◌^◌, ◌<◌, length, drop, set, min, slice_index, IfOk};
 ghost use Rattle.kc_dense.specs.private.Tournaments.{IsPlayed, IsFirstLeastWithin, IsFirstLeast};
 

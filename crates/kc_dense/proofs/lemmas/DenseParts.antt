@@ -2,7 +2,7 @@
 
 -- each graph has a dense part
 pub use Rattle.kc_dense.proofs.PeelingLemmas.{each_has_dense_part}
--- and only one
+-- no graph has two dense parts
 pub use Rattle.kc_dense.proofs.PeelingLemmas.{dense_part_is_one}
--- no vertices of the graph are more than twice as dense
+-- no vertices of a graph are more than twice as dense as its dense part
 pub use Rattle.kc_dense.proofs.FactorLemmas.{dense_part_is_half_as_dense}

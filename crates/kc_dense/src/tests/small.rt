@@ -1,5 +1,5 @@
-// Many small graphs, each beside a plain peeling of it and beside all sets of its vertices. Here a set is a number with a bit for
-// each vertex in it.
+//! Many small graphs, each beside a plain peeling of it and beside all sets of its vertices. Here a set is a number with a bit for
+//! each vertex in it.
 
 ghost use Rattle.std.specs.Prelude.{◌≤◌, ◌<◌};
 
@@ -11,6 +11,7 @@ use std::test::Fail;
 // Numbers that look drawn.
 #[derive(Drop)]
 struct Draw {
+    // What the next number is made of.
     state: u64,
 }
 
