@@ -12,14 +12,14 @@ use Rattle.kc_engine.specs.States.{State, IsSound}
 use Rattle.kc_engine.specs.Batches.{IsCleaning, IsAfterPhases}
 use Rattle.kc_engine.specs.Laws.{IsHistoryOf}
 
--- the plan is that of the next phase after so many of a history over n vertices: it is well formed, and the old level of each move is
+-- the plan is that of the next phase after `phases` ones of a history over n vertices: it is well formed, and the old level of each move is
 -- its vertex's level at the end of the history
 pub record IsNext (n phases : ℕ) (history : List Entry) (plan : PhasePlan) : Type 0 where
   pub well_formed : IsWellFormed n plan
   pub number : plan.quiet.phase ≡ phases + 1
   pub old_levels : All (AreCurrent n history) plan.groups
 
--- the plans go on from so many phases of a history over n vertices, one after another
+-- the plans go on from `phases` phases of a history over n vertices, one after another
 abbrev pub GoOn : ℕ → ℕ → List Entry → List PhasePlan → Type 0
 GoOn n phases history [] = Unit {0}
 GoOn n phases history (plan ∷ plans) = IsNext n phases history plan × GoOn n (phases + 1) (history ++ entries_of plan) plans

@@ -12,7 +12,7 @@ pub record State : Type 0 where
   pub levels : List ℕ
   pub phases : ℕ
 
--- before the first batch: no edges among n vertices, all levels 0, and so many phases
+-- before the first batch: no edges among n vertices, all levels 0, and `before` phases
 abbrev pub start : Profile → ℕ → ℕ → State
 start p n before = record { profile = p; graph = record { vertices = n; edges = [] }; levels = replicate n 0; phases = before }
 

@@ -1,3 +1,4 @@
+//! The engine itself: a batch is planned, which changes graph and levels, and the plan is then shown in a store or left unshown.
 ghost use Rattle.std.specs.Prelude.{◌≡◌, ◌-◌, ◌<◌, ◌≤◌, true, false, IfOk, OnOk, All, slice_index};
 ghost use Rattle.kc_levels.specs.LevelList.{at_least, MeetsBoth};
 ghost use Rattle.kc_groups.specs.WellFormed.{IsWellFormed};
@@ -35,11 +36,15 @@ use std::thread::Threads;
 pub struct Engine {
     // For the vertices of the graph.
     thresholds: Thresholds,
+    // The graph with its levels and counts. Unless it has halted, the levels meet both invariants.
     adj: LevelAdj,
+    // What phases work with: ready for the graph and its levels, unless it has halted.
     work: PhaseWork,
     // How many phases there were, at most `MAX_PHASE`.
     phases: u32,
+    // The most threads that a phase uses, 1 to 64: as many as there are places.
     workers: u32,
+    // The most edges that a batch may come to, 0 to `MAX_EDGES`. Unless it has halted, the graph has no more.
     edge_limit: u32,
     // Whether there was no memory for a batch: graph and levels may then be those in the middle of a phase.
     halted: bool,

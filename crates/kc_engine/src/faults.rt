@@ -1,3 +1,5 @@
+//! The reasons for which an engine refuses a batch, and which of them end it.
+
 use std::alloc::AllocError;
 use thiserror::Error;
 

@@ -1,4 +1,4 @@
-// Laws of the definitions. The functions do nothing: each has laws as its contract.
+//! What batches, and the phases of them, make of a sound state. The functions do nothing: each has laws as its contract.
 
 ghost use Rattle.kc_engine.specs.Laws.{StartIsSound, BatchHasOneState, BatchKeepsSound, BatchKeepsBoth, PhasesAreOne, PhasesAreNumberedOn, PhasesAreWellFormed, PhasesLeadOver, PhasesLeadOn, PhasesLeadOneByOne};
 ghost use Rattle.kc_engine.specs.Showing.{PhasesContinue, ShownIsAbreast};

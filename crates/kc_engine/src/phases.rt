@@ -1,4 +1,4 @@
-// The phases of a batch: first some edges leave, then some come in.
+//! The phases of a batch: first some edges leave, then some come in.
 ghost use Rattle.std.specs.Prelude.{◌≡◌, ℕ, ◌+◌, ◌-◌, ◌<◌, ◌≤◌, OnOk, IfOk, false, true, All, length};
 ghost use Rattle.kc_graph.specs.Shape.{EdgesFrom, with_edges, without_edges};
 ghost use Rattle.kc_graph.specs.Changes.{AllAbsent, AllPresent};
@@ -30,9 +30,13 @@ use std::thread::Threads;
 // thresholds.
 #[derive(Drop)]
 pub(crate) struct PhaseContext<'a, R, G> {
+    // By whom candidates are tested, and who is told of it.
     pub(crate) rounds: Rounds<'a, R, G>,
+    // By whom the moves of a phase are gathered into groups.
     pub(crate) planners: Planners<'a, R>,
+    // Where the memory of rounds, moves and plans comes from.
     pub(crate) alloc: Global,
+    // The thresholds for the number of vertices of the graph that the phases change.
     pub(crate) th: &'a Thresholds,
 }
 

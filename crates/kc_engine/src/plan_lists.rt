@@ -1,3 +1,4 @@
+//! A `Vec` of phase plans that contracts see as a list of them.
 ghost use Rattle.std.specs.Prelude.{◌≡◌, ◌↔◌, [], ◌∷◌, ◌++◌, length, IsTrue, OnOk};
 
 use kc_groups::PhasePlan;
@@ -7,6 +8,7 @@ use std::marker::Model;
 /// Plans of phases one after another. Contracts see them as a list.
 #[derive(Drop)]
 pub struct PhasePlans {
+    // In the order of the phases.
     items: Vec<PhasePlan>,
 }
 

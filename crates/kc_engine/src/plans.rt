@@ -1,3 +1,4 @@
+//! What a batch comes to in an engine: the entries of its phases, and how many moves they have together.
 ghost use Rattle.std.specs.Prelude.{◌≡◌, ◌+◌, ◌<◌, ◌^◌, [], ◌∷◌, ◌++◌, IfOk};
 
 use crate::plan_lists::PhasePlans;
@@ -26,7 +27,7 @@ impl BatchPlan {
         }
     }
 
-    // One phase, with so many moves.
+    // One phase, with `moves` moves.
     pub(crate) fn of_phase(
         alloc: Global,
         plan: PhasePlan,

@@ -1,3 +1,5 @@
+//! The numbers and the profile that an engine keeps from its opening on.
+
 use kc_levels::Profile;
 
 /// What an engine is opened with.

@@ -1,3 +1,4 @@
+//! The three workspaces that an engine keeps between phases: of falls, of rises, and of groups.
 ghost use Rattle.std.specs.Prelude.{◌≡◌, IfOk};
 ghost use Rattle.kc_engine.specs.Readiness.{AreReady};
 
@@ -12,8 +13,11 @@ use std::alloc::{AllocError, Global};
 // changes and not what the graph has. Takes 15 bytes a vertex.
 #[derive(Drop)]
 pub(crate) struct PhaseWork {
+    // What deletion phases work with: it has a copy of the levels.
     pub(crate) deletion: DeletionWork,
+    // What insertion phases work with: it has copies of the levels and of a count for each vertex.
     pub(crate) insertion: InsertionWork,
+    // What plans work with: it has the number of vertices at each vertex, as none moves between phases.
     pub(crate) groups: GroupWork,
 }
 

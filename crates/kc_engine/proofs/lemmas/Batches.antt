@@ -6,7 +6,7 @@ pub use Rattle.kc_engine.proofs.BatchLemmas.{start_is_sound}
 pub use Rattle.kc_engine.proofs.BatchLemmas.{batch_has_one_state}
 -- a batch that isn't refused leaves a sound state
 pub use Rattle.kc_engine.proofs.BatchLemmas.{batch_keeps_sound}
--- with as many vertices
+-- a batch leaves the number of vertices as it was
 pub use Rattle.kc_engine.proofs.BatchLemmas.{vertices_after}
 -- a batch that is a cleaning for the graph fits it
 pub use Rattle.kc_engine.proofs.BatchLemmas.{fits}
@@ -14,5 +14,5 @@ pub use Rattle.kc_engine.proofs.BatchLemmas.{fits}
 pub use Rattle.kc_engine.proofs.BatchLemmas.{edges_behind}
 -- a sound state has a graph, as many levels as vertices, and both invariants
 pub use Rattle.kc_engine.proofs.BatchLemmas.{at_state}
--- edges that leave keep it
+-- once edges left and the levels were lowered, a state still has a graph, as many levels as vertices, and both invariants
 pub use Rattle.kc_engine.proofs.BatchLemmas.{after_lowered}

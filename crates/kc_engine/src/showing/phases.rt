@@ -1,3 +1,4 @@
+//! The phases of a plan are shown in a store in order, and in each phase its groups in order.
 ghost use Rattle.std.specs.Prelude.{◌≡◌, ◌+◌, ◌≤◌, length};
 ghost use Rattle.kc_store.specs.States.{MayBegin};
 ghost use Rattle.kc_store.specs.private.Showing.{HasShown};

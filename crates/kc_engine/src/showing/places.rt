@@ -1,3 +1,4 @@
+//! A group is shown: its moves are marked by several markers, it is published, and the moves are cleared.
 ghost use Rattle.std.specs.Prelude.{◌≡◌, ◌≤◌, ◌<◌, [], IfOk, length};
 ghost use Rattle.kc_store.specs.private.Showing.{HasShownGroup};
 ghost use Rattle.kc_engine.specs.private.Lending.{HasMarkedGroup, HasClearedGroup};
@@ -22,8 +23,11 @@ const LEAST_MOVES: u32 = 8_192;
 // moves it has, so that a gate sees them at the same time; from then on the number of moves decides.
 #[derive(Drop)]
 pub(crate) struct MarkerPlaces {
+    // Empty, but while a group is marked or cleared. Has room for one a worker, so that to lend them takes no memory.
     markers: Vec<Marker>,
+    // The number of workers, 1 to 64.
     workers: u32,
+    // Whether no group has been shown with these places yet.
     is_first_ahead: bool,
 }
 
@@ -46,7 +50,7 @@ fn tell_publishing<G: Gate>(gate: &G, group: &PlannedGroup<'_>) {
 }
 
 impl MarkerPlaces {
-    // Places for the markers of so many workers, 1 to 64. Fails only if memory runs out.
+    // Places for the markers of `workers` workers, 1 to 64. Fails only if memory runs out.
     pub(crate) fn new(alloc: Global, workers: u32) -> Result<MarkerPlaces, AllocError>
         requires { (1 ≤ workers) × (workers ≤ 64) }
         ensures { IfOk result (λ places. places ≡ workers) }
@@ -58,7 +62,7 @@ impl MarkerPlaces {
         })
     }
 
-    // In how many threads the ranges of a group with so many moves are marked and cleared.
+    // In how many threads the ranges of a group with `moves` moves are marked and cleared.
     fn threads_for(&self, moves: u32) -> usize
         ensures { 0 < result }
     {
@@ -69,7 +73,7 @@ impl MarkerPlaces {
         }
     }
 
-    // Marks the moves of a group that isn't published yet, in at most so many threads. No marker is out before or afterwards.
+    // Marks the moves of a group that isn't published yet, in at most `threads` threads. No marker is out before or afterwards.
     fn mark_group<R: Threads + Sync, G: Gate + Sync>(
         &mut self,
         crew: &Crew<'_, R, G>,
@@ -92,7 +96,7 @@ impl MarkerPlaces {
         give_back_all(store, writer, &mut self.markers);
     }
 
-    // Clears the moves of a group that is published, in at most so many threads. No marker is out before or afterwards.
+    // Clears the moves of a group that is published, in at most `threads` threads. No marker is out before or afterwards.
     fn clear_group<R: Threads + Sync, G: Gate + Sync>(
         &mut self,
         crew: &Crew<'_, R, G>,

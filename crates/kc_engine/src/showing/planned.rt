@@ -1,3 +1,4 @@
+//! One group of a phase plan, as it is handed to whoever shows it.
 ghost use Rattle.std.specs.Prelude.{◌≡◌, ◌<◌, length};
 ghost use Rattle.kc_groups.specs.WellFormed.{IsWellFormed};
 ghost use Rattle.kc_store.specs.Plans.{group_at};
@@ -8,8 +9,11 @@ use kc_groups::PhasePlan;
 // The group at place g of a plan, and how many moves it has.
 #[derive(Drop)]
 pub(crate) struct PlannedGroup<'a> {
+    // The plan of the phase, which is well formed.
     pub(crate) plan: &'a PhasePlan,
+    // The place of the group in the plan, counted from 0: less than the number of its groups.
     pub(crate) g: u32,
+    // How many moves the group has.
     pub(crate) moves: u32,
     ghost inside: { g < length plan.now.groups },
     ghost counted: { moves ≡ length (group_at plan.now g).moves },

@@ -1,4 +1,4 @@
-// Numbers of groups and moves, and how long ranges of moves are.
+//! Numbers of groups and moves, and how long ranges of moves are.
 ghost use Rattle.std.specs.Prelude.{◌≡◌, ◌⊎◌, ◌+◌, ◌*◌, ◌<◌, ◌≤◌, length};
 ghost use Rattle.kc_groups.specs.WellFormed.{IsWellFormed};
 ghost use Rattle.kc_store.specs.Plans.{group_at};
