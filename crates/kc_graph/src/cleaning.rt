@@ -1,3 +1,5 @@
+//! Cleaning: the edges that the items of a batch take out of a graph and put in, and how many items ask for nothing.
+
 ghost use Rattle.std.specs.Prelude.{◌≡◌, ◌<◌, ◌≤◌, [], true, false, length, All, IfOk, OnOk};
 ghost use Rattle.std.specs.List.{list_any};
 ghost use Rattle.kc_graph.specs.Cleaning.{IsInside, cleaned};
@@ -68,7 +70,7 @@ impl Cleaned {
     }
 }
 
-// The rows of so many keys are looked at together.
+// The number of keys whose rows are looked at together.
 const TOGETHER: usize = 16;
 
 // Whether the rows of the lesser vertices of the first keys are at hand, which they are after a look at each.

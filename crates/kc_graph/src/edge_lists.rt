@@ -1,3 +1,5 @@
+//! A `Vec` of edges that contracts see as the list of their pairs.
+
 ghost use Rattle.std.specs.Prelude.{◌≡◌, ◌↔◌, [], ◌∷◌, ◌++◌, length, IsTrue, OnOk, OnErr};
 ghost use Rattle.std.specs.List.Sorted.{IsPermutation, IsSorted};
 ghost use Rattle.kc_graph.specs.private.EdgeLists.{pair_cmp};
@@ -12,6 +14,7 @@ use std::thread::Threads;
 /// Edges one after another. Contracts see them as the list of their pairs.
 #[derive(Drop)]
 pub struct Edges {
+    // In the order of the list: whether they ascend, contracts say where it matters.
     items: Vec<Edge>,
 }
 

@@ -1,3 +1,5 @@
+//! An edge: two vertices, the lesser one first.
+
 ghost use Rattle.std.specs.Prelude.{ℕ, ◌<◌};
 
 use std::marker::Model;

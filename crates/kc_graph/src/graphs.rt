@@ -1,3 +1,5 @@
+//! A graph as a row of neighbours for each vertex: look-ups, and edges that come in or leave, singly or many together.
+
 ghost use Rattle.std.specs.Prelude.{◌≡◌, ℕ, ◌+◌, ◌<◌, ◌≤◌, [], length, slice_index, false, true, All, IfOk, OnOk, OnErr};
 ghost use Rattle.kc_graph.specs.Numbers.{RisesFrom};
 ghost use Rattle.kc_graph.specs.Shape.{GraphShape, EdgesFrom, IsGraph, neighbours_of, has_edge, with_edge, without_edge, with_edges, without_edges};
@@ -13,7 +15,7 @@ use std::alloc::{AllocError, Global};
 use std::marker::Model;
 use std::thread::Threads;
 
-// So many rows are looked at together.
+// The number of rows that are looked at together.
 const TOGETHER: usize = 16;
 
 /// A graph on the vertices 0 to n - 1, without loops, each edge once.
@@ -211,7 +213,8 @@ impl Graph {
 
     /// Takes out ascending edges that are there (`without_edges`).
     ///
-    /// `workers` is 1 to 64. The graph doesn't depend on it: so many threads take edges out where they are many, each at rows of its own.
+    /// `workers` is 1 to 64, and the most threads that take edges out, where these are many, each at rows of its own. The graph doesn't
+    /// depend on it.
     ///
     /// Fails only if memory runs out, and the graph is then unchanged.
     ///

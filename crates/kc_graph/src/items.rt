@@ -1,3 +1,5 @@
+//! The three changes of a graph that a batch may ask for.
+
 /// One asked change of a graph, as it is given: `u` and `v` may stand in either order, be equal, or
 /// be no vertices of the graph, and the edges may be there already or not.
 #[derive(Clone, Copy, Debug, PartialEq, Eq)]

@@ -1,3 +1,5 @@
+//! Cleaning of a batch that may isolate vertices: a walk from its last item to its first, which knows what the later ones touch.
+
 ghost use Rattle.std.specs.Prelude.{◌≡◌, ◌≢◌, ◌<◌, ◌≤◌, ◌||◌, [], ◌∷◌, ◌++◌, length, filter, map, cond, All, IfOk, OnOk};
 ghost use Rattle.kc_graph.specs.Shape.{IsGraph, same_edge, neighbours_of};
 ghost use Rattle.kc_graph.specs.Cleaning.{IsInside, holds, pair_of};

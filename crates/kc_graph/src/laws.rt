@@ -1,4 +1,4 @@
-// Laws of the definitions. The functions do nothing: each has a law as its contract.
+//! What graphs, their edges and the cleaning of batches come to. The functions do nothing: each has a law as its contract.
 
 ghost use Rattle.kc_graph.specs.Laws.{InsertionsKeepGraph, RemovalsKeepGraph, AscendingEdgesFillEmptyGraph, NeighboursAreJoined, GraphIsItsEdges};
 ghost use Rattle.kc_graph.specs.CleaningLaws.{CleanedFitsGraph, CleanedLeadsAsItems, EachItemCountsOnce};

@@ -1,3 +1,5 @@
+//! The greatest numbers of vertices, of edges, and of items of a batch.
+
 /// The greatest number of vertices of a [`Graph`](crate::Graph).
 pub const MAX_VERTICES: u32 = 16_777_216;
 

@@ -1,3 +1,5 @@
+//! Edges come into the rows of both their ends and leave them, singly, or as halves by one pass over each row.
+
 ghost use Rattle.std.specs.Prelude.{◌≡◌, ◌<◌, [], length, false, slice_index_or, OnOk, OnErr};
 ghost use Rattle.kc_graph.specs.Numbers.{has_number};
 ghost use Rattle.kc_graph.specs.private.KeptRows.{rows_joined, rows_parted};
@@ -33,7 +35,7 @@ pub fn part(rows: &mut Vec<Row>, a: u32, b: u32)
     rows[b as usize].remove(a);
 }
 
-// The rows of so many halves are looked at together.
+// The number of halves whose rows are looked at together.
 const AHEAD: usize = 32;
 
 // Whether the rows of the first halves are at hand, which they are after a look at each.

@@ -1,4 +1,4 @@
-// Ascending numbers that come into an ascending list, or leave it, by one pass, or where few leave a long list by a search for each.
+//! Ascending numbers that come into an ascending list, or leave it, by one pass, or where few leave a long list by a search for each.
 
 ghost use Rattle.std.specs.Prelude.{◌≡◌, ℕ, ◌+◌, ◌≤◌, ◌<◌, ◌++◌, ◌||◌, not, length, take, drop, filter, slice_index, slice_index_or};
 ghost use Rattle.kc_graph.specs.Numbers.{has_number, RisesFrom};
@@ -130,7 +130,7 @@ fn keep_runs(items: &mut Vec<u32>, outgoing: &[Half]) -> usize
     kept + (end - from)
 }
 
-// From so many numbers a number that leaves on, a search is less than a look at each of them.
+// Where a row has this many numbers for each that leaves, or more, a search for each is less than a look at every number.
 const LEAST_RUN: usize = 16;
 
 /// Moves the numbers that stay to the front, in their order, and says how many they are.

@@ -1,3 +1,5 @@
+//! The row of a vertex: its neighbours, ascending.
+
 ghost use Rattle.std.specs.Prelude.{◌≡◌, ℕ, ◌<◌, ◌↔◌, ◌||◌, not, true, [], List, IsTrue, OnOk, OnErr, All, filter};
 ghost use Rattle.kc_graph.specs.Numbers.{has_number, RisesFrom};
 ghost use Rattle.kc_graph.specs.private.Numbers.{put, without, Found};

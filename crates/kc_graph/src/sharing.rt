@@ -1,3 +1,5 @@
+//! Halves are cut by vertices into parts, so that several threads put them into rows or take them out, each at rows of its own.
+
 ghost use Rattle.std.specs.Prelude.{◌≡◌, ◌+◌, ◌<◌, ◌≤◌, length, take, drop, All, IfSome, OnOk};
 ghost use Rattle.std.specs.Bool.{OnTrue};
 ghost use Rattle.std.specs.Thread.{IsSync};
@@ -9,12 +11,14 @@ use crate::rows::Row;
 use std::alloc::AllocError;
 use std::thread::{Threads, join_mut};
 
-// Fewer than twice so many halves aren't cut: to start threads and to join them costs about a hundred microseconds.
+// The least number of halves of a part, so that fewer than twice as many aren't cut: to start threads and to join them costs about a
+// hundred microseconds.
 const LEAST_PART: usize = 16_384;
 
 // Who goes through the halves.
 #[derive(Drop)]
 struct Crew<'a, R> {
+    // What starts the threads.
     rt: &'a R,
     // Up to how many threads do it; 0 counts as 1.
     threads: u32,
@@ -23,7 +27,7 @@ struct Crew<'a, R> {
 }
 
 impl<'a, R> Crew<'a, R> {
-    // The same with so many threads.
+    // The same with this number of threads.
     fn with(&self, threads: u32) -> Crew<'a, R>
         ensures { result.threads ≡ threads }
     {
@@ -38,7 +42,9 @@ impl<'a, R> Crew<'a, R> {
 // Halves of vertices from `first` on; the first of the rows that they are for is that of `first`.
 #[derive(Clone, Copy)]
 struct Part<'a> {
+    // The vertex of the first row: no greater than that of any half.
     first: u32,
+    // Those that go into these rows, or out of them.
     halves: &'a [Half],
 }
 
@@ -210,7 +216,7 @@ pub fn take_alone(halves: &[Half], rows: &mut Vec<Row>)
     take_all(0, halves, rows.as_mut_slice());
 }
 
-/// As `give_alone`. Where the halves are many, up to so many threads do it, each at rows of its own.
+/// As `give_alone`. Where the halves are many, up to `threads` threads do it, each at rows of its own.
 pub fn give_by<R: Threads + Sync>(
     rt: &R,
     threads: u32,
@@ -232,7 +238,7 @@ pub fn give_by<R: Threads + Sync>(
     )
 }
 
-/// As `take_alone`. Where the halves are many, up to so many threads do it, each at rows of its own.
+/// As `take_alone`. Where the halves are many, up to `threads` threads do it, each at rows of its own.
 pub fn take_by<R: Threads + Sync>(rt: &R, threads: u32, halves: &[Half], rows: &mut Vec<Row>)
     requires { AreInside 0 (length rows.old.items) halves.now }
     ensures { AreTaken 0 rows.old.items rows.new.items halves.now }

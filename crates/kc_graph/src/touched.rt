@@ -1,3 +1,5 @@
+//! The pairs of vertices that the later items of a batch touch, those of isolated vertices among them.
+
 ghost use Rattle.std.specs.Prelude.{◌≡◌, ◌||◌, false, true, [], IfOk, OnOk};
 ghost use Rattle.kc_graph.specs.Cleaning.{holds};
 ghost use Rattle.kc_graph.specs.private.Later.{is_noted};

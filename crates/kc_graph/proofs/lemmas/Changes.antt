@@ -24,5 +24,5 @@ pub use Rattle.kc_graph.proofs.ChangeLemmas.{length-with_edges}
 pub use Rattle.kc_graph.proofs.ChangeLemmas.{added_behind}
 -- edges that come in leave the number of vertices as it was
 pub use Rattle.kc_graph.proofs.ChangeLemmas.{vertices-with_edges}
--- edges that leave do so too
+-- edges that leave keep the number of vertices as it was
 pub use Rattle.kc_graph.proofs.ChangeLemmas.{vertices-without_edges}

@@ -1,3 +1,5 @@
+//! Batches whose cleaning was worked out by hand, and others beside the definition run as it stands.
+
 ghost use Rattle.std.specs.Prelude.{◌↔◌, All, IsTrue};
 ghost use Rattle.kc_graph.specs.Cleaning.{IsInside};
 

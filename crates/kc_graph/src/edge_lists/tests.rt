@@ -1,3 +1,5 @@
+//! Edges are put into a list, taken out as a `Vec`, and made a list again.
+
 use super::*;
 use std::test::Fail;
 

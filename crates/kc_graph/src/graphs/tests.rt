@@ -1,3 +1,5 @@
+//! Edges come into graphs and leave them, singly and together, and rows are as they were worked out by hand.
+
 ghost use Rattle.std.specs.Prelude.{◌≡◌, ◌≤◌, true, false, length};
 ghost use Rattle.std.specs.Bool.{OnTrue};
 ghost use Rattle.kc_graph.specs.Shape.{EdgesFrom};

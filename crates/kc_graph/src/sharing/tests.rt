@@ -1,3 +1,5 @@
+//! Halves come into the rows of five vertices and leave them, in parts of any length and by several threads.
+
 ghost use Rattle.std.specs.Prelude.{◌≡◌, ◌≤◌, length, true};
 ghost use Rattle.std.specs.Bool.{OnTrue};
 ghost use Rattle.kc_graph.specs.private.Halves.{AreInside};

@@ -1,5 +1,5 @@
-// The definition of cleaning run as it stands: a slow program that looks at all pairs of vertices,
-// and for each item at all later ones.
+//! The definition of cleaning run as it stands: a slow program that looks at all pairs of vertices,
+//! and for each item at all later ones.
 use crate::edges::Edge;
 use crate::graphs::Graph;
 use crate::items::Item::{self, Delete, Insert, Isolate};
@@ -8,10 +8,15 @@ use std::process::Abort;
 
 #[derive(Drop)]
 pub struct Plain {
+    /// The pairs that leave the graph.
     pub removed: Vec<(u32, u32)>,
+    /// The pairs that come in.
     pub added: Vec<(u32, u32)>,
+    /// The items between a vertex and itself.
     pub loops: Vec<Item>,
+    /// The others that don't decide.
     pub repeats: Vec<Item>,
+    /// Those that change nothing and are neither.
     pub idle: Vec<Item>,
 }
 
