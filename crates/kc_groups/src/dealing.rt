@@ -1,4 +1,4 @@
-// The moves and edges of a phase, dealt to the entries of their labels.
+//! The moves and edges of a phase, dealt to the entries of their labels.
 ghost use Rattle.std.specs.Prelude.{◌≡◌, ℕ, ◌<◌, ◌≤◌, [], true, OnOk, All, get_or, map, filter, length, slice_index};
 ghost use Rattle.kc_groups.specs.private.Labels.{AreRooted};
 ghost use Rattle.kc_groups.specs.Gathering.{vertices, AreInOrder};
@@ -40,7 +40,7 @@ pub(crate) fn open_groups(
     Ok(())
 }
 
-// So many entries are looked at together: they lie anywhere in memory, and so do the lists in them.
+// The number of entries that are looked at together: they lie anywhere in memory, and so do the lists in them.
 const TOGETHER: usize = 16;
 
 // Whether the last move of the entry is of one of n vertices, as each of its moves is: a look at the end of the list.

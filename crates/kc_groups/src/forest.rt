@@ -1,4 +1,4 @@
-// A forest over the places of a list: each place points to one that is no greater, and a root to itself.
+//! A forest over the places of a list: each place points to one that is no greater, and a root to itself.
 ghost use Rattle.std.specs.Prelude.{◌≡◌, ℕ, Bool, List, ◌<◌, ◌≤◌, ◌||◌, length, slice_index};
 ghost use Rattle.kc_groups.specs.private.Forest.{IsForest, AreGathered, merged};
 

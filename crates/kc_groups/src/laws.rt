@@ -1,4 +1,4 @@
-// Laws of the definitions. The functions do nothing: each has laws as its contract.
+//! What labels, groups and plans of phases come to. The functions do nothing: each has laws as its contract.
 
 ghost use Rattle.kc_groups.specs.Laws.{LabelsAreOne, PlanIsOne, PlanIsWellFormed, MovesAreInTheirGroups, EdgesAreDealtOnce, EntriesLeadOver, PointsLieBetween, PlanAscends, PhasesLead};
 

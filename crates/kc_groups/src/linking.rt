@@ -1,4 +1,4 @@
-// The moves of a phase, gathered into a tree for each group.
+//! The moves of a phase, gathered into a tree for each group.
 ghost use Rattle.std.specs.Prelude.{◌≡◌, ℕ, List, Bool, ◌<◌, ◌≤◌, ◌||◌, IfOk, false, true, length, slice_index};
 ghost use Rattle.kc_graph.specs.Shape.{EdgesFrom};
 ghost use Rattle.kc_groups.specs.private.Forest.{AreGathered, IsForest};
@@ -21,7 +21,7 @@ fn lone_places(alloc: Global, m: u32) -> Result<Vec<u32>, AllocError>
     Ok(parents)
 }
 
-// The rows of so many moves are looked at together.
+// The number of moves whose rows are looked at together.
 const TOGETHER: u32 = 16;
 
 // Whether the rows of the vertices of the moves from this place on are at hand, which they are after a look at each.

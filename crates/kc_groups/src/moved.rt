@@ -1,4 +1,4 @@
-// The moves of a phase, found from the levels before and after it.
+//! The moves of a phase, found from the levels before and after it.
 ghost use Rattle.std.specs.Prelude.{◌≡◌, ◌<◌, ◌≤◌, OnOk, IfOk, length};
 ghost use Rattle.kc_levels.specs.Moved.{is_moved, moves_between};
 

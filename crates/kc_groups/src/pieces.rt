@@ -1,4 +1,4 @@
-// The rows of the moves of a phase, gathered piece by piece, by a thread for each.
+//! The rows of the moves of a phase, gathered piece by piece, by a thread for each.
 ghost use Rattle.std.specs.Prelude.{◌≡◌, ◌+◌, ◌<◌, ◌≤◌, IfOk, length};
 ghost use Rattle.kc_groups.specs.private.Forest.{AreGathered};
 ghost use Rattle.kc_groups.specs.Gathering.{vertices};
@@ -23,12 +23,15 @@ const MOST_PIECES: usize = 8;
 /// depends on the number.
 #[derive(Drop)]
 pub struct Planners<'a, R> {
+    /// What starts the threads.
     pub rt: &'a R,
+    /// Where the memory of plans, and of the forests that they are made from, comes from.
     pub alloc: Global,
+    /// How many pieces a list of moves is cut into at most; 0 counts as 1.
     pub workers: u32,
 }
 
-// Into how many pieces so many moves are cut.
+// Into how many pieces a list with this number of moves is cut.
 pub(crate) fn piece_count(workers: u32, moves: usize) -> u32
     ensures some { 1 ≤ result }
     ensures few { result ≤ 8 }
@@ -55,7 +58,7 @@ fn gather_piece(
     link_rows(alloc, graph, moves, places, start as u32, end as u32)
 }
 
-// A forest over the moves in which those that an edge of the graph leads between are in one tree. Each of so many pieces, or fewer
+// A forest over the moves in which those that an edge of the graph leads between are in one tree. Each of `pieces` pieces, or fewer
 // where there are few moves, goes to a thread of its own where one can be made; for one piece no thread is started.
 pub(crate) fn gather_rows<R: Threads + Sync>(
     planners: &Planners<'_, R>,

@@ -1,3 +1,5 @@
+//! The plan of a phase from end to end: its moves are numbered and joined into groups, and moves and edges are dealt to the
+//! entries of these.
 ghost use Rattle.std.specs.Prelude.{◌≡◌, ◌≤◌, ℕ, List, IfOk, OnOk, IsTrue, length, true, false};
 ghost use Rattle.kc_graph.specs.Shape.{EdgesFrom, with_edges};
 ghost use Rattle.kc_graph.specs.Changes.{AllPresent};

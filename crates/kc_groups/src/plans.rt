@@ -1,3 +1,5 @@
+//! A phase as it is to be planned, and its plan.
+
 use kc_graph::Edge;
 use kc_history::{Entries, Entry, Moves};
 
@@ -5,9 +7,13 @@ use kc_history::{Entries, Entry, Moves};
 /// moves, ascending.
 #[derive(Drop)]
 pub struct Phase<'a> {
+    /// Its number, from 1 on.
     pub number: u32,
+    /// Whether its edges come in. They leave if not.
     pub add: bool,
+    /// The edges that come in or leave, ascending.
     pub edges: &'a [Edge],
+    /// The moves of the vertices that it moves, ascending.
     pub moves: &'a Moves,
 }
 

@@ -1,4 +1,4 @@
-// A law of the definitions. The function does nothing: it has the law as its contract.
+//! How large a plan can be. The function does nothing: it has the law as its contract.
 
 ghost use Rattle.kc_groups.specs.Sizes.{PlansAreSmall};
 

@@ -1,3 +1,4 @@
+//! Plans of phases on small graphs, worked out by hand: who moves together, and with which edges.
 ghost use Rattle.std.specs.Prelude.{◌≡◌, ◌≤◌, ◌<◌, OnOk, IfOk, length};
 ghost use Rattle.std.specs.Bool.{OnTrue};
 ghost use Rattle.kc_graph.specs.Shape.{EdgesFrom};
@@ -131,7 +132,7 @@ fn plan_after<R: Threads + Sync>(
     plan_moves(planners, &phase, graph, step.edges, work)
 }
 
-// The same with the moves cut into so many pieces, few as they are.
+// The same with the moves cut into `pieces` pieces, few as they are.
 fn plan_cut<R: Threads + Sync>(
     planners: &Planners<'_, R>,
     step: &Step<'_>,
@@ -154,7 +155,7 @@ fn plan_cut<R: Threads + Sync>(
     plan_in_pieces(planners, &phase, graph, step.edges, &mut work, pieces)
 }
 
-// The quiet entry has these edges, and there are so many groups.
+// The quiet entry has these edges, and there are `groups` groups.
 fn check_quiet<R: Abort>(rt: &R, plan: &PhasePlan, add: bool, edges: &[Edge], groups: usize) {
     assert!(rt; plan.quiet.phase == 7 && plan.quiet.add == add);
     assert_eq!(rt; plan.quiet.label, None);

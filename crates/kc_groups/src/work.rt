@@ -1,4 +1,4 @@
-// What a plan works with: a number for each vertex.
+//! What a plan works with: a number for each vertex.
 ghost use Rattle.std.specs.Prelude.{◌≡◌, ◌≤◌, ℕ, List, ◌<◌, IfOk, length};
 ghost use Rattle.kc_groups.specs.private.Forest.{IsForest};
 ghost use Rattle.kc_groups.specs.Gathering.{vertices, clean, AreInOrder};
@@ -13,7 +13,8 @@ use std::marker::Model;
 /// (`clean`) between phases.
 #[derive(Drop)]
 pub struct GroupWork {
-    // The number of vertices for each vertex that the phase at hand doesn't move.
+    // A number for each vertex: the number of vertices at one that doesn't move, and so at all between phases. At one that moves it is,
+    // while the phase is planned, first the place of its move, then the label of its group, and at last the place of the group's entry.
     pub(crate) places: Vec<u32>,
 }
 

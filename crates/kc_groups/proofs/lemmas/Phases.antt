@@ -10,7 +10,7 @@ pub use Rattle.kc_groups.proofs.PhaseLaw.{is_phase}
 pub use Rattle.kc_groups.proofs.PhaseLaw.{kept}
 -- the entries of a phase lead to its graph
 pub use Rattle.kc_groups.proofs.PhaseLaw.{phase_graph}
--- and to its levels
+-- the entries of a phase lead to its levels
 pub use Rattle.kc_groups.proofs.PhaseLaw.{phase_levels}
 -- the entries of phases lead over them, one after another
 pub use Rattle.kc_groups.proofs.PhaseLaw.{phases_lead}

@@ -2,7 +2,7 @@
 
 -- there is exactly one plan of a phase
 pub use Rattle.kc_groups.proofs.PlanLaw.{plan_is_one}
--- and it is well formed
+-- the plan of a phase is well formed
 pub use Rattle.kc_groups.proofs.PlanLaw.{plan_is_well_formed}
 -- the moves of a plan stand in their groups
 pub use Rattle.kc_groups.proofs.MovesLaw.{moves_are_in_their_groups}
@@ -18,7 +18,7 @@ pub use Rattle.kc_groups.proofs.ListLemmas.{labels_rise}
 pub use Rattle.kc_groups.proofs.ListLemmas.{has_move}
 -- what holds of the move of each vertex of a label holds of each move of the label
 pub use Rattle.kc_groups.proofs.ListLemmas.{all_moves}
--- the vertices of these moves are ascending
+-- the vertices of the moves of a label are ascending
 pub use Rattle.kc_groups.proofs.ListLemmas.{moves_rise}
 -- a vertex with a label moves
 pub use Rattle.kc_groups.proofs.PlanLaw.{moves_if_labelled}
