@@ -1,3 +1,4 @@
+//! An entry of a history: the moves and the edges that take effect together.
 ghost use Rattle.std.specs.Prelude.{◌≡◌, ◌++◌, ◌∷◌, [], OnOk, OnErr};
 
 use crate::{Move, Moves};

@@ -1,3 +1,4 @@
+//! A `Vec` of entries that contracts see as a list of them.
 ghost use Rattle.std.specs.Prelude.{◌≡◌, ◌↔◌, [], ◌∷◌, ◌++◌, length, IsTrue, OnOk, OnErr};
 
 use crate::entries::Entry;
@@ -7,6 +8,7 @@ use std::marker::Model;
 /// Entries one after another. Contracts see them as a list.
 #[derive(Drop)]
 pub struct Entries {
+    // In the order in which they take effect.
     items: Vec<Entry>,
 }
 

@@ -1,4 +1,4 @@
-// Laws of the definitions. The functions do nothing: each has laws as its contract.
+//! What points of a history come to, and which replies it explains. The functions do nothing: each has laws as its contract.
 
 ghost use Rattle.kc_history.specs.Laws.{PointsStay, HistoryStartsEmpty, EntriesLeadOn, PointsLeadOn, LongerExplains, EarlierExplains, EndExplainsMore, StartExplainsZeros};
 

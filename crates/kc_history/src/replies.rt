@@ -1,3 +1,4 @@
+//! What a reader was told: a reply for each of its questions, in order.
 ghost use Rattle.std.specs.Prelude.{◌≡◌, ◌↔◌, [], length, IsTrue};
 
 use std::alloc::Global;
@@ -15,6 +16,7 @@ pub struct Reply {
 /// Replies one after another. Contracts see them as a list.
 #[derive(Drop)]
 pub struct Replies {
+    // In the order of the questions.
     items: Vec<Reply>,
 }
 

@@ -1,3 +1,5 @@
+//! A move and an edge are put into an entry, and entries into a list.
+
 use crate::{Entries, Entry, Move, Moves};
 use kc_graph::Edge;
 use std::test::Fail;
