@@ -1,4 +1,4 @@
-// How copies of the counts follow those of the graph at the places that a phase may have changed.
+//! How copies of the counts follow those of the graph at the places that a phase may have changed.
 
 ghost use Rattle.std.specs.Prelude.{◌≡◌, ◌<◌, ◌≢◌, All, false, length};
 ghost use Rattle.kc_graph.specs.Numbers.{has_number};

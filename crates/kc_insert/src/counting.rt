@@ -1,8 +1,8 @@
-// How the counts follow when vertices of a level rise to the next: one pass over the neighbours of each that begins to rise, and
-// of each that stays behind, and a look at each meeting on the two levels.
-//
-// `Counting` of the definitions says who counts whom. What it calls x are the levels in `adj`, where a riser stands on its old
-// level until it stays on a new one; what it calls z are those in `levels`, after the step.
+//! How the counts follow when vertices of a level rise to the next: one pass over the neighbours of each that begins to rise, and
+//! of each that stays behind, and a look at each meeting on the two levels.
+//!
+//! `Counting` of the definitions says who counts whom. What it calls x are the levels in `adj`, where a riser stands on its old
+//! level until it stays on a new one; what it calls z are those in `levels`, after the step.
 
 ghost use Rattle.std.specs.Prelude.{◌≡◌, ◌+◌, ◌<◌, ◌≤◌, ◌++◌, ◌∷◌, ◌==◌, ◌^◌, ◌||◌, Bool, ℕ, [], OnOk, cond, drop, false, filter, true, length, slice_index, slice_index_or, slice_set, take};
 ghost use Rattle.kc_graph.specs.Numbers.{has_number};
@@ -270,7 +270,7 @@ fn begin_one(
     Ok(())
 }
 
-// So many of the vertices, from this place on.
+// `count` of the vertices, from the place `start` on.
 fn run_of(vertices: &[u32], start: usize, count: usize) -> &[u32]
     requires { start + count ≤ length vertices.now }
     ensures { result.now ≡ take count (drop start vertices.now) }

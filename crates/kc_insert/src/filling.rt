@@ -1,3 +1,5 @@
+//! The start of an insertion phase: its edges are linked, and of their ends those are filed that may have to rise.
+
 ghost use Rattle.std.specs.Prelude.{◌≡◌, ◌≢◌, ℕ, List, ◌+◌, ◌*◌, ◌<◌, ◌≤◌, All, OnOk, length, slice_index, slice_set};
 ghost use Rattle.kc_graph.specs.Shape.{EdgesFrom, with_edges};
 ghost use Rattle.kc_graph.specs.Changes.{AllAbsent, CanAdd};

@@ -7,8 +7,9 @@
 //! rise are on one level, so that a step puts all of them on the next at once, and `watched` writes down who comes to count few, so
 //! that a round looks at nobody else who came up to its level. `counting` says how the counts follow, without a pass over a riser's
 //! neighbours for each level: a riser and a neighbour above it have one of the `meetings`, which waits on the neighbour's level. A
-//! riser is put on its new level in the graph where it stays. `specs/` has the definitions: read `Effort`, `BucketQueue`, `Counting`,
-//! `Rising`, `Watched`, `Sweeping` and `Working` first.
+//! riser is put on its new level in the graph where it stays. `specs/` has the definitions: read `Effort` first; then `BucketQueue`,
+//! which says who waits in the queue, a list for each level, when the sweep begins; then `Counting`, `Rising`, `Watched`, `Sweeping`
+//! and `Working`.
 #![tactic(auto)]
 
 mod copying;

@@ -1,9 +1,13 @@
+//! A meeting: a vertex that rises and a neighbour above it, which are looked at when the sweep comes to the neighbour's level.
+
 use std::marker::Model;
 
 /// A vertex that rises, and a neighbour of it that stood above it when it began to. Contracts see it as the pair of the two.
 #[derive(Clone, Copy)]
 pub struct Meeting {
+    /// The vertex that rises.
     pub riser: u32,
+    /// The neighbour, which stood above it.
     pub other: u32,
 }
 

@@ -1,5 +1,5 @@
-// One sweep over the levels, from the lowest up: on each those rise who have more neighbours there or above than their group
-// allows, whether they came up to it or have stood on it before.
+//! One sweep over the levels, from the lowest up: on each those rise who have more neighbours there or above than their group
+//! allows, whether they came up to it or have stood on it before.
 
 ghost use Rattle.std.specs.Prelude.{◌≡◌, ◌+◌, ◌*◌, ◌<◌, ◌≤◌, ◌||◌, ℕ, false, true, List, [], All, IfOk, OnOk, filter, length, replicate, slice_index};
 ghost use Rattle.kc_graph.specs.Numbers.{has_number};
@@ -52,7 +52,9 @@ pub struct Sweep {
 // Tests whether a vertex counts more than `most` neighbours.
 #[derive(Drop)]
 struct Over<'a> {
+    // How many neighbours each vertex counts.
     counts: &'a Vec<u32>,
+    // How many the group of the sweep's level allows.
     most: u32,
 }
 

@@ -1,3 +1,5 @@
+//! Insertion phases on small graphs, whose levels were worked out by hand, one after another and by several workers.
+
 ghost use Rattle.std.specs.Prelude.{◌≡◌, ℕ, ◌<◌, ◌≤◌, length};
 ghost use Rattle.kc_graph.specs.Shape.{EdgesFrom};
 
@@ -19,6 +21,7 @@ use std::thread::Threads;
 // A phase into a graph without edges.
 #[derive(Drop)]
 struct Phase<'a> {
+    // The edges that come in, ascending.
     added: &'a [Edge],
     // The levels that it gives.
     want: &'a [u16],
@@ -56,7 +59,7 @@ fn check_counted<R: Threads + Sync + Abort, G: Gate + Sync, L: Ledger>(
     Ok(())
 }
 
-// One phase into a graph without edges, by any number of workers, gives these levels, and moves so many vertices.
+// One phase into a graph without edges, by any number of workers, gives the levels `want`, and moves `moves` vertices.
 fn check<R: Threads + Sync + Abort>(
     rt: &R,
     alloc: Global,
@@ -240,11 +243,14 @@ fn phases_in_turn_leave_nothing_over(rt: HostRuntime) -> Result<(), Fail> {
 
 const TURNS: u64 = 10_000_000;
 
-// Holds the first piece 0 that it is told until it was told piece 1, for at most so many turns.
+// Holds the first piece 0 that it is told until it was told piece 1, for at most `TURNS` turns.
 #[derive(Drop)]
 struct Holding {
+    // Whether a first piece 0 was told, which alone is held.
     has_held: AtomicBool,
+    // Whether piece 1 was told.
     told: AtomicBool,
+    // How many turns were left when the other came; 0 where it never did.
     turns_left: AtomicU64,
 }
 

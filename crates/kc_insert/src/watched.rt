@@ -1,4 +1,4 @@
-// How many neighbours each vertex counts, where whoever comes to count few is written down.
+//! How many neighbours each vertex counts, where whoever comes to count few is written down.
 
 ghost use Rattle.std.specs.Prelude.{◌≡◌, ◌+◌, ◌-◌, ◌<◌, ◌≤◌, ◌^◌, ℕ, true, OnOk, filter, length, slice_index, slice_set};
 ghost use Rattle.kc_graph.specs.Numbers.{has_number};
@@ -11,7 +11,7 @@ use std::alloc::AllocError;
 pub struct WatchedCounts {
     /// How many neighbours each vertex counts.
     pub counts: Vec<u32>,
-    /// So many are few, and so are less.
+    /// The greatest number that is few.
     pub most: u32,
     /// Whoever came to count few, and maybe others.
     pub doubtful: Vec<u32>,
@@ -43,7 +43,7 @@ impl WatchedCounts {
         self.counts[v as usize] += 1;
     }
 
-    /// v counts so many. Fails only if memory runs out.
+    /// v counts `count`. Fails only if memory runs out.
     pub fn put(&mut self, v: u32, count: u32) -> Result<(), AllocError>
         requires vertex { v < length self.old.counts.items }
         ensures counts { OnOk result (self.new.counts.items ≡ slice_set self.old.counts.items v count) }

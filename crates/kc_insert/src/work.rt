@@ -1,3 +1,5 @@
+//! The workspace that insertion phases share, one after another.
+
 ghost use Rattle.std.specs.Prelude.{◌≡◌, ◌<◌, ℕ, [], All, IfOk, OnOk, length, replicate};
 ghost use Rattle.kc_graph.specs.Numbers.{has_number};
 ghost use Rattle.kc_graph.specs.Shape.{without_edges};
@@ -26,8 +28,9 @@ use std::marker::Model;
 /// and 48 for each level up to the top.
 #[derive(Drop)]
 pub struct InsertionWork {
+    // How far the sweep of the phase has come. Between phases nobody rises, waits or is to be met.
     pub(crate) sweep: Sweep,
-    // The levels before the phase.
+    // The levels before the phase; between phases those of the graph.
     pub(crate) before: Levels,
 }
 

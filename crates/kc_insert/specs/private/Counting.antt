@@ -62,7 +62,7 @@ pub record AreBeginners (n : ℕ) (x z : List ℕ) (l : ℕ) (risers : List ℕ)
   pub to : (v : ℕ) → has_number v risers ≡ true → get_or z v 0 ≡ l + 1
   pub distinct : AreDistinct risers
 
--- v begins to rise from level l: it counts so many neighbours, and its neighbours on l + 1 count one more
+-- v begins to rise from level l: it counts `own` neighbours, and its neighbours on l + 1 count one more
 pub record HasBegun (g : GraphShape) (x : List ℕ) (l v own : ℕ) (before counts : List ℕ) : Type 0 where
   pub sized : length counts ≡ g.vertices
   pub own_count : get_or counts v 0 ≡ own
