@@ -1,3 +1,4 @@
+//! The drainer: the one who may take updates out of an intake, with the batch that it took last.
 ghost use Rattle.std.specs.Prelude.{◌≡◌};
 
 use crate::rule::Pass;
@@ -8,7 +9,9 @@ use std::marker::Model;
 /// drained batches, and `joined`, what each client that was taken in had sent.
 #[derive(Drop)]
 pub struct Drainer {
+    // What it may do to the queue, and all that was drained and who was taken in.
     pub(crate) pass: Pass,
+    // The updates of the last drain. Has room for the capacity of the intake, so that no drain takes memory.
     pub(crate) batch: Vec<Update>,
 }
 

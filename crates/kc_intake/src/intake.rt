@@ -1,3 +1,4 @@
+//! The intake: it is opened with its clients and its drainer, items are submitted, and batches of them are drained.
 ghost use Rattle.std.specs.Prelude.{◌≡◌, ◌≤◌, ◌<◌, [], ◌∷◌, ◌++◌, length, map, All, IfOk, OnOk, OnErr};
 ghost use Rattle.std.specs.List.{range_with_len};
 ghost use mathlib.Core.List.{IsPrefix};
@@ -19,6 +20,7 @@ use std::thread::Threads;
 /// The queue between clients and their server. Contracts see which queue it is, and its capacity.
 #[derive(Drop)]
 pub struct Intake {
+    // Holds at most as many updates as its capacity, 1 to `MAX_CAPACITY`, and keeps `Rule` whatever clients and drainer do.
     queue: Queue,
 }
 

@@ -1,3 +1,5 @@
+//! The greatest numbers of updates that wait, of clients, and of items of one client.
+
 /// The greatest capacity of an intake.
 pub const MAX_CAPACITY: u32 = 65_536;
 

@@ -1,4 +1,4 @@
-// The rule of the queue, and what each kind of step tells.
+//! The rule of the queue, and what each kind of step tells.
 use crate::roles::Role;
 use crate::updates::Update;
 use crossbeam_queue::RuledArrayQueue;

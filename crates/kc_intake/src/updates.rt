@@ -1,3 +1,5 @@
+//! A submitted item with its client and its place among that client's items, and the two refusals of an intake.
+
 use kc_graph::Item;
 use thiserror::Error;
 

@@ -1,4 +1,4 @@
-// One client and the server on one thread.
+//! One client and the server on one thread.
 ghost use Rattle.std.specs.Prelude.{◌≡◌, ◌≤◌, [], IfOk};
 
 use crate::{Client, Drainer, Empty, Full, Intake, Update};

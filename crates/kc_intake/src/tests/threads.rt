@@ -1,4 +1,4 @@
-// Clients in threads of their own beside a server that only drains. What was drained is compared with the scripts by a plain walk.
+//! Clients in threads of their own beside a server that only drains. What was drained is compared with the scripts by a plain walk.
 ghost use Rattle.std.specs.Prelude.{◌≡◌, ◌+◌, ◌≤◌, ◌<◌, ◌^◌, length, All, IfOk};
 ghost use Rattle.std.specs.Thread.{IsSync};
 
@@ -16,7 +16,9 @@ const MAX_TURNS: u32 = 100_000_000;
 // A client and what it submits.
 #[derive(Drop)]
 struct Sender {
+    // The client, which has sent nothing before it runs.
     client: Client,
+    // The items that it submits, in order.
     script: Vec<Item>,
 }
 
@@ -116,6 +118,7 @@ fn side_by_side<R: Threads + Wait + Sync>(
 // Numbers that look random.
 #[derive(Drop)]
 struct Numbers {
+    // What the next number is made of.
     state: u64,
 }
 
