@@ -1,3 +1,4 @@
+//! How many neighbours of a vertex stand from a level on, and so whether it meets the upper and the lower invariant.
 ghost use Rattle.std.specs.Prelude.{◌≡◌, ℕ, ◌<◌, ◌≤◌, ◌↔◌, IsTrue, length, slice_index};
 ghost use Rattle.std.specs.Bool.{OnFalse};
 ghost use Rattle.kc_levels.specs.Thresholds.{top_level};

@@ -1,4 +1,5 @@
-// Laws of the definitions. The functions do nothing: each has laws as its contract.
+//! What thresholds, raised and lowered levels and both invariants come to. The functions do nothing: each has laws as its
+//! contract.
 
 ghost use Rattle.kc_levels.specs.Laws.{FirstProfileBegins, SecondProfileBegins, EstimateIsNear, RaisedIsOneList, TopIsRaisable, LesserIsRaisable, LoweredIsOneList, ZerosAreLowerable, GreaterIsLowerable, InsertionKeepsBoth, DeletionKeepsBoth, SequencesRise, HeightIsLeast, LastGroupIsLeast, TopIsLow, NoneBreaksBoth};
 ghost use Rattle.kc_levels.specs.Between.{BetweenMeetsBoth};

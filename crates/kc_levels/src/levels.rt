@@ -1,3 +1,4 @@
+//! The level of each vertex of a graph.
 ghost use Rattle.std.specs.Prelude.{◌≡◌, ℕ, ◌<◌, List, All, IfOk, length, slice_index, slice_set, replicate};
 ghost use Rattle.kc_levels.specs.Moved.{moves_between};
 
@@ -8,6 +9,7 @@ use std::marker::Model;
 /// A level for each vertex, seen as the list of the levels.
 #[derive(Drop)]
 pub struct Levels {
+    // That of vertex 0 first.
     items: Vec<u16>,
 }
 

@@ -1,3 +1,4 @@
+//! A `Vec` of moves that contracts see as a list of them.
 ghost use Rattle.std.specs.Prelude.{◌≡◌, ◌↔◌, [], ◌∷◌, ◌++◌, length, IsTrue, OnOk, OnErr};
 
 use crate::moves::Move;
@@ -7,6 +8,7 @@ use std::marker::Model;
 /// Moves one after another. Contracts see them as a list.
 #[derive(Drop)]
 pub struct Moves {
+    // In the order of the list: whether their vertices ascend, contracts say where it matters.
     items: Vec<Move>,
 }
 

@@ -1,3 +1,4 @@
+//! How many vertices two lists of levels tell apart, and the moves that lead from the one to the other.
 ghost use Rattle.std.specs.Prelude.{◌≡◌, ◌<◌, ◌≤◌, ℕ, true, IfOk, length, map};
 ghost use Rattle.kc_graph.specs.Numbers.{has_number, RisesFrom};
 ghost use Rattle.kc_levels.specs.Moved.{is_moved, moved_count, move_of, moves_between};

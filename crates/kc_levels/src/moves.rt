@@ -1,3 +1,5 @@
+//! A move: a vertex goes from one level to another.
+
 /// A vertex with its level before and after.
 #[derive(Clone, Copy, Debug, PartialEq, Eq)]
 pub struct Move {

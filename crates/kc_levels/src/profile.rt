@@ -1,3 +1,4 @@
+//! The two profiles, and how the thresholds of a group follow from those of the one before it.
 ghost use Rattle.std.specs.Prelude.{◌≡◌, ◌≤◌, ◌<◌, ◌^◌};
 ghost use Rattle.kc_levels.specs.Thresholds.{next_low, high_over, next_grow, lo_after};
 

@@ -1,3 +1,5 @@
+//! Tops, groups and thresholds worked out by hand, and a star that meets and breaks the invariants.
+
 use crate::{Levels, Profile, Thresholds, at_least, check_lower, check_upper, moved_count};
 use kc_graph::{Edge, Graph, MAX_VERTICES};
 use std::test::Fail;

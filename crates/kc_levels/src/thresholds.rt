@@ -1,3 +1,4 @@
+//! How many neighbours each group of levels needs and allows, and what a level says of the coreness of its vertices.
 ghost use Rattle.std.specs.Prelude.{◌≡◌, ℕ, ◌+◌, ◌-◌, ◌*◌, ◌<◌, ◌≤◌, ◌^◌, IfOk, length, slice_index};
 ghost use Rattle.kc_levels.specs.Thresholds.{low, high, lo, est, height, last_group, top_level, group_of};
 
@@ -20,6 +21,7 @@ pub struct Estimate {
 /// The thresholds of a profile for a number of vertices, seen as these two (`Scale`).
 #[derive(Drop)]
 pub struct Thresholds {
+    // which sequences they go by
     profile: Profile,
     // the number of vertices, 1 to MAX_VERTICES
     n: u32,

@@ -1,6 +1,6 @@
 -- What other crates may cite of the least number that passes a test.
 
--- it is at most each number that passes
+-- the least number that passes is at most each number that passes
 pub use Rattle.kc_levels.proofs.Least.{least-le}
--- it passes where any number below the bound does
+-- the least number that passes is one that passes, where any number below the bound does
 pub use Rattle.kc_levels.proofs.Least.{least-passes}

@@ -2,9 +2,9 @@
 
 -- a vertex is among those that move below a bound where it is below it and moves
 pub use Rattle.kc_levels.proofs.MovesBetween.{has_number-moved_below}
--- each vertex of the list is below the bound and moves
+-- each of the vertices that move below a bound is below it and moves
 pub use Rattle.kc_levels.proofs.MovesBetween.{moved_all}
--- the list is ascending, and below the bound
+-- the list of the vertices that move below a bound is ascending, and below it
 pub use Rattle.kc_levels.proofs.MovesBetween.{moved_rise}
 -- an ascending list of just the vertices below n that move is the list of those
 pub use Rattle.kc_levels.proofs.MovesBetween.{moved_below_is}
@@ -20,9 +20,9 @@ pub use Rattle.kc_levels.proofs.Ascending.{still_here}
 pub use Rattle.kc_levels.proofs.Ascending.{distinct_push}
 -- what holds of all of a list holds of it with one more element, where it holds of that one
 pub use Rattle.kc_levels.proofs.MovesBetween.{all_pushed}
--- what is below k is below k + 1
+-- a list whose numbers are below k has all of them below k + 1
 pub use Rattle.kc_levels.proofs.MovesBetween.{below_next}
--- so is it with k at its end
+-- a list whose numbers are below k has, with k put at its end, all of them below k + 1
 pub use Rattle.kc_levels.proofs.MovesBetween.{below_push}
--- and an ascending list stays so
+-- an ascending list whose numbers are below k stays ascending when k is put at its end
 pub use Rattle.kc_levels.proofs.MovesBetween.{rises_push}

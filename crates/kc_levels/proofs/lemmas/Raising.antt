@@ -16,7 +16,7 @@ pub use Rattle.kc_levels.proofs.Raising.{raising_many}
 pub use Rattle.kc_levels.proofs.Raising.{raising_done}
 -- how many rises of one level there may still be
 pub use Rattle.kc_levels.proofs.Raising.{room}
--- each rise leaves fewer
+-- each rise by one level leaves fewer rises that there may still be
 pub use Rattle.kc_levels.proofs.Raising.{room_falls}
 -- exactly one list is raised
 pub use Rattle.kc_levels.proofs.RaisedLaw.{raised_is_one_list}

@@ -8,7 +8,7 @@ pub use Rattle.kc_levels.proofs.Sequences.{low-pos}
 pub use Rattle.kc_levels.proofs.Sequences.{high-mono}
 -- `high` is at most three times the estimate
 pub use Rattle.kc_levels.proofs.Sequences.{high-est}
--- and in the profile 2 at most twice
+-- in the profile 2 `high` is at most twice the estimate
 pub use Rattle.kc_levels.proofs.Sequences.{high-est-two}
 -- `grow` of a group is above the group's number
 pub use Rattle.kc_levels.proofs.Sequences.{grow-ge}

@@ -2,7 +2,7 @@
 
 -- what holds of the number written at v, and of the old number at every other place, holds at each place
 pub use Rattle.kc_levels.proofs.Places.{changed}
--- nothing was copied yet
+-- at first no place of the list was copied
 pub use Rattle.kc_levels.proofs.Copied.{copied_first}
 -- one number more was copied
 pub use Rattle.kc_levels.proofs.Copied.{copied_one}
