@@ -1,3 +1,4 @@
+//! A colour for each vertex that none of its out-neighbours has: vertices are coloured from the greatest level down.
 ghost use Rattle.std.specs.Prelude.{◌≡◌, ◌≢◌, ℕ, ◌+◌, ◌<◌, ◌≤◌, [], All, IfOk, length, slice_index, slice_index_or};
 ghost use Rattle.kc_graph.specs.declared.limits.TheConstants.{MAX_VERTICES};
 ghost use Rattle.kc_orient.specs.Colouring.{IsLeastFree, IsColouring};

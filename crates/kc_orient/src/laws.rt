@@ -1,4 +1,4 @@
-// Laws of the definitions. The functions do nothing: each has laws as its contract.
+//! What orientations and colourings come to. The functions do nothing: each has laws as its contract.
 
 ghost use Rattle.kc_orient.specs.Laws.{AboveIsAnOrder, EachEdgeOnce, NoCycle, OutNeighboursAreFew, ColouringIsOne, ColouringIsProper, ColoursAreFew};
 

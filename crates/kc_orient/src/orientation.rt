@@ -1,3 +1,4 @@
+//! The out-neighbours of each vertex, where each edge leads to the end that is above the other.
 ghost use Rattle.std.specs.Prelude.{◌≡◌, ℕ, ◌<◌, ◌≤◌, [], All, length, slice_index_or};
 ghost use Rattle.kc_graph.specs.declared.limits.TheConstants.{MAX_VERTICES};
 ghost use Rattle.kc_graph.specs.Numbers.{RisesFrom};
@@ -11,6 +12,7 @@ use std::marker::Model;
 /// Contracts see it as an `OrientationShape`: the level of each vertex, and the list of the out-neighbours of each.
 #[derive(Drop)]
 pub struct Orientation {
+    // The level of each vertex, by which the edges were directed.
     pub(crate) levels: Levels,
     // The place in `heads` where the out-neighbours of each vertex begin, and at the end the number of edges.
     pub(crate) starts: Vec<u32>,

@@ -1,3 +1,4 @@
+//! The edges of a graph are directed by the levels of their ends.
 ghost use Rattle.std.specs.Prelude.{◌≡◌, ℕ, ◌<◌, ◌++◌, All, IfOk, OnOk, filter, length};
 ghost use Rattle.kc_orient.specs.Shape.{above, orientation};
 

@@ -1,3 +1,4 @@
+//! Orientations and colourings of small graphs, worked out by hand, and of others beside their definitions.
 ghost use Rattle.std.specs.Prelude.{◌≡◌, ◌≤◌, ◌<◌, IfOk, OnOk, length};
 
 use crate::{colour, orient};

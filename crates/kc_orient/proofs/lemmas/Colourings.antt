@@ -2,9 +2,9 @@
 
 -- each orientation has a colouring
 pub use Rattle.kc_orient.proofs.Existence.{colouring_is_one}
--- and only one
+-- no orientation has two colourings
 pub use Rattle.kc_orient.proofs.Colourings.{colourings_are_one}
--- it is proper
+-- a colouring is proper: the ends of an edge have different colours
 pub use Rattle.kc_orient.proofs.Colourings.{colouring_is_proper}
--- and no colour is above the number of its vertex's out-neighbours
+-- no colour of a colouring is above the number of its vertex's out-neighbours
 pub use Rattle.kc_orient.proofs.Colourings.{colours_are_few}
