@@ -1,3 +1,4 @@
+//! The lines of a batch: of an accepted one its counts and its phases, of a refused one its first fault.
 ghost use Rattle.std.specs.Prelude.{◌≡◌, ℕ, ◌<◌, ◌^◌, [], ◌∷◌, ◌++◌, length, All, OnOk, decimal, codes};
 ghost use Rattle.kc_text.specs.Writing.{Appends, WriteCause};
 ghost use Rattle.kc_text.specs.Reasons.{reason_word};

@@ -1,3 +1,4 @@
+//! The lines of an exact text: its first two, and one with the coreness of each vertex.
 ghost use Rattle.std.specs.Prelude.{◌≡◌, [], ◌∷◌, ◌++◌, OnOk};
 ghost use Rattle.kc_text.specs.Writing.{Appends, WriteCause};
 ghost use Rattle.kc_report.specs.Buffer.{IsCleared};

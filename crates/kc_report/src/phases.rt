@@ -1,4 +1,4 @@
-// The lines of phases and of their groups.
+//! The lines of phases and of their groups.
 ghost use Rattle.std.specs.Prelude.{◌≡◌, ℕ, ◌<◌, ◌^◌, [], ◌∷◌, ◌++◌, length, All, IsSome, OnOk, codes};
 ghost use Rattle.std.specs.List.{flat_map};
 ghost use Rattle.kc_text.specs.Writing.{Appends, WriteCause};

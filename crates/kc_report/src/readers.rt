@@ -1,4 +1,4 @@
-//! The lines of readers.
+//! The line of a reader: its number, and each vertex that it asked for with the level that it was told.
 ghost use Rattle.std.specs.Prelude.{◌≡◌, [], ◌∷◌, ◌++◌, OnOk, decimal};
 ghost use Rattle.std.specs.List.{flat_map};
 ghost use Rattle.kc_text.specs.Writing.{Appends, WriteCause};

@@ -1,4 +1,4 @@
-// Each public call, on texts that were worked out by hand.
+//! Each public call, on texts that were worked out by hand.
 ghost use Rattle.std.specs.Prelude.{◌≡◌, ◌≤◌, IfOk, length};
 
 use crate::{

@@ -1,3 +1,4 @@
+//! The line of a vertex in a run: its level, what that says of its coreness, and two counts of neighbours.
 ghost use Rattle.std.specs.Prelude.{◌≡◌, [], ◌∷◌, ◌++◌, OnOk, decimal, codes};
 ghost use Rattle.kc_text.specs.Writing.{Appends, WriteCause};
 ghost use Rattle.kc_report.specs.Buffer.{IsCleared};
@@ -28,10 +29,15 @@ fn fill_bounds(
 // What the line of a vertex says.
 #[derive(Clone, Copy)]
 struct VertexLine {
+    // The vertex.
     v: u32,
+    // Its level.
     level: u16,
+    // What the level says of its coreness.
     estimate: Estimate,
+    // How many of its neighbours are on its level or above.
     up: u32,
+    // How many are on the level below or above; on level 0 all.
     down: u32,
 }
 

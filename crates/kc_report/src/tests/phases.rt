@@ -1,3 +1,4 @@
+//! The lines of batches with a phase or two, beside lines that were worked out by hand.
 ghost use Rattle.std.specs.Prelude.{◌≡◌, ℕ, ◌≤◌, ◌<◌, ◌^◌, length, OnOk, IfOk};
 ghost use Rattle.std.specs.Bool.{OnTrue};
 ghost use Rattle.kc_graph.specs.Shape.{EdgesFrom};
