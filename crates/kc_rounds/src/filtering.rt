@@ -1,3 +1,4 @@
+//! One round: several threads test a list of vertices piece by piece, and those that pass are kept in order.
 ghost use Rattle.std.specs.Prelude.{◌≡◌, ℕ, ◌-◌, ◌*◌, ◌/◌, ◌<◌, ◌≤◌, Bool, All, IfOk, filter};
 
 use crate::{Gate, Spot};

@@ -1,3 +1,5 @@
+//! A gate is told where a run is, so that a test may watch a thread there, or hold it.
+
 use crate::Spot;
 
 /// What a run tells where it is.

@@ -1,3 +1,4 @@
+//! Several threads pass over a list of vertices piece by piece, and what they find at each is put together in order.
 ghost use Rattle.std.specs.Prelude.{◌≡◌, ◌≤◌, ◌++◌, ℕ, All, IfOk, List, OnOk, length};
 ghost use Rattle.kc_rounds.specs.Gathering.{AreGathered};
 
@@ -6,7 +7,7 @@ use std::alloc::{AllocError, Global};
 use std::thread;
 use std::thread::Threads;
 
-// For so many vertices room is made at once.
+// The number of vertices for which room is made at once.
 const TOGETHER: usize = 16;
 
 /// What is gathered at a vertex, by several threads at once at several: a number and some vertices.

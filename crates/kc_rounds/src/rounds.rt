@@ -1,3 +1,4 @@
+//! How many of the workers share a list: all of them in a first round, and one or few where a later list is short.
 ghost use Rattle.std.specs.Prelude.{◌≡◌, ◌≤◌, ◌<◌, All, IfOk, filter};
 ghost use Rattle.kc_rounds.specs.Gathering.{AreGathered};
 
@@ -19,6 +20,7 @@ const LEAST_GATHERED: usize = 2_048;
 /// that a gate sees pieces at the same time.
 #[derive(Drop)]
 pub struct FirstRound {
+    // True until the first round that has candidates.
     is_ahead: bool,
 }
 
@@ -36,9 +38,13 @@ impl FirstRound {
 /// that it would take over. No answer depends on it.
 #[derive(Drop)]
 pub struct Rounds<'a, R, G> {
+    // What starts the threads.
     rt: &'a R,
+    // Where the memory of the answers comes from.
     alloc: Global,
+    // What is told of each piece of candidates before the first of them is tested.
     gate: &'a G,
+    // The most pieces of a list: 1 to 64.
     workers: u32,
     ghost few_workers: { (1 ≤ workers) × (workers ≤ 64) },
 }
@@ -61,7 +67,7 @@ fn workers_for(workers: u32, items: usize, least_piece: usize) -> u32
 }
 
 impl<'a, R: Threads + Sync, G: Gate + Sync> Rounds<'a, R, G> {
-    /// Rounds by up to so many workers, 1 to 64.
+    /// Rounds by up to `workers` workers, 1 to 64.
     pub fn new(rt: &'a R, alloc: Global, gate: &'a G, workers: u32) -> Self
         requires { (1 ≤ workers) × (workers ≤ 64) }
     {

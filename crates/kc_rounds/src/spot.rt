@@ -1,3 +1,5 @@
+//! The places of a run of which a gate is told.
+
 /// A place that a run comes to. Pieces, readers and asks are counted from 0, phases from 1.
 #[derive(Clone, Copy, Debug, PartialEq, Eq)]
 pub enum Spot {

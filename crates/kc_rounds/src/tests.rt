@@ -1,3 +1,4 @@
+//! Rounds keep their order by any number of workers, pieces run at the same time, and a gate is told of each beforehand.
 ghost use Rattle.std.specs.Prelude.{◌≤◌};
 
 use crate::gathering::gather_round;
@@ -12,6 +13,7 @@ use std::thread;
 // Counts the questions that were put and not yet answered.
 #[derive(Drop)]
 struct Pending {
+    // How many questions are open.
     asked: Cell<u32>,
 }
 
@@ -61,7 +63,9 @@ impl RoundTest for Odd {
 // How often each of the first eight pieces was told, in eight bits each, and how often another one.
 #[derive(Drop)]
 struct Told {
+    // How often piece i was told, for i below 8, in the bits from 8 i on.
     pieces: AtomicU64,
+    // How often another piece was told.
     others: AtomicU64,
 }
 
@@ -120,10 +124,12 @@ fn an_empty_list_has_no_piece(rt: HostRuntime) -> Result<(), Fail> {
 
 const TURNS: u64 = 10_000_000;
 
-// Holds piece 0 until it was told piece 1, for at most so many turns.
+// Holds piece 0 until it was told piece 1, for at most `TURNS` turns.
 #[derive(Drop)]
 struct Holding {
+    // Whether piece 1 was told.
     told: AtomicBool,
+    // How many turns were left when the other came; 0 where it never did.
     turns_left: AtomicU64,
 }
 
@@ -161,8 +167,11 @@ fn pieces_run_at_the_same_time(rt: HostRuntime) -> Result<(), Fail> {
 // tested before their piece was told.
 #[derive(Drop)]
 struct Order {
+    // The length of the pieces.
     size: u32,
+    // A bit for each piece that was told, from the lowest on.
     told: AtomicU64,
+    // How many numbers were tested before their piece was told.
     early: AtomicU64,
     ghost positive: { 1 ≤ size },
 }
@@ -283,7 +292,9 @@ fn nothing_is_gathered_at_none(rt: HostRuntime) -> Result<(), Fail> {
 // Finds each vertex at itself, and counts its calls, and those of them that are the first of a piece.
 #[derive(Drop)]
 struct Counting {
+    // How many vertices had their turn.
     calls: AtomicU64,
+    // How many of these were the first of a piece.
     pieces: AtomicU64,
 }
 
@@ -343,10 +354,12 @@ fn short_lists_are_gathered_by_few(rt: HostRuntime) -> Result<(), Fail> {
     Ok(())
 }
 
-// Holds at vertex 1 until vertex 5 has its turn, for at most so many turns.
+// Holds at vertex 1 until vertex 5 has its turn, for at most `TURNS` turns.
 #[derive(Drop)]
 struct HoldingGather {
+    // Whether vertex 5 had its turn.
     seen: AtomicBool,
+    // How many turns were left when the other came; 0 where it never did.
     turns_left: AtomicU64,
 }
 
