@@ -128,7 +128,7 @@ put_front count more k xs ys h m =
 pub put_length : (count : ℕ) (xs ys : List ℕ) → count ≤ length xs → length ys ≡ length xs - count → length (put_mid count (length xs - count) xs ys) ≡ length xs
 put_length count xs ys h e = simp (length-append, length-take, length-drop) (omega arith)
 
--- more was read behind what was read before
+-- more was read after what was read before
 pub more_given : (count more k : ℕ) (first left last xs ys : List ℕ) → count ≤ length xs → more ≤ length ys → first ≡ take count xs ++ left → left ≡ take more ys ++ last
     → first ≡ take (count + more) (put_mid count k xs ys) ++ last
 more_given count more k first left last xs ys h m e f =

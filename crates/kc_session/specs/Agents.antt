@@ -6,7 +6,7 @@ use Rattle.kc_history.specs.Replies.{AreExplained, vertices_of}
 use Rattle.kc_batch.specs.declared.ask.Ask.{Ask}
 use Rattle.kc_store.specs.Seats.{StoreShape, PassShape}
 
--- a list so many times over
+-- the list vs, k times over
 abbrev pub repeated : ℕ → List ℕ → List ℕ
 repeated zero vs = []
 repeated (suc k) vs = repeated k vs ++ vs

@@ -23,7 +23,7 @@ drawn_item n s = item_of_draws n (next_state s) (next_state (next_state s)) (nex
 abbrev pub after_item : ℕ → ℕ
 after_item s = next_state (next_state (next_state s))
 
--- so many items from the state s on, and the state after them
+-- `count` items from the state s on, and the state after them
 unfoldable pub drawn_items : ℕ → ℕ → ℕ → List (List (List ℕ))
 drawn_items n s zero = []
 drawn_items n s (suc count) = drawn_item n s ∷ drawn_items n (after_item s) count
@@ -32,13 +32,13 @@ unfoldable pub after_items : ℕ → ℕ → ℕ
 after_items s zero = s
 after_items s (suc count) = after_items (after_item s) count
 
--- so many batches of `items` items from the state s on
+-- `batches` batches of `items` items from the state s on
 unfoldable pub drawn_batches : ℕ → ℕ → ℕ → ℕ → List (List (List ℕ))
 drawn_batches n items s zero = []
 drawn_batches n items s (suc batches) =
     (codes "batch" ∷ []) ∷ drawn_items n s items ++ (codes "end" ∷ []) ∷ drawn_batches n items (after_items s items) batches
 
--- 0, 1 and so on, so many
+-- the first `count` numbers, from 0 on
 unfoldable pub first_numbers : ℕ → List ℕ
 first_numbers zero = []
 first_numbers (suc count) = first_numbers count ++ count ∷ []

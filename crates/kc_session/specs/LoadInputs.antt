@@ -15,12 +15,12 @@ use Rattle.kc_session.specs.Generated.{next_state, drawn, after_item, after_item
 abbrev pub item_drawn : ℕ → ℕ → ℕ → ℕ → Item
 item_drawn n a b c = if drawn c % 4 == 0 then Delete (drawn a % n) (drawn b % n) else Insert (drawn a % n) (drawn b % n)
 
--- so many from the state s on
+-- `count` items from the state s on
 unfoldable pub items_drawn : ℕ → ℕ → ℕ → List Item
 items_drawn n s zero = []
 items_drawn n s (suc count) = item_drawn n (next_state s) (next_state (next_state s)) (next_state (next_state (next_state s))) ∷ items_drawn n (after_item s) count
 
--- so many batches, of which the first begins at this line
+-- `batches` batches, of which the first begins at this line
 unfoldable pub load_batches : ℕ → ℕ → ℕ → ℕ → ℕ → List Next
 load_batches n items line s zero = []
 load_batches n items line s (suc batches) = whole (items_drawn n s items) (line + items + 1) ∷ load_batches n items (line + items + 2) (after_items s items) batches

@@ -2,7 +2,7 @@
 use Rattle.std.specs.Prelude.{ℕ, zero, suc, ◌≡◌, List, [], ◌∷◌, codes}
 use Rattle.kc_session.specs.Generated.{next_state, generated}
 
--- the states after s, so many
+-- the next `count` states after s
 abbrev pub states_after : ℕ → ℕ → List ℕ
 states_after s zero = []
 states_after s (suc count) = next_state s ∷ states_after (next_state s) count

@@ -23,7 +23,7 @@ pub record IsSettled (header : HeaderShape) (e : EngineView) : Type 0 where
   pub vertices : e.state.graph.vertices ≡ header.n
   pub sound : IsSound MAX_EDGES e.state
 
--- the batches were applied one after another, which led to the state t, notes of the refused ones were written, and so many were refused
+-- the batches were applied one after another, which led to the state t, notes of the refused ones were written, and `refused` batches were refused
 pub record HasSettled (header : HeaderShape) (batches : List Next) (before now : Option (List ℕ)) (t : State) (refused : ℕ) : Type 0 where
   pub steps : List Step
   pub are_steps : AreSteps (start header.profile header.n) batches steps

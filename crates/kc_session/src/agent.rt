@@ -20,13 +20,17 @@ use std::marker::Model;
 /// the first questions of its ask, in order; once it has run they answer all of them; and what its pass has seen explains them.
 #[derive(Drop)]
 pub struct Agent {
+    // Reads the store. What it has seen of the history explains the replies, from the point on at which it was made.
     pass: Pass,
     // The number of the store's vertices. Each vertex of the ask is below it.
     vertices: u32,
+    // Its number, counted from 0, by which the gate is told of its questions.
     reader: u32,
+    // At most 65,536 questions.
     ask: Ask,
     // One for each question, in order, so that a run takes no memory. The levels are the store's once the agent has run.
     replies: Vec<Reply>,
+    // Whether all questions were put. No reply counts before.
     has_run: bool,
 }
 

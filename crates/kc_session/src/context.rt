@@ -1,3 +1,4 @@
+//! What a session, its phases and its readers have in common, as it is handed down to them.
 ghost use Rattle.std.specs.Prelude.{◌≤◌};
 ghost use Rattle.kc_graph.specs.declared.limits.TheConstants.{MAX_VERTICES};
 

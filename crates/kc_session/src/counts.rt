@@ -1,3 +1,4 @@
+//! The batches, groups and moves of a session, counted on as each batch is applied.
 ghost use Rattle.std.specs.Prelude.{◌≡◌, ◌<◌, ◌≤◌, ◌+◌, ◌-◌, ◌^◌, length};
 ghost use Rattle.kc_session.specs.Counts.{capped, moves_in, groups_of, moves_of};
 

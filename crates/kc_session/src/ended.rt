@@ -1,3 +1,4 @@
+//! All counts that a session ends with, for a text that is one line.
 ghost use Rattle.std.specs.Prelude.{◌≡◌, ◌<◌, ◌^◌, length, max};
 ghost use Rattle.kc_session.specs.Ended.{greatest, replies_in};
 ghost use Rattle.kc_session.specs.States.{IsOpen};
@@ -58,7 +59,7 @@ fn greatest(levels: &[u16]) -> u16
 }
 
 impl Ended {
-    /// What a session ends with that came to these counts, this engine, so many replies and these levels.
+    /// What a session ends with that came to these counts, this engine, this number of replies and these levels.
     pub fn with(counts: Counts, engine: &Engine, replies: u32, levels: &[u16]) -> Ended
         requires { IsOpen engine.now }
         ensures { result ≡ record { batches = counts.batches; refused = counts.refused; phases = engine.now.state.phases; groups = counts.groups; moves = counts.moves; edges = length engine.now.state.graph.edges; replies = replies; top = greatest levels.now } }

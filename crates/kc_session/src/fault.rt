@@ -1,3 +1,4 @@
+//! What stops a session: the source, the sink, or memory.
 ghost use Rattle.std.specs.Prelude.{◌≡◌};
 
 use kc_batch::BatchFault;

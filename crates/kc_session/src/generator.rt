@@ -26,7 +26,7 @@ pub enum Place {
     SecondAsk,
     /// The first line of a batch, if one is left.
     Batch,
-    /// So many items of a batch, and then its last line.
+    /// `left` items of a batch, and then its last line.
     Items { left: u32 },
 }
 
@@ -160,7 +160,7 @@ impl Generator {
         true
     }
 
-    // Makes the line of the next item, of which so many are left, or the last line of the batch.
+    // Makes the line of the next item, of which `left` are still due, or the last line of the batch.
     fn go_on(&mut self, line: &mut ArrayVec<u8, LINE>, left: u32) -> bool
         requires batch { self.old.place ≡ Items left }
         requires empty { line.old.items ≡ [] }

@@ -45,15 +45,20 @@ use std::thread::Threads;
 // The agents of a session, and the store that they ask.
 #[derive(Drop)]
 struct Askers<'a> {
+    // The one store of all the agents.
     store: &'a Store,
+    // One for each ask, in the order of the header.
     agents: Vec<Agent>,
 }
 
 // What the readers of a session begin with: their asks, and a store with its writer.
 #[derive(Drop)]
 struct Opened<'a> {
+    // What the header asks for: each vertex is one of the store's.
     asks: Asks,
+    // Where the phases are shown: at its opening each vertex is on level 0.
     store: &'a Store,
+    // The writer of this store, whose history is empty.
     writer: Writer,
 }
 

@@ -1,3 +1,4 @@
+//! An engine beside those who are shown its phases.
 ghost use Rattle.std.specs.Prelude.{◌≡◌};
 
 use crate::audience::Audience;

@@ -4,19 +4,19 @@
 pub use Rattle.kc_session.proofs.Steps.{sound_start}
 -- a batch leaves a sound state with as many vertices
 pub use Rattle.kc_session.proofs.Steps.{sound_step}
--- and with the same profile
+-- a batch leaves a state with the same profile
 pub use Rattle.kc_session.proofs.Steps.{profile_step}
--- each input leads somewhere
+-- the batches of each input lead to a state
 pub use Rattle.kc_session.proofs.Settles.{start_states}
--- and to one place only
+-- the batches of an input lead to one state only
 pub use Rattle.kc_session.proofs.Runs.{one_run}
 -- the state after all batches is sound, with as many vertices
 pub use Rattle.kc_session.proofs.Runs.{sound_last}
--- and with the same profile
+-- the state after all batches has the same profile
 pub use Rattle.kc_session.proofs.Runs.{profile_last}
 -- a batch removes fewer than 2 ^ 32 edges
 pub use Rattle.kc_session.proofs.BatchSteps.{few_removed}
--- and adds fewer
+-- a batch adds fewer than 2 ^ 32 edges
 pub use Rattle.kc_session.proofs.BatchSteps.{few_added}
--- so few edges are in its quiet entries
+-- the quiet entries of a batch have fewer than 2 ^ 32 edges
 pub use Rattle.kc_session.proofs.BatchSteps.{few_quiet}
