@@ -180,7 +180,7 @@ text_is bytes end len h c p = elim (cases_lt end len) [
   | inr none ↦ let at : len ≡ end = omega (arith, c.after) in rw at (stays bytes end h (omega (arith, c.within, at)) (plain_no_cr _ p))
 ]
 
--- a line ends where the numbers behind its front do
+-- a line ends where the numbers after its front do
 pub line_ends : (bytes : List ℕ) (front : List (List ℕ) → List (List ℕ)) (start first second len : ℕ) → BeginsAt bytes front start → NumbersTo bytes start first second len → EndsAt bytes len
 line_ends bytes front start first second len b n = record {
   within = n.closes.within;

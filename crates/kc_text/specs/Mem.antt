@@ -2,7 +2,7 @@
 use Rattle.std.specs.Prelude.{ℕ, ◌+◌, ◌-◌, ◌^◌, ◌==◌, nat_lt, nat_le, Bool, ◌&&◌, ◌||◌, List, length, min}
 use Rattle.std.specs.List.{list_any}
 
--- the number of the call that follows so many; 4,294,967,296 stands for every call that has no number
+-- the number of the call that follows `calls` calls; 4,294,967,296 stands for every call that has no number
 abbrev pub next_number : ℕ → ℕ
 next_number calls = min (calls + 1) (2 ^ 32)
 
@@ -26,7 +26,7 @@ pub record MemInput : Type 0 where
 abbrev pub read_fails : MemInput → Bool
 read_fails m = is_failing m.failing (next_number m.calls)
 
--- how many bytes a read gives that doesn't fail and has room for so many
+-- how many bytes a read gives that doesn't fail and has room for `room` bytes
 abbrev pub read_size : MemInput → ℕ → ℕ
 read_size m room = min (min m.piece room) (length m.left)
 
@@ -43,6 +43,6 @@ pub record MemOutput : Type 0 where
 abbrev pub write_fails : MemOutput → Bool
 write_fails m = is_failing m.failing (next_number m.calls) || nat_le m.capacity (length m.taken)
 
--- how many bytes a write takes that doesn't fail and offers so many
+-- how many bytes a write takes that doesn't fail and offers `offered` bytes
 abbrev pub write_size : MemOutput → ℕ → ℕ
 write_size m offered = min (min m.piece offered) (m.capacity - length m.taken)

@@ -1,4 +1,4 @@
-// A line of text that is put together and sent.
+//! A line of text that is put together and sent.
 ghost use Rattle.std.specs.Prelude.{◌≡◌, ◌++◌, ◌∷◌, [], OnErr, OnOk, IfErr, decimal};
 
 use crate::{Failed, Sink, put_all};
@@ -21,6 +21,7 @@ pub enum SendFault {
 /// the next. A contract sees it as the list of its bytes.
 #[derive(Drop, Debug)]
 pub struct LineBuf {
+    // What was put together since the last line was sent.
     bytes: Vec<u8>,
 }
 

@@ -1,4 +1,4 @@
-// Bytes that a contract sees as a list.
+//! Bytes that a contract sees as a list.
 ghost use Rattle.std.specs.Prelude.{◌≡◌};
 
 use std::marker::Model;
@@ -6,6 +6,7 @@ use std::marker::Model;
 /// Bytes that are owned. A contract sees them as a list of numbers.
 #[derive(Drop, Debug)]
 pub struct Bytes {
+    // Any bytes, whether or not they are text.
     items: Vec<u8>,
 }
 

@@ -1,4 +1,4 @@
-// The numbers of calls, some of which were chosen to fail.
+//! The numbers of calls, some of which were chosen to fail.
 ghost use Rattle.std.specs.Prelude.{◌≡◌};
 ghost use Rattle.kc_text.specs.Mem.{next_number, is_failing};
 

@@ -1,4 +1,4 @@
-// The words of a command line.
+//! The words of a command line.
 ghost use Rattle.std.specs.Prelude.{◌≡◌, ◌<◌, ◌++◌, ◌∷◌, [], length, OnOk, OnErr, slice_get, Some, IsTrue, ◌↔◌};
 
 use crate::Bytes;
@@ -9,6 +9,7 @@ use std::marker::Model;
 /// A contract sees them as a list of byte lists.
 #[derive(Drop, Debug)]
 pub struct Words {
+    // In the order of the command line.
     words: Vec<Bytes>,
 }
 

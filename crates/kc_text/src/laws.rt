@@ -1,4 +1,4 @@
-// What the definitions in `specs/` come to. Each function does nothing; its contract is a law.
+//! What the definitions of lines, words and numbers come to. Each function does nothing; its contract is a law.
 pub mod read_back;
 
 ghost use Rattle.kc_text.specs.Laws.{CutsAtEnds, StopsAtLimit, AreLongestRuns, CutsSevenBytes, CutsWithinThirdLine, MeasuresLines, PartsWords, ReadsNumbers};

@@ -1,4 +1,4 @@
-// A line of an input, or how the input ended.
+//! A line of an input, or how the input ended.
 use crate::Bytes;
 use std::alloc::AllocError;
 use thiserror::Error;
@@ -21,6 +21,7 @@ pub enum Body {
 pub struct Line {
     /// Lines are numbered from 1.
     pub number: u32,
+    /// What the line says, or how the input ended there.
     pub body: Body,
 }
 

@@ -1,4 +1,4 @@
-// A sink in memory, of which chosen calls fail.
+//! A sink in memory, of which chosen calls fail.
 ghost use Rattle.std.specs.Prelude.{◌≡◌, ◌<◌, ◌≤◌, ◌++◌, [], length, take, Some, OnErr, OnOk, IfOk, is_err};
 ghost use Rattle.std.specs.Io.KnownBytes.{append_known};
 ghost use Rattle.kc_text.specs.Causes.{Rose};
@@ -18,12 +18,15 @@ use std::marker::Model;
 pub struct MemSink {
     // the bytes taken: at most `capacity`, for which it has the memory from the start
     bytes: Vec<u8>,
+    // the most bytes in all
     capacity: u32,
     // the most bytes of one call: at least 1
     piece: u32,
+    // the numbers of the calls that fail, in any order
     failing: Vec<u32>,
     // the number of the last call: at most 4,294,967,296, which stands for none
     calls: u64,
+    // how many calls have failed
     faults: u64,
 }
 

@@ -1,4 +1,4 @@
-// A source in memory, of which chosen calls fail.
+//! A source in memory, of which chosen calls fail.
 ghost use Rattle.std.specs.Prelude.{◌≡◌, ◌<◌, ◌≤◌, length, take, drop, Some, OnErr, OnOk, IfOk, is_err};
 ghost use Rattle.std.specs.Io.KnownBytes.{prepend_known, IsAtEnd};
 ghost use Rattle.kc_text.specs.Causes.{Rose};
@@ -15,14 +15,17 @@ use std::marker::Model;
 /// A contract sees it as a `MemInput` of `specs/Mem`, which says each answer exactly.
 #[derive(Drop, Debug)]
 pub struct MemSource {
+    // all bytes, read or not
     bytes: Vec<u8>,
     // how many of the bytes were read: at most all
     at: usize,
     // the most bytes of one call: at least 1
     piece: u32,
+    // the numbers of the calls that fail, in any order
     failing: Vec<u32>,
     // the number of the last call: at most 4,294,967,296, which stands for none
     calls: u64,
+    // how many calls have failed
     faults: u64,
 }
 

@@ -1,4 +1,4 @@
-// A part of a line that many lines have.
+//! A name with a number after it, of which many lines are put together.
 ghost use Rattle.std.specs.Prelude.{◌≡◌, ◌++◌, OnOk, decimal};
 
 use crate::LineBuf;

@@ -1,4 +1,4 @@
-// A sink that forgets.
+//! A sink that takes all bytes and keeps none.
 ghost use Rattle.std.specs.Prelude.{◌≡◌, ◌<◌, length, None, IsOkAnd};
 
 use crate::{Failed, Sink};

@@ -1,4 +1,4 @@
-// Numbers of a text.
+//! Decimal numbers below 2^32: what a word says, and the next one of a line.
 ghost use Rattle.std.specs.Prelude.{◌≡◌, ◌<◌, ◌≤◌, length, drop, slice_index, true, IfSome, IfNone};
 ghost use Rattle.kc_text.specs.Numbers.{number_of, is_digit, NumberAt, IsNoNumber};
 ghost use Rattle.kc_text.specs.private.Numbers.{DigitsAt, StopsAt, HasNoNumber};

@@ -1,4 +1,4 @@
-// Lines of two numbers, read in one pass over their bytes.
+//! Lines of two numbers, read in one pass over their bytes.
 ghost use Rattle.std.specs.Prelude.{◌≡◌, ◌≤◌, ◌+◌, ℕ, ◌∷◌, true, Option, length, IfSome, IfNone};
 ghost use Rattle.kc_text.specs.Printing.{is_word};
 ghost use Rattle.kc_text.specs.NumberLines.{with_sign, BeginsWithName};
@@ -22,7 +22,9 @@ pub enum Sign {
 pub struct NumberLine {
     /// The sign before the numbers, if there is one.
     pub sign: Option<Sign>,
+    /// The first number.
     pub first: u32,
+    /// The second.
     pub second: u32,
     /// The length of the line, with a carriage return at its end.
     pub len: usize,
@@ -31,7 +33,9 @@ pub struct NumberLine {
 /// A line of a name and two numbers.
 #[derive(Clone, Copy, Debug, PartialEq, Eq)]
 pub struct NamedNumbers {
+    /// The first number.
     pub first: u32,
+    /// The second.
     pub second: u32,
     /// The length of the line, with a carriage return at its end.
     pub len: usize,
@@ -82,7 +86,7 @@ fn digits_to(bytes: &[u8], start: usize) -> Option<(u32, usize)>
     Some((value, end))
 }
 
-// The place of the line feed that stands at `end`, or behind a carriage return there.
+// The place of the line feed that stands at `end`, or after a carriage return there.
 #[tactic(auto, using(crate::proofs::NumberLines::close_steps))]
 fn pass_cr(bytes: &[u8], end: usize) -> Option<usize>
     requires { end ≤ length bytes.now }

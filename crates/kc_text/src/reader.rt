@@ -1,4 +1,4 @@
-// A reader of lines that takes a line back.
+//! A reader of lines that takes a line back.
 ghost use Rattle.std.specs.Prelude.{◌≡◌, ℕ, ◌<◌, ◌≤◌, ◌+◌, ◌^◌, [], ◌∷◌, List, Option, None, is_none, ◌&&◌, true, false, IfOk, OnErr, IfSome, IfNone};
 ghost use Rattle.std.specs.Option.{option_map};
 ghost use Rattle.kc_text.specs.Causes.{ReadCause, OnReadFault};
@@ -17,6 +17,7 @@ use std::marker::Model;
 /// has left, are the lines that it has still to give.
 #[derive(Drop)]
 pub struct LineReader {
+    // has the lines that come after the held one, unless a last line was put back
     scanner: Scanner,
     // a last line that was put back and then given; else the scanner's own last line is the last
     last: Option<LastLine>,

@@ -1,4 +1,4 @@
-// Why an input is refused.
+//! Why an input is refused.
 ghost use Rattle.std.specs.Prelude.{◌≡◌};
 
 /// Why an input, or a batch of it, is refused.

@@ -1,4 +1,4 @@
-// Lines of bytes that come in any pieces.
+//! Lines of bytes that come in any pieces.
 ghost use Rattle.std.specs.Prelude.{◌≡◌, ℕ, ◌<◌, ◌≤◌, ◌+◌, ◌^◌, [], ◌∷◌, ◌++◌, List, length, Option, true, false, IfOk, OnOk, OnErr, IfSome, IfNone, IsSome};
 ghost use Rattle.kc_text.specs.Causes.{Rose, ReadCause, OnReadFault};
 ghost use Rattle.kc_text.specs.Lines.{body_of, without_cr, lines};

@@ -1,4 +1,4 @@
-// Where bytes come from.
+//! What gives the bytes of an input, as many at a time as it will, and counts the reads that failed.
 ghost use Rattle.std.specs.Prelude.{◌≡◌, ℕ, ◌<◌, ◌≤◌, length, take, List, Option, OnErr, OnOk, IfOk};
 ghost use Rattle.std.specs.Io.KnownBytes.{prepend_known, IsAtEnd};
 ghost use Rattle.kc_text.specs.Causes.{Rose};

@@ -1,4 +1,4 @@
-// A writer of std as a sink.
+//! A writer of std as a sink.
 ghost use Rattle.std.specs.Prelude.{◌≡◌, ◌<◌, ◌≤◌, length, IfOk, OnErr, OnOk, true, false};
 ghost use Rattle.kc_text.specs.Causes.{Rose};
 
@@ -12,7 +12,9 @@ use std::marker::Model;
 /// A contract sees it as an `Outlet`: its count of faults, and whether it was flushed since the last write.
 #[derive(Drop)]
 pub struct StdSink<W> {
+    // What the bytes go to.
     writer: W,
+    // How many calls have failed, interrupted ones not counted.
     faults: u64,
     // Whether the writer was flushed since the last write.
     is_flushed: bool,

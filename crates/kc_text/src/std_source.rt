@@ -1,4 +1,4 @@
-// A reader of std as a source.
+//! A reader of std as a source.
 ghost use Rattle.std.specs.Prelude.{◌≡◌, None};
 
 use crate::{Failed, Source};
@@ -10,7 +10,9 @@ use std::marker::Model;
 /// Each error of the reader is a fault, but that a signal interrupted a read: it is made again. A contract sees it as its count of faults.
 #[derive(Drop)]
 pub struct StdSource<R> {
+    // What the bytes come from.
     reader: R,
+    // How many calls have failed, interrupted ones not counted.
     faults: u64,
 }
 

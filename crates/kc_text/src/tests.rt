@@ -1,4 +1,4 @@
-// Each public call, on values that were worked out by hand.
+//! Each public call, on values that were worked out by hand.
 ghost use Rattle.std.specs.Prelude.{◌≡◌, ◌<◌, IfOk};
 
 use crate::{
@@ -254,6 +254,7 @@ fn lines_of_a_name_and_two_numbers(rt: HostRuntime) -> Result<(), Fail> {
 // Tells of an end, and gives more bytes when it is read once more.
 #[derive(Drop)]
 struct Resumed {
+    // How often it was read.
     reads: u32,
 }
 
@@ -369,9 +370,10 @@ impl Write for Gone {
     }
 }
 
-// A device whose calls a signal interrupts, so many times.
+// A device some of whose calls a signal interrupts.
 #[derive(Drop)]
 struct Interrupted {
+    // How many of the next calls are interrupted.
     times: u32,
 }
 

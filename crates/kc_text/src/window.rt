@@ -1,4 +1,4 @@
-// A buffer of fixed size between a source and what reads it.
+//! A buffer of fixed size between a source and what reads it.
 ghost use Rattle.std.specs.Prelude.{◌≡◌, ℕ, ◌<◌, ◌≤◌, [], List, length, drop, IfOk, OnOk, OnErr};
 ghost use Rattle.std.specs.Io.KnownBytes.{prepend_known, IsAtEnd};
 ghost use Rattle.kc_text.specs.Causes.{Rose};

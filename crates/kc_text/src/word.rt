@@ -1,4 +1,4 @@
-// The words of a line.
+//! Where the words of a line begin and end, between its blanks and tabs, and which lines say nothing.
 ghost use Rattle.std.specs.Prelude.{◌≡◌, ◌<◌, ◌≤◌, [], length, drop, IfSome, IfNone, false, slice_index};
 ghost use Rattle.std.specs.List.{slice_range};
 ghost use Rattle.kc_text.specs.Words.{words, is_blank, is_skip, WordAt, closed};

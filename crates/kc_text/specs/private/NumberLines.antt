@@ -22,7 +22,7 @@ pub record BeginsAt (bytes : List ℕ) (front : List (List ℕ) → List (List �
   pub words_are : (rest : List ℕ) → words (take start bytes ++ rest) ≡ front (words rest)
   pub plain : (k : ℕ) → k < start → (get_or bytes k 0 == 10) ≡ false
 
--- a line feed stands at `len`, which is `end`, or behind a carriage return at `end`
+-- a line feed stands at `len`, which is `end`, or after a carriage return at `end`
 pub record ClosesAt (bytes : List ℕ) (end len : ℕ) : Type 0 where
   pub after : end ≤ len
   pub near : len ≤ end + 1

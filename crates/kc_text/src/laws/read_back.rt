@@ -1,4 +1,4 @@
-// What is printed is read back as itself. Each function does nothing; its contract is a law.
+//! What is printed is read back as itself. Each function does nothing; its contract is a law.
 ghost use Rattle.kc_text.specs.ReadBack.{WordsAreReadBack, NumbersAreReadBack, LinesAreReadBack};
 
 /// Words that are printed with one blank between them are the words of the line.
