@@ -1,4 +1,4 @@
-// Laws of the definitions. The functions do nothing: each has laws as its contract.
+//! That packing and unpacking undo each other. The functions do nothing: each has laws as its contract.
 
 ghost use Rattle.kc_words.specs.Packed.{UnpackUndoesPack, PackUndoesUnpack};
 

@@ -1,3 +1,5 @@
+//! A mark as its three numbers, before they are packed into a word.
+
 /// What a vertex is marked with.
 #[derive(Clone, Copy, Debug, PartialEq, Eq)]
 pub struct Mark {

@@ -1,4 +1,4 @@
-// A mark in a word: the phase in bits 0 to 23, the label in bits 24 to 47, the new level in bits 48 to 63.
+//! A mark in a word: the phase in bits 0 to 23, the label in bits 24 to 47, the new level in bits 48 to 63.
 ghost use Rattle.std.specs.Prelude.{◌≡◌, ◌<◌, ◌^◌};
 ghost use Rattle.kc_words.specs.Packed.{packed, unpacked};
 

@@ -1,3 +1,5 @@
+//! Marks and their words, worked out by hand, up to the greatest of each.
+
 use crate::{Mark, pack, unpack};
 use std::test::Fail;
 
