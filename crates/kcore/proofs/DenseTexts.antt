@@ -43,7 +43,7 @@ has_documents s sound =
     let d = some_members s.graph in
     (dense_text s.graph d.0, record { members = d.0; are_members = d.1; text_is = refl })
 
--- what is after the head, with so many edges
+-- what is after the head, with the number of edges
 abbrev after_head : List ℕ → ℕ → List ℕ
 after_head members edges = size_line (length members) edges ++ (flat_map member_line members ++ end_line)
 

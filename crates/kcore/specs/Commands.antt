@@ -26,7 +26,7 @@ abbrev pub few_workers : Option ℕ → Option ℕ
 few_workers None = None
 few_workers (Some workers) = if nat_le 1 workers && nat_le workers 64 then Some workers else None
 
--- the command of this name with so many workers
+-- the command of this name with this number of workers
 abbrev pub with_workers : List ℕ → Option ℕ → Option Command
 with_workers name None = None
 with_workers name (Some workers) =
@@ -40,7 +40,7 @@ abbrev pub fits_load : ℕ → ℕ → ℕ → Bool
 fits_load n batches items =
     (nat_le 1 n && nat_le n MAX_VERTICES) && ((nat_le 1 batches && nat_le batches 1024) && (nat_le items MAX_ITEMS && nat_le (batches * items) 33554432))
 
--- `gen` with these numbers: a seed, and those of a load, and so many workers
+-- `gen` with these numbers: a seed, and those of a load, and the number of workers
 abbrev pub gen_with : Option ℕ → Option ℕ → Option ℕ → Option ℕ → Option ℕ → Option Command
 gen_with (Some seed) (Some n) (Some batches) (Some items) (Some workers) = if fits_load n batches items then Some (Gen seed n batches items workers) else None
 gen_with (Some seed) (Some n) (Some batches) (Some items) None = None

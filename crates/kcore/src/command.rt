@@ -1,4 +1,4 @@
-//! The commands of the program.
+//! The commands of `kcore`, and which one the words of a command line ask for.
 ghost use Rattle.std.specs.Prelude.{◌≡◌, ◌≤◌, ◌∷◌, [], IfSome};
 ghost use Rattle.kc_text.specs.Numbers.{number_of};
 ghost use Rattle.kcore.specs.Commands.{few_workers, fits_load, gen_with, command_of};

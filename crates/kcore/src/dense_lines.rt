@@ -1,4 +1,4 @@
-//! The lines of the text of `dense`.
+//! The text of `dense`, line by line: the size of the dense part, and each of its members.
 ghost use Rattle.std.specs.Prelude.{◌≡◌, [], ◌∷◌, ◌++◌, OnOk};
 ghost use Rattle.std.specs.List.{flat_map};
 ghost use Rattle.kc_text.specs.Writing.{Appends, WriteCause};

@@ -1,4 +1,4 @@
-//! What the definition of the text comes to. Each function does nothing; its contract is a law.
+//! What the definitions of the texts of `kcore` come to. Each function does nothing; its contract is a law.
 ghost use Rattle.kcore.specs.Laws.{InputHasText, RepliesHaveText, TextsAreAlike, HasOneText, StatesArePoints, EachPointIsNear, EachStateHolds};
 ghost use Rattle.kcore.specs.AuditLaw.{RunIsExplained};
 ghost use Rattle.kcore.specs.CertificateLaw.{FinalIsCertified};

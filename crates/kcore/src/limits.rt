@@ -1,3 +1,5 @@
+//! How long an input and its lines may be for the commands of `kcore`.
+
 /// The greatest number of bytes of a line of an input.
 pub const LINE_LIMIT: u32 = 65_536;
 

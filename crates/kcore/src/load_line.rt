@@ -1,4 +1,4 @@
-//! The line of the text of `gen`.
+//! The one line of `gen`: what a generated load came to, in counts.
 ghost use Rattle.std.specs.Prelude.{◌≡◌, ◌++◌, ◌∷◌, [], OnOk};
 ghost use Rattle.kc_text.specs.Writing.{Appends, WriteCause};
 ghost use Rattle.kcore.specs.LoadText.{load_line};

@@ -1,4 +1,4 @@
-//! The lines of the text of `orient`.
+//! The text of `orient`, line by line: each vertex with its colour and its out-neighbours.
 ghost use Rattle.std.specs.Prelude.{◌≡◌, [], ◌∷◌, ◌++◌, OnOk, decimal};
 ghost use Rattle.std.specs.List.{flat_map};
 ghost use Rattle.kc_text.specs.Writing.{Appends, WriteCause};

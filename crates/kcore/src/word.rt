@@ -1,4 +1,4 @@
-//! Words that stand for themselves.
+//! Whether a word of a command line is a certain name.
 ghost use Rattle.std.specs.Prelude.{◌≡◌};
 ghost use Rattle.std.specs.Str.{bytes_eq};
 
