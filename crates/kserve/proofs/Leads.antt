@@ -26,7 +26,7 @@ use Rattle.kserve.specs.private.Engines.{HasRoom}
 use Rattle.kserve.specs.Lines.{batch_text, batch_lines}
 use Rattle.kserve.proofs.Fitting.{both_true}
 
--- after so many updates there are no more edges, and at most two phases for each
+-- after `count` updates there are no more edges than that, and at most two phases for each
 pub record IsWithin (count : ℕ) (s : State) : Type 0 where
   pub edges : length s.graph.edges ≤ count
   pub phases : s.phases ≤ 2 * count

@@ -26,7 +26,7 @@ use Rattle.kserve.specs.private.Clients.{AreDrained}
 use Rattle.kserve.specs.private.Serving.{TakesBatch, GoesOn, HaveServed, Serves}
 use Rattle.kserve.proofs.Leads.{IsWithin, room_within, within_more, inside_all, lead_more, vertices_lead, updates_more, due_more, lines_more}
 
--- where the server has gone on so far, after so many updates
+-- where the server has gone on so far, after `count` updates
 abbrev pub IsRunning : {T : Type 0} → ℕ → EngineView → Result T Stop → Type 0
 IsRunning count e (Ok _) = IsOpen e × IsWithin count e.state
 IsRunning count e (Err stop) = Unit {0}

@@ -36,7 +36,7 @@ rules_for n = record { n = n; profile = One; item_limit = MAX_ITEMS }
 abbrev pub items_in : List (List Item) → ℕ
 items_in scripts = sum_by length scripts
 
--- a script of so many items may follow others, which are so many and have so many items: there are at most 64 scripts, and at most
+-- a script of `more` items may follow `scripts` others, which have `count` items together: there are at most 64 scripts, and at most
 -- 1,048,576 items
 abbrev pub has_room : ℕ → ℕ → ℕ → Bool
 has_room scripts count more = nat_lt scripts MAX_CLIENTS && nat_le (count + more) MAX_ITEMS

@@ -1,3 +1,5 @@
+//! How long an input and its lines may be for `kserve`, and how many updates its intake holds.
+
 /// The greatest number of bytes of a line of an input.
 pub const LINE_LIMIT: u32 = 65_536;
 

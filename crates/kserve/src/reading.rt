@@ -26,7 +26,7 @@ pub enum Said {
     Refused { line: u32, reason: Reason },
 }
 
-// Whether a script of so many items may follow others, which are so many and have so many items.
+// Whether a script of `more` items may follow `scripts` others, which have `count` items together.
 fn has_room(scripts: usize, count: u32, more: usize) -> bool
     requires { more ≤ MAX_ITEMS }
     ensures { result ≡ has_room scripts count more }

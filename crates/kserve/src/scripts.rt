@@ -1,4 +1,4 @@
-//! The scripts of an input.
+//! What an input of `kserve` says once it is read: the number of vertices, and a script for each client.
 ghost use Rattle.std.specs.Prelude.{◌≡◌};
 ghost use Rattle.kserve.specs.Inputs.{items_in};
 ghost use Rattle.kserve.specs.private.Scripts.{AreScripts};

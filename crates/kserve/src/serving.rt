@@ -31,8 +31,11 @@ use std::thread::Threads;
 // An intake as it is opened, with its drainer and its clients.
 #[derive(Drop)]
 struct Opened {
+    // Holds up to `CAPACITY` updates.
     intake: Intake,
+    // The drainer of this intake.
     drainer: Drainer,
+    // Its clients in the order of their numbers: one for each script.
     clients: Vec<Client>,
     ghost capacity: { intake.capacity ≡ CAPACITY },
     ghost drains: { drainer.intake ≡ intake },

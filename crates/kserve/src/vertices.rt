@@ -1,4 +1,4 @@
-//! The lines of the vertices.
+//! The end of a text: a line for each vertex with its level and counts, and the last line.
 ghost use Rattle.std.specs.Prelude.{◌≡◌, ◌<◌, [], false};
 ghost use Rattle.kc_text.specs.Writing.{Appends, WriteCause};
 ghost use Rattle.kc_report.specs.Buffer.{IsCleared};

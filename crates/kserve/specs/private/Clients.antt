@@ -10,7 +10,7 @@ use Rattle.kc_intake.specs.Views.{IntakeShape, ClientShape, DrainerShape, new_cl
 abbrev pub ended_client : IntakeShape → ℕ → List Item → ClientShape
 ended_client intake c script = record { intake = intake; number = c; sent = script }
 
--- so many clients, in the order of their numbers, which have submitted nothing
+-- `count` clients, in the order of their numbers, which have submitted nothing
 pub record AreNew (intake : IntakeShape) (count : ℕ) (clients : List ClientShape) : Type 0 where
   pub count_is : length clients ≡ count
   pub each : (c : ℕ) (d : ClientShape) → c < count → get_or clients c d ≡ new_client intake c

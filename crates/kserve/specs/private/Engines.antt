@@ -12,7 +12,7 @@ pub record IsOpen (e : EngineView) : Type 0 where
   pub limit : e.edge_limit ≡ MAX_EDGES
   pub sound : IsSound MAX_EDGES e.state
 
--- there is room for a batch of so many items and its two phases, so it isn't refused
+-- there is room for a batch of `MAX_ITEMS` items and its two phases, so it isn't refused
 pub record HasRoom (s : State) : Type 0 where
   pub edges : length s.graph.edges + MAX_ITEMS ≤ MAX_EDGES
   pub phases : s.phases + 2 ≤ MAX_PHASE
