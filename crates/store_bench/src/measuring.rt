@@ -1,4 +1,4 @@
-// The measurements.
+//! Loads of an array, reads of a store and moves in it are timed, and each measurement is printed in a line.
 ghost use Rattle.std.specs.Prelude.{◌≡◌, ◌≤◌, ◌<◌, All, length};
 ghost use Rattle.std.specs.Thread.{IsSync};
 ghost use Rattle.kc_graph.specs.declared.limits.TheConstants.{MAX_VERTICES};
@@ -19,15 +19,20 @@ use std::{io, thread};
 /// How much is measured: the number of vertices, how many reads a reader has, and how many plans a writer shows.
 #[derive(Clone, Copy)]
 pub struct Sizes {
+    /// How many vertices there are.
     pub vertices: u32,
+    /// How many reads each reader makes.
     pub reads: u32,
+    /// How many plans a writer shows.
     pub plans: u32,
 }
 
 // How lines are printed: with or without times, and the number of vertices.
 #[derive(Clone, Copy)]
 struct Rows {
+    // The number of vertices that each row tells.
     vertices: u32,
+    // Whether rows tell times.
     timed: bool,
 }
 
@@ -81,7 +86,7 @@ fn read_ones(readers: &[Reader], reads: u64) -> bool {
     readers.iter().all(|reader| reader.sum == reads)
 }
 
-// Loads from an array of as many words as a store has, by so many threads at once.
+// Loads from an array of as many words as a store has, by `count` threads at once.
 fn print_plain<R: Threads + Sync + Clock + Print>(
     rt: &R,
     alloc: Global,
@@ -223,8 +228,11 @@ fn print_beside<R: Threads + Sync + Clock + Print>(
 // What is shown of n vertices, and what is read meanwhile: the plans, and the vertices in the order in which each reader takes them.
 #[derive(Drop)]
 struct Work<'a> {
+    // The number of vertices, for which the plans are.
     n: u32,
+    // The phases that are shown, in order.
     plans: &'a [PhasePlan],
+    // The vertices that each reader takes, in order.
     order: &'a [u32],
 }
 
@@ -298,7 +306,7 @@ pub fn print_reads<R: Threads + Sync + Clock + Print>(
     print_moves(rt, alloc, rows, &plans[0])
 }
 
-// Prints the measurements for so many threads that load, or readers, at once.
+// Prints the measurements for `count` threads that load, or readers, at once.
 fn print_for<R: Threads + Sync + Clock + Print>(
     rt: &R,
     alloc: Global,

@@ -1,4 +1,4 @@
-// Phases in which every vertex moves by itself.
+//! Phases in which every vertex moves by itself.
 ghost use Rattle.std.specs.Prelude.{◌≡◌, ◌≤◌, ◌<◌, All, IfOk, length};
 ghost use Rattle.kc_graph.specs.declared.limits.TheConstants.{MAX_VERTICES};
 ghost use Rattle.kc_levels.specs.LevelList.{IsBelow};

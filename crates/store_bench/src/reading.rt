@@ -1,4 +1,4 @@
-// Loads and reads of vertices in an order by chance.
+//! Loads and reads of vertices in an order by chance.
 ghost use Rattle.std.specs.Prelude.{◌≡◌, ◌≤◌, ◌<◌, All, IfOk, length};
 
 use kc_store::{Pass, Store, Writer};
@@ -49,6 +49,7 @@ pub fn run_loads<R: Threads + Sync>(rt: &R, words: &[u64], order: &[u32], sums: 
 /// Who reads.
 #[derive(Drop)]
 pub struct Reader {
+    // Reads the store for which it was made.
     pass: Pass,
     /// The sum of the levels that were read.
     pub sum: u64,

@@ -1,4 +1,4 @@
-// What a writer does with a plan.
+//! How a writer shows a plan in a store: whether its phase may begin, and then each group is marked, published and cleared.
 ghost use Rattle.std.specs.Prelude.{◌≡◌, ◌+◌, ◌<◌, ◌≤◌, [], length, All};
 ghost use Rattle.std.specs.Bool.{OnTrue};
 ghost use Rattle.kc_groups.specs.WellFormed.{IsWellFormed};
