@@ -1,10 +1,11 @@
 #!/usr/bin/env bash
-# Runs the program on each example, and on each small input in `cases`: it has to write the text beside it, and to exit with 1 where it
-# refuses something. Tries each exit number. Then tries `snap_to_kcore.py`, where there is a python3, and `draw.py`, where there is
-# matplotlib too. Silent where all is well.
-#     examples/check.sh PROGRAM
+# Runs kcore on each example, and on each small input in `cases`: it has to write the text beside it, and to exit with 1 where it
+# refuses something. Tries each exit number, of kserve too. Then tries `snap_to_kcore.py` and compares corenesses with those of a plain
+# program, where there is a python3, and tries `draw.py`, where there is matplotlib too. Silent where all is well.
+#     examples/check.sh KCORE KSERVE
 set -u
 program=$(realpath "$1") || exit 1
+kserve=$(realpath "$2") || exit 1
 cd "$(dirname "$0")" || exit 1
 out=$(mktemp) && err=$(mktemp) || exit 1
 trap 'rm -f "$out" "$out.svg" "$err"' EXIT
@@ -121,8 +122,33 @@ for words in check audit; do
   [ $exited = 3 ] && [ ! -s "$out" ] && [ ! -s "$err" ] || wrong "$words of a folder: exit number $exited"
 done
 
+# serves NUMBER INPUT WORDS..: the second program exits with this number.
+serves() {
+  "$kserve" "${@:3}" <"$2" >"$out" 2>"$err"
+  exited=$?
+  [ $exited = "$1" ] && [ ! -s "$err" ] || wrong "$2: exit number $exited of kserve ${*:3}"
+}
+# Which updates share a batch is up to the schedule, and each client's stand in the order of its script.
+for workers in 1 3; do
+  serves 0 clients.ks $workers
+  for client in "0 + 0 1,0 + 0 2" "1 + 1 2,1 + 2 3" "2 + 3 4,2 - 3 4"; do
+    [ "$(grep "^take ${client%% *} " "$out" | cut -c6- | paste -sd,)" = "$client" ] || wrong "clients.ks: kserve $workers takes something else than '$client'"
+  done
+done
+serves 1 karate.kc 2
+echo 'refused line 2 header' | cmp -s - "$out" || wrong "karate.kc: another text of kserve"
+for words in "" 0 65 x "1 1" "run 1"; do
+  serves 2 clients.ks $words
+  [ ! -s "$out" ] || wrong "clients.ks: 'kserve $words' writes something"
+done
+serves 3 . 2
+[ ! -s "$out" ] || wrong "kserve writes something of a folder"
+
 # A text that can't be written: the device is full.
 if [ -c /dev/full ]; then
+  "$kserve" 2 <clients.ks >/dev/full 2>"$err"
+  exited=$?
+  [ $exited = 4 ] && [ ! -s "$err" ] || wrong "clients.ks: kserve to a full device: exit number $exited"
   for words in "run 1" "final 1" "orient 1" exact dense; do
     "$program" $words <path.kc >/dev/full 2>"$err"
     exited=$?
@@ -152,6 +178,13 @@ refuses() {
 for load in "0 5 1 3" "1 300 7 500" "4294967295 17 20 40" "7 1 2 3" "5 2000 3 0"; do
   python3 generated.py $load | "$program" run 2 | python3 generated.py --counts >"$err"
   generates "$(cat "$err")" $load 3
+done
+
+# The coreness of each vertex of loads with insertions and deletions, beside a plain program.
+for load in "3 40 6 120" "9 300 5 2000" "11 7 9 30"; do
+  python3 generated.py $load >"$err"
+  "$program" exact <"$err" >"$out"
+  python3 corenesses.py "$err" <"$out" || wrong "a load of $load: another coreness"
 done
 
 # What readers are told depends on how the threads run, and all else is in readers.txt. The history explains each reply. Where one
