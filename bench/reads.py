@@ -3,18 +3,19 @@
 
     bench/reads.py [--program PATH] [--runs N]
 
-It runs `store_bench`, whose root file says what it measures, N times (5), takes the best run of each measurement, and prints for
-each number of vertices:
+It runs `store_bench`, whose root file says what it measures, N times (5), takes the best run of each measurement, and prints how
+many processors there are, and for each number of vertices:
 
 - the nanoseconds of a plain load, of a read of one load (nothing is marked) and of three (all is marked, nothing is
-  published), and of one beside a writer that shows plans all the time, each with one reader
+  published), and of one beside a writer that shows one plan after another, and before each of them reads the levels of the
+  vertices that it moves by passes of its own, each with one reader
 - the ratios of these to a plain load
 - how many times one reader's rate eight readers have together, and so of eight threads that load from one array
 - the nanoseconds of a mark, a publication and a clearing of one move
 
 and for the largest store how long it takes to open, beside zeroing as much memory. It judges nothing: times on a shared
 machine are ratios at best. Readers and writer take turns where there are fewer processors, and where a writer had ended before
-the readers beside it, which is told, their rate is partly that of a store at rest.
+the readers beside it in the run whose times are printed, which is told, their rate is partly that of a store at rest.
 """
 import argparse
 import os
@@ -35,11 +36,17 @@ def measurements(program):
 
 
 def best_of(program, runs):
+    """The least time of each measurement; that of a writer is of the run that has the least time of the readers beside it."""
     best = {}
     for _ in range(runs):
-        for key, (count, time) in measurements(program).items():
-            if key not in best or time < best[key][1]:
-                best[key] = count, time
+        found = measurements(program)
+        for key, (count, time) in found.items():
+            what, together, n = key
+            if what == "writer" or (key in best and best[key][1] <= time):
+                continue
+            best[key] = count, time
+            if what == "beside":
+                best["writer", together, n] = found["writer", together, n]
     return best
 
 
@@ -67,6 +74,7 @@ def main():
     parser.add_argument("--runs", type=int, default=5)
     words = parser.parse_args()
     best = best_of(words.program, words.runs)
+    print(f"{os.cpu_count()} processors, the best of {words.runs} runs")
     for n in sorted({n for what, _, n in best if what == "plain"}):
         print_reads(best, n)
     for n in sorted({n for what, _, n in best if what == "opened"}):
