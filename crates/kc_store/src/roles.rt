@@ -35,7 +35,7 @@ pub struct WriterState {
     pub noted: LinkedList<u32>,
     /// The vertices whose moves are marked: new level, label and phase are stored.
     pub marked: LinkedList<u32>,
-    /// The vertices whose moves are cleared: one level is stored again.
+    /// The vertices whose moves are cleared: the new level is stored with phase 0, as of a vertex that has no move.
     pub cleared: LinkedList<u32>,
     /// What the passes had seen that were taken in.
     pub joined: LinkedList<LinkedList<Entry>>,

@@ -65,7 +65,7 @@ impl Play<u8, Role> for Marks {
     ghost then = { marks };
 }
 
-// The writer stores the one level of a vertex whose move shows.
+// The writer stores the new level of a published move with phase 0: a reader of it looks no further.
 pub(crate) struct Clears;
 
 impl Play<u8, Role> for Clears {
@@ -101,7 +101,7 @@ impl Play<u8, Role> for LentMarks {
     ghost then = { lent_marks };
 }
 
-// A marker stores the one level of a vertex whose move shows.
+// A marker stores the new level of a published move with phase 0: a reader of it looks no further.
 pub(crate) struct LentClears;
 
 impl Play<u8, Role> for LentClears {

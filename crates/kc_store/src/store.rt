@@ -50,7 +50,8 @@ impl Store {
     /// A store for the vertices 0 to n - 1, each on level 0, and its writer. The history is empty, and the first phase has the number
     /// after `phases_before`. n is 1 to `MAX_VERTICES`, and `phases_before` at most `MAX_PHASE`.
     ///
-    /// This takes all memory that the store and its writer, markers and passes ever need: 24 bytes a vertex.
+    /// This takes all memory that the store and its writer, markers and passes ever need: 24 bytes a vertex, and as much again until
+    /// it returns, since the table copies the words that it begins with.
     pub fn open(alloc: Global, n: u32, phases_before: u32) -> Result<(Store, Writer), AllocError>
         requires vertices { (1 ≤ n) × (n ≤ MAX_VERTICES) }
         requires phases { phases_before ≤ MAX_PHASE }

@@ -1,4 +1,4 @@
--- What a writer has shown of a phase, move by move.
+-- What a writer has shown of a phase, move by move and group by group.
 use Rattle.std.specs.Prelude.{◌≡◌, ℕ, ◌+◌, ◌<◌, [], ◌∷◌, ◌++◌, take, Contains}
 use Rattle.kc_groups.specs.declared.plans.PhasePlan.{PhasePlan}
 use Rattle.kc_groups.specs.Entries.{entries_of}

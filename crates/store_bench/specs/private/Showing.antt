@@ -1,4 +1,4 @@
--- What it takes to show a plan, group by group.
+-- What a writer has shown of a plan, group by group.
 use Rattle.std.specs.Prelude.{◌≡◌, ℕ, ◌+◌, ◌<◌, []}
 use Rattle.kc_groups.specs.declared.plans.PhasePlan.{PhasePlan}
 use Rattle.kc_store.specs.declared.roles.WriterState.{WriterState}
