@@ -12,6 +12,7 @@ use Rattle.kc_store.specs.declared.roles.WriterState.{WriterState}
 use Rattle.kc_store.specs.declared.roles.MarkerState.{MarkerState}
 use Rattle.kc_store.specs.Seats.{MarkerShape}
 use Rattle.kc_store.specs.States.{loan_of, with_loan, without_loan, with_returned, marker_for, AreNotLent}
+use Rattle.kc_store.proofs.lemmas.Shows.{lent_marked, lent_cleared}
 use Rattle.kc_engine.specs.private.Lending.{IsHeld, IsLentBy, AreLent, MayMark, MayClear, HasMarkedRange, HasClearedRange, AreMarked, AreCleared, all_returned, HasMarkedGroup, HasClearedGroup}
 
 cases_of : {A : Type 0} → (x y : A) (xs : List A) → Contains (x ∷ xs) y → (x ≡ y) ⊎ Contains xs y
@@ -197,13 +198,13 @@ returned_over table g count old mid ms ns h =
 pub group_marked : (table : TableId) (g count : ℕ) (old mid new : WriterState) (ms ns : List MarkerShape) → AreLent table g count old mid ms → AreMarked ms ns → new ≡ all_returned ns mid → HasMarkedGroup g count old new
 group_marked table g count old mid new ms ns h a is = subst (HasMarkedGroup g count old) (sym is) record {
   same = returned_over table g count old mid ms ns h;
-  loans = returned_none ns mid (held_on HasMarkedRange ms ns mid.loans (λ m n r. ap (λ (z : MarkerState). z.loan.number) r.marked.same) a.long a.each h.held);
+  loans = returned_none ns mid (held_on HasMarkedRange ms ns mid.loans (λ m n r. ap (λ (z : MarkerState). z.loan.number) r.marked) a.long a.each h.held);
   kept = λ v on. returned_kept ns mid v (subst (λ (s : WriterState). Contains s.cleared v) (sym h.same) on);
   each = λ i lt.
       let c = h.covered i lt in
       let p = partner HasMarkedRange ms ns c.0 a.long a.each c.1 in
       let b = lent_of c.0 c.1 in
-      returned_marked ns mid p.0 (vertex_at old.plan g i) p.1 (subst (λ (z : PhasePlan × ℕ). Contains p.0.state.marked (vertex_at z.0 z.1 i)) (λ t. (b.plan_is t, b.group_is t)) (p.2.marked.each i c.2 c.3));
+      returned_marked ns mid p.0 (vertex_at old.plan g i) p.1 (subst (λ (z : PhasePlan × ℕ). Contains p.0.state.marked (vertex_at z.0 z.1 i)) (λ t. (b.plan_is t, b.group_is t)) (lent_marked c.0.state.loan.to i c.0.state p.0.state p.2.marked c.2 c.3));
 }
   where
     lent_of : (m : MarkerShape) → Contains ms m → IsLentBy table g old m
@@ -212,13 +213,13 @@ group_marked table g count old mid new ms ns h a is = subst (HasMarkedGroup g co
 pub group_cleared : (table : TableId) (g count : ℕ) (old mid new : WriterState) (ms ns : List MarkerShape) → AreLent table g count old mid ms → AreCleared ms ns → new ≡ all_returned ns mid → HasClearedGroup g count old new
 group_cleared table g count old mid new ms ns h a is = subst (HasClearedGroup g count old) (sym is) record {
   same = returned_over table g count old mid ms ns h;
-  loans = returned_none ns mid (held_on HasClearedRange ms ns mid.loans (λ m n r. ap (λ (z : MarkerState). z.loan.number) r.cleared.same) a.long a.each h.held);
+  loans = returned_none ns mid (held_on HasClearedRange ms ns mid.loans (λ m n r. ap (λ (z : MarkerState). z.loan.number) r.cleared) a.long a.each h.held);
   kept = λ v on. returned_kept ns mid v (subst (λ (s : WriterState). Contains s.cleared v) (sym h.same) on);
   each = λ i lt.
       let c = h.covered i lt in
       let p = partner HasClearedRange ms ns c.0 a.long a.each c.1 in
       let b = lent_of c.0 c.1 in
-      returned_cleared ns mid p.0 (vertex_at old.plan g i) p.1 (subst (λ (z : PhasePlan × ℕ). Contains p.0.state.cleared (vertex_at z.0 z.1 i)) (λ t. (b.plan_is t, b.group_is t)) (p.2.cleared.each i c.2 c.3));
+      returned_cleared ns mid p.0 (vertex_at old.plan g i) p.1 (subst (λ (z : PhasePlan × ℕ). Contains p.0.state.cleared (vertex_at z.0 z.1 i)) (λ t. (b.plan_is t, b.group_is t)) (lent_cleared c.0.state.loan.to i c.0.state p.0.state p.2.cleared c.2 c.3));
 }
   where
     lent_of : (m : MarkerShape) → Contains ms m → IsLentBy table g old m

@@ -1,8 +1,9 @@
 -- How a plan is shown, move by move and group by group.
-use Rattle.std.proofs.Common.{◌≡◌, ◌≢◌, ◌⊎◌, ℕ, ◌+◌, ◌<◌, ◌≤◌, List, [], ◌∷◌, ◌++◌, length, get_or, take, All, Contains, Some, suc, zero, refl, sym, ap, ◌∙◌, subst, arith, ⊎_elim, append_assoc, append-nil, length-append, map, Bool, true, false, nat_eq, if◌then◌else◌}
-use Rattle.std.proofs.lemmas.List.Elements.{Contains-push, Contains-append_left, Contains-append_right}
+use Rattle.std.proofs.Common.{◌≡◌, ◌≢◌, ◌⊎◌, ℕ, ◌+◌, ◌-◌, ◌<◌, ◌≤◌, List, [], ◌∷◌, ◌++◌, length, get_or, take, All, Contains, Some, suc, zero, refl, sym, ap, ◌∙◌, subst, arith, ⊎_elim, append_assoc, append-nil, length-append, map, Bool, true, false, nat_eq, if◌then◌else◌}
+use Rattle.std.proofs.lemmas.List.Elements.{Contains-get_or, Contains-push, Contains-append_left, Contains-append_right}
 use Rattle.std.proofs.lemmas.Bool.Decides.{nat_tests}
-use Rattle.std.specs.List.{slice_get}
+use Rattle.std.proofs.lemmas.List.FromFn.{length-map-range_with_len, get_or-map-range_with_len, map-range_with_len_more}
+use Rattle.std.specs.List.{slice_get, range_with_len}
 use mathlib.Core.List.{IsPrefix}
 use mathlib.Core.Logic.{dite}
 use native.Mathlib.Decide.{ℕ_discrete}
@@ -17,7 +18,7 @@ use Rattle.kc_store.specs.declared.roles.MarkerState.{MarkerState}
 use Rattle.kc_store.specs.Plans.{Move, group_at}
 use Rattle.kc_store.specs.States.{AllMovesIn, MayBegin, MayPublish, loan_of, with_loan, without_loan, with_returned, marker_for, with_marked, with_cleared, with_entry_if, with_published, with_phase, marker_marked, marker_cleared}
 use Rattle.kc_store.specs.private.Showing.{HasMarked, HasCleared, HasShownGroup, HasShown, IsAt}
-use Rattle.kc_store.specs.Showing.{HasMarkedLent, HasClearedLent, AreCurrent, IsIdle}
+use Rattle.kc_store.specs.Showing.{HasMarkedLent, HasClearedLent, lent_vertices, AreCurrent, IsIdle}
 use Rattle.kc_store.proofs.Forms.{there, got, got_map}
 use Rattle.kc_store.proofs.Growth.{take_more}
 
@@ -45,33 +46,55 @@ cleared_more g i old mid new h is = subst (HasCleared g (i + 1) old) (sym is) re
       (λ o. Contains-append_left mid.cleared (vertex_at old.plan g i ∷ []) (vertex_at old.plan g j) (h.each j (omega (arith, lt, o))));
 }
 
+-- the vertices of a marker's moves: none at first, then one more, and each of them
+lent_no_more : (m : MarkerState) (vs : List ℕ) → vs ≡ vs ++ lent_vertices m.loan.from m
+lent_no_more m vs =
+    let none : m.loan.from - m.loan.from ≡ 0 = omega arith in
+    sym (append-nil vs) ∙ ap (λ k. vs ++ map (vertex_at m.plan m.loan.group) (range_with_len m.loan.from k)) (sym none)
+
+lent_one_more : (i : ℕ) (m : MarkerState) → m.loan.from ≤ i → (vs : List ℕ) → (vs ++ lent_vertices i m) ++ vertex_at m.plan m.loan.group i ∷ [] ≡ vs ++ lent_vertices (i + 1) m
+lent_one_more i m le vs =
+    let f = vertex_at m.plan m.loan.group in
+    let from : ℕ = m.loan.from in
+    let more : i + 1 - from ≡ (i - from) + 1 = omega (arith, le) in
+    append_assoc vs (lent_vertices i m) (f i ∷ []) ∙ ap (λ ws. vs ++ ws) (sym (ap (λ k. map f (range_with_len from k)) more ∙ map-range_with_len_more f from (i - from) i (omega (arith, le))))
+
+lent_end_vertices : (i k : ℕ) (m : MarkerState) → i - m.loan.from ≡ k - m.loan.from → lent_vertices i m ≡ lent_vertices k m
+lent_end_vertices i k m same = ap (λ z. map (vertex_at m.plan m.loan.group) (range_with_len m.loan.from z)) same
+
+lent_each_vertex : (end i : ℕ) (m : MarkerState) → m.loan.from ≤ i → i < end → Contains (lent_vertices end m) (vertex_at m.plan m.loan.group i)
+lent_each_vertex end i m le lt =
+    let f = vertex_at m.plan m.loan.group in
+    let n : ℕ = end - m.loan.from in
+    let inside : i - m.loan.from < n = omega (arith, le, lt) in
+    let long = length-map-range_with_len f m.loan.from n in
+    subst (Contains (lent_vertices end m)) (get_or-map-range_with_len f m.loan.from n (i - m.loan.from) i 0 inside (omega (arith, le))) (Contains-get_or (lent_vertices end m) (i - m.loan.from) 0 (omega (arith, inside, long)))
+
 pub lent_none : (m : MarkerState) → HasMarkedLent m.loan.from m m
-lent_none m = record { same = refl; each = λ i le lt. absurd (omega (arith, le, lt)) }
+lent_none m = λ j. record m { noted = lent_no_more m m.noted j; marked = lent_no_more m m.marked j }
 
-pub lent_fewer : (i k : ℕ) (old new : MarkerState) → k ≤ i → HasMarkedLent i old new → HasMarkedLent k old new
-lent_fewer i k old new few h = record { same = h.same; each = λ j le lt. h.each j le (omega (arith, lt, few)) }
+pub lent_more : (i : ℕ) (old mid new : MarkerState) → old.loan.from ≤ i → HasMarkedLent i old mid → new ≡ marker_marked (vertex_at old.plan old.loan.group i) mid → HasMarkedLent (i + 1) old new
+lent_more i old mid new le h is = is ∙ (ap (marker_marked (vertex_at old.plan old.loan.group i)) h ∙ (λ j. record old { noted = lent_one_more i old le old.noted j; marked = lent_one_more i old le old.marked j }))
 
-pub lent_more : (i : ℕ) (old mid new : MarkerState) → HasMarkedLent i old mid → new ≡ marker_marked (vertex_at old.plan old.loan.group i) mid → HasMarkedLent (i + 1) old new
-lent_more i old mid new h is = subst (HasMarkedLent (i + 1) old) (sym is) record {
-  same = ap (marker_marked (vertex_at old.plan old.loan.group i)) h.same;
-  each = λ j le lt. dite (ℕ_discrete j i)
-      (λ s. subst (λ (k : ℕ). Contains (mid.marked ++ vertex_at old.plan old.loan.group i ∷ []) (vertex_at old.plan old.loan.group k)) (sym s) (Contains-push mid.marked (vertex_at old.plan old.loan.group i)))
-      (λ o. Contains-append_left mid.marked (vertex_at old.plan old.loan.group i ∷ []) (vertex_at old.plan old.loan.group j) (h.each j le (omega (arith, lt, o))));
-}
+pub lent_end : (i k : ℕ) (old new : MarkerState) → i - old.loan.from ≡ k - old.loan.from → HasMarkedLent i old new → HasMarkedLent k old new
+lent_end i k old new same h = h ∙ ap (λ ws. record old { noted = old.noted ++ ws; marked = old.marked ++ ws }) (lent_end_vertices i k old same)
+
+-- each move of the range is marked
+pub lent_marked : (end i : ℕ) (old new : MarkerState) → HasMarkedLent end old new → old.loan.from ≤ i → i < end → Contains new.marked (vertex_at old.plan old.loan.group i)
+lent_marked end i old new h le lt = subst (λ (m : MarkerState). Contains m.marked (vertex_at old.plan old.loan.group i)) (sym h) (Contains-append_right old.marked (lent_vertices end old) (vertex_at old.plan old.loan.group i) (lent_each_vertex end i old le lt))
 
 pub lent_none_cleared : (m : MarkerState) → HasClearedLent m.loan.from m m
-lent_none_cleared m = record { same = refl; each = λ i le lt. absurd (omega (arith, le, lt)) }
+lent_none_cleared m = λ j. record m { cleared = lent_no_more m m.cleared j }
 
-pub lent_fewer_cleared : (i k : ℕ) (old new : MarkerState) → k ≤ i → HasClearedLent i old new → HasClearedLent k old new
-lent_fewer_cleared i k old new few h = record { same = h.same; each = λ j le lt. h.each j le (omega (arith, lt, few)) }
+pub lent_more_cleared : (i : ℕ) (old mid new : MarkerState) → old.loan.from ≤ i → HasClearedLent i old mid → new ≡ marker_cleared (vertex_at old.plan old.loan.group i) mid → HasClearedLent (i + 1) old new
+lent_more_cleared i old mid new le h is = is ∙ (ap (marker_cleared (vertex_at old.plan old.loan.group i)) h ∙ (λ j. record old { cleared = lent_one_more i old le old.cleared j }))
 
-pub lent_more_cleared : (i : ℕ) (old mid new : MarkerState) → HasClearedLent i old mid → new ≡ marker_cleared (vertex_at old.plan old.loan.group i) mid → HasClearedLent (i + 1) old new
-lent_more_cleared i old mid new h is = subst (HasClearedLent (i + 1) old) (sym is) record {
-  same = ap (marker_cleared (vertex_at old.plan old.loan.group i)) h.same;
-  each = λ j le lt. dite (ℕ_discrete j i)
-      (λ s. subst (λ (k : ℕ). Contains (mid.cleared ++ vertex_at old.plan old.loan.group i ∷ []) (vertex_at old.plan old.loan.group k)) (sym s) (Contains-push mid.cleared (vertex_at old.plan old.loan.group i)))
-      (λ o. Contains-append_left mid.cleared (vertex_at old.plan old.loan.group i ∷ []) (vertex_at old.plan old.loan.group j) (h.each j le (omega (arith, lt, o))));
-}
+pub lent_end_cleared : (i k : ℕ) (old new : MarkerState) → i - old.loan.from ≡ k - old.loan.from → HasClearedLent i old new → HasClearedLent k old new
+lent_end_cleared i k old new same h = h ∙ ap (λ ws. record old { cleared = old.cleared ++ ws }) (lent_end_vertices i k old same)
+
+-- each move of the range is cleared
+pub lent_cleared : (end i : ℕ) (old new : MarkerState) → HasClearedLent end old new → old.loan.from ≤ i → i < end → Contains new.cleared (vertex_at old.plan old.loan.group i)
+lent_cleared end i old new h le lt = subst (λ (m : MarkerState). Contains m.cleared (vertex_at old.plan old.loan.group i)) (sym h) (Contains-append_right old.cleared (lent_vertices end old) (vertex_at old.plan old.loan.group i) (lent_each_vertex end i old le lt))
 
 no_more : (es : List Entry) → length es ≡ 0 → es ≡ []
 no_more [] h = refl
@@ -182,19 +205,19 @@ loan_gone l = go (nat_eq l.number l.number) refl
 -- after a marker for a whole group was lent, marked it and was given back
 pub lent_back : (g moves : ℕ) (old new : WriterState) (m : MarkerState) → IsAt old.plan g old → HasMarkedLent moves (marker_for g 0 moves old) m → new ≡ with_returned m (with_loan g 0 moves old) → moves ≡ length (group_at old.plan g).moves → IsAt old.plan g new × AllMovesIn new.marked (group_at old.plan g)
 lent_back g moves old new m at h is size =
-    let number : m.loan.number ≡ old.lent = ap (λ (z : MarkerState). z.loan.number) h.same in
+    let number : m.loan.number ≡ old.lent = ap (λ (z : MarkerState). z.loan.number) h in
     let loans : new.loans ≡ [] = ap (λ (s : WriterState). s.loans) is ∙ ((λ i. without_loan (number i) (loan_of g 0 moves old ∷ at.loans i)) ∙ loan_gone (loan_of g 0 moves old)) in (
       record { plan_is = ap (λ (s : WriterState). s.plan) is; published = ap (λ (s : WriterState). s.published) is ∙ at.published; loans = loans },
-      all_moves new.marked old.plan g moves size (λ i lt. subst (λ (vs : List ℕ). Contains vs (vertex_at old.plan g i)) (sym (ap (λ (s : WriterState). s.marked) is)) (Contains-append_right old.marked m.marked (vertex_at old.plan g i) (h.each i (omega arith) lt))),
+      all_moves new.marked old.plan g moves size (λ i lt. subst (λ (vs : List ℕ). Contains vs (vertex_at old.plan g i)) (sym (ap (λ (s : WriterState). s.marked) is)) (Contains-append_right old.marked m.marked (vertex_at old.plan g i) (lent_marked moves i (marker_for g 0 moves old) m h (omega arith) lt))),
     )
 
 -- after a marker for a whole published group was lent, cleared it and was given back
 pub lent_back_cleared : (g moves : ℕ) (old new : WriterState) (m : MarkerState) → IsAt old.plan (g + 1) old → HasClearedLent moves (marker_for g 0 moves old) m → new ≡ with_returned m (with_loan g 0 moves old) → moves ≡ length (group_at old.plan g).moves → IsAt old.plan (g + 1) new × AllMovesIn new.cleared (group_at old.plan g)
 lent_back_cleared g moves old new m at h is size =
-    let number : m.loan.number ≡ old.lent = ap (λ (z : MarkerState). z.loan.number) h.same in
+    let number : m.loan.number ≡ old.lent = ap (λ (z : MarkerState). z.loan.number) h in
     let loans : new.loans ≡ [] = ap (λ (s : WriterState). s.loans) is ∙ ((λ i. without_loan (number i) (loan_of g 0 moves old ∷ at.loans i)) ∙ loan_gone (loan_of g 0 moves old)) in (
       record { plan_is = ap (λ (s : WriterState). s.plan) is; published = ap (λ (s : WriterState). s.published) is ∙ at.published; loans = loans },
-      all_moves new.cleared old.plan g moves size (λ i lt. subst (λ (vs : List ℕ). Contains vs (vertex_at old.plan g i)) (sym (ap (λ (s : WriterState). s.cleared) is)) (Contains-append_right old.cleared m.cleared (vertex_at old.plan g i) (h.each i (omega arith) lt))),
+      all_moves new.cleared old.plan g moves size (λ i lt. subst (λ (vs : List ℕ). Contains vs (vertex_at old.plan g i)) (sym (ap (λ (s : WriterState). s.cleared) is)) (Contains-append_right old.cleared m.cleared (vertex_at old.plan g i) (lent_cleared moves i (marker_for g 0 moves old) m h (omega arith) lt))),
     )
 
 pub marked_next : (g moves : ℕ) (old new : WriterState) → IsAt old.plan g old → HasMarked g moves old new → moves ≡ length (group_at old.plan g).moves → IsAt old.plan g new × AllMovesIn new.marked (group_at old.plan g)

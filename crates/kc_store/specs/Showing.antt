@@ -1,5 +1,6 @@
--- What it takes to show a plan, group by group.
-use Rattle.std.specs.Prelude.{◌≡◌, ℕ, ◌<◌, ◌≤◌, List, [], length, All, Contains}
+-- What a marker has done with its range, and what it takes to show a plan.
+use Rattle.std.specs.Prelude.{◌≡◌, ℕ, ◌-◌, List, [], ◌++◌, length, map, All}
+use Rattle.std.specs.List.{range_with_len}
 use Rattle.kc_history.specs.declared.entries.Entry.{Entry}
 use Rattle.kc_groups.specs.WellFormed.{vertex_at}
 use Rattle.kc_store.specs.declared.roles.WriterState.{WriterState}
@@ -7,15 +8,17 @@ use Rattle.kc_store.specs.declared.roles.MarkerState.{MarkerState}
 use Rattle.kc_store.specs.Plans.{Move}
 use Rattle.kc_store.specs.States.{AllMovesIn, last_level}
 
--- the moves of its range up to the number `end`, that one left out, are marked by a marker
-pub record HasMarkedLent (end : ℕ) (old new : MarkerState) : Type 0 where
-  pub same : new ≡ record old { noted = new.noted; marked = new.marked }
-  pub each : (i : ℕ) → old.loan.from ≤ i → i < end → Contains new.marked (vertex_at old.plan old.loan.group i)
+-- the vertices of a marker's moves from the first of its range up to the number `end`, that one left out, in order
+abbrev pub lent_vertices : ℕ → MarkerState → List ℕ
+lent_vertices end m = map (vertex_at m.plan m.loan.group) (range_with_len m.loan.from (end - m.loan.from))
 
--- the moves of its range up to the number `end`, that one left out, are cleared by a marker
-pub record HasClearedLent (end : ℕ) (old new : MarkerState) : Type 0 where
-  pub same : new ≡ record old { cleared = new.cleared }
-  pub each : (i : ℕ) → old.loan.from ≤ i → i < end → Contains new.cleared (vertex_at old.plan old.loan.group i)
+-- a marker noted and marked these moves, each once and in order, and nothing else
+abbrev pub HasMarkedLent : ℕ → MarkerState → MarkerState → Type 0
+HasMarkedLent end old new = new ≡ record old { noted = old.noted ++ lent_vertices end old; marked = old.marked ++ lent_vertices end old }
+
+-- a marker cleared these moves, each once and in order, and nothing else
+abbrev pub HasClearedLent : ℕ → MarkerState → MarkerState → Type 0
+HasClearedLent end old new = new ≡ record old { cleared = old.cleared ++ lent_vertices end old }
 
 -- the old level of each move is the level of its vertex at the end of the history
 abbrev pub AreCurrent : ℕ → List Entry → Entry → Type 0

@@ -8,3 +8,5 @@ pub use Rattle.kc_store.proofs.Shows.{shown_more}
 pub use Rattle.kc_store.proofs.Shows.{idle_shown}
 -- what holds of each place of a group's moves holds of each move
 pub use Rattle.kc_store.proofs.Shows.{all_moves}
+-- each move of a marker's range is marked, or cleared
+pub use Rattle.kc_store.proofs.Shows.{lent_marked, lent_cleared}

@@ -1,6 +1,9 @@
-use Rattle.std.proofs.Common.{◌≡◌}
+use Rattle.std.proofs.Common.{◌≡◌, ◌-◌, ◌≤◌}
 use Rattle.kc_store.specs.Showing.{HasClearedLent}
 use Rattle.kc_store.proofs.marker.Marker.clear_all.Given as goal
 
 abbrev pub invariant-loop-i : goal.invariant-loop-i
-invariant-loop-i l = (l.self.table ≡ l.fn.self.table) × HasClearedLent l.i l.fn.self.state l.self.state
+invariant-loop-i l = (l.self.table ≡ l.fn.self.table)
+    × HasClearedLent l.i l.fn.self.state l.self.state
+    × (l.fn.self.state.loan.from ≤ l.i)
+    × (l.i - l.fn.self.state.loan.from ≤ l.fn.self.state.loan.to - l.fn.self.state.loan.from)
