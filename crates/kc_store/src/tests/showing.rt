@@ -119,6 +119,24 @@ pub(crate) fn begin_next(store: &Store, writer: &mut Writer, plan: &PhasePlan)
     writer.begin(store, plan);
 }
 
+// Begins the phase of a plan if its moves are from the levels at the end of the history, and says whether they are.
+pub(crate) fn begin_if_current(store: &Store, writer: &mut Writer, plan: &PhasePlan, n: u32) -> bool
+    requires table { writer.old.table ≡ store.now.table }
+    requires vertices { (n ≡ store.now.vertices) × (writer.old.state.vertices ≡ n) }
+    requires idle { IsIdle writer.old.state }
+    requires next { plan.now.quiet.phase ≡ writer.old.state.phase + 1 }
+    requires phase_in { writer.old.state.phase + 1 ≤ MAX_PHASE }
+    requires formed { IsWellFormed n plan.now }
+    ensures table { writer.new.table ≡ writer.old.table }
+    ensures at { OnTrue result (IsAt plan.now 0 writer.new.state) }
+{
+    let current = are_current(store, writer, n, plan);
+    if current {
+        begin_next(store, writer, plan);
+    }
+    current
+}
+
 // Marks the next group.
 fn mark_next(store: &Store, writer: &mut Writer, plan: &PhasePlan, place: u32, moves: u32)
     requires table { writer.old.table ≡ store.now.table }
