@@ -1,4 +1,4 @@
-// Readers beside a writer. Each reader's answers are checked against the history by a plain walk.
+// Readers beside a writer, which meet once. Each reader's answers are checked against the history by a plain walk.
 ghost use Rattle.std.specs.Prelude.{◌≡◌, ◌<◌, length, All, IfOk};
 ghost use Rattle.std.specs.Thread.{IsSync};
 ghost use Rattle.kc_store.specs.Showing.{IsIdle};
@@ -10,6 +10,9 @@ use kc_graph::Graph;
 use kc_groups::{PhasePlan, plan_phase};
 use kc_levels::Levels;
 use std::alloc::{AllocError, Global};
+use std::process::Abort;
+use std::sync::atomic::Ordering::SeqCst;
+use std::sync::atomic::{AtomicBool, AtomicU64};
 use std::test::Fail;
 use std::thread;
 use std::thread::Threads;
@@ -18,7 +21,57 @@ const VERTICES: u32 = 24;
 
 const PLANS: u32 = 2_000;
 
+// How many of them are shown before the writer and the readers meet.
+const FIRST_PLANS: u32 = 20;
+
+const READERS: u64 = 4;
+
 const READS: usize = 600_000;
+
+const TURNS: u64 = 10_000_000;
+
+// Where the writer and the readers meet: the readers begin once the first plans are shown, and the writer goes on once each of them has
+// read all vertices. Each waits for at most so many turns; then it tells that they ran out.
+#[derive(Drop)]
+struct Meeting {
+    are_first_shown: AtomicBool,
+    // How many readers have read all vertices.
+    read: AtomicU64,
+    has_run_out: AtomicBool,
+}
+
+impl Meeting {
+    fn new() -> Self {
+        Meeting {
+            are_first_shown: AtomicBool::new(false),
+            read: AtomicU64::new(0),
+            has_run_out: AtomicBool::new(false),
+        }
+    }
+
+    // A reader waits until the first plans are shown.
+    fn wait_for_writer(&self) {
+        for _turn in 0..TURNS {
+            if self.are_first_shown.load(SeqCst) {
+                return;
+            }
+            thread::yield_now();
+        }
+        self.has_run_out.store(true, SeqCst);
+    }
+
+    // The writer, which has shown the first plans, waits until each reader has read all vertices.
+    fn wait_for_readers(&self) {
+        self.are_first_shown.store(true, SeqCst);
+        for _turn in 0..TURNS {
+            if self.read.load(SeqCst) == READERS {
+                return;
+            }
+            thread::yield_now();
+        }
+        self.has_run_out.store(true, SeqCst);
+    }
+}
 
 // A pass and what it reads: the vertices in turn, over and over.
 #[derive(Drop)]
@@ -28,12 +81,16 @@ struct Reader {
 }
 
 impl Reader {
-    fn run(&mut self, store: &Store)
+    fn run(&mut self, store: &Store, meeting: &Meeting)
         requires table { self.old.pass.table ≡ store.now.table }
         requires vertices { store.now.vertices ≡ VERTICES }
         ensures { self.new.pass.table ≡ self.old.pass.table }
     {
+        meeting.wait_for_writer();
         for i in 0..self.levels.len() {
+            if i == VERTICES as usize {
+                meeting.read.fetch_add(1, SeqCst);
+            }
             let v = (i % VERTICES as usize) as u32;
             let level = store.read(&mut self.pass, v);
             self.levels[i] = level;
@@ -41,11 +98,16 @@ impl Reader {
     }
 }
 
-fn run_readers<R: Threads + Sync>(rt: &R, store: &Store, readers: &mut [Reader])
+fn run_readers<R: Threads + Sync>(rt: &R, store: &Store, meeting: &Meeting, readers: &mut [Reader])
     requires vertices { store.now.vertices ≡ VERTICES }
     requires table { All (λ r. r.pass.table ≡ store.now.table) readers.old }
 {
-    thread::for_each_mut(rt, readers, 4, &|_, reader: &mut Reader| reader.run(store));
+    thread::for_each_mut(
+        rt,
+        readers,
+        READERS as usize,
+        &|_, reader: &mut Reader| { reader.run(store, meeting) },
+    );
 }
 
 // Numbers that look random.
@@ -90,9 +152,11 @@ fn changed(
     Ok(after)
 }
 
-// Shows plans that move some vertices up or down, and gives them. `None` where one isn't from the levels at the history's end.
+// Shows plans that move some vertices up or down, and gives them; behind the first ones it meets the readers. `None` where one isn't
+// from the levels at the history's end.
 fn show_plans(
     alloc: Global,
+    meeting: &Meeting,
     store: &Store,
     writer: &mut Writer,
     graph: &Graph,
@@ -120,11 +184,14 @@ fn show_plans(
         }
         shown.push(plan)?;
         before = after;
+        if k + 1 == FIRST_PLANS {
+            meeting.wait_for_readers();
+        }
     }
     Ok(Some(shown))
 }
 
-// Four readers that have read nothing yet, and will so often.
+// Readers that have read nothing yet, and will so often.
 fn make_readers(
     alloc: Global,
     store: &Store,
@@ -136,7 +203,7 @@ fn make_readers(
     ensures readers { IfOk result (λ rs. All (λ r. r.pass.table ≡ store.now.table) rs.items) }
 {
     let mut readers = Vec::new(alloc);
-    for _turn in 0..4 {
+    for _turn in 0..READERS {
         let pass = writer.pass(store);
         let levels = vec![in alloc; 0u16; reads]?;
         readers.push(Reader { pass, levels })?;
@@ -148,6 +215,7 @@ fn make_readers(
 fn side_by_side<R: Threads + Sync>(
     rt: &R,
     alloc: Global,
+    meeting: &Meeting,
     store: &Store,
     writer: &mut Writer,
     graph: &Graph,
@@ -161,10 +229,10 @@ fn side_by_side<R: Threads + Sync>(
 {
     thread::join_mut(
         rt,
-        &mut || show_plans(alloc, store, writer, graph),
+        &mut || show_plans(alloc, meeting, store, writer, graph),
         &mut ||
             requires { IsSync R.row × (store.now.vertices ≡ VERTICES) × All (λ r. r.pass.table ≡ store.now.table) readers.now }
-        { run_readers(rt, store, readers) },
+        { run_readers(rt, store, meeting, readers) },
     )
     .0
 }
@@ -237,6 +305,35 @@ fn are_explained(alloc: Global, plans: &[PhasePlan], answers: &[u16]) -> Result<
     Ok(true)
 }
 
+// The levels after so many of the plans.
+fn levels_after(alloc: Global, plans: &[PhasePlan], count: usize) -> Result<Vec<u16>, AllocError> {
+    let mut levels = vec![in alloc; 0u16; VERTICES as usize]?;
+    for plan in 0..count.min(plans.len()) {
+        for group in 0..plans[plan].groups.len() {
+            apply(&mut levels, plans, plan, group);
+        }
+    }
+    Ok(levels)
+}
+
+// What a reader read is explained, and its first reads are from after the first plans and before the next: not from before or after all.
+fn check_answers<R: Abort>(
+    rt: &R,
+    alloc: Global,
+    plans: &[PhasePlan],
+    answers: &[u16],
+) -> Result<(), AllocError> {
+    let explained = are_explained(alloc, plans, answers)?;
+    assert!(rt; explained);
+    let before = levels_after(alloc, plans, 0)?;
+    let between = levels_after(alloc, plans, FIRST_PLANS as usize)?;
+    let after = levels_after(alloc, plans, plans.len())?;
+    assert!(rt; answers.starts_with(between.as_slice()));
+    assert!(rt; !answers.starts_with(before.as_slice()));
+    assert!(rt; !answers.starts_with(after.as_slice()));
+    Ok(())
+}
+
 #[test]
 fn readers_see_points_of_the_history(rt: HostRuntime) -> Result<(), Fail> {
     let alloc = rt.alloc();
@@ -253,9 +350,11 @@ fn readers_see_points_of_the_history(rt: HostRuntime) -> Result<(), Fail> {
     insert_all(&rt, alloc, &mut graph, &edges)?;
     let (store, mut writer) = Store::open(alloc, VERTICES, 0)?;
     let mut readers = make_readers(alloc, &store, &mut writer, READS)?;
+    let meeting = Meeting::new();
     let shown = side_by_side(
         &rt,
         alloc,
+        &meeting,
         &store,
         &mut writer,
         &graph,
@@ -264,9 +363,9 @@ fn readers_see_points_of_the_history(rt: HostRuntime) -> Result<(), Fail> {
     let Some(shown) = shown else {
         panic!(&rt; "a plan isn't from the levels at the history's end");
     };
+    assert!(rt; !meeting.has_run_out.load(SeqCst));
     for reader in readers.as_slice() {
-        let explained = are_explained(alloc, shown.as_slice(), reader.levels.as_slice())?;
-        assert!(rt; explained);
+        check_answers(&rt, alloc, shown.as_slice(), reader.levels.as_slice())?;
     }
     Ok(())
 }
