@@ -2,6 +2,7 @@
 ghost use Rattle.std.specs.Prelude.{◌≡◌, [], ◌∷◌, IfOk};
 
 mod loads;
+mod readers;
 mod sessions;
 
 use crate::Agent;

@@ -16,14 +16,17 @@ use std::thread;
 use std::thread::Threads;
 
 // A reader of the lines after the header of an input, and that header.
-fn open_input(alloc: Global, source: &mut MemSource) -> Result<(Header, LineReader), Fail> {
+pub(crate) fn open_input(
+    alloc: Global,
+    source: &mut MemSource,
+) -> Result<(Header, LineReader), Fail> {
     let mut reader = LineReader::new(alloc, 65_536, 1_073_741_824)?;
     let header = Header::read(alloc, &mut reader, source)?;
     Ok((header, reader))
 }
 
 // What a session of an input ended with, and what its sink took, which fails at the calls with these numbers.
-fn run<R: Threads + Sync, G: Gate + Sync>(
+pub(crate) fn run<R: Threads + Sync, G: Gate + Sync>(
     rt: &R,
     alloc: Global,
     gate: &G,
@@ -156,7 +159,7 @@ const BEFORE: &[u8] =
     b"kcore-run 1\nvertices 6\nbatch 1 loops 0 repeats 0 idle 0 removed 0 added 2\nphase 1 insert quiet 0\ngroup 1 0 0:1 1:1\ngroup 1 2 2:1 3:1\nreader 0 ";
 
 // Holds a thread until a flag is set, for at most so many turns; then it tells that they ran out.
-fn hold(until: &AtomicBool, ran_out: &AtomicBool) {
+pub(crate) fn hold(until: &AtomicBool, ran_out: &AtomicBool) {
     for _turn in 0..TURNS {
         if until.load(SeqCst) {
             return;
