@@ -4,6 +4,7 @@ ghost use Rattle.std.specs.Prelude.{◌≡◌, [], ◌∷◌, IfOk};
 mod loads;
 mod readers;
 mod sessions;
+mod workers;
 
 use crate::Agent;
 use kc_batch::{Ask, Vertices};
