@@ -37,7 +37,7 @@ pub(crate) fn run<R: Threads + Sync, G: Gate + Sync>(
     requires { (1 ≤ workers) × (workers ≤ 64) }
 {
     let mut source = MemSource::new(alloc, input, 16, &[])?;
-    let mut sink = MemSink::new(alloc, 65_536, 65_536, failing)?;
+    let mut sink = MemSink::new(alloc, 1_048_576, 65_536, failing)?;
     let (header, reader) = open_input(alloc, &mut source)?;
     let ended = run_session(
         rt,
