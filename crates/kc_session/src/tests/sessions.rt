@@ -158,6 +158,10 @@ const SECOND_IS_ASKED: &[u8] = b"kcore 1\nvertices 6\nask 1 2\nbatch\n+ 0 1\n+ 2
 const BEFORE: &[u8] =
     b"kcore-run 1\nvertices 6\nbatch 1 loops 0 repeats 0 idle 0 removed 0 added 2\nphase 1 insert quiet 0\ngroup 1 0 0:1 1:1\ngroup 1 2 2:1 3:1\nreader 0 ";
 
+// The text of both after the replies.
+const AFTER: &[u8] =
+    b"vertex 0 level 1 est 2 low 1 high 2 up 1 down 1\nvertex 1 level 1 est 2 low 1 high 2 up 1 down 1\nvertex 2 level 1 est 2 low 1 high 2 up 1 down 1\nvertex 3 level 1 est 2 low 1 high 2 up 1 down 1\nvertex 4 level 0 est 0 low 0 high 0 up 0 down 0\nvertex 5 level 0 est 0 low 0 high 0 up 0 down 0\nend\n";
+
 // Holds a thread until a flag is set, for at most so many turns; then it tells that they ran out.
 pub(crate) fn hold(until: &AtomicBool, ran_out: &AtomicBool) {
     for _turn in 0..TURNS {
@@ -203,17 +207,18 @@ impl Gate for HoldsPublication {
 
 #[test]
 fn a_group_takes_effect_at_once(rt: HostRuntime) -> Result<(), Fail> {
-    let gate = HoldsPublication::new();
-    let (ended, text) = run(&rt, rt.alloc(), &gate, 1, TWO_GROUPS, &[])?;
-    let _ended = ended?;
-    assert!(rt; !gate.ran_out.load(SeqCst));
-    assert!(rt; text.as_slice().starts_with(BEFORE));
-    let told = &text.as_slice()[BEFORE.len()..];
-    assert!(rt;
-        told.starts_with(b"0=0 1=0\n")
-            || told.starts_with(b"0=0 1=1\n")
-            || told.starts_with(b"0=1 1=1\n")
-    );
+    for workers in [1, 3, 64] {
+        let gate = HoldsPublication::new();
+        let (ended, text) = run(&rt, rt.alloc(), &gate, workers, TWO_GROUPS, &[])?;
+        let _ended = ended?;
+        let text = text.as_slice();
+        assert!(rt; !gate.ran_out.load(SeqCst));
+        assert!(rt;
+            is_made_of(text, BEFORE, b"0=0 1=0\n", AFTER)
+                || is_made_of(text, BEFORE, b"0=0 1=1\n", AFTER)
+                || is_made_of(text, BEFORE, b"0=1 1=1\n", AFTER)
+        );
+    }
     Ok(())
 }
 
@@ -249,15 +254,16 @@ impl Gate for HoldsQuestion {
 
 #[test]
 fn a_reader_looks_while_batches_are_shown(rt: HostRuntime) -> Result<(), Fail> {
-    let gate = HoldsQuestion {
-        publishing: AtomicBool::new(false),
-        ran_out: AtomicBool::new(false),
-    };
-    let (ended, text) = run(&rt, rt.alloc(), &gate, 1, TWO_GROUPS, &[])?;
-    let _ended = ended?;
-    assert!(rt; !gate.ran_out.load(SeqCst));
-    assert!(rt; text.as_slice().starts_with(BEFORE));
-    assert!(rt; text.as_slice()[BEFORE.len()..].starts_with(b"0=1 1=1\n"));
+    for workers in [1, 3, 64] {
+        let gate = HoldsQuestion {
+            publishing: AtomicBool::new(false),
+            ran_out: AtomicBool::new(false),
+        };
+        let (ended, text) = run(&rt, rt.alloc(), &gate, workers, TWO_GROUPS, &[])?;
+        let _ended = ended?;
+        assert!(rt; !gate.ran_out.load(SeqCst));
+        assert!(rt; is_made_of(text.as_slice(), BEFORE, b"0=1 1=1\n", AFTER));
+    }
     Ok(())
 }
 
