@@ -242,6 +242,39 @@ fn later_short_rounds_have_one_piece(rt: HostRuntime) -> Result<(), Fail> {
     Ok(())
 }
 
+// Keeps the odd numbers, and counts how often each of the first eight numbers is tested, in eight bits each.
+#[derive(Drop)]
+struct CountingTest {
+    tested: AtomicU64,
+}
+
+impl RoundTest for CountingTest {
+    ghost use Rattle.std.specs.Prelude.{◌%◌, nat_eq};
+
+    ghost keeps = { λ _ v. nat_eq (v % 2) 1 };
+
+    ghost may_ask = { λ _ _. Unit {0} };
+
+    fn keep(&self, v: u32) -> bool {
+        self.tested.fetch_add(1 << (8 * v.min(7)), SeqCst);
+        v % 2 == 1
+    }
+}
+
+#[test]
+fn each_candidate_is_tested_once(rt: HostRuntime) -> Result<(), Fail> {
+    for workers in [1, 2, 3, 5, 64] {
+        let test = CountingTest {
+            tested: AtomicU64::new(0),
+        };
+        let gate = OpenGate::new();
+        let kept = filter_round(&rt, rt.alloc(), &gate, workers, &[0, 1, 2, 3, 4], &test)?;
+        assert_eq!(rt; kept.as_slice(), [1, 3].as_slice());
+        assert_eq!(rt; test.tested.load(SeqCst), 0x01_0101_0101);
+    }
+    Ok(())
+}
+
 // At an odd number its double, and itself; at an even one the same number, and nothing.
 struct Doubles;
 
