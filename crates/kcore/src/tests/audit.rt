@@ -9,8 +9,12 @@ use std::thread::Threads;
 const GROUPS: &[u8] =
     b"kcore-run 1\nvertices 6\nbatch 1 loops 0 repeats 0 idle 0 removed 0 added 2\nphase 1 insert quiet 0\ngroup 1 0 0:1 1:1\ngroup 1 2 2:1 3:1\n";
 
-const VERTICES: &[u8] =
-    b"vertex 0 level 1 est 2 low 1 high 2 up 1 down 1\nvertex 1 level 1 est 2 low 1 high 2 up 1 down 1\nvertex 2 level 1 est 2 low 1 high 2 up 1 down 1\nvertex 3 level 1 est 2 low 1 high 2 up 1 down 1\nvertex 4 level 0 est 0 low 0 high 0 up 0 down 0\nvertex 5 level 0 est 0 low 0 high 0 up 0 down 0\n";
+const VERTICES: &[u8] = b"vertex 0 level 1 est 2 low 1 high 2 up 1 down 1\n\
+    vertex 1 level 1 est 2 low 1 high 2 up 1 down 1\n\
+    vertex 2 level 1 est 2 low 1 high 2 up 1 down 1\n\
+    vertex 3 level 1 est 2 low 1 high 2 up 1 down 1\n\
+    vertex 4 level 0 est 0 low 0 high 0 up 0 down 0\n\
+    vertex 5 level 0 est 0 low 0 high 0 up 0 down 0\n";
 
 fn joined(alloc: Global, parts: &[&[u8]]) -> Result<Vec<u8>, Fail> {
     let mut text = Vec::new(alloc);
@@ -115,7 +119,9 @@ fn explains_what_run_writes(rt: HostRuntime) -> Result<(), Fail> {
         // A rise, and a fall of one vertex.
         b"kcore 1\nvertices 5\nask 9 0 3\nask 5 3 0\nbatch\n0 1\n0 2\nend\nbatch\n+ 0 3\nend\nbatch\n- 0 3\nend\n",
         // The complete graph on eight vertices, and a fall by some levels.
-        b"kcore 1\nvertices 8\nask 7 0 1 7\nbatch\n0 1\n0 2\n0 3\n0 4\n0 5\n0 6\n0 7\n1 2\n1 3\n1 4\n1 5\n1 6\n1 7\n2 3\n2 4\n2 5\n2 6\n2 7\n3 4\n3 5\n3 6\n3 7\n4 5\n4 6\n4 7\n5 6\n5 7\n6 7\nend\nbatch\n- 0 1\n- 0 2\n- 0 3\n- 0 4\n- 0 5\nend\n",
+        b"kcore 1\nvertices 8\nask 7 0 1 7\nbatch\n0 1\n0 2\n0 3\n0 4\n0 5\n0 6\n0 7\n1 2\n1 3\n\
+            1 4\n1 5\n1 6\n1 7\n2 3\n2 4\n2 5\n2 6\n2 7\n3 4\n3 5\n3 6\n3 7\n4 5\n4 6\n4 7\n5 6\n\
+            5 7\n6 7\nend\nbatch\n- 0 1\n- 0 2\n- 0 3\n- 0 4\n- 0 5\nend\n",
         // A fall and a rise in one batch.
         b"kcore 1\nvertices 5\nask 9 0 1 2\nbatch\n0 1\nend\nbatch\n- 0 1\n+ 0 2\nend\n",
         // A refused batch between two others, and one that is cut off.
