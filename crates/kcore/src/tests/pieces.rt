@@ -1,17 +1,19 @@
-// A run whose rounds go to several workers.
+// Commands whose rounds go to several workers.
 ghost use Rattle.std.specs.Prelude.{◌+◌, ◌≤◌};
 
-use super::answer;
+use super::{answer, words_of};
 use crate::status::Status;
 use crate::top::run_command;
 use kc_rounds::{Gate, Spot};
 use kc_session::SessionFault;
-use kc_text::{LineBuf, MemSink, MemSource, Words};
+use kc_text::{LineBuf, MemSink, MemSource};
 use std::alloc::Global;
+use std::process::Abort;
 use std::sync::atomic::Ordering::SeqCst;
 use std::sync::atomic::{AtomicBool, AtomicU64};
 use std::test::Fail;
 use std::thread;
+use std::thread::Threads;
 
 const TURNS: u64 = 10_000_000;
 
@@ -44,22 +46,27 @@ impl Gate for Holding {
     }
 }
 
+// A star, and the same beside a reader.
+const STARS: [&[u8]; 2] = [
+    b"kcore 1\nvertices 5\nbatch\n0 1\n0 2\n0 3\n0 4\nend\n",
+    b"kcore 1\nvertices 5\nask 3 0 4\nbatch\n0 1\n0 2\n0 3\n0 4\nend\n",
+];
+
 #[test]
 fn a_first_round_has_two_pieces_at_once(rt: HostRuntime) -> Result<(), Fail> {
-    let gate = Holding {
-        has_held: AtomicBool::new(false),
-        told: AtomicBool::new(false),
-        turns_left: AtomicU64::new(0),
-    };
-    let mut words = Words::new(rt.alloc());
-    words.push(rt.alloc(), b"run")?;
-    words.push(rt.alloc(), b"2")?;
-    let star = b"kcore 1\nvertices 5\nbatch\n0 1\n0 2\n0 3\n0 4\nend\n";
-    let mut source = MemSource::new(rt.alloc(), star, 1000, &[])?;
-    let mut sink = MemSink::new(rt.alloc(), 16_777_216, 1000, &[])?;
-    let status = run_command(&rt, rt.alloc(), &words, &mut source, &mut sink, &gate);
-    assert_eq!(rt; status, Status::Done);
-    assert!(rt; gate.turns_left.load(SeqCst) > 0);
+    let words = words_of(rt.alloc(), "run 2")?;
+    for star in STARS {
+        let gate = Holding {
+            has_held: AtomicBool::new(false),
+            told: AtomicBool::new(false),
+            turns_left: AtomicU64::new(0),
+        };
+        let mut source = MemSource::new(rt.alloc(), star, 1000, &[])?;
+        let mut sink = MemSink::new(rt.alloc(), 16_777_216, 1000, &[])?;
+        let status = run_command(&rt, rt.alloc(), &words, &mut source, &mut sink, &gate);
+        assert_eq!(rt; status, Status::Done);
+        assert!(rt; gate.turns_left.load(SeqCst) > 0);
+    }
     Ok(())
 }
 
@@ -77,7 +84,25 @@ impl Gate for Greatest {
     }
 }
 
-// The first round has 128 candidates, so each worker gets a piece.
+// The greatest index of a piece that a command tells the gate.
+fn greatest_piece<R: Threads + Sync + Abort>(
+    rt: &R,
+    alloc: Global,
+    line: &str,
+    input: &[u8],
+) -> Result<u64, Fail> {
+    let gate = Greatest {
+        index: AtomicU64::new(0),
+    };
+    let words = words_of(alloc, line)?;
+    let mut source = MemSource::new(alloc, input, 1000, &[])?;
+    let mut sink = MemSink::new(alloc, 16_777_216, 1000, &[])?;
+    let status = run_command(rt, alloc, &words, &mut source, &mut sink, &gate);
+    assert_eq!(rt; status, Status::Done, "{line}");
+    Ok(gate.index.load(SeqCst))
+}
+
+// The first round has 128 candidates, and that of the load over 64, so each worker gets a piece.
 #[test]
 fn a_first_round_has_a_piece_for_each_worker(rt: HostRuntime) -> Result<(), Fail> {
     let mut input = MemSink::new(rt.alloc(), 16_777_216, 1000, &[])?;
@@ -87,18 +112,18 @@ fn a_first_round_has_a_piece_for_each_worker(rt: HostRuntime) -> Result<(), Fail
     assert!(rt; write_pairs(rt.alloc(), &mut line, &mut input, 64, 64).is_ok());
     line.text(rt.alloc(), b"end")?;
     assert!(rt; line.send(rt.alloc(), &mut input).is_ok());
-    for (workers, greatest) in [("1", 0), ("2", 1), ("3", 2), ("5", 4), ("64", 63)] {
-        let gate = Greatest {
-            index: AtomicU64::new(0),
-        };
-        let mut words = Words::new(rt.alloc());
-        words.push(rt.alloc(), b"run")?;
-        words.push(rt.alloc(), workers.as_bytes())?;
-        let mut source = MemSource::new(rt.alloc(), input.bytes(), 1000, &[])?;
-        let mut sink = MemSink::new(rt.alloc(), 16_777_216, 1000, &[])?;
-        let status = run_command(&rt, rt.alloc(), &words, &mut source, &mut sink, &gate);
-        assert_eq!(rt; status, Status::Done);
-        assert_eq!(rt; gate.index.load(SeqCst), greatest);
+    for (command, greatest) in [
+        ("run 1", 0),
+        ("run 2", 1),
+        ("run 3", 2),
+        ("run 5", 4),
+        ("run 64", 63),
+        ("final 5", 4),
+        ("orient 5", 4),
+        ("gen 0 128 1 128 5", 4),
+    ] {
+        let index = greatest_piece(&rt, rt.alloc(), command, input.bytes())?;
+        assert_eq!(rt; index, greatest, "{command}");
     }
     Ok(())
 }
