@@ -27,7 +27,8 @@ TESTS = {
               "hostile::both_branches_have_ended_after_a_fault"],
     "kc_intake": ["threads::a_queue_of_one", "threads::eight_clients", "threads::clients_of_very_different_lengths"],
     "kserve": ["gates::clients_run_at_once", "gates::updates_go_through_the_intake", "gates::a_long_script_of_one_client",
-               "failing::clients_wait_for_room_while_a_write_fails", "outputs::eight_clients", "outputs::sixty_four_clients"],
+               "failing::clients_wait_for_room_while_a_write_fails", "outputs::eight_clients",
+               "outputs::clients_of_very_different_lengths", "outputs::sixty_four_clients"],
 }
 
 
