@@ -12,6 +12,7 @@ threads come in each other's way depends on the machine, so this isn't part of t
 import argparse
 import os
 import random
+import subprocess
 import sys
 
 from served import block, fault_of, run
@@ -20,6 +21,16 @@ from served import block, fault_of, run
 def script_of(draw, n, items):
     signs = ("+", "+", "+", "-")
     return [f"{draw.choice(signs)} {draw.randrange(n)} {draw.randrange(n)}" for _ in range(draw.randrange(items))]
+
+
+def answer_of(options, workers, n, scripts):
+    """What kserve writes of scripts, and what is wrong with it, or None."""
+    written = ""
+    try:
+        status, written, errors = run(options.program, [str(workers)], f"kserve 1\nvertices {n}\n" + "".join(map(block, scripts)))
+        return written, f"ended with {status}" if status or errors else fault_of(n, scripts, written, options.kcore)
+    except subprocess.TimeoutExpired as hung:
+        return written, f"{os.path.basename(hung.cmd[0])} had not ended after {hung.timeout} s"
 
 
 def main():
@@ -36,9 +47,7 @@ def main():
     for number in range(1, options.runs + 1):
         n = draw.choice((2, 20, 300, 2000))
         scripts = [script_of(draw, n, draw.choice((2, 50, options.items))) for _ in range(options.clients)]
-        text = f"kserve 1\nvertices {n}\n" + "".join(map(block, scripts))
-        status, written, errors = run(options.program, [str(draw.randrange(1, 5))], text)
-        fault = f"ended with {status}" if status or errors else fault_of(n, scripts, written, options.kcore)
+        written, fault = answer_of(options, draw.randrange(1, 5), n, scripts)
         if fault:
             wrong += 1
             print(f"run {number}: {fault}")
