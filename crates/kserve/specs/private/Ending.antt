@@ -1,4 +1,4 @@
--- For private contracts: the command line, the causes of the answers, and how the program ends.
+-- For private contracts: the status of a call that has ended.
 use Rattle.std.specs.Prelude.{Bool, true, false, Result, Ok, Err}
 use Rattle.kserve.specs.declared.fault.ServeFault.{ServeFault}
 use Rattle.kserve.specs.declared.fault.ServeFault.TheVariants as fault

@@ -1,4 +1,4 @@
--- For private contracts: when drained batches are what the clients submitted.
+-- For private contracts: which items the server applies.
 use Rattle.std.specs.Prelude.{ℕ, nat_lt, Bool, false, ◌&&◌, List}
 use Rattle.std.specs.List.{list_all}
 use Rattle.kc_graph.specs.declared.items.Item.{Item}

@@ -1,4 +1,4 @@
--- For private contracts: what an input of scripts says: `kserve 1`, then `vertices N`, then a block for each client. All lines are lines that aren't skipped;
+-- For private contracts: what range the number of vertices in a head has.
 use Rattle.std.specs.Prelude.{◌≤◌}
 use Rattle.kc_graph.specs.declared.limits.TheConstants.{MAX_VERTICES}
 use Rattle.kserve.specs.declared.head.Head.{Head}
