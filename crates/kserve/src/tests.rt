@@ -5,6 +5,7 @@ mod failing;
 mod gates;
 mod inputs;
 mod outputs;
+mod pieces;
 
 use crate::serve::serve;
 use crate::status::ServeStatus;
