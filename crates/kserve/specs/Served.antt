@@ -1,6 +1,7 @@
 -- The text of served scripts, and what a sink has taken of it.
-use Rattle.std.specs.Prelude.{ℕ, ◌≡◌, List, ◌++◌, Option, Some, None}
+use Rattle.std.specs.Prelude.{ℕ, ◌≡◌, List, ◌++◌, Option, Some, None, ◌⊎◌}
 use Rattle.std.specs.Io.KnownBytes.{append_known}
+use Rattle.kc_text.specs.Causes.{Rose}
 use Rattle.kc_text.specs.Writing.{IsPrefix}
 use Rattle.kc_graph.specs.declared.items.Item.{Item}
 use Rattle.kc_levels.specs.declared.profile.Profile.TheVariants.{One}
@@ -70,3 +71,13 @@ Wrote input before now status.Memory = WritesPrefix (IsTextOf input) before now
 abbrev pub Answers : Option (List ℕ) → Option (List ℕ) → Option (List ℕ) → ServeStatus → Type 0
 Answers None before now ended = Unit {0}
 Answers (Some bytes) before now ended = Wrote (input_said bytes) before now ended
+
+-- the call ended as the input decides, with `Done` where it has scripts and with `Refused` where it is refused, or there was no memory
+abbrev pub EndsAsDecided : ScriptInput → ServeStatus → Type 0
+EndsAsDecided (WithScripts n scripts) ended = (ended ≡ status.Done) ⊎ (ended ≡ status.Memory)
+EndsAsDecided (Refused line reason) ended = (ended ≡ status.Refused) ⊎ (ended ≡ status.Memory)
+
+-- where the words are a number of workers, the bytes are told, and neither count of faults rose, there is no other answer than these
+abbrev pub IsComplete : Option ℕ → Option (List ℕ) → ℕ → ℕ → ℕ → ℕ → ServeStatus → Type 0
+IsComplete workers left r0 r1 w0 w1 ended =
+    (count : ℕ) (bytes : List ℕ) → workers ≡ Some count → left ≡ Some bytes → ¬ (Rose r0 r1) → ¬ (Rose w0 w1) → EndsAsDecided (input_said bytes) ended

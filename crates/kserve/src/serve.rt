@@ -3,7 +3,7 @@ ghost use Rattle.std.specs.Prelude.{◌≡◌, ◌≤◌, ◌↔◌, ◌∷◌, 
 ghost use Rattle.kserve.specs.Ending.{workers_of, HasCause};
 ghost use Rattle.kserve.specs.private.Ending.{status_of};
 ghost use Rattle.kserve.specs.private.Faults.{FaultCause};
-ghost use Rattle.kserve.specs.Served.{Answers};
+ghost use Rattle.kserve.specs.Served.{Answers, IsComplete};
 
 use crate::fault::ServeFault;
 use crate::lines::write_refused;
@@ -92,7 +92,7 @@ fn status_of(ended: Result<bool, ServeFault>) -> ServeStatus
 ///
 /// `ReadFault` and `WriteFault` come only where the count of faults of `input`, of `output` rose in this call, and every other count is as
 /// it was. So with such words, bytes told and no count risen the answer is `Done` or `Refused`, as the bytes decide, or `Memory`, the one
-/// answer without a cause.
+/// answer without a cause (`IsComplete`).
 ///
 /// All scripts are read before a client runs. A client that finds the intake full tries again, and so does the server where it is empty:
 /// the call may wait, and what it promises holds if it returns. After a fault the server goes on draining, so that no client is left
@@ -108,6 +108,7 @@ pub fn serve<R: Threads + Wait + Sync, S: Source, K: Sink + Send, G: Gate + Sync
 ) -> ServeStatus
     ensures answer { Answers (S.left input.old) (K.taken output.old) (K.taken output.new) result }
     ensures cause { HasCause (S.faults input.old) (S.faults input.new) (K.faults output.old) (K.faults output.new) result }
+    ensures complete { IsComplete (workers_of words.now) (S.left input.old) (S.faults input.old) (S.faults input.new) (K.faults output.old) (K.faults output.new) result }
     ensures usage { (result ≡ ServeStatus.Usage) ↔ (workers_of words.now ≡ None) }
     ensures untouched { result ≡ ServeStatus.Usage → (input.new ≡ input.old) × (output.new ≡ output.old) }
 {
