@@ -9,6 +9,9 @@ from trials import DONE, NO_MEMORY, READ_FAULT, WRITE_FAULT, Trial
 
 EVERY = 1 << 40
 
+# What the test of the engine prints where it has halted, and what each test prints that passes.
+HALTED, PASSED = b"halted\n", b"\ntest result: ok\n"
+
 
 def nothing_fails(kcore):
     trial, texts = Trial("nothing fails, and calls are counted"), 0
@@ -50,20 +53,25 @@ def refused_memory(kcore):
 
 
 def halted_engine(kcore):
-    """A test of the engine, which passes where a plan that finds no memory leaves an engine whose next plan answers `Halted`."""
+    """A test of the engine, which prints `halted` where a plan finds no memory and the next plan answers `Halted`. It passes too where there
+    is no memory before that, so there has to be a run that prints it."""
     trial = Trial("a plan of an engine, one allocation refused")
     if not os.path.exists(kcore.engine_tests):
         trial.notes.append(f"not tried, since there is no {kcore.engine_tests}: `rt test` in crates/kc_engine makes it")
         yield trial
         return
     tests = Program(kcore.engine_tests)
-    words, number, failed = ["tests::halting::an_engine_without_memory_has_halted"], 0, True
+    words, number, failed, halted = ["tests::halting::an_engine_without_memory_has_halted"], 0, True, 0
     while failed:
         number += 1
         ended = tests.run(words, failing=Failing("allocation", number, error=errno.ENOMEM))
         failed = ended.calls["failed"] > 0
-        trial.ended(f"allocation {number}", ended, {DONE: "whole"}, b"\ntest result: ok\n")
+        has_halted = failed and ended.text.startswith(HALTED)
+        trial.ended(f"allocation {number}", ended, {DONE: "whole"}, HALTED * has_halted + PASSED)
+        halted += has_halted
     tests.close()
+    trial.holds(halted, "no plan found no memory and was followed by `Halted`")
+    trial.notes.append(f"{halted} times the next plan answered `Halted`")
     yield trial
 
 

@@ -6,13 +6,14 @@
 Each run has to end by itself, with the exit number that is due: 0 or 1 with the whole text; 2 with nothing read or written; 3 after a
 read that failed, 4 after a write that failed, 5 without memory, each with a prefix of the text. Nothing is ever written to the
 standard error. Prints a line for each thing that was tried, with how its runs ended, and below it what was wrong; the last line
-counts. The exit number is 1 where something was wrong.
+counts, also the things that weren't tried, since a program for them wasn't made. The exit number is 1 where something was wrong.
 
 --of kcore and --of kserve try one of the programs alone; --only WORD tries the things with this word in their name, as `memory`; --short
 leaves out inputs of a gibibyte. Wants Linux and a C compiler, for failing_calls.c, which stands in front of the C library. Which allocation
 is which depends on the machine, so this isn't part of the gate. A new command is a line of COMMANDS.
 """
 import argparse
+import collections
 import os
 import sys
 
@@ -37,15 +38,16 @@ COMMANDS = [
 
 
 def tried(trials, subject, options):
-    """Tries those that are chosen, and tells how each ended. Gives how many runs there were, and how many things were wrong."""
-    runs, wrong = 0, 0
+    """Tries those that are chosen, and tells how each ended. Gives how many runs there were, how many things were wrong, and how many
+    weren't tried."""
+    counts = collections.Counter()
     for one in trials:
         if options.only not in one.__name__ or options.short and one.__name__.startswith("great_"):
             continue
         for trial in one(subject):
             trial.tell()
-            runs, wrong = runs + sum(trial.ends.values()), wrong + len(trial.wrong)
-    return runs, wrong
+            counts.update(runs=sum(trial.ends.values()), wrong=len(trial.wrong), untried=int(not trial.ends))
+    return counts
 
 
 def main():
@@ -59,24 +61,23 @@ def main():
     parser.add_argument("--only", default="")
     parser.add_argument("--short", action="store_true")
     options = parser.parse_args()
-    runs, wrong = 0, 0
+    counts = collections.Counter()
     if options.of != "kserve":
         program = Program(options.program)
         try:
             kcore = Kcore(program, COMMANDS, os.path.normpath(options.engine_tests))
-            runs, wrong = tried(calls.TRIALS + devices.TRIALS + broken.TRIALS, kcore, options)
+            counts.update(tried(calls.TRIALS + devices.TRIALS + broken.TRIALS, kcore, options))
         finally:
             program.close()
     if options.of != "kcore":
         program = Program(options.kserve)
         try:
             kserve = clients.Kserve(program, os.path.abspath(options.program))
-            more = tried(clients.SHARED + clients.TRIALS, kserve, options)
-            runs, wrong = runs + more[0], wrong + more[1]
+            counts.update(tried(clients.SHARED + clients.TRIALS, kserve, options))
         finally:
             program.close()
-    print(f"{runs} runs, {wrong} wrong")
-    sys.exit(1 if wrong else 0)
+    print(f"{counts['runs']} runs, {counts['wrong']} wrong, {counts['untried']} not tried")
+    sys.exit(1 if counts["wrong"] else 0)
 
 
 if __name__ == "__main__":

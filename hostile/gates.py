@@ -4,10 +4,10 @@
     hostile/gates.py [--folder PATH] [--runs N] [--seconds S] [--at-once N] [--only WORD]
 
 A gate holds one thread until another has come to a place, so whether such a test passes could depend on how the system runs its threads:
-here each is run N (200) times in a row. `rt test` in a crate's folder makes its tests, out/NAME_tests; crates without them are named and
-passed over. A run that takes S (60) seconds counts as one that failed. --at-once has so many runs of a test side by side, so that the
-threads get less of the processors each. --folder is a folder with the programs of tests, in place of those of the crates. Prints a line for
-each test; the exit number is 1 where a run failed. How threads run depends on the machine, so this isn't part of the gate.
+here each is run N (200) times in a row. `rt test` in a crate's folder makes its tests, out/NAME_tests. A run that takes S (60) seconds
+counts as one that failed. --at-once has so many runs of a test side by side, so that the threads get less of the processors each. --folder
+is a folder with the programs of tests, in place of those of the crates. Prints a line for each test, and counts in the last line; the exit
+number is 1 where a run failed or a test wasn't found. How threads run depends on the machine, so this isn't part of the gate.
 """
 import argparse
 import concurrent.futures
@@ -20,7 +20,8 @@ import time
 TESTS = {
     "kc_rounds": ["pieces_run_at_the_same_time", "pieces_are_told_before_they_are_tested", "pieces_are_gathered_at_the_same_time"],
     "kc_store": ["threads::readers_see_points_of_the_history"],
-    "kc_engine": ["showing::ranges_of_a_first_group_run_at_the_same_time"],
+    "kc_engine": ["showing::ranges_of_a_first_group_run_at_the_same_time", "showing::ranges_of_a_long_group_run_at_the_same_time",
+                  "showing::each_range_and_each_publication_is_told"],
     "kc_session": ["sessions::a_group_takes_effect_at_once", "sessions::a_reply_is_from_before_what_waits_for_it",
                    "sessions::a_reader_looks_while_batches_are_shown", "sessions::a_batch_is_shown_before_it_is_told"],
     "kcore": ["pieces::a_first_round_has_two_pieces_at_once", "pieces::a_first_round_has_a_piece_for_each_worker",
@@ -42,15 +43,24 @@ def run(words, seconds):
     return passed, time.monotonic() - began
 
 
+def made(program):
+    """The names of the tests in a program of tests, if it was made."""
+    if not os.path.exists(program):
+        return set()
+    listed = subprocess.run([program, "--list"], stdin=subprocess.DEVNULL, stdout=subprocess.PIPE, text=True, check=True).stdout
+    return {line.removesuffix(": test") for line in listed.splitlines()}
+
+
 def tests_of(options):
-    """Each test: its crate, its name, and the words that run it; None in their place where it wasn't made."""
+    """Each test: its crate, its name, and the words that run it; None in their place where it wasn't found."""
     crates = os.path.join(os.path.dirname(os.path.abspath(__file__)), "..", "crates")
     for crate, names in TESTS.items():
         folder = options.folder or os.path.join(crates, crate, "out")
         program = os.path.abspath(os.path.join(folder, f"{crate}_tests"))
+        found = made(program)
         for name in names:
             if options.only in f"{crate} {name}":
-                yield crate, name, [program, f"tests::{name}"] if os.path.exists(program) else None
+                yield crate, name, [program, f"tests::{name}"] if f"tests::{name}" in found else None
 
 
 def main():
@@ -61,19 +71,20 @@ def main():
     parser.add_argument("--at-once", type=int, default=1)
     parser.add_argument("--only", default="")
     options = parser.parse_args()
-    runs, wrong = 0, 0
+    runs, wrong, missing = 0, 0, 0
     with concurrent.futures.ThreadPoolExecutor(options.at_once) as pool:
         for crate, name, words in tests_of(options):
             if words is None:
-                print(f"{crate} {name}: not tried, since it wasn't made: `rt test` in crates/{crate} makes it")
+                print(f"{crate} {name}: not tried, since it wasn't found: `rt test` in crates/{crate} makes it")
+                missing += 1
                 continue
             ended = list(pool.map(lambda _, these=words: run(these, options.seconds), range(options.runs)))
             passed = sum(one for one, _ in ended)
             runs, wrong = runs + len(ended), wrong + len(ended) - passed
             print(f"{crate} {name}: {passed} of {len(ended)} passed, the slowest in {max(took for _, took in ended):.2f} s")
             sys.stdout.flush()
-    print(f"{runs} runs, {wrong} failed")
-    sys.exit(1 if wrong else 0)
+    print(f"{runs} runs, {wrong} failed, {missing} tests not tried")
+    sys.exit(1 if wrong or missing else 0)
 
 
 if __name__ == "__main__":
