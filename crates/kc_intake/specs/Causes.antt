@@ -9,6 +9,7 @@ use Rattle.kc_intake.specs.Rule.{IsKept}
 abbrev pub IsTold : Role → List Update → Type 0
 IsTold role items = (test : List Update → Bool) → ((pass : ℕ) → Learns IsKept pass role (λ held. test held ≡ true)) → test items ≡ true
 
--- at a step of the call, in which the pass had this role, the queue held n updates
+-- as far as the rule tells it, the queue held n updates at a step of the call in which the pass had this role: n updates pass each test
+-- that is true of all that it may have held
 abbrev pub HeldAtStep : ℕ → Role → Type 0
 HeldAtStep n role = Held n (IsTold role)

@@ -70,8 +70,9 @@ impl Intake {
     /// Submits an item: it is queued as an update with the client's number, and with the number of items that the client sent before as
     /// its serial. The client is of this intake, and has sent fewer than `MAX_SENT` items.
     ///
-    /// `Full` comes only where the queue held its capacity at a step of this call (`HeldAtStep`); then nothing was queued, and the client
-    /// is as it was. The call takes constant time, but that it tries again while other threads are at the same place of the queue.
+    /// `Full` comes only where, as far as the rule tells it, the queue held its capacity at a step of this call (`HeldAtStep`); then
+    /// nothing was queued, and the client is as it was. The call takes constant time, but that it tries again while other threads are at
+    /// the same place of the queue.
     pub fn submit<R: Threads + Wait + Sync>(
         &self,
         rt: &R,
@@ -100,10 +101,10 @@ impl Intake {
     /// Drains a batch of 1 to `capacity` updates, oldest first, which the drainer then has as its `batch`. The updates of each client
     /// are numbered from 0 over all batches (`AreNumbered`). The drainer is of this intake.
     ///
-    /// The batch is shorter than `capacity` only where the queue was empty at a step of this call (`HeldAtStep`). `Empty` comes only
-    /// where the queue was empty at a step of this call; then the batch is empty, and nothing was drained. In both cases all is drained
-    /// that the clients sent that were taken in (`AreAllDrained`). The call takes time in proportion to the batch, but that it tries
-    /// again while other threads are at the same place of the queue.
+    /// The batch is shorter than `capacity` only where, as far as the rule tells it, the queue was empty at a step of this call
+    /// (`HeldAtStep`). `Empty` comes only there too; then the batch is empty, and nothing was drained. In both cases all is drained that
+    /// the clients sent that were taken in (`AreAllDrained`). The call takes time in proportion to the batch, but that it tries again
+    /// while other threads are at the same place of the queue.
     pub fn drain<R: Threads + Wait + Sync>(
         &self,
         rt: &R,

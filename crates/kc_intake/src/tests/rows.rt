@@ -59,3 +59,29 @@ fn a_client_is_taken_in_before_its_last_update(rt: HostRuntime) -> Result<(), Fa
     assert_eq!(rt; intake.drain(&rt, &mut drainer), Err(Empty));
     Ok(())
 }
+
+#[test]
+fn a_queue_of_five_is_filled_and_drained(rt: HostRuntime) -> Result<(), Fail> {
+    let (intake, mut drainer, mut client) = open_for_one(rt.alloc(), 5)?;
+    assert_eq!(rt; intake.submit(&rt, &mut client, INSERT), Ok(()));
+    assert_eq!(rt; intake.submit(&rt, &mut client, ISOLATE), Ok(()));
+    assert_eq!(rt; intake.submit(&rt, &mut client, INSERT), Ok(()));
+    assert_eq!(rt; intake.submit(&rt, &mut client, INSERT), Ok(()));
+    assert_eq!(rt; intake.submit(&rt, &mut client, ISOLATE), Ok(()));
+    assert_eq!(rt; intake.submit(&rt, &mut client, INSERT), Err(Full));
+    assert_eq!(rt; intake.drain(&rt, &mut drainer), Ok(()));
+    assert_eq!(rt;
+        drainer.batch(),
+        [
+            update(0, INSERT),
+            update(1, ISOLATE),
+            update(2, INSERT),
+            update(3, INSERT),
+            update(4, ISOLATE),
+        ]
+        .as_slice()
+    );
+    assert_eq!(rt; intake.drain(&rt, &mut drainer), Err(Empty));
+    assert!(rt; drainer.batch().is_empty());
+    Ok(())
+}
