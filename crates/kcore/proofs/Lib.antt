@@ -29,3 +29,4 @@ mod RunReaders
 mod RunVertices
 mod Explained
 mod Audits
+mod Completeness

@@ -127,6 +127,28 @@ HasCause r0 r1 w0 w1 ReadFault = Rose r0 r1 × (w1 ≡ w0)
 HasCause r0 r1 w0 w1 WriteFault = (r1 ≡ r0) × Rose w0 w1
 HasCause r0 r1 w0 w1 _ = (r1 ≡ r0) × (w1 ≡ w0)
 
+-- the bytes decide whether the command refuses them, or a part of them: they have a text, and each of their texts says the same of it
+pub record Decide (command : Command) (bytes : List ℕ) (refused : Bool) : Type 0 where
+  pub text : List ℕ
+  pub is_text : IsText command bytes text refused
+  pub same : (other : List ℕ) (says : Bool) → IsText command bytes other says → says ≡ refused
+
+-- how a command ends that refuses this
+abbrev pub ending : Bool → Status
+ending false = Done
+ending true = Refused
+
+-- the command ended as the bytes decide, or there was no memory
+pub record EndsAsDecided (command : Command) (bytes : List ℕ) (status : Status) : Type 0 where
+  pub refused : Bool
+  pub decided : Decide command bytes refused
+  pub ended : (status ≡ ending refused) ⊎ (status ≡ Memory)
+
+-- where the words name a command, its bytes are told, and neither count of faults rose, there is no other answer than these
+abbrev pub IsComplete : Option Command → Option (List ℕ) → ℕ → ℕ → ℕ → ℕ → Status → Type 0
+IsComplete asked left r0 r1 w0 w1 status =
+    (command : Command) (bytes : List ℕ) → asked ≡ Some command → worked_on command left ≡ Some bytes → ¬ (Rose r0 r1) → ¬ (Rose w0 w1) → EndsAsDecided command bytes status
+
 -- the exit number of the program
 abbrev pub exit_number : Status → ℕ
 exit_number Done = 0

@@ -1,6 +1,6 @@
 //! The top call: a command line, an input and an output.
 ghost use Rattle.std.specs.Prelude.{◌≡◌, ◌≢◌, ◌↔◌, None, Option};
-ghost use Rattle.kcore.specs.Commands.{command_of, Answers, Holds, HasCause, ReadsNothing};
+ghost use Rattle.kcore.specs.Commands.{command_of, Answers, Holds, HasCause, IsComplete, ReadsNothing};
 ghost use Rattle.kcore.specs.private.Writing.{status_of};
 
 use crate::audit::audit_input;
@@ -71,7 +71,7 @@ fn status_of(ended: Result<bool, SessionFault>) -> Status
 ///
 /// `ReadFault` and `WriteFault` come only where the count of faults of `input`, of `output` rose in this call, and
 /// every other count is as it was. So with words of a command, bytes told and no count risen the answer is `Done` or
-/// `Refused`, as the bytes decide, or `Memory`, the one answer without a cause.
+/// `Refused`, as the bytes decide, or `Memory`, the one answer without a cause (`IsComplete`).
 pub fn run_command<R: Threads + Sync, S: Source + Send, K: Sink + Send, G: Gate + Sync>(
     rt: &R,
     alloc: Global,
@@ -82,6 +82,25 @@ pub fn run_command<R: Threads + Sync, S: Source + Send, K: Sink + Send, G: Gate 
 ) -> Status
     ensures answer { Answers (command_of words.now) (S.left input.old) (K.taken output.old) (K.taken output.new) result }
     ensures holds { Holds (command_of words.now) (S.left input.old) }
+    ensures cause { HasCause (S.faults input.old) (S.faults input.new) (K.faults output.old) (K.faults output.new) result }
+    ensures complete { IsComplete (command_of words.now) (S.left input.old) (S.faults input.old) (S.faults input.new) (K.faults output.old) (K.faults output.new) result }
+    ensures usage { (result ≡ Status.Usage) ↔ (command_of words.now ≡ None) }
+    ensures unread { ReadsNothing (command_of words.now) → (input.new ≡ input.old) × (result ≢ Status.ReadFault) }
+    ensures untouched { result ≡ Status.Usage → (input.new ≡ input.old) × (output.new ≡ output.old) }
+{
+    carry_out(rt, alloc, words, input, output, gate)
+}
+
+// Carries out the command that the words ask for. That there is no other answer than `run_command` tells follows from these clauses.
+fn carry_out<R: Threads + Sync, S: Source + Send, K: Sink + Send, G: Gate + Sync>(
+    rt: &R,
+    alloc: Global,
+    words: &Words,
+    input: &mut S,
+    output: &mut K,
+    gate: &G,
+) -> Status
+    ensures answer { Answers (command_of words.now) (S.left input.old) (K.taken output.old) (K.taken output.new) result }
     ensures cause { HasCause (S.faults input.old) (S.faults input.new) (K.faults output.old) (K.faults output.new) result }
     ensures usage { (result ≡ Status.Usage) ↔ (command_of words.now ≡ None) }
     ensures unread { ReadsNothing (command_of words.now) → (input.new ≡ input.old) × (result ≢ Status.ReadFault) }
