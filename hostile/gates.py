@@ -18,16 +18,20 @@ import time
 
 # The tests of each crate in which a thread waits for another, or whose answer another thread could spoil.
 TESTS = {
-    "kc_rounds": ["pieces_run_at_the_same_time", "pieces_are_told_before_they_are_tested", "pieces_are_gathered_at_the_same_time"],
+    "kc_rounds": ["pieces_run_at_the_same_time", "pieces_are_told_before_they_are_tested", "pieces_are_gathered_at_the_same_time",
+                  "each_candidate_is_tested_once"],
     "kc_store": ["threads::readers_see_points_of_the_history"],
     "kc_engine": ["showing::ranges_of_a_first_group_run_at_the_same_time", "showing::ranges_of_a_long_group_run_at_the_same_time",
                   "showing::each_range_and_each_publication_is_told"],
     "kc_session": ["sessions::a_group_takes_effect_at_once", "sessions::a_reply_is_from_before_what_waits_for_it",
-                   "sessions::a_reader_looks_while_batches_are_shown", "sessions::a_batch_is_shown_before_it_is_told"],
+                   "sessions::a_reader_looks_while_batches_are_shown", "sessions::a_batch_is_shown_before_it_is_told",
+                   "readers::readers_run_at_once", "workers::a_first_round_has_a_piece_for_each_worker"],
     "kcore": ["pieces::a_first_round_has_two_pieces_at_once", "pieces::a_first_round_has_a_piece_for_each_worker",
               "hostile::both_branches_have_ended_after_a_fault"],
     "kc_intake": ["threads::a_queue_of_one", "threads::eight_clients", "threads::clients_of_very_different_lengths"],
     "kserve": ["gates::clients_run_at_once", "gates::updates_go_through_the_intake", "gates::a_long_script_of_one_client",
+               "gates::updates_are_printed_while_no_others_come", "gates::updates_are_told_before_and_after_they_are_submitted",
+               "pieces::a_first_round_has_a_piece_for_each_worker",
                "failing::clients_wait_for_room_while_a_write_fails", "outputs::eight_clients",
                "outputs::clients_of_very_different_lengths", "outputs::sixty_four_clients"],
 }
