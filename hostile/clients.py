@@ -96,16 +96,18 @@ def long_texts(kserve):
             trial.ended(f"{kind} {number}", ended, {fault: how} if ended.calls["failed"] else {status: "whole"}, whole)
         yield trial
     trial = Trial("kserve 3, four clients with 11,510 updates, one allocation refused")
-    begun = kserve.program.run(["3"], data, Failing()).calls
-    count = begun["allocations"]
+    count = kserve.program.run(["3"], data, Failing()).calls["allocations"]
+    refused = without = 0
     for number in range(1, count, count // 100 + 1):
         ended = kserve.program.run(["3"], data, Failing("allocation", number, error=errno.ENOMEM))
-        wanted = {NO_MEMORY: "prefix"}
-        if not ended.calls["failed"] or ended.calls["threads"] < begun["threads"]:
-            # If one failed, it was the memory of a thread, whose part is done without it.
-            wanted[status] = "whole"
-        trial.ended(f"allocation {number}", ended, wanted, whole)
-    trial.notes.append(f"of about {count}")
+        # It does without the memory of a thread. How many threads it starts depends on how the updates come, so a run can't tell by their
+        # number whether it was that: what is held is that it does so seldom.
+        trial.ended(f"allocation {number}", ended, {NO_MEMORY: "prefix", status: "whole"}, whole)
+        if ended.calls["failed"]:
+            refused += 1
+            without += ended.status == status
+    trial.holds(10 * without <= refused, f"{without} of {refused} runs did without the memory that was refused")
+    trial.notes.append(f"of about {count}; {without} did without it")
     yield trial
 
 

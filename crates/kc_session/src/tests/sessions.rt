@@ -151,14 +151,17 @@ const TURNS: u64 = 10_000_000;
 // Two groups, and a reader that asks for both vertices of the first.
 const TWO_GROUPS: &[u8] = b"kcore 1\nvertices 6\nask 1 0 1\nbatch\n+ 0 1\n+ 2 3\nend\n";
 
+// The same groups, and a reader that asks twice for a vertex of the first.
+const FIRST_IS_ASKED_TWICE: &[u8] = b"kcore 1\nvertices 6\nask 2 0\nbatch\n+ 0 1\n+ 2 3\nend\n";
+
 // The same groups, and a reader that asks for a vertex of the second.
 const SECOND_IS_ASKED: &[u8] = b"kcore 1\nvertices 6\nask 1 2\nbatch\n+ 0 1\n+ 2 3\nend\n";
 
-// The text of both sessions before the replies.
+// The text of these sessions before the replies.
 const BEFORE: &[u8] =
     b"kcore-run 1\nvertices 6\nbatch 1 loops 0 repeats 0 idle 0 removed 0 added 2\nphase 1 insert quiet 0\ngroup 1 0 0:1 1:1\ngroup 1 2 2:1 3:1\nreader 0 ";
 
-// The text of both after the replies.
+// The text of these after the replies.
 const AFTER: &[u8] =
     b"vertex 0 level 1 est 2 low 1 high 2 up 1 down 1\nvertex 1 level 1 est 2 low 1 high 2 up 1 down 1\nvertex 2 level 1 est 2 low 1 high 2 up 1 down 1\nvertex 3 level 1 est 2 low 1 high 2 up 1 down 1\nvertex 4 level 0 est 0 low 0 high 0 up 0 down 0\nvertex 5 level 0 est 0 low 0 high 0 up 0 down 0\nend\n";
 
@@ -263,6 +266,43 @@ fn a_reader_looks_while_batches_are_shown(rt: HostRuntime) -> Result<(), Fail> {
         let _ended = ended?;
         assert!(rt; !gate.ran_out.load(SeqCst));
         assert!(rt; is_made_of(text.as_slice(), BEFORE, b"0=1 1=1\n", AFTER));
+    }
+    Ok(())
+}
+
+// Holds the first publication until the first reply was told, and the second question until the second publication is told, before which
+// the first group has taken effect.
+#[derive(Drop)]
+struct PublishesBetween {
+    replied: AtomicBool,
+    shown: AtomicBool,
+    ran_out: AtomicBool,
+}
+
+impl Gate for PublishesBetween {
+    fn at(&self, spot: Spot) {
+        match spot {
+            Spot::Publishing { label: 0, .. } => hold(&self.replied, &self.ran_out),
+            Spot::Publishing { .. } => self.shown.store(true, SeqCst),
+            Spot::Asking { ask: 0, .. } | Spot::Piece { .. } => {}
+            Spot::Asking { .. } => hold(&self.shown, &self.ran_out),
+            Spot::Replied { .. } => self.replied.store(true, SeqCst),
+        }
+    }
+}
+
+#[test]
+fn a_reader_looks_anew_at_the_same_vertex(rt: HostRuntime) -> Result<(), Fail> {
+    for workers in [1, 3, 64] {
+        let gate = PublishesBetween {
+            replied: AtomicBool::new(false),
+            shown: AtomicBool::new(false),
+            ran_out: AtomicBool::new(false),
+        };
+        let (ended, text) = run(&rt, rt.alloc(), &gate, workers, FIRST_IS_ASKED_TWICE, &[])?;
+        let _ended = ended?;
+        assert!(rt; !gate.ran_out.load(SeqCst));
+        assert!(rt; is_made_of(text.as_slice(), BEFORE, b"0=0 0=1\n", AFTER));
     }
     Ok(())
 }
