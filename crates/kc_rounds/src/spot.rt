@@ -5,7 +5,7 @@
 pub enum Spot {
     /// The start of one piece of a round's candidates.
     Piece { index: u32 },
-    /// Before the dependency group with this label takes effect in this phase.
+    /// Before the moving group with this label takes effect in this phase.
     Publishing { phase: u32, label: u32 },
     /// Before a reader puts a question.
     Asking { reader: u32, ask: u32 },

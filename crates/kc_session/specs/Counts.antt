@@ -15,7 +15,7 @@ capped count = min count (2 ^ 32 - 1)
 abbrev pub moves_in : List Entry → ℕ
 moves_in entries = sum_by (λ (e : Entry). length e.moves) entries
 
--- the dependency groups of phases
+-- the moving groups of phases
 abbrev pub groups_of : List PhasePlan → ℕ
 groups_of plans = sum_by (λ (p : PhasePlan). length p.groups) plans
 
@@ -33,7 +33,7 @@ refused_in s [] ts = 0
 refused_in s (b ∷ bs) [] = 0
 refused_in s (b ∷ bs) (t ∷ ts) = one_if (is_refused s b) + refused_in t.state bs ts
 
--- the dependency groups and the moves of all phases of what batches lead to
+-- the moving groups and the moves of all phases of what batches lead to
 abbrev pub all_groups : List Step → ℕ
 all_groups steps = sum_by (λ (t : Step). groups_of t.phases) steps
 

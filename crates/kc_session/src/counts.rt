@@ -12,7 +12,7 @@ pub struct Counts {
     pub batches: u32,
     /// Those that were refused.
     pub refused: u32,
-    /// The dependency groups of all phases.
+    /// The moving groups of all phases.
     pub groups: u32,
     /// The moves of all phases.
     pub moves: u32,

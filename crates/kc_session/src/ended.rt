@@ -16,7 +16,7 @@ pub struct Ended {
     pub refused: u32,
     /// The phases of all batches.
     pub phases: u32,
-    /// The dependency groups of all phases.
+    /// The moving groups of all phases.
     pub groups: u32,
     /// The moves of all phases.
     pub moves: u32,

@@ -29,19 +29,22 @@ fn open(alloc: Global, n: u32) -> Result<Trial, AllocError>
     Trial::open(alloc, shape)
 }
 
-// How long a piece is waited for that has to come.
+// For how many milliseconds a piece is waited for that has to come.
 const LONG: u32 = 20_000;
 
 // Time enough for a piece in another thread to be told, and soon over where there is none.
 const SHORT: u32 = 200;
 
-// Holds each piece 0 until it was told piece 1 as often as piece 0, for at most so many milliseconds, and counts how often these ran out.
+// Holds each piece 0 until it was told piece 1 as often as piece 0, for at most `most` milliseconds, and counts how often these ran out.
 #[derive(Drop)]
 struct Pairing<'a, R> {
     rt: &'a R,
     most: u32,
+    // How often piece 0 was told.
     zeros: AtomicU64,
+    // How often another piece was told.
     others: AtomicU64,
+    // How often piece 0 went on although the other hadn't come.
     alone: AtomicU64,
 }
 
@@ -123,13 +126,16 @@ fn ranges_of_a_long_group_run_at_the_same_time(rt: HostRuntime) -> Result<(), Fa
     Ok(())
 }
 
-// Holds what it is told against the publications that are due, each after so many pieces: how often each of the first eight was told, in
-// eight bits each.
+// Holds each publication that it is told, with the pieces that were told before it, against the one that is due.
 #[derive(Drop)]
 struct Course<'a> {
+    // The publications, in order, each behind what `pieces` has to be before it.
     due: &'a [(u64, Spot)],
+    // How many publications were told.
     published: AtomicUsize,
+    // How often piece i was told, for i below 8, in the bits from 8 i on.
     pieces: AtomicU64,
+    // How often something was told that isn't due.
     others: AtomicU64,
 }
 
