@@ -181,6 +181,18 @@ def threads_not_started(kcore):
     yield trial
 
 
+def one_worker(kcore):
+    """A batch that two workers sort by threads."""
+    trial = Trial("one worker starts no thread, however long a batch is")
+    lines = [f"+ {v} {(v + step) % 10_000}" for step in range(1, 9) for v in range(10_000)]
+    data = "\n".join(["kcore 1", "vertices 10000", "batch", *lines, "end", ""]).encode()
+    for words, is_alone in ("run 1", True), ("final 1", True), ("exact", True), ("run 2", False):
+        ended = kcore.program.run(words.split(), data, Failing())
+        trial.ended(words, ended, {DONE: "whole"}, kcore.program.run(words.split(), data).text)
+        trial.holds((ended.calls["threads"] == 0) == is_alone, f"{words}: {ended.calls['threads']} threads were started")
+    yield trial
+
+
 def without_processes():
     """No process or thread more. The limit doesn't bind root."""
     if os.geteuid() == 0:
@@ -188,4 +200,4 @@ def without_processes():
     resource.setrlimit(resource.RLIMIT_NPROC, (0, 0))
 
 
-TRIALS = [nothing_fails, refused_memory, halted_engine, little_memory, little_stack, failing_reads, failing_writes, long_texts, interrupted_calls, small_pieces, threads_not_started]
+TRIALS = [nothing_fails, refused_memory, halted_engine, little_memory, little_stack, failing_reads, failing_writes, long_texts, interrupted_calls, small_pieces, threads_not_started, one_worker]

@@ -289,4 +289,13 @@ impl Engine {
     {
         self.phases
     }
+
+    /// The most threads that a phase uses: 1 to 64.
+    pub fn workers(&self) -> u32
+        ensures value { result ≡ self.now.workers }
+        ensures some { 1 ≤ result }
+        ensures few { result ≤ 64 }
+    {
+        self.workers
+    }
 }

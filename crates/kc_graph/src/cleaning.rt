@@ -70,6 +70,9 @@ impl Cleaned {
     }
 }
 
+// The most workers that a phase may have.
+const MAX_WORKERS: u32 = 64;
+
 // The number of keys whose rows are looked at together.
 const TOGETHER: usize = 16;
 
@@ -100,6 +103,7 @@ fn is_last_in_turn(graph: &Graph, key: &Key, later: &[Key]) -> bool
 fn clean_pairs<R: Threads + Sync>(
     rt: &R,
     alloc: Global,
+    workers: u32,
     graph: &Graph,
     items: &[Item],
 ) -> Result<Cleaned, AllocError>
@@ -110,7 +114,7 @@ fn clean_pairs<R: Threads + Sync>(
 {
     // Its contract says that the edges of the graph ascend.
     let _ = graph.vertices();
-    let keys = sorted_keys(rt, alloc, items)?;
+    let keys = sorted_keys(rt, alloc, workers, items)?;
     let mut cleaned = Cleaned::of_loops(alloc, (items.len() - keys.len()) as u32);
     let mut rest = keys.as_slice();
     while let Some((key, later)) = rest.split_first() {
@@ -128,6 +132,7 @@ fn clean_pairs<R: Threads + Sync>(
 fn clean_all<R: Threads + Sync>(
     rt: &R,
     alloc: Global,
+    workers: u32,
     graph: &Graph,
     items: &[Item],
 ) -> Result<Cleaned, AllocError>
@@ -138,8 +143,8 @@ fn clean_all<R: Threads + Sync>(
     // Its contract says that the edges of the graph ascend.
     let _ = graph.vertices();
     let mut cleaned = walk_back(alloc, graph, items)?.cleaned;
-    cleaned.removed.sort(rt);
-    cleaned.added.sort(rt);
+    cleaned.removed.sort(rt, workers);
+    cleaned.added.sort(rt, workers);
     Ok(cleaned)
 }
 
@@ -151,16 +156,42 @@ fn has_isolation(items: &[Item]) -> bool
         .any(|item| matches!(*item, Item::Isolate { .. }))
 }
 
+/// As `clean`, for a caller whose phases have this many workers (0 counts as 1).
+///
+/// The vertices of the items are below n, and they are at most `MAX_ITEMS`. The answer is the same
+/// for any number of workers. Fails only if memory runs out.
+///
+/// Costs what `clean` costs, which is this with 64 workers. With one worker the calling thread alone
+/// sorts lists of any length, and no thread is started.
+pub fn clean_by<R: Threads + Sync>(
+    rt: &R,
+    alloc: Global,
+    workers: u32,
+    graph: &Graph,
+    items: &[Item],
+) -> Result<Cleaned, AllocError>
+    requires inside { All (IsInside graph.now.vertices) items.now }
+    requires few { length items.now ≤ MAX_ITEMS }
+    ensures { IfOk result (λ c. c ≡ cleaned graph.now items.now) }
+{
+    if has_isolation(items) {
+        clean_all(rt, alloc, workers, graph, items)
+    } else {
+        clean_pairs(rt, alloc, workers, graph, items)
+    }
+}
+
 /// What the items of a batch come to in the graph, which stays as it is (`cleaned`).
 ///
 /// The vertices of the items are below n, and they are at most `MAX_ITEMS`. The answer is the same
 /// for any number of threads. Fails only if memory runs out.
 ///
-/// Costs a sort of one key an item, of 16 bytes, by as many threads as the runtime has, and one
-/// look-up in the graph for each pair that the items name. Takes memory for the keys and for the two
-/// lists. A batch with an isolation costs in place of the sort a look-up in a tree for each item and
-/// for each neighbour of an isolated vertex, once a vertex, and a sort of the two lists; it takes
-/// memory for the tree in place of the keys.
+/// Costs a sort of one key an item, of 16 bytes, and one look-up in the graph for each pair that the
+/// items name. Takes memory for the keys and for the two lists. A batch with an isolation costs in
+/// place of the sort a look-up in a tree for each item and for each neighbour of an isolated vertex,
+/// once a vertex, and a sort of the two lists; it takes memory for the tree in place of the keys. A
+/// list of 65,536 keys or edges or more is sorted by as many threads as the runtime has, a shorter
+/// one by the calling thread alone.
 pub fn clean<R: Threads + Sync>(
     rt: &R,
     alloc: Global,
@@ -171,11 +202,7 @@ pub fn clean<R: Threads + Sync>(
     requires few { length items.now ≤ MAX_ITEMS }
     ensures { IfOk result (λ c. c ≡ cleaned graph.now items.now) }
 {
-    if has_isolation(items) {
-        clean_all(rt, alloc, graph, items)
-    } else {
-        clean_pairs(rt, alloc, graph, items)
-    }
+    clean_by(rt, alloc, MAX_WORKERS, graph, items)
 }
 
 #[cfg(test)]

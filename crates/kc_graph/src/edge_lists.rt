@@ -6,6 +6,7 @@ ghost use Rattle.kc_graph.specs.private.EdgeLists.{pair_cmp};
 ghost use Rattle.kc_graph.specs.EdgeLists.{last_edge};
 
 use crate::edges::Edge;
+use crate::sorting::is_shared;
 use rayon::slice::par_sort_unstable;
 use std::alloc::{AllocError, Global};
 use std::marker::Model;
@@ -87,12 +88,16 @@ impl Edges {
         Ok(())
     }
 
-    /// Puts the edges in ascending order, by as many threads as the runtime has.
-    pub(crate) fn sort<R: Threads + Sync>(&mut self, rt: &R)
+    /// Puts the edges in ascending order, by threads where they are many and `workers` is 2 or more.
+    pub(crate) fn sort<R: Threads + Sync>(&mut self, rt: &R, workers: u32)
         ensures same { IsPermutation self.old self.new }
         ensures in_order { IsSorted pair_cmp self.new }
     {
-        par_sort_unstable(rt, self.items.as_mut_slice());
+        if is_shared(workers, self.items.len()) {
+            par_sort_unstable(rt, self.items.as_mut_slice());
+        } else {
+            self.items.as_mut_slice().sort_unstable();
+        }
     }
 }
 

@@ -18,9 +18,10 @@ mod links;
 mod merging;
 mod rows;
 mod sharing;
+mod sorting;
 mod touched;
 
-pub use cleaning::{Cleaned, clean};
+pub use cleaning::{Cleaned, clean, clean_by};
 pub use edge_lists::Edges;
 pub use edges::Edge;
 pub use graphs::Graph;

@@ -7,7 +7,7 @@ ghost use Rattle.kc_session.specs.private.Outcomes.{Becomes};
 
 use crate::audience::{Audience, show};
 use kc_engine::{BatchPlan, Engine, EngineFault, Shape};
-use kc_graph::{Cleaned, Item, MAX_EDGES, MAX_ITEMS, MAX_VERTICES, clean};
+use kc_graph::{Cleaned, Item, MAX_EDGES, MAX_ITEMS, MAX_VERTICES, clean_by};
 use kc_levels::Profile;
 use kc_rounds::Gate;
 use kc_text::Reason;
@@ -48,7 +48,7 @@ pub fn open(alloc: Global, profile: Profile, n: u32, workers: u32) -> Result<Eng
 /// Applies a batch without a fault: its items are cleaned, and then it is refused and changes nothing, or its edges leave and
 /// come in, and its phases are shown. Fails only if memory runs out; the engine isn't used again.
 ///
-/// Costs what `clean` and `Engine::plan` cost, and `Engine::show` where there are readers.
+/// Costs what `clean_by` and `Engine::plan` cost, and `Engine::show` where there are readers.
 pub fn apply<R: Threads + Sync, G: Gate + Sync>(
     rt: &R,
     alloc: Global,
@@ -66,7 +66,7 @@ pub fn apply<R: Threads + Sync, G: Gate + Sync>(
     ensures abreast { OnOk result (IsAbreast audience.new engine.new.state) }
     ensures open { OnOk result (IsOpen engine.new) }
 {
-    let cleaned = clean(rt, alloc, engine.graph(), items)?;
+    let cleaned = clean_by(rt, alloc, engine.workers(), engine.graph(), items)?;
     match engine.plan(rt, alloc, gate, &cleaned) {
         Ok(plan) => {
             show(rt, gate, audience, engine, &plan);

@@ -10,7 +10,7 @@ ghost use Rattle.kserve.specs.private.Serving.{AreItems};
 
 use kc_batch::Items;
 use kc_engine::{Engine, EngineFault, Shape};
-use kc_graph::{Item, MAX_EDGES, MAX_ITEMS, MAX_VERTICES, clean};
+use kc_graph::{Item, MAX_EDGES, MAX_ITEMS, MAX_VERTICES, clean_by};
 use kc_intake::Update;
 use kc_levels::Profile;
 use kc_rounds::Gate;
@@ -78,7 +78,7 @@ pub fn apply<R: Threads + Sync, G: Gate + Sync>(
     ensures after { OnOk result (IsAfterBatch engine.old.state (cleaned engine.old.state.graph items.now) engine.new.state) }
     ensures open { OnOk result (IsOpen engine.new) }
 {
-    let cleaned = clean(rt, alloc, engine.graph(), items)?;
+    let cleaned = clean_by(rt, alloc, engine.workers(), engine.graph(), items)?;
     match engine.plan(rt, alloc, gate, &cleaned) {
         Ok(_plan) => {
             engine.leave_unshown();

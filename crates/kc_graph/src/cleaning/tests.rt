@@ -321,45 +321,105 @@ fn random_graph(rt: &impl Abort, alloc: Global, seed: u64) -> Result<Graph, Allo
     Ok(graph)
 }
 
-fn random_items(alloc: Global, seed: u64) -> Result<Vec<Item>, AllocError> {
+// Items on the vertices 0 to 4 that look random: about half insert, and where they may, an eighth isolate.
+fn random_items(
+    alloc: Global,
+    seed: u64,
+    count: u64,
+    may_isolate: bool,
+) -> Result<Vec<Item>, AllocError> {
     let mut items = Vec::new(alloc);
     let mut x = seed;
-    for _ in 0..seed.min(40) {
+    for _ in 0..count {
         x = next(x);
         let (u, v) = (((x >> 40) % 5) as u32, ((x >> 20) % 5) as u32);
         items.push(match x >> 60 {
             0..8 => Insert { u, v },
-            8..14 => Delete { u, v },
-            _ => Isolate { v },
+            14..16 if may_isolate => Isolate { v },
+            _ => Delete { u, v },
         })?;
     }
     Ok(items)
+}
+
+// What a batch came to is what the definition says. The number of the run is told where it isn't.
+fn assert_as_defined(
+    rt: &impl Abort,
+    alloc: Global,
+    cleaned: &Cleaned,
+    plain: &plain::Plain,
+    run: u64,
+) -> Result<(), AllocError> {
+    assert_eq!(rt; pairs(alloc, &cleaned.removed)?, plain.removed, "run {run}");
+    assert_eq!(rt; pairs(alloc, &cleaned.added)?, plain.added, "run {run}");
+    assert_eq!(rt; cleaned.loops as usize, plain.loops.len(), "run {run}");
+    assert_eq!(rt; cleaned.repeats as usize, plain.repeats.len(), "run {run}");
+    assert_eq!(rt; cleaned.idle as usize, plain.idle.len(), "run {run}");
+    Ok(())
 }
 
 #[test]
 fn comes_to_what_the_definition_says(rt: HostRuntime) -> Result<(), Fail> {
     for seed in 0..100u64 {
         let graph = random_graph(&rt, rt.alloc(), seed)?;
-        let items = random_items(rt.alloc(), seed)?;
+        let items = random_items(rt.alloc(), seed, seed.min(40), true)?;
         let cleaned = clean_checked(&rt, rt.alloc(), &graph, items.as_slice())?;
         let plain = plain::clean(&rt, rt.alloc(), &graph, items.as_slice())?;
-        assert_eq!(rt;
-            pairs(rt.alloc(), &cleaned.removed)?,
-            plain.removed,
-            "seed {seed}"
-        );
-        assert_eq!(rt;
-            pairs(rt.alloc(), &cleaned.added)?,
-            plain.added,
-            "seed {seed}"
-        );
-        assert_eq!(rt; cleaned.loops as usize, plain.loops.len(), "seed {seed}");
-        assert_eq!(rt;
-            cleaned.repeats as usize,
-            plain.repeats.len(),
-            "seed {seed}"
-        );
-        assert_eq!(rt; cleaned.idle as usize, plain.idle.len(), "seed {seed}");
+        assert_as_defined(&rt, rt.alloc(), &cleaned, &plain, seed)?;
+    }
+    Ok(())
+}
+
+fn clean_by_checked<R: Abort + Threads + Sync>(
+    rt: &R,
+    alloc: Global,
+    workers: u32,
+    graph: &Graph,
+    items: &[Item],
+) -> Result<Cleaned, AllocError> {
+    assert!(rt; are_inside(items, graph.vertices()));
+    assert!(rt; items.len() <= MAX_ITEMS as usize);
+    clean_by(rt, alloc, workers, graph, items)
+}
+
+// Of some tens of items and of so many on ten pairs that workers share the sort of their keys, one worker makes what many do, and that is
+// what the definition says.
+#[test]
+fn one_worker_and_many_come_to_the_same(rt: HostRuntime) -> Result<(), Fail> {
+    for (count, may_isolate) in [(40, false), (40, true), (100_000, false), (100_000, true)] {
+        let graph = random_graph(&rt, rt.alloc(), 7)?;
+        let items = random_items(rt.alloc(), 7, count, may_isolate)?;
+        let plain = plain::clean(&rt, rt.alloc(), &graph, items.as_slice())?;
+        for workers in [0, 1, 2, 64] {
+            let cleaned = clean_by_checked(&rt, rt.alloc(), workers, &graph, items.as_slice())?;
+            assert_as_defined(&rt, rt.alloc(), &cleaned, &plain, workers as u64)?;
+        }
+    }
+    Ok(())
+}
+
+// The star of this many leaves: they are the vertices from 1 on.
+fn star(rt: &impl Abort, alloc: Global, leaves: u32) -> Result<Graph, Fail> {
+    assert!(rt; leaves < 100_000);
+    let mut graph = Graph::new(alloc, leaves + 1)?;
+    for leaf in 1..leaves + 1 {
+        put_in(rt, alloc, &mut graph, 0, leaf)?;
+    }
+    Ok(graph)
+}
+
+// An isolation of the centre of a star takes out all of its edges, which are so many that workers share their sort.
+#[test]
+fn large_star_is_isolated_by_any_workers(rt: HostRuntime) -> Result<(), Fail> {
+    let graph = star(&rt, rt.alloc(), 70_000)?;
+    for workers in [1, 64] {
+        let cleaned = clean_by_checked(&rt, rt.alloc(), workers, &graph, &[Isolate { v: 0 }])?;
+        assert_eq!(rt; cleaned.removed.len(), 70_000);
+        for (i, e) in cleaned.removed.as_slice().iter().enumerate() {
+            assert_eq!(rt; (e.a, e.b), (0, i as u32 + 1));
+        }
+        assert!(rt; cleaned.added.is_empty());
+        assert_eq!(rt; (cleaned.loops, cleaned.repeats, cleaned.idle), (0, 0, 0));
     }
     Ok(())
 }
