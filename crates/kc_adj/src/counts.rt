@@ -12,13 +12,6 @@ pub struct Counts {
     pub below: Vec<u32>,
 }
 
-/// Whether `reach` is passed or reached on the way up from a level to another.
-pub fn is_passed(from: u16, to: u16, reach: u16) -> bool
-    ensures { result ≡ is_passed from to reach }
-{
-    from < reach && reach <= to
-}
-
 /// 1 where it holds, else 0.
 pub fn as_one(holds: bool) -> u32
     ensures value { result ≡ cond holds 1 0 }
@@ -27,24 +20,38 @@ pub fn as_one(holds: bool) -> u32
     if holds { 1 } else { 0 }
 }
 
-/// Counts one more at w where it holds. Elsewhere the count isn't touched.
-pub fn gain(counts: &mut Vec<u32>, w: u32, holds: bool)
-    requires vertex { w < length counts.old.items }
-    requires small { slice_index counts.old.items w < 2 ^ 31 }
-    ensures { counts.new.items ≡ slice_set counts.old.items w (slice_index counts.old.items w + cond holds 1 0) }
+/// A neighbour of w goes up from a level to another. w is on `level`: each of its counts gains the neighbour if the level that
+/// it counts from is passed or reached on the way.
+///
+/// A single branch tells those for whom nothing changes.
+pub fn gain(counts: &mut Counts, w: u32, from: u16, to: u16, level: u16)
+    requires own { w < length counts.old.own.items }
+    requires below { w < length counts.old.below.items }
+    requires own_small { slice_index counts.old.own.items w < 2 ^ 31 }
+    requires below_small { slice_index counts.old.below.items w < 2 ^ 31 }
+    ensures own { counts.new.own.items ≡ slice_set counts.old.own.items w (slice_index counts.old.own.items w + cond (is_passed from to level) 1 0) }
+    ensures below { counts.new.below.items ≡ slice_set counts.old.below.items w (slice_index counts.old.below.items w + cond (is_passed from to (level - 1)) 1 0) }
 {
-    if holds {
-        counts[w as usize] += 1;
+    if from < level && level - 1 <= to {
+        counts.own[w as usize] += as_one(level <= to);
+        counts.below[w as usize] += as_one(from < level - 1);
     }
 }
 
-/// Counts one less at w where it holds. Elsewhere the count isn't touched.
-pub fn lose(counts: &mut Vec<u32>, w: u32, holds: bool)
-    requires vertex { w < length counts.old.items }
-    requires some { cond holds 1 0 ≤ slice_index counts.old.items w }
-    ensures { counts.new.items ≡ slice_set counts.old.items w (slice_index counts.old.items w - cond holds 1 0) }
+/// A neighbour of w goes down from a level to another. w is on `level`: each of its counts loses the neighbour if the level that
+/// it counts from is above the new level and not above the old one.
+///
+/// A single branch tells those for whom nothing changes.
+pub fn lose(counts: &mut Counts, w: u32, from: u16, to: u16, level: u16)
+    requires own { w < length counts.old.own.items }
+    requires below { w < length counts.old.below.items }
+    requires own_some { cond (is_passed to from level) 1 0 ≤ slice_index counts.old.own.items w }
+    requires below_some { cond (is_passed to from (level - 1)) 1 0 ≤ slice_index counts.old.below.items w }
+    ensures own { counts.new.own.items ≡ slice_set counts.old.own.items w (slice_index counts.old.own.items w - cond (is_passed to from level) 1 0) }
+    ensures below { counts.new.below.items ≡ slice_set counts.old.below.items w (slice_index counts.old.below.items w - cond (is_passed to from (level - 1)) 1 0) }
 {
-    if holds {
-        counts[w as usize] -= 1;
+    if to < level && level - 1 <= from {
+        counts.own[w as usize] -= as_one(level <= from);
+        counts.below[w as usize] -= as_one(to < level - 1);
     }
 }

@@ -6,7 +6,7 @@ ghost use Rattle.kc_levels.specs.LevelList.{at_least};
 ghost use Rattle.kc_adj.specs.LeveledGraph.{IsAdjacency};
 ghost use Rattle.kc_adj.specs.private.Moving.{IsMoved};
 
-use crate::counts::{Counts, as_one, gain, is_passed, lose};
+use crate::counts::{Counts, as_one, gain, lose};
 use crate::steps::Steps;
 use kc_graph::Graph;
 use kc_levels::Levels;
@@ -38,12 +38,7 @@ fn shift_up<L: Ledger>(
     for w in graph.neighbours(v) {
         let level = levels[*w as usize];
         steps.tick();
-        gain(&mut counts.own, *w, is_passed(old, new, level));
-        gain(
-            &mut counts.below,
-            *w,
-            is_passed(old, new, level.saturating_sub(1)),
-        );
+        gain(counts, *w, old, new, level);
         own += as_one(level >= new);
         below += as_one(level >= under);
     }
@@ -76,12 +71,7 @@ fn shift_down<L: Ledger>(
     for w in graph.neighbours(v) {
         let level = levels[*w as usize];
         steps.tick();
-        lose(&mut counts.own, *w, is_passed(new, old, level));
-        lose(
-            &mut counts.below,
-            *w,
-            is_passed(new, old, level.saturating_sub(1)),
-        );
+        lose(counts, *w, old, new, level);
         own += as_one(level >= new);
         below += as_one(level >= under);
     }

@@ -186,6 +186,18 @@ pub fn come_up(step: &Step, counted: &mut Counted, meetings: &[Meeting]) -> Resu
     Ok(())
 }
 
+// Puts w behind the first `end` items, and gives where they end then: behind w where it holds, else before it. There is no branch,
+// since a processor couldn't predict it.
+fn put_where(items: &mut Vec<u32>, end: usize, w: u32, holds: bool) -> usize
+    requires { end < length items.old.items }
+    ensures items { take result items.new.items ≡ cond holds (take end items.old.items ++ w ∷ []) (take end items.old.items) }
+    ensures length { length items.new.items ≡ length items.old.items }
+    ensures end { result ≤ end + 1 }
+{
+    items[end] = w;
+    end + usize::from(holds)
+}
+
 // What is gathered at a vertex that begins to rise from the level: how many of its neighbours are above the level, and which of
 // them stood there before the sweep.
 impl RoundGather for Step<'_> {
@@ -214,13 +226,15 @@ impl RoundGather for Step<'_> {
         let level = self.level;
         let now = self.levels.stored.as_slice();
         let before = self.adj.levels().as_slice();
+        let row = self.adj.graph().neighbours(v);
         let mut above = 0;
-        for w in self.adj.graph().neighbours(v) {
+        let mut end = found.len();
+        found.resize(end + row.len(), 0)?;
+        for w in row {
             above += u32::from(now[*w as usize] > level);
-            if before[*w as usize] > level {
-                found.push(*w)?;
-            }
+            end = put_where(found, end, *w, before[*w as usize] > level);
         }
+        found.truncate(end);
         Ok(above)
     }
 }

@@ -14,21 +14,21 @@ loop-w-init g c = (
   omega arith,
 )
 
-pub lose-requires-clause-some : goal.lose-requires-clause-some
-lose-requires-clause-some g c =
+pub lose-requires-clause-own_some : goal.lose-requires-clause-own_some
+lose-requires-clause-own_some g c =
     let low : get_or c.neighbours-w-items.result.now c.loop-w.w-index 0 < c.args.graph.now.vertices = c.neighbours-w-items.ensures.below c.loop-w.w-index 0 (omega arith) in
-    rw c.is_passed.ensures (some_at _ _ _ _ 0 c.loop-w.counts.own.items c.neighbours-w-items.result.now c.loop-w.w-index _ (get_or c.args.levels.now (get_or c.neighbours-w-items.result.now c.loop-w.w-index 0) 0) c.vertices-n.ensures.graph c.requires.vertex c.requires.adjacency.sized c.loop-w.invariant.0 (omega arith) low refl (omega arith))
+    some_at _ _ _ _ 0 c.loop-w.counts.own.items c.neighbours-w-items.result.now c.loop-w.w-index _ (get_or c.args.levels.now (get_or c.neighbours-w-items.result.now c.loop-w.w-index 0) 0) c.vertices-n.ensures.graph c.requires.vertex c.requires.adjacency.sized c.loop-w.invariant.0 (omega arith) low refl (omega arith)
 
-pub lose-requires-in-loop-w-clause-some : goal.lose-requires-in-loop-w-clause-some
-lose-requires-in-loop-w-clause-some g c =
+pub lose-requires-clause-below_some : goal.lose-requires-clause-below_some
+lose-requires-clause-below_some g c =
     let low : get_or c.neighbours-w-items.result.now c.loop-w.w-index 0 < c.args.graph.now.vertices = c.neighbours-w-items.ensures.below c.loop-w.w-index 0 (omega arith) in
-    rw c.is_passed-in-loop-w.ensures (some_at _ _ _ _ 1 c.loop-w.counts.below.items c.neighbours-w-items.result.now c.loop-w.w-index _ _ c.vertices-n.ensures.graph c.requires.vertex c.requires.adjacency.sized c.loop-w.invariant.1 (omega arith) low refl c.saturating_sub.ensures)
+    some_at _ _ _ _ 1 c.loop-w.counts.below.items c.neighbours-w-items.result.now c.loop-w.w-index _ _ c.vertices-n.ensures.graph c.requires.vertex c.requires.adjacency.sized c.loop-w.invariant.1 (omega arith) low refl refl
 
 pub loop-w-preserved : goal.loop-w-preserved
 loop-w-preserved g c =
     let low : get_or c.neighbours-w-items.result.now c.loop-w.w-index 0 < c.args.graph.now.vertices = c.neighbours-w-items.ensures.below c.loop-w.w-index 0 (omega arith) in (
-      rw (c.lose.ensures, c.is_passed.ensures) (down_at _ _ _ _ 0 c.loop-w.counts.own.items c.neighbours-w-items.result.now c.loop-w.w-index _ (get_or c.args.levels.now (get_or c.neighbours-w-items.result.now c.loop-w.w-index 0) 0) c.vertices-n.ensures.graph c.requires.vertex c.requires.adjacency.sized c.loop-w.invariant.0 (omega arith) low refl (omega arith) c.requires.under),
-      rw (c.lose-in-loop-w.ensures, c.is_passed-in-loop-w.ensures) (down_at _ _ _ _ 1 c.loop-w.counts.below.items c.neighbours-w-items.result.now c.loop-w.w-index _ _ c.vertices-n.ensures.graph c.requires.vertex c.requires.adjacency.sized c.loop-w.invariant.1 (omega arith) low refl c.saturating_sub.ensures c.requires.under),
+      rw c.lose.ensures.own (down_at _ _ _ _ 0 c.loop-w.counts.own.items c.neighbours-w-items.result.now c.loop-w.w-index _ (get_or c.args.levels.now (get_or c.neighbours-w-items.result.now c.loop-w.w-index 0) 0) c.vertices-n.ensures.graph c.requires.vertex c.requires.adjacency.sized c.loop-w.invariant.0 (omega arith) low refl (omega arith) c.requires.under),
+      rw c.lose.ensures.below (down_at _ _ _ _ 1 c.loop-w.counts.below.items c.neighbours-w-items.result.now c.loop-w.w-index _ _ c.vertices-n.ensures.graph c.requires.vertex c.requires.adjacency.sized c.loop-w.invariant.1 (omega arith) low refl refl c.requires.under),
       count_next _ c.neighbours-w-items.result.now _ c.loop-w.w-index _ _ _ (omega arith) c.loop-w.invariant.2 refl c.as_one-own.ensures.value,
       omega (arith, c.loop-w.invariant.3, c.as_one-own.ensures.small),
       count_next _ c.neighbours-w-items.result.now _ c.loop-w.w-index _ _ _ (omega arith) c.loop-w.invariant.4 refl c.as_one-below.ensures.value,

@@ -14,14 +14,14 @@ loop-w-init g c = (
   omega arith,
 )
 
-pub gain-requires-clause-small : goal.gain-requires-clause-small
-gain-requires-clause-small g c =
+pub gain-requires-clause-own_small : goal.gain-requires-clause-own_small
+gain-requires-clause-own_small g c =
     let low : get_or c.neighbours-w-items.result.now c.loop-w.w-index 0 < c.args.graph.now.vertices = c.neighbours-w-items.ensures.below c.loop-w.w-index 0 (omega arith) in
     let few : get_or c.loop-w.counts.own.items (get_or c.neighbours-w-items.result.now c.loop-w.w-index 0) 0 < c.args.graph.now.vertices = moving-few _ _ _ _ 0 _ _ _ c.vertices-n.ensures.graph c.loop-w.invariant.0 low in
     omega (arith, few, c.vertices-n.ensures.small)
 
-pub gain-requires-in-loop-w-clause-small : goal.gain-requires-in-loop-w-clause-small
-gain-requires-in-loop-w-clause-small g c =
+pub gain-requires-clause-below_small : goal.gain-requires-clause-below_small
+gain-requires-clause-below_small g c =
     let low : get_or c.neighbours-w-items.result.now c.loop-w.w-index 0 < c.args.graph.now.vertices = c.neighbours-w-items.ensures.below c.loop-w.w-index 0 (omega arith) in
     let few : get_or c.loop-w.counts.below.items (get_or c.neighbours-w-items.result.now c.loop-w.w-index 0) 0 < c.args.graph.now.vertices = moving-few _ _ _ _ 1 _ _ _ c.vertices-n.ensures.graph c.loop-w.invariant.1 low in
     omega (arith, few, c.vertices-n.ensures.small)
@@ -29,8 +29,8 @@ gain-requires-in-loop-w-clause-small g c =
 pub loop-w-preserved : goal.loop-w-preserved
 loop-w-preserved g c =
     let low : get_or c.neighbours-w-items.result.now c.loop-w.w-index 0 < c.args.graph.now.vertices = c.neighbours-w-items.ensures.below c.loop-w.w-index 0 (omega arith) in (
-      rw (c.gain.ensures, c.is_passed.ensures) (up_at _ _ _ _ 0 c.loop-w.counts.own.items c.neighbours-w-items.result.now c.loop-w.w-index _ (get_or c.args.levels.now (get_or c.neighbours-w-items.result.now c.loop-w.w-index 0) 0) c.vertices-n.ensures.graph c.requires.vertex c.requires.adjacency.sized c.loop-w.invariant.0 (omega arith) low refl (omega arith) c.requires.over),
-      rw (c.gain-in-loop-w.ensures, c.is_passed-in-loop-w.ensures) (up_at _ _ _ _ 1 c.loop-w.counts.below.items c.neighbours-w-items.result.now c.loop-w.w-index _ _ c.vertices-n.ensures.graph c.requires.vertex c.requires.adjacency.sized c.loop-w.invariant.1 (omega arith) low refl c.saturating_sub.ensures c.requires.over),
+      rw c.gain.ensures.own (up_at _ _ _ _ 0 c.loop-w.counts.own.items c.neighbours-w-items.result.now c.loop-w.w-index _ (get_or c.args.levels.now (get_or c.neighbours-w-items.result.now c.loop-w.w-index 0) 0) c.vertices-n.ensures.graph c.requires.vertex c.requires.adjacency.sized c.loop-w.invariant.0 (omega arith) low refl (omega arith) c.requires.over),
+      rw c.gain.ensures.below (up_at _ _ _ _ 1 c.loop-w.counts.below.items c.neighbours-w-items.result.now c.loop-w.w-index _ _ c.vertices-n.ensures.graph c.requires.vertex c.requires.adjacency.sized c.loop-w.invariant.1 (omega arith) low refl refl c.requires.over),
       count_next _ c.neighbours-w-items.result.now _ c.loop-w.w-index _ _ _ (omega arith) c.loop-w.invariant.2 refl c.as_one-own.ensures.value,
       omega (arith, c.loop-w.invariant.3, c.as_one-own.ensures.small),
       count_next _ c.neighbours-w-items.result.now _ c.loop-w.w-index _ _ _ (omega arith) c.loop-w.invariant.4 refl c.as_one-below.ensures.value,
