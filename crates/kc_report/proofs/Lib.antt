@@ -2,3 +2,4 @@ pub mod lemmas
 mod LineLemmas
 mod ReaderLemmas
 mod TextLemmas
+mod VertexLemmas

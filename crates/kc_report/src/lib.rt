@@ -15,6 +15,7 @@ mod head;
 mod notes;
 mod phases;
 mod readers;
+mod tail;
 #[cfg(test)]
 mod tests;
 mod vertices;
@@ -24,4 +25,5 @@ pub use exact::{write_coreness, write_exact_head};
 pub use head::{write_end, write_head, write_header_refused, write_vertex_count};
 pub use notes::write_note;
 pub use readers::write_reader;
+pub use tail::{VertexLines, write_tail};
 pub use vertices::write_vertex;

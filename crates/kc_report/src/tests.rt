@@ -14,6 +14,8 @@ use std::test::Fail;
 
 // The lines of batches with phases.
 mod phases;
+// The lines of vertices, and the last line.
+mod tail;
 
 const ESTIMATE: Estimate = Estimate {
     est: 2,

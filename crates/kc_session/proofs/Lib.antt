@@ -6,7 +6,6 @@ mod Longer
 mod Lists
 mod PassLemmas
 mod ReaderTexts
-mod Tails
 mod Steps
 mod BatchSteps
 mod CountLemmas

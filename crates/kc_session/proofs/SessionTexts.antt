@@ -25,6 +25,7 @@ use Rattle.kc_batch.specs.BatchInputs.{rules_of}
 use Rattle.kc_batch.proofs.lemmas.Inputs.{batches_keep_ranges}
 use Rattle.kc_groups.specs.Entries.{entries_in}
 use Rattle.kc_report.specs.Lines.{head_text}
+use Rattle.kc_report.specs.VertexLines.{tail_text}
 use Rattle.kc_engine.specs.declared.faults.EngineFault.{EngineFault}
 use Rattle.kc_engine.specs.States.{State, IsSound}
 use Rattle.kc_engine.specs.Batches.{IsCleaning}
@@ -52,7 +53,6 @@ use Rattle.kc_session.proofs.AgentLists.{closed_fit, closed_explained}
 use Rattle.kc_session.proofs.AskingLemmas.{replies_few}
 use Rattle.kc_session.proofs.Runs.{profile_last}
 use Rattle.kc_session.proofs.Settles.{start_states}
-use Rattle.kc_session.specs.VertexLines.{tail_text}
 
 -- a history that ends where a batch begins ends, with the batch's entries, where it leads
 end_stay : (n : ℕ) (history : List Entry) (s : State) (t : Step) → IsHistoryOf n history s → t ≡ stay s → IsHistoryOf n (history ++ entries_in t.phases) t.state

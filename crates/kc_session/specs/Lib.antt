@@ -1,7 +1,6 @@
 pub mod Agents
 pub mod Asking
 pub mod ReaderLines
-pub mod VertexLines
 pub mod States
 pub mod Reports
 pub mod RunText

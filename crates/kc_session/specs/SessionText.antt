@@ -11,6 +11,7 @@ use Rattle.kc_batch.specs.declared.batch.Next.{Next}
 use Rattle.kc_batch.specs.HeaderShape.{HeaderShape}
 use Rattle.kc_engine.specs.Laws.{IsHistoryOf}
 use Rattle.kc_report.specs.Lines.{head_text}
+use Rattle.kc_report.specs.VertexLines.{tail_text}
 use Rattle.kc_session.specs.declared.ended.Ended.{Ended}
 use Rattle.kc_session.specs.declared.fault.SessionFault.{SessionFault}
 use Rattle.kc_session.specs.declared.report.Report.TheVariants.{Lines}
@@ -18,7 +19,6 @@ use Rattle.kc_session.specs.Asking.{Fit}
 use Rattle.kc_session.specs.Ended.{IsEnded}
 use Rattle.kc_session.specs.ReaderLines.{reader_lines}
 use Rattle.kc_session.specs.RunText.{batch_lines}
-use Rattle.kc_session.specs.VertexLines.{tail_text}
 use Rattle.kc_session.specs.States.{Step, start, AreSteps, last_state, history_of}
 
 -- what each batch leads to, and what the readers were told meanwhile

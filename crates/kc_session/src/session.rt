@@ -4,6 +4,7 @@ ghost use Rattle.std.specs.Thread.{IsSync};
 ghost use Rattle.kc_text.specs.Writing.{Appends, WriteCause};
 ghost use Rattle.kc_batch.specs.Batches.{batches_left};
 ghost use Rattle.kc_batch.specs.BatchInputs.{rules_of};
+ghost use Rattle.kc_report.specs.VertexLines.{tail_text};
 ghost use Rattle.kc_engine.specs.Showing as showing;
 ghost use Rattle.kc_session.specs.Asking.{HaveRun};
 ghost use Rattle.kc_session.specs.private.Audiences.{store_of, shown_to, IsAbreast};
@@ -14,7 +15,6 @@ ghost use Rattle.kc_session.specs.private.AskLists.{IsAskList};
 ghost use Rattle.kc_session.specs.private.Running.{RunsBatches};
 ghost use Rattle.kc_session.specs.SessionText.{session_text, body_text, WritesSession};
 ghost use Rattle.kc_session.specs.States.{start, IsOpen};
-ghost use Rattle.kc_session.specs.VertexLines.{tail_text};
 
 use crate::agent::Agent;
 use crate::agents::{close_all, open_agents, run_agents};

@@ -8,6 +8,7 @@ use Rattle.kc_text.specs.Kept.{kept}
 use Rattle.kc_text.proofs.lemmas.Writing.{prefix_none}
 use Rattle.kc_graph.specs.declared.limits.TheConstants.{MAX_EDGES, MAX_ITEMS}
 use Rattle.kc_report.specs.Lines.{exact_head_text, end_line}
+use Rattle.kc_report.specs.VertexLines.{vertex_lines}
 use Rattle.kc_batch.specs.Headers.{HeaderText, Accepted, Refused, header_of}
 use Rattle.kc_batch.specs.Tokens.{tokens}
 use Rattle.kc_batch.specs.Batches.{batches}
@@ -19,7 +20,6 @@ use Rattle.kcore.specs.declared.limits.TheConstants.{LINE_LIMIT, INPUT_LIMIT}
 use Rattle.kcore.specs.declared.command.Command.{Command}
 use Rattle.kcore.specs.declared.command.Command.TheVariants.{Run, Final, Orient, Exact, Check, Audit, Dense, Gen}
 use Rattle.kcore.specs.Corenesses.{AreCorenesses}
-use Rattle.kcore.specs.VertexLines.{vertex_lines}
 use Rattle.kcore.specs.private.Documents.{HasDocuments, WritesDocument}
 use Rattle.kcore.specs.ExactText.{exact_vertex_text, exact_text, IsExact, IsExactText}
 use Rattle.kcore.specs.Commands.{Holds}

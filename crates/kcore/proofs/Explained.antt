@@ -19,11 +19,11 @@ use Rattle.kc_batch.specs.Tokens.{tokens}
 use Rattle.kc_batch.proofs.lemmas.Inputs.{batches_keep_ranges}
 use Rattle.kc_engine.specs.States.{State, IsSound}
 use Rattle.kc_report.specs.Lines.{magic_line, vertices_line, head_text}
+use Rattle.kc_report.specs.VertexLines.{tail_text}
 use Rattle.kc_session.specs.declared.report.Report.TheVariants.{Lines}
 use Rattle.kc_session.specs.ReaderLines.{reader_lines}
 use Rattle.kc_session.specs.RunText.{batch_lines}
 use Rattle.kc_session.specs.States.{start, last_state, history_of}
-use Rattle.kc_session.specs.VertexLines.{tail_text}
 use Rattle.kc_session.proofs.lemmas.Runs.{sound_last, profile_last, sound_start}
 use Rattle.kc_audit.specs.declared.run_text.RunText.{RunText}
 use Rattle.kc_audit.specs.declared.groups.GroupLine.{GroupLine}

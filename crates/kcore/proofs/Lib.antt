@@ -5,7 +5,6 @@ mod InputTexts
 mod Texts
 mod DocumentTexts
 mod Causes
-mod VertexLines
 mod SomeCorenesses
 mod ExactTexts
 mod DenseLineLemmas

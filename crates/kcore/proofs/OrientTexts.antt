@@ -15,6 +15,7 @@ use Rattle.kc_orient.specs.Colouring.{IsColouring}
 use Rattle.kc_orient.proofs.lemmas.Orientations.{out_neighbours_are_few, outs_at, outs_sized}
 use Rattle.kc_orient.proofs.lemmas.Colourings.{colourings_are_one, colouring_is_proper, colours_are_few, colouring_is_one}
 use Rattle.kc_report.specs.Lines.{end_line}
+use Rattle.kc_report.specs.VertexLines.{vertex_lines}
 use Rattle.kc_batch.specs.Headers.{HeaderText, Accepted, Refused, header_of}
 use Rattle.kc_batch.specs.Tokens.{tokens}
 use Rattle.kc_batch.specs.Batches.{batches}
@@ -24,7 +25,6 @@ use Rattle.kc_session.specs.States.{start, last_state}
 use Rattle.kc_session.proofs.lemmas.Runs.{profile_last}
 use Rattle.kcore.specs.declared.limits.TheConstants.{LINE_LIMIT, INPUT_LIMIT}
 use Rattle.kcore.specs.Inputs.{input_said}
-use Rattle.kcore.specs.VertexLines.{vertex_lines}
 use Rattle.kcore.specs.private.Documents.{HasDocuments, WritesDocument}
 use Rattle.kcore.specs.OrientLines.{orient_head_text}
 use Rattle.kcore.specs.OrientText.{oriented_vertex_text, oriented_text, IsOrientedText, IsOrientText, IsSparse, OrientsSparsely}

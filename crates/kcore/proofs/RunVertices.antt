@@ -11,7 +11,7 @@ use Rattle.kc_levels.specs.Thresholds.{low, high, lo, est, lo_after, group_of}
 use Rattle.kc_levels.specs.LevelList.{at_least, IsCapped}
 use Rattle.kc_levels.proofs.lemmas.Thresholds.{group_of-within, low-small, top_level-small, high_over-near, low-step}
 use Rattle.kc_report.specs.Lines.{end_line}
-use Rattle.kc_session.specs.VertexLines.{vertex_text, vertex_lines, tail_text}
+use Rattle.kc_report.specs.VertexLines.{vertex_text, vertex_lines, tail_text}
 use Rattle.kc_audit.specs.Kinds.{Kind}
 use Rattle.kc_audit.specs.Kinds as kind
 use Rattle.kc_audit.specs.Printed.{IsSmall}
@@ -55,18 +55,18 @@ kinds_last v (suc k) rest =
     let e : suc v + k ≡ v + suc k = omega arith in
     ap (λ (ks : List Kind). kind.Vertex v ∷ ks) (subst (λ w. vertex_kinds (suc v) k (kind.Vertex w ∷ rest) ≡ vertex_kinds (suc v) (suc k) rest) e (kinds_last (suc v) k rest))
 
-vertices_print : (p : Profile) (g : GraphShape) (x : List ℕ) (k : ℕ) → 1 ≤ g.vertices → g.vertices ≤ MAX_VERTICES → IsGraph g → IsCapped p g.vertices x → k ≤ g.vertices → Prints (vertex_lines p g x k) (λ rest. vertex_kinds 0 k rest)
+vertices_print : (p : Profile) (g : GraphShape) (x : List ℕ) (k : ℕ) → 1 ≤ g.vertices → g.vertices ≤ MAX_VERTICES → IsGraph g → IsCapped p g.vertices x → k ≤ g.vertices → Prints (vertex_lines (vertex_text p g x) k) (λ rest. vertex_kinds 0 k rest)
 unfolding vertex_lines
 vertices_print p g x zero some most graph capped within = prints_nothing
 vertices_print p g x (suc k) some most graph capped within =
     let zero_on : 0 + k ≡ k = omega arith in
-    prints_as (vertex_lines p g x k ++ vertex_text p g x k) (λ rest. vertex_kinds 0 k (kind.Vertex k ∷ rest)) (λ rest. vertex_kinds 0 (suc k) rest)
+    prints_as (vertex_lines (vertex_text p g x) k ++ vertex_text p g x k) (λ rest. vertex_kinds 0 k (kind.Vertex k ∷ rest)) (λ rest. vertex_kinds 0 (suc k) rest)
     (λ rest. subst (λ w. vertex_kinds 0 k (kind.Vertex w ∷ rest) ≡ vertex_kinds 0 (suc k) rest) zero_on (kinds_last 0 k rest))
-    (prints_both (vertex_lines p g x k) (vertex_text p g x k) (λ rest. vertex_kinds 0 k rest) (λ rest. kind.Vertex k ∷ rest)
+    (prints_both (vertex_lines (vertex_text p g x) k) (vertex_text p g x k) (λ rest. vertex_kinds 0 k rest) (λ rest. kind.Vertex k ∷ rest)
     (vertices_print p g x k some most graph capped (omega (arith, within))) (vertex_prints p g x k some most graph capped (omega (arith, within))))
 
 -- the lines of all vertices, and the last line
 pub tail_prints : (p : Profile) (g : GraphShape) (x : List ℕ) → 1 ≤ g.vertices → g.vertices ≤ MAX_VERTICES → IsGraph g → IsCapped p g.vertices x → Prints (tail_text p g x) (λ rest. vertex_kinds 0 g.vertices (kind.Close ∷ rest))
 tail_prints p g x some most graph capped =
-    prints_both (vertex_lines p g x g.vertices) end_line (λ rest. vertex_kinds 0 g.vertices rest) (λ rest. kind.Close ∷ rest)
+    prints_both (vertex_lines (vertex_text p g x) g.vertices) end_line (λ rest. vertex_kinds 0 g.vertices rest) (λ rest. kind.Close ∷ rest)
     (vertices_print p g x g.vertices some most graph capped (omega arith)) (prints_line (codes "end" ∷ []) kind.Close lines_say_kinds.end)

@@ -21,6 +21,7 @@ use Rattle.kc_batch.specs.Batches.{batches}
 use Rattle.kc_batch.specs.BatchInputs.{rules_of, behind_header}
 use Rattle.kc_batch.proofs.lemmas.Inputs.{batches_keep_ranges}
 use Rattle.kc_report.specs.Lines.{head_text}
+use Rattle.kc_report.specs.VertexLines.{tail_text}
 use Rattle.kc_session.specs.declared.fault.SessionFault.{SessionFault}
 use Rattle.kc_session.specs.declared.report.Report.TheVariants.{Lines}
 use Rattle.kc_session.specs.States.{Step, start, AreSteps, history_of}
@@ -29,7 +30,6 @@ use Rattle.kc_session.specs.Asking.{Fit}
 use Rattle.kc_session.specs.Counts.{refused_in}
 use Rattle.kc_session.specs.RunText.{batch_lines}
 use Rattle.kc_session.specs.declared.ended.Ended.{Ended}
-use Rattle.kc_session.specs.VertexLines.{tail_text}
 use Rattle.kc_session.specs.SessionText.{IsSession, session_text, WritesSession}
 use Rattle.kc_session.proofs.lemmas.Runs.{sound_start, one_run, start_states}
 use Rattle.kcore.specs.declared.limits.TheConstants.{LINE_LIMIT, INPUT_LIMIT}

@@ -3,12 +3,11 @@ use Rattle.std.specs.Prelude.{ℕ, ◌≡◌, Bool, List, ◌++◌, get_or}
 use Rattle.kc_levels.specs.declared.thresholds.Estimate.{Estimate}
 use Rattle.kc_batch.specs.BatchInputs.{BatchInput}
 use Rattle.kc_report.specs.Lines.{exact_head_text, coreness_line, end_line}
+use Rattle.kc_report.specs.VertexLines.{estimate_of, vertex_lines}
 use Rattle.kc_engine.specs.States.{State}
-use Rattle.kc_session.specs.VertexLines.{estimate_of}
 use Rattle.kcore.specs.Corenesses.{AreCorenesses}
 use Rattle.kcore.specs.InputTexts.{IsTextOf}
 use Rattle.kcore.specs.Documents.{EndsInDocument}
-use Rattle.kcore.specs.VertexLines.{vertex_lines}
 
 -- what is printed of vertex v in a state: what its level says of its coreness
 abbrev pub printed_of : State → ℕ → Estimate

@@ -3,7 +3,6 @@ pub mod Points
 pub mod InputTexts
 pub mod RunText
 pub mod Corenesses
-pub mod VertexLines
 pub mod Documents
 pub mod ExactText
 pub mod FinalText

@@ -8,11 +8,11 @@ use Rattle.kc_orient.specs.Shape.{OrientationShape, out_neighbours, orientation}
 use Rattle.kc_orient.specs.Colouring.{IsColouring}
 use Rattle.kc_batch.specs.BatchInputs.{BatchInput, WithBatches, HeaderRefused}
 use Rattle.kc_report.specs.Lines.{end_line}
+use Rattle.kc_report.specs.VertexLines.{vertex_lines}
 use Rattle.kc_engine.specs.States.{State}
 use Rattle.kc_session.specs.States.{start, Step, AreSteps, last_state}
 use Rattle.kcore.specs.InputTexts.{IsTextOf}
 use Rattle.kcore.specs.Documents.{EndsInDocument}
-use Rattle.kcore.specs.VertexLines.{vertex_lines}
 use Rattle.kcore.specs.OrientLines.{orient_head_text, oriented_line}
 
 -- the line of vertex v: its colour, and its out-neighbours

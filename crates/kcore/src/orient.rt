@@ -1,14 +1,8 @@
 //! The command `orient`: the edges directed and the vertices coloured after the batches of an input.
-ghost use Rattle.std.specs.Prelude.{◌≡◌, ◌<◌, ◌++◌, [], IfOk, false, length};
-ghost use Rattle.kc_text.specs.Writing.{Appends, WriteCause};
-ghost use Rattle.kc_graph.specs.declared.limits.TheConstants.{MAX_EDGES};
-ghost use Rattle.kc_report.specs.Buffer.{IsCleared};
-ghost use Rattle.kc_report.specs.Lines.{end_line};
+ghost use Rattle.std.specs.Prelude.{◌≡◌, IfOk, length};
 ghost use Rattle.kc_orient.specs.Shape.{orientation};
 ghost use Rattle.kc_orient.specs.Colouring.{IsColouring};
-ghost use Rattle.kc_engine.specs.States.{IsSound};
 ghost use Rattle.kcore.specs.OrientText.{oriented_vertex_text, IsOrientedText};
-ghost use Rattle.kcore.specs.VertexLines.{vertex_lines};
 
 use crate::documents::Document;
 use crate::orient_lines::{write_orient_head, write_oriented};
@@ -16,7 +10,7 @@ use kc_engine::Engine;
 use kc_graph::Graph;
 use kc_levels::{Levels, Profile};
 use kc_orient::{Orientation, colour};
-use kc_report::write_end;
+use kc_report::{VertexLines, write_tail};
 use kc_text::{LineBuf, SendFault, Sink};
 use std::alloc::{AllocError, Global};
 
@@ -35,64 +29,38 @@ fn orient_and_colour(
     Ok((oriented, colours))
 }
 
-// Writes the line of v.
-fn write_one<K: Sink>(
-    alloc: Global,
-    buf: &mut LineBuf,
-    sink: &mut K,
-    oriented: &Orientation,
-    colours: &[u32],
-    v: u32,
-) -> Result<(), SendFault>
-    requires empty { buf.old ≡ [] }
-    requires vertex { v < length oriented.now.levels }
-    requires sized { length colours.now ≡ length oriented.now.levels }
-    ensures text { Appends (K.taken sink.old) (K.taken sink.new) (oriented_vertex_text oriented.now colours.now v) result }
-    ensures buffer { IsCleared buf.new result }
-    ensures cause { WriteCause (K.faults sink.old) (K.faults sink.new) result }
-{
-    write_oriented(alloc, buf, sink, v, colours[v as usize], oriented.out(v))
+// The lines of the vertices of an oriented graph.
+#[derive(Drop)]
+struct OrientedLines<'a> {
+    // The out-neighbours of each vertex.
+    oriented: &'a Orientation,
+    // Its colour.
+    colours: &'a [u32],
 }
 
-// Writes the lines of all n vertices.
-fn write_vertices<K: Sink>(
-    alloc: Global,
-    buf: &mut LineBuf,
-    sink: &mut K,
-    n: u32,
-    oriented: &Orientation,
-    colours: &[u32],
-) -> Result<(), SendFault>
-    requires empty { buf.old ≡ [] }
-    requires vertices { length oriented.now.levels ≡ n }
-    requires sized { length colours.now ≡ n }
-    ensures text { Appends (K.taken sink.old) (K.taken sink.new) (vertex_lines (oriented_vertex_text oriented.now colours.now) n) result }
-    ensures buffer { IsCleared buf.new result }
-    ensures cause { WriteCause (K.faults sink.old) (K.faults sink.new) result }
-{
-    for v in 0..n {
-        write_one(alloc, buf, sink, oriented, colours, v)?;
+impl VertexLines for OrientedLines<'_> {
+    ghost use Rattle.std.specs.Prelude.{◌<◌};
+
+    ghost line = { λ lines v. oriented_vertex_text lines.oriented.now lines.colours.now v };
+
+    ghost has_line = { λ lines v. (length lines.colours.now ≡ length lines.oriented.now.levels) × (v < length lines.oriented.now.levels) };
+
+    fn write_line<K: Sink>(
+        &self,
+        alloc: Global,
+        buf: &mut LineBuf,
+        sink: &mut K,
+        v: u32,
+    ) -> Result<(), SendFault> {
+        write_oriented(
+            alloc,
+            buf,
+            sink,
+            v,
+            self.colours[v as usize],
+            self.oriented.out(v),
+        )
     }
-    Ok(())
-}
-
-// Writes what is after the head: their lines, and the last line.
-fn write_after_head<K: Sink>(
-    alloc: Global,
-    buf: &mut LineBuf,
-    sink: &mut K,
-    n: u32,
-    oriented: &Orientation,
-    colours: &[u32],
-) -> Result<(), SendFault>
-    requires empty { buf.old ≡ [] }
-    requires vertices { length oriented.now.levels ≡ n }
-    requires sized { length colours.now ≡ n }
-    ensures text { Appends (K.taken sink.old) (K.taken sink.new) (vertex_lines (oriented_vertex_text oriented.now colours.now) n ++ end_line) result }
-    ensures cause { WriteCause (K.faults sink.old) (K.faults sink.new) result }
-{
-    write_vertices(alloc, buf, sink, n, oriented, colours)?;
-    write_end(alloc, buf, sink)
 }
 
 /// The document of `orient`: the colour of each vertex, and its out-neighbours.
@@ -114,7 +82,11 @@ impl Document for Orient {
         };
         let mut buf = LineBuf::new(alloc);
         write_orient_head(alloc, &mut buf, sink, n)?;
-        write_after_head(alloc, &mut buf, sink, n, &oriented, colours.as_slice())
+        let lines = OrientedLines {
+            oriented: &oriented,
+            colours: colours.as_slice(),
+        };
+        write_tail(alloc, &mut buf, sink, n, &lines)
     }
 
     fn has_documents() {}

@@ -8,6 +8,5 @@ mod LineLemmas
 mod ScriptLemmas
 mod ServerLemmas
 mod ServingLemmas
-mod Tails
 mod TakeLemmas
 mod WordLemmas

@@ -28,6 +28,7 @@ use Rattle.kc_batch.specs.Headers.{vertices_in}
 use Rattle.kc_batch.specs.Tokens.{tokens}
 use Rattle.kc_batch.specs.Batches.{batches, IsNext}
 use Rattle.kc_batch.proofs.lemmas.Inputs.{batches_keep_ranges}
+use Rattle.kc_report.specs.VertexLines.{tail_text}
 use Rattle.kc_engine.specs.States.{State, IsSound}
 use Rattle.kc_intake.specs.declared.updates.Update.{Update}
 use Rattle.kc_intake.specs.Updates.{all_updates}
@@ -55,7 +56,6 @@ use Rattle.kserve.specs.private.Faults.{fault_of_send, ReadingCause, WritingCaus
 use Rattle.kserve.specs.private.Reading.{input_as, Says}
 use Rattle.kserve.specs.Served.{served_text, IsServed, IsTextOf, WritesWhole, WritesPrefix, Wrote, Answers}
 use Rattle.kserve.specs.private.Serving.{HaveServed, Serves, HaveServedAll, StoppedServing}
-use Rattle.kserve.specs.VertexLines.{tail_text}
 use Rattle.kc_engine.proofs.lemmas.Batches.{start_is_sound}
 use Rattle.kserve.proofs.Fitting.{CanServe, fit_due, fit_count, drained_fit, some_fit}
 use Rattle.kserve.proofs.Leads.{leads, profile_lead, vertices_lead}

@@ -4,5 +4,4 @@ pub mod Fitting
 pub mod Inputs
 pub mod Lines
 pub mod Served
-pub mod VertexLines
 pub mod private

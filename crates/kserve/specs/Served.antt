@@ -6,6 +6,7 @@ use Rattle.kc_text.specs.Writing.{IsPrefix}
 use Rattle.kc_graph.specs.declared.items.Item.{Item}
 use Rattle.kc_levels.specs.declared.profile.Profile.TheVariants.{One}
 use Rattle.kc_levels.specs.LevelList.{MeetsBoth}
+use Rattle.kc_report.specs.VertexLines.{tail_text}
 use Rattle.kc_engine.specs.States.{State}
 use Rattle.kc_intake.specs.declared.updates.Update.{Update}
 use Rattle.kserve.specs.declared.status.ServeStatus.{ServeStatus}
@@ -14,7 +15,6 @@ use Rattle.kserve.specs.Inputs.{ScriptInput, WithScripts, Refused, input_said}
 use Rattle.kserve.specs.Batches.{start, LeadTo}
 use Rattle.kserve.specs.Fitting.{Fit}
 use Rattle.kserve.specs.Lines.{head_text, batch_lines, refused_line}
-use Rattle.kserve.specs.VertexLines.{tail_text}
 
 -- the text of batches of a graph of n vertices that lead to this state
 abbrev pub served_text : ℕ → List (List Update) → State → List ℕ

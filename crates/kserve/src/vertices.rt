@@ -1,62 +1,45 @@
 //! The end of a text: a line for each vertex with its level and counts, and the last line.
-ghost use Rattle.std.specs.Prelude.{◌≡◌, ◌<◌, [], false};
+ghost use Rattle.std.specs.Prelude.{◌≡◌, [], false};
 ghost use Rattle.kc_text.specs.Writing.{Appends, WriteCause};
 ghost use Rattle.kc_report.specs.Buffer.{IsCleared};
-ghost use Rattle.kc_report.specs.Lines.{end_line};
-ghost use Rattle.kserve.specs.VertexLines.{vertex_text, vertex_lines, tail_text};
+ghost use Rattle.kc_report.specs.VertexLines.{vertex_text, tail_text};
 
 use kc_engine::Engine;
-use kc_report::{write_end, write_vertex};
+use kc_report::{VertexLines, write_vertex};
 use kc_text::{LineBuf, SendFault, Sink};
 use std::alloc::Global;
 
-// Writes the line of v.
-fn write_one<K: Sink>(
-    alloc: Global,
-    buf: &mut LineBuf,
-    sink: &mut K,
-    engine: &Engine,
-    levels: &[u16],
-    v: u32,
-) -> Result<(), SendFault>
-    requires empty { buf.old ≡ [] }
-    requires running { engine.now.halted ≡ false }
-    requires levels { levels.now ≡ engine.now.state.levels }
-    requires vertex { v < engine.now.state.graph.vertices }
-    ensures text { Appends (K.taken sink.old) (K.taken sink.new) (vertex_text engine.now.state.profile engine.now.state.graph levels.now v) result }
-    ensures buffer { IsCleared buf.new result }
-    ensures cause { WriteCause (K.faults sink.old) (K.faults sink.new) result }
-{
-    // Its contract says that there is a level for each vertex, at most the top.
-    let _levels = engine.levels();
-    let level = levels[v as usize];
-    let estimate = engine.thresholds().estimate(level);
-    let up = engine.at_least_own(v);
-    let down = engine.at_least_below(v);
-    write_vertex(alloc, buf, sink, v, level, estimate, up, down)
+// The lines of the vertices of an engine's graph.
+#[derive(Drop)]
+struct EngineLines<'a> {
+    // The engine, which hasn't halted. The counts of neighbours are its own.
+    engine: &'a Engine,
+    // Its levels.
+    levels: &'a [u16],
 }
 
-// Writes the lines of all n vertices.
-fn write_vertices<K: Sink>(
-    alloc: Global,
-    buf: &mut LineBuf,
-    sink: &mut K,
-    n: u32,
-    engine: &Engine,
-    levels: &[u16],
-) -> Result<(), SendFault>
-    requires empty { buf.old ≡ [] }
-    requires running { engine.now.halted ≡ false }
-    requires levels { levels.now ≡ engine.now.state.levels }
-    requires vertices { engine.now.state.graph.vertices ≡ n }
-    ensures text { Appends (K.taken sink.old) (K.taken sink.new) (vertex_lines engine.now.state.profile engine.now.state.graph levels.now n) result }
-    ensures buffer { IsCleared buf.new result }
-    ensures cause { WriteCause (K.faults sink.old) (K.faults sink.new) result }
-{
-    for v in 0..n {
-        write_one(alloc, buf, sink, engine, levels, v)?;
+impl VertexLines for EngineLines<'_> {
+    ghost use Rattle.std.specs.Prelude.{◌<◌};
+
+    ghost line = { λ lines v. vertex_text lines.engine.now.state.profile lines.engine.now.state.graph lines.levels.now v };
+
+    ghost has_line = { λ lines v. (lines.engine.now.halted ≡ false) × (lines.levels.now ≡ lines.engine.now.state.levels) × (v < lines.engine.now.state.graph.vertices) };
+
+    fn write_line<K: Sink>(
+        &self,
+        alloc: Global,
+        buf: &mut LineBuf,
+        sink: &mut K,
+        v: u32,
+    ) -> Result<(), SendFault> {
+        // Its contract says that there is a level for each vertex, at most the top.
+        let _levels = self.engine.levels();
+        let level = self.levels[v as usize];
+        let estimate = self.engine.thresholds().estimate(level);
+        let up = self.engine.at_least_own(v);
+        let down = self.engine.at_least_below(v);
+        write_vertex(alloc, buf, sink, v, level, estimate, up, down)
     }
-    Ok(())
 }
 
 /// Writes what is after all batches (`tail_text`): a line for each of the n vertices of the engine's graph, with these levels of them,
@@ -80,6 +63,5 @@ pub fn write_tail<K: Sink>(
     ensures buffer { IsCleared buf.new result }
     ensures cause { WriteCause (K.faults sink.old) (K.faults sink.new) result }
 {
-    write_vertices(alloc, buf, sink, n, engine, levels)?;
-    write_end(alloc, buf, sink)
+    kc_report::write_tail(alloc, buf, sink, n, &EngineLines { engine, levels })
 }

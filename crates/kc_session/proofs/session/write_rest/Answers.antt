@@ -3,8 +3,8 @@ use Rattle.std.proofs.lemmas.Result.{err_from_is_err_and}
 use Rattle.std.specs.Io.KnownBytes.{append_known}
 use Rattle.kc_text.specs.Writing.{IsPrefix}
 use Rattle.kc_text.proofs.lemmas.Writing.{append_twice, prefix_all, prefix_longer, prefix_then}
+use Rattle.kc_report.specs.VertexLines.{tail_text}
 use Rattle.kc_session.specs.ReaderLines.{reader_lines}
-use Rattle.kc_session.specs.VertexLines.{tail_text}
 use Rattle.kc_session.proofs.LastLines.{last_levels}
 use Rattle.kc_session.proofs.session.write_rest.Goals as goal
 

@@ -3,8 +3,8 @@ use Rattle.std.proofs.lemmas.Result.{err_from_is_err_and}
 use Rattle.kc_text.proofs.lemmas.Writing.{prefix_longer, appends_then}
 use Rattle.kc_graph.specs.Shape.{GraphShape}
 use Rattle.kc_report.specs.Lines.{end_line}
+use Rattle.kc_report.specs.VertexLines.{vertex_lines}
 use Rattle.kc_orient.specs.Shape.{orientation}
-use Rattle.kcore.specs.VertexLines.{vertex_lines}
 use Rattle.kcore.specs.OrientLines.{orient_head_text}
 use Rattle.kcore.specs.OrientText.{oriented_vertex_text}
 use Rattle.kcore.proofs.OrientTexts.{oriented_written, nothing_of_it}
@@ -35,8 +35,8 @@ returns-clause-text g c =
     let count : n ≡ s.graph.vertices = c.vertices-n.ensures.count ∙ ap (λ (h : GraphShape). h.vertices) c.graph.ensures.value in
     let k = rw (c.graph-2.ensures.value, c.levels.ensures.value) at c.in-Ok.ensures.colours in
     let same = rw (c.graph-2.ensures.value, c.levels.ensures.value) at c.in-Ok.ensures.orientation in
-    oriented_written s cs n _ _ c.write_after_head.result count k
+    oriented_written s cs n _ _ c.write_tail.result count k
     (
-    appends_then _ _ _ (orient_head_text n) (vertex_lines (oriented_vertex_text (orientation s.graph s.levels) cs) n ++ end_line) c.write_after_head.result c.in_ok-write_orient_head.ensures.text
-    (rw (c.as_slice.ensures.value, same) at c.write_after_head.ensures.text)
+    appends_then _ _ _ (orient_head_text n) (vertex_lines (oriented_vertex_text (orientation s.graph s.levels) cs) n ++ end_line) c.write_tail.result c.in_ok-write_orient_head.ensures.text
+    (rw (c.as_slice.ensures.value, same) at c.write_tail.ensures.text)
     )

@@ -6,7 +6,7 @@ use Rattle.std.specs.Io.KnownBytes.{append_known}
 use Rattle.std.specs.Prelude.{Option}
 use Rattle.kc_text.specs.Writing.{IsPrefix}
 use Rattle.kc_text.proofs.lemmas.Writing.{append_twice, prefix_longer, prefix_then}
-use Rattle.kcore.specs.VertexLines.{vertex_lines}
+use Rattle.kc_report.specs.VertexLines.{vertex_lines}
 
 -- the lines of the vertices below n begin with those below v
 lines_begin : (line : ℕ → List ℕ) (v n : ℕ) → v ≤ n → (rest : List ℕ) × (vertex_lines line n ≡ vertex_lines line v ++ rest)

@@ -1,0 +1,74 @@
+//! The end of a text: a line for each vertex, and the last line.
+ghost use Rattle.std.specs.Prelude.{◌≡◌, ◌<◌, ◌++◌, [], ℕ, List};
+ghost use Rattle.kc_text.specs.Writing.{Appends, WriteCause};
+ghost use Rattle.kc_report.specs.Buffer.{IsCleared};
+ghost use Rattle.kc_report.specs.Lines.{end_line};
+ghost use Rattle.kc_report.specs.VertexLines.{vertex_lines};
+
+use crate::write_end;
+use kc_text::{LineBuf, SendFault, Sink};
+use std::alloc::Global;
+
+/// Lines of vertices: what the line of a vertex is, and how it is written.
+pub trait VertexLines {
+    /// The line of a vertex, with its line feed.
+    ghost line: { Self → ℕ → List ℕ };
+
+    /// Which vertices have a line.
+    ghost has_line: { Self → ℕ → Type 0 };
+
+    /// Writes the line of `v`. After either fault the sink took a prefix of it.
+    fn write_line<K: Sink>(
+        &self,
+        alloc: Global,
+        buf: &mut LineBuf,
+        sink: &mut K,
+        v: u32,
+    ) -> Result<(), SendFault>
+        requires empty { buf.old ≡ [] }
+        requires vertex { has_line self.now v }
+        ensures text { Appends (K.taken sink.old) (K.taken sink.new) (line self.now v) result }
+        ensures buffer { IsCleared buf.new result }
+        ensures cause { WriteCause (K.faults sink.old) (K.faults sink.new) result };
+}
+
+// Writes the lines of all n vertices.
+fn write_lines<L: VertexLines, K: Sink>(
+    alloc: Global,
+    buf: &mut LineBuf,
+    sink: &mut K,
+    n: u32,
+    lines: &L,
+) -> Result<(), SendFault>
+    requires empty { buf.old ≡ [] }
+    requires vertices { (v : ℕ) → v < n → L.has_line lines.now v }
+    ensures text { Appends (K.taken sink.old) (K.taken sink.new) (vertex_lines (L.line lines.now) n) result }
+    ensures buffer { IsCleared buf.new result }
+    ensures cause { WriteCause (K.faults sink.old) (K.faults sink.new) result }
+{
+    for v in 0..n {
+        lines.write_line(alloc, buf, sink, v)?;
+    }
+    Ok(())
+}
+
+/// Writes what is after all else: the lines of the vertices below `n` in turn (`vertex_lines`), and the last line (`end_line`).
+///
+/// Each of these vertices has a line. After `WriteFault`, which only a failed write gives, and after `Memory` the sink took a prefix
+/// of the lines.
+pub fn write_tail<L: VertexLines, K: Sink>(
+    alloc: Global,
+    buf: &mut LineBuf,
+    sink: &mut K,
+    n: u32,
+    lines: &L,
+) -> Result<(), SendFault>
+    requires empty { buf.old ≡ [] }
+    requires vertices { (v : ℕ) → v < n → L.has_line lines.now v }
+    ensures text { Appends (K.taken sink.old) (K.taken sink.new) (vertex_lines (L.line lines.now) n ++ end_line) result }
+    ensures buffer { IsCleared buf.new result }
+    ensures cause { WriteCause (K.faults sink.old) (K.faults sink.new) result }
+{
+    write_lines(alloc, buf, sink, n, lines)?;
+    write_end(alloc, buf, sink)
+}
