@@ -50,7 +50,6 @@ fn run_batch<R: Threads + Sync, K: Sink, G: Gate + Sync>(
     } = context;
     let alloc = *alloc;
     let Watched { engine, audience } = watched;
-    let _n = engine.graph().vertices();
     let number = counts.batches + 1;
     match next {
         Next::Items(batch) => match apply(

@@ -98,6 +98,7 @@ fn recount<R: Threads + Sync + Abort>(
     ensures plain { OnOk result (IsPlain th.now VERTICES graph.new levels.new) }
 {
     cleaned_fits_graph();
+    // Its contract says that the edges of the graph ascend.
     let _n = graph.vertices();
     let cleaned = clean(rt, alloc, graph, items)?;
     assert!(rt; graph.edge_count() as usize + cleaned.added.len() <= MAX_EDGES as usize);
