@@ -4,7 +4,8 @@ ghost use Rattle.std.specs.Prelude.{◌≡◌, ◌<◌, IfOk};
 use crate::{
     Body, Failed, Line, LineBuf, LineFault, LineReader, MemSink, MemSource, NamedNumbers, NullSink,
     NumberLine, Reason, SendFault, Sign, Sink, Source, StdSink, StdSource, Words, fill_named,
-    give_back, is_skipped, next_kept, next_number, next_word, put_all, read_number, text_of,
+    give_back, is_named, is_skipped, next_kept, next_number, next_word, put_all, read_number,
+    text_of,
 };
 use std::alloc::Global;
 use std::io;
@@ -502,6 +503,8 @@ fn words_and_numbers(rt: HostRuntime) {
         assert!(rt; from <= 9);
         assert_eq!(rt; next_word(line, from), want, "from {from}");
     }
+    assert!(rt; is_named(b"ab", b"ab") && is_named(b"", b""));
+    assert!(rt; !is_named(b"ab", b"a") && !is_named(b"a", b"ab") && !is_named(b"ab", b"aB"));
     let skips: [(&[u8], bool); 5] = [
         (b"", true),
         (b" \t", true),
