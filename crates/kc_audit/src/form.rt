@@ -6,8 +6,8 @@ ghost use Rattle.kc_audit.specs.Words.{first_number};
 ghost use Rattle.kc_audit.specs.Kinds.{is_version, names_reason, is_refusal, vertices_kind, batch_kind, direction_of, direction_kind, phase_kind, group_kind, reader_kind, vertex_kind, named_kind, kind_of_words, kind_of};
 ghost use Rattle.kc_audit.specs.private.Kinds.{kind_told, IsWithin};
 
-use crate::words::{has_fields, is, is_at_end, number_at};
-use kc_text::{Body, Line, Reason, next_word, read_number};
+use crate::words::{has_fields, is_at_end, number_at};
+use kc_text::{Body, Line, Reason, is_named, next_word, read_number};
 
 /// What a line says by itself, wherever it stands. The numbers are any numbers; those that no rule names are left out.
 #[derive(Clone, Copy, Debug, PartialEq, Eq)]
@@ -58,7 +58,7 @@ fn is_version(text: &[u8], from: usize) -> bool
     match next_word(text, from) {
         Some((start, end)) => {
             let version = &text[start..end];
-            next_word(text, end).is_none() && is(version, b"1")
+            next_word(text, end).is_none() && is_named(version, b"1")
         }
         None => false,
     }
@@ -67,14 +67,14 @@ fn is_version(text: &[u8], from: usize) -> bool
 fn names_reason(word: &[u8]) -> bool
     ensures { result ≡ names_reason word.now }
 {
-    is(word, Reason::LineLong.word())
-        || is(word, Reason::BadLine.word())
-        || is(word, Reason::BadVertex.word())
-        || is(word, Reason::TooMany.word())
-        || is(word, Reason::Truncated.word())
-        || is(word, Reason::InputLimit.word())
-        || is(word, Reason::EdgeLimit.word())
-        || is(word, Reason::PhaseLimit.word())
+    is_named(word, Reason::LineLong.word())
+        || is_named(word, Reason::BadLine.word())
+        || is_named(word, Reason::BadVertex.word())
+        || is_named(word, Reason::TooMany.word())
+        || is_named(word, Reason::Truncated.word())
+        || is_named(word, Reason::InputLimit.word())
+        || is_named(word, Reason::EdgeLimit.word())
+        || is_named(word, Reason::PhaseLimit.word())
 }
 
 // Whether the words at or after `from` are `refused line N REASON`.
@@ -100,8 +100,8 @@ fn is_refusal(text: &[u8], from: usize) -> bool
     };
     let reason = &text[start..end];
     next_word(text, end).is_none()
-        && (is(refused, b"refused")
-            && (is(line, b"line") && (read_number(number).is_some() && names_reason(reason))))
+        && (is_named(refused, b"refused")
+            && (is_named(line, b"line") && (read_number(number).is_some() && names_reason(reason))))
 }
 
 fn vertices_form(text: &[u8], from: usize) -> Form
@@ -135,9 +135,9 @@ fn batch_form(text: &[u8], from: usize) -> Form
 fn direction_of(word: &[u8]) -> Option<bool>
     ensures { result ≡ direction_of word.now }
 {
-    if is(word, b"insert") {
+    if is_named(word, b"insert") {
         Some(true)
-    } else if is(word, b"delete") {
+    } else if is_named(word, b"delete") {
         Some(false)
     } else {
         None
@@ -212,25 +212,25 @@ fn named_form(name: &[u8], text: &[u8], from: usize) -> Form
     ensures kind { kind_told text.now result ≡ named_kind name.now (words (drop from text.now)) }
     ensures within { IsWithin text.now result }
 {
-    if is(name, b"group") {
+    if is_named(name, b"group") {
         group_form(text, from)
-    } else if is(name, b"reader") {
+    } else if is_named(name, b"reader") {
         reader_form(text, from)
-    } else if is(name, b"vertex") {
+    } else if is_named(name, b"vertex") {
         vertex_form(text, from)
-    } else if is(name, b"phase") {
+    } else if is_named(name, b"phase") {
         phase_form(text, from)
-    } else if is(name, b"batch") {
+    } else if is_named(name, b"batch") {
         batch_form(text, from)
-    } else if is(name, b"vertices") {
+    } else if is_named(name, b"vertices") {
         vertices_form(text, from)
-    } else if is(name, b"kcore-run") {
+    } else if is_named(name, b"kcore-run") {
         if is_version(text, from) {
             Form::Head
         } else {
             Form::Other
         }
-    } else if is(name, b"end") {
+    } else if is_named(name, b"end") {
         if is_at_end(text, from) {
             Form::Close
         } else {

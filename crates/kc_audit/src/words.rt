@@ -1,21 +1,13 @@
 //! The words that lines are made of.
 ghost use Rattle.std.specs.Prelude.{◌≡◌, ◌<◌, ◌≤◌, length, drop, Some, None, IfOk, IfSome, if◌then◌else◌, ◌==◌};
 ghost use Rattle.std.specs.List.{position};
-ghost use Rattle.std.specs.Str.{bytes_eq};
 ghost use Rattle.kc_text.specs.Words.{words};
 ghost use Rattle.kc_audit.specs.Words.{is_nothing, first_number, has_fields, level_in, reply_with, pair_of, pairs_of};
 ghost use Rattle.kc_audit.specs.private.Words.{number_found};
 
 use kc_history::Reply;
-use kc_text::{next_number, next_word, read_number};
+use kc_text::{is_named, next_number, next_word, read_number};
 use std::alloc::AllocError;
-
-/// Whether a word is this name.
-pub fn is(word: &[u8], name: &[u8]) -> bool
-    ensures { result ≡ bytes_eq word.now name.now }
-{
-    word == name
-}
 
 /// Whether there is no word at or after `from`.
 pub fn is_at_end(text: &[u8], from: usize) -> bool
@@ -46,7 +38,7 @@ pub fn has_fields(text: &[u8], from: usize, names: &[u8]) -> bool
         let Some((start, end)) = next_word(text, at) else {
             return false;
         };
-        if !is(&text[start..end], &names[name_start..name_end]) {
+        if !is_named(&text[start..end], &names[name_start..name_end]) {
             return false;
         }
         let Some((_, end)) = number_at(text, end) else {

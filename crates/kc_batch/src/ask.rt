@@ -2,8 +2,8 @@
 ghost use Rattle.std.specs.Prelude.{◌≡◌, ◌<◌, [], ◌∷◌, ◌++◌, length, nat_lt, None, true, if◌then◌else◌, IfOk, IfSome, OnOk, OnErr};
 ghost use Rattle.kc_text.specs.Words.{words};
 
-use crate::text::{all_below, is, read_numbers};
-use kc_text::{next_word, read_number};
+use crate::text::{all_below, read_numbers};
+use kc_text::{is_named, next_word, read_number};
 use std::alloc::{AllocError, Global};
 use std::marker::Model;
 
@@ -152,7 +152,7 @@ pub fn is_ask(text: &[u8]) -> bool
     ensures { result ≡ is_ask (words text.now) }
 {
     match next_word(text, 0) {
-        Some((start, end)) => is(&text[start..end], b"ask"),
+        Some((start, end)) => is_named(&text[start..end], b"ask"),
         None => false,
     }
 }

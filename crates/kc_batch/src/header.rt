@@ -6,10 +6,11 @@ ghost use Rattle.kc_text.specs.Kept.{kept_left};
 
 use crate::Asks;
 use crate::ask::{is_ask, next_ask};
-use crate::text::is;
 use kc_graph::MAX_VERTICES;
 use kc_levels::Profile;
-use kc_text::{LineFault, LineReader, Source, next_kept, next_word, read_number, text_of};
+use kc_text::{
+    LineFault, LineReader, Source, is_named, next_kept, next_word, read_number, text_of,
+};
 use std::alloc::{AllocError, AllocFailed, Global};
 use std::marker::Model;
 use thiserror::Error;
@@ -82,9 +83,9 @@ ghost use Rattle.kc_batch.specs.Causes.{HeaderCause};
 fn profile_of(version: &[u8]) -> Option<Profile>
     ensures { result ≡ profile_of version.now }
 {
-    if is(version, b"1") {
+    if is_named(version, b"1") {
         Some(Profile::One)
-    } else if is(version, b"2") {
+    } else if is_named(version, b"2") {
         Some(Profile::Two)
     } else {
         None
@@ -100,7 +101,7 @@ fn profile_in(text: &[u8]) -> Option<Profile>
     let name = &text[start..end];
     let (start, end) = next_word(text, end)?;
     let version = &text[start..end];
-    if next_word(text, end).is_some() || !is(name, b"kcore") {
+    if next_word(text, end).is_some() || !is_named(name, b"kcore") {
         return None;
     }
     profile_of(version)
@@ -116,7 +117,7 @@ pub fn vertices_in(text: &[u8]) -> Option<u32>
     let name = &text[start..end];
     let (start, end) = next_word(text, end)?;
     let count = &text[start..end];
-    if next_word(text, end).is_some() || !is(name, b"vertices") {
+    if next_word(text, end).is_some() || !is_named(name, b"vertices") {
         return None;
     }
     let n = read_number(count)?;

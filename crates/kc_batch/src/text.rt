@@ -1,20 +1,12 @@
 //! The words that lines are made of.
 ghost use Rattle.std.specs.Prelude.{◌≡◌, ◌≤◌, length, drop, false, nat_lt, IfOk};
 ghost use Rattle.std.specs.List.{list_all};
-ghost use Rattle.std.specs.Str.{bytes_eq};
 ghost use Rattle.kc_text.specs.Words.{words};
 ghost use Rattle.kc_batch.specs.Headers.{numbers_of};
 
 use crate::Vertices;
 use kc_text::{next_word, read_number};
 use std::alloc::{AllocError, Global};
-
-/// Whether a word is this name.
-pub fn is(word: &[u8], name: &[u8]) -> bool
-    ensures { result ≡ bytes_eq word.now name.now }
-{
-    word == name
-}
 
 /// The numbers that the words at or after `from` say; None where a word says none.
 pub fn read_numbers(alloc: Global, text: &[u8], from: usize) -> Result<Option<Vertices>, AllocError>

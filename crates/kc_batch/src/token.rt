@@ -7,9 +7,10 @@ ghost use Rattle.kc_text.specs.Words.{words, WordAt};
 ghost use Rattle.kc_batch.specs.Tokens.{insertion, deletion, isolation, unsigned, signed, kind_of_words, tokens_left};
 ghost use Rattle.kc_batch.specs.private.Tokens.{kind_of_text, item_of, onto_token, TakesToken, IsLastKind};
 
-use crate::text::is;
 use kc_graph::Item;
-use kc_text::{Body, LineFault, LineReader, NumberLine, Sign, Source, next_word, read_number};
+use kc_text::{
+    Body, LineFault, LineReader, NumberLine, Sign, Source, is_named, next_word, read_number,
+};
 use std::alloc::Global;
 
 /// What a line of batches says by itself, wherever it stands.
@@ -72,7 +73,7 @@ fn unsigned(first: &[u8], u: Option<u32>, v: Option<u32>) -> Kind
 {
     match u {
         Some(u) => insertion(Some(u), v),
-        None if is(first, b"x") => isolation(v),
+        None if is_named(first, b"x") => isolation(v),
         None => Kind::Other,
     }
 }
@@ -81,9 +82,9 @@ fn unsigned(first: &[u8], u: Option<u32>, v: Option<u32>) -> Kind
 fn kind_of_one(word: &[u8]) -> Kind
     ensures { result ≡ kind_of_words (word.now ∷ []) }
 {
-    if is(word, b"batch") {
+    if is_named(word, b"batch") {
         Kind::BatchStart
-    } else if is(word, b"end") {
+    } else if is_named(word, b"end") {
         Kind::BatchEnd
     } else {
         Kind::Other
@@ -100,9 +101,9 @@ fn kind_of_two(first: &[u8], second: &[u8]) -> Kind
 fn signed(sign: &[u8], u: Option<u32>, v: Option<u32>) -> Kind
     ensures { result ≡ signed sign.now u v }
 {
-    if is(sign, b"+") {
+    if is_named(sign, b"+") {
         insertion(u, v)
-    } else if is(sign, b"-") {
+    } else if is_named(sign, b"-") {
         deletion(u, v)
     } else {
         Kind::Other

@@ -1,14 +1,13 @@
 //! What the lines of a certificate say.
 ghost use Rattle.std.specs.Prelude.{◌≡◌, ℕ, ◌≤◌, ◌∷◌, List, Option, length, drop, IfOk};
 ghost use Rattle.std.specs.Option.{option_map};
-ghost use Rattle.std.specs.Str.{bytes_eq};
 ghost use Rattle.kc_text.specs.Causes.{ReadCause};
 ghost use Rattle.kc_text.specs.Words.{words};
 ghost use Rattle.kc_cert.specs.Tokens.{one_number, two_numbers, profile_named, profile_in, is_version, kind_of_words, kind_of_text, tokens_left};
 ghost use Rattle.kc_cert.specs.private.Tokens.{onto_token};
 
 use kc_levels::Profile;
-use kc_text::{Body, LineFault, LineReader, Source, next_number, next_word};
+use kc_text::{Body, LineFault, LineReader, Source, is_named, next_number, next_word};
 use std::alloc::Global;
 
 /// What a line says by itself, wherever it stands.
@@ -47,12 +46,6 @@ pub struct Token {
     pub kind: Kind,
 }
 
-fn is(word: &[u8], name: &[u8]) -> bool
-    ensures { result ≡ bytes_eq word.now name.now }
-{
-    word == name
-}
-
 // The number that the one word at or after `from` says.
 #[tactic(auto, using(crate::proofs::NumberWords::number_steps))]
 fn one_number(text: &[u8], from: usize) -> Option<u32>
@@ -80,9 +73,9 @@ fn two_numbers(text: &[u8], from: usize) -> Option<(u32, u32)>
 fn profile_named(name: &[u8]) -> Option<Profile>
     ensures { result ≡ profile_named name.now }
 {
-    if is(name, b"1") {
+    if is_named(name, b"1") {
         Some(Profile::One)
-    } else if is(name, b"2") {
+    } else if is_named(name, b"2") {
         Some(Profile::Two)
     } else {
         None
@@ -112,7 +105,7 @@ fn is_version(text: &[u8], from: usize) -> bool
     match next_word(text, from) {
         Some((start, end)) => {
             let name = &text[start..end];
-            next_word(text, end).is_none() && is(name, b"1")
+            next_word(text, end).is_none() && is_named(name, b"1")
         }
         None => false,
     }
@@ -124,34 +117,34 @@ fn kind_of_line(name: &[u8], text: &[u8], end: usize) -> Kind
     requires { end ≤ length text.now }
     ensures { result ≡ kind_of_words (name.now ∷ words (drop end text.now)) }
 {
-    if is(name, b"edge") {
+    if is_named(name, b"edge") {
         match two_numbers(text, end) {
             Some((a, b)) => Kind::Edge(a, b),
             None => Kind::Other,
         }
-    } else if is(name, b"level") {
+    } else if is_named(name, b"level") {
         match two_numbers(text, end) {
             Some((v, level)) => Kind::Level(v, level),
             None => Kind::Other,
         }
-    } else if is(name, b"vertices") {
+    } else if is_named(name, b"vertices") {
         match one_number(text, end) {
             Some(n) => Kind::Vertices(n),
             None => Kind::Other,
         }
-    } else if is(name, b"edges") {
+    } else if is_named(name, b"edges") {
         match one_number(text, end) {
             Some(count) => Kind::EdgeCount(count),
             None => Kind::Other,
         }
-    } else if is(name, b"profile") {
+    } else if is_named(name, b"profile") {
         match profile_in(text, end) {
             Some(profile) => Kind::Profile(profile),
             None => Kind::Other,
         }
-    } else if is(name, b"kcore-cert") && is_version(text, end) {
+    } else if is_named(name, b"kcore-cert") && is_version(text, end) {
         Kind::Magic
-    } else if is(name, b"end") && next_word(text, end).is_none() {
+    } else if is_named(name, b"end") && next_word(text, end).is_none() {
         Kind::Close
     } else {
         Kind::Other

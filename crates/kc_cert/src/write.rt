@@ -22,10 +22,8 @@ fn write_text<K: Sink>(
     ensures buffer { OnOk result (buf.new ≡ []) }
     ensures cause { WriteCause (K.faults sink.old) (K.faults sink.new) result }
 {
-    match buf.text(alloc, text) {
-        Ok(()) => buf.send(alloc, sink),
-        Err(fault) => Err(SendFault::Memory(fault)),
-    }
+    buf.text(alloc, text)?;
+    buf.send(alloc, sink)
 }
 
 // Writes a line of a name, with its blank, and a number.
@@ -41,10 +39,8 @@ fn write_named<K: Sink>(
     ensures buffer { OnOk result (buf.new ≡ []) }
     ensures cause { WriteCause (K.faults sink.old) (K.faults sink.new) result }
 {
-    match fill_named(alloc, buf, name, value) {
-        Ok(()) => buf.send(alloc, sink),
-        Err(fault) => Err(SendFault::Memory(fault)),
-    }
+    fill_named(alloc, buf, name, value)?;
+    buf.send(alloc, sink)
 }
 
 // Appends a name, with its blank, and two numbers.
@@ -75,10 +71,8 @@ fn write_pair<K: Sink>(
     ensures buffer { OnOk result (buf.new ≡ []) }
     ensures cause { WriteCause (K.faults sink.old) (K.faults sink.new) result }
 {
-    match fill_pair(alloc, buf, name, first, second) {
-        Ok(()) => buf.send(alloc, sink),
-        Err(fault) => Err(SendFault::Memory(fault)),
-    }
+    fill_pair(alloc, buf, name, first, second)?;
+    buf.send(alloc, sink)
 }
 
 fn profile_text(profile: Profile) -> &'static [u8]

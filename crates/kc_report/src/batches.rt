@@ -61,10 +61,8 @@ fn write_batch_line<K: Sink>(
     ensures buffer { IsCleared buf.new result }
     ensures cause { WriteCause (K.faults sink.old) (K.faults sink.new) result }
 {
-    match fill_batch(alloc, buf, number, cleaned) {
-        Ok(()) => buf.send(alloc, sink),
-        Err(fault) => Err(SendFault::Memory(fault)),
-    }
+    fill_batch(alloc, buf, number, cleaned)?;
+    buf.send(alloc, sink)
 }
 
 /// Writes the lines of an accepted batch (`batch_text`), one after another: its own, with its number, what its cleaning counted,
@@ -129,8 +127,6 @@ pub fn write_refused<K: Sink>(
     ensures buffer { IsCleared buf.new result }
     ensures cause { WriteCause (K.faults sink.old) (K.faults sink.new) result }
 {
-    match fill_refused(alloc, buf, number, line, reason) {
-        Ok(()) => buf.send(alloc, sink),
-        Err(fault) => Err(SendFault::Memory(fault)),
-    }
+    fill_refused(alloc, buf, number, line, reason)?;
+    buf.send(alloc, sink)
 }

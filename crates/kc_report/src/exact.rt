@@ -20,10 +20,8 @@ fn write_exact_magic<K: Sink>(
     ensures buffer { IsCleared buf.new result }
     ensures cause { WriteCause (K.faults sink.old) (K.faults sink.new) result }
 {
-    match buf.text(alloc, b"kcore-exact 1") {
-        Ok(()) => buf.send(alloc, sink),
-        Err(fault) => Err(SendFault::Memory(fault)),
-    }
+    buf.text(alloc, b"kcore-exact 1")?;
+    buf.send(alloc, sink)
 }
 
 /// Writes the two lines ahead of the vertices of an exact text, for `n` vertices (`exact_head_text`), one after the
@@ -81,8 +79,6 @@ pub fn write_coreness<K: Sink>(
     ensures buffer { IsCleared buf.new result }
     ensures cause { WriteCause (K.faults sink.old) (K.faults sink.new) result }
 {
-    match fill_coreness(alloc, buf, v, coreness, estimate) {
-        Ok(()) => buf.send(alloc, sink),
-        Err(fault) => Err(SendFault::Memory(fault)),
-    }
+    fill_coreness(alloc, buf, v, coreness, estimate)?;
+    buf.send(alloc, sink)
 }

@@ -14,10 +14,8 @@ fn write_magic<K: Sink>(alloc: Global, buf: &mut LineBuf, sink: &mut K) -> Resul
     ensures buffer { IsCleared buf.new result }
     ensures cause { WriteCause (K.faults sink.old) (K.faults sink.new) result }
 {
-    match buf.text(alloc, b"kcore-run 1") {
-        Ok(()) => buf.send(alloc, sink),
-        Err(fault) => Err(SendFault::Memory(fault)),
-    }
+    buf.text(alloc, b"kcore-run 1")?;
+    buf.send(alloc, sink)
 }
 
 /// Writes the line that tells the number of vertices (`vertices_line`), which several texts have alike; any number is written.
@@ -34,10 +32,8 @@ pub fn write_vertex_count<K: Sink>(
     ensures buffer { IsCleared buf.new result }
     ensures cause { WriteCause (K.faults sink.old) (K.faults sink.new) result }
 {
-    match fill_named(alloc, buf, b"vertices ", n) {
-        Ok(()) => buf.send(alloc, sink),
-        Err(fault) => Err(SendFault::Memory(fault)),
-    }
+    fill_named(alloc, buf, b"vertices ", n)?;
+    buf.send(alloc, sink)
 }
 
 /// Writes the two lines ahead of a run with `n` vertices (`head_text`), one after the other; any number is written.
@@ -81,10 +77,8 @@ pub fn write_header_refused<K: Sink>(
     ensures buffer { IsCleared buf.new result }
     ensures cause { WriteCause (K.faults sink.old) (K.faults sink.new) result }
 {
-    match fill_header_refused(alloc, buf, line) {
-        Ok(()) => buf.send(alloc, sink),
-        Err(fault) => Err(SendFault::Memory(fault)),
-    }
+    fill_header_refused(alloc, buf, line)?;
+    buf.send(alloc, sink)
 }
 
 /// Writes the last line of a run (`end_line`).
@@ -96,8 +90,6 @@ pub fn write_end<K: Sink>(alloc: Global, buf: &mut LineBuf, sink: &mut K) -> Res
     ensures buffer { IsCleared buf.new result }
     ensures cause { WriteCause (K.faults sink.old) (K.faults sink.new) result }
 {
-    match buf.text(alloc, b"end") {
-        Ok(()) => buf.send(alloc, sink),
-        Err(fault) => Err(SendFault::Memory(fault)),
-    }
+    buf.text(alloc, b"end")?;
+    buf.send(alloc, sink)
 }

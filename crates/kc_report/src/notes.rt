@@ -40,8 +40,6 @@ pub fn write_note<K: Sink>(
     ensures buffer { IsCleared buf.new result }
     ensures cause { WriteCause (K.faults sink.old) (K.faults sink.new) result }
 {
-    match fill_note(alloc, buf, number, line, reason) {
-        Ok(()) => buf.send(alloc, sink),
-        Err(fault) => Err(SendFault::Memory(fault)),
-    }
+    fill_note(alloc, buf, number, line, reason)?;
+    buf.send(alloc, sink)
 }

@@ -45,10 +45,8 @@ fn write_phase_line<K: Sink>(
     ensures buffer { IsCleared buf.new result }
     ensures cause { WriteCause (K.faults sink.old) (K.faults sink.new) result }
 {
-    match fill_phase(alloc, buf, plan) {
-        Ok(()) => buf.send(alloc, sink),
-        Err(fault) => Err(SendFault::Memory(fault)),
-    }
+    fill_phase(alloc, buf, plan)?;
+    buf.send(alloc, sink)
 }
 
 // Appends for each move a blank, its vertex and its new level.
@@ -85,10 +83,8 @@ fn write_group<K: Sink>(
     ensures buffer { IsCleared buf.new result }
     ensures cause { WriteCause (K.faults sink.old) (K.faults sink.new) result }
 {
-    match fill_group(alloc, buf, group) {
-        Ok(()) => buf.send(alloc, sink),
-        Err(fault) => Err(SendFault::Memory(fault)),
-    }
+    fill_group(alloc, buf, group)?;
+    buf.send(alloc, sink)
 }
 
 // Writes the lines of groups.

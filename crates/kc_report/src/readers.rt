@@ -50,8 +50,6 @@ pub fn write_reader<K: Sink>(
     ensures buffer { IsCleared buf.new result }
     ensures cause { WriteCause (K.faults sink.old) (K.faults sink.new) result }
 {
-    match fill_reader(alloc, buf, reader, replies) {
-        Ok(()) => buf.send(alloc, sink),
-        Err(fault) => Err(SendFault::Memory(fault)),
-    }
+    fill_reader(alloc, buf, reader, replies)?;
+    buf.send(alloc, sink)
 }

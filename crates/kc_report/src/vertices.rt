@@ -78,8 +78,6 @@ pub fn write_vertex<K: Sink>(
         up,
         down,
     };
-    match fill_vertex(alloc, buf, line) {
-        Ok(()) => buf.send(alloc, sink),
-        Err(fault) => Err(SendFault::Memory(fault)),
-    }
+    fill_vertex(alloc, buf, line)?;
+    buf.send(alloc, sink)
 }

@@ -120,10 +120,7 @@ fn write_rest<K: Sink>(
 {
     let mut buf = LineBuf::new(alloc);
     write_readers(alloc, &mut buf, sink, lists)?;
-    let levels = match read_all(alloc, store, writer) {
-        Ok(levels) => levels,
-        Err(fault) => return Err(SendFault::Memory(fault)),
-    };
+    let levels = read_all(alloc, store, writer)?;
     let n = engine.graph().vertices();
     write_tail(alloc, &mut buf, sink, n, engine, levels.as_slice())?;
     Ok(levels)

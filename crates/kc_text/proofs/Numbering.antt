@@ -1,5 +1,5 @@
 -- Steps of a number that is read where it stands in a line.
-use Rattle.std.proofs.Common.{ℕ, ◌+◌, ◌-◌, ◌*◌, ◌^◌, ◌<◌, ◌≤◌, ◌≡◌, true, false, List, [], ◌∷◌, ◌++◌, length, drop, refl, ◌∙◌, arith, get_or}
+use Rattle.std.proofs.Common.{ℕ, ◌+◌, ◌-◌, ◌*◌, ◌^◌, ◌<◌, ◌≤◌, ◌≡◌, true, false, List, [], ◌∷◌, ◌++◌, length, drop, refl, subst, ◌∙◌, arith, get_or}
 use Rattle.std.specs.Prelude.{Some, nat_lt, nat_le}
 use Rattle.std.specs.List.{list_all, slice_range}
 use Rattle.std.proofs.lemmas.Bool.Decides.{nat_tests}
@@ -42,6 +42,13 @@ more_digits line start value at more d l e m = record {
   value_is = rw (range_more line start at d.after l, value_last 0 (slice_range line start at) (get_or line at 0), d.value_is, m) refl;
   words_are = d.words_are ∙ word_goes_on line start at d.after l (digit_no_blank (get_or line at 0) e);
 }
+
+-- one more digit after a count of them
+pub count_digit : (line : List ℕ) (start value count more : ℕ) → DigitsAt line start value (start + count) → start + count < length line → is_digit (get_or line (start + count) 0) ≡ true
+    → more ≡ 10 * value + (get_or line (start + count) 0 - 48) → DigitsAt line start more (start + (count + 1))
+count_digit line start value count more d l e m =
+    let next : start + count + 1 ≡ start + (count + 1) = omega arith in
+    subst (λ k. DigitsAt line start more k) next (more_digits line start value (start + count) more d l e m)
 
 pub number_is : (bs : List ℕ) (value : ℕ) → 0 < length bs → length bs ≤ 10 → list_all is_digit bs ≡ true → value_from 0 bs ≡ value → value < 2 ^ 32 → number_of bs ≡ Some value
 number_is bs value a b d e s =

@@ -17,6 +17,16 @@ pub enum SendFault {
     Memory(AllocError),
 }
 
+impl From<AllocError> for SendFault {
+    ghost use Rattle.kc_text.specs.declared.buf.SendFault.TheVariants.{Memory};
+
+    ghost from_gives = { λ e s. s ≡ Memory e };
+
+    fn from(fault: AllocError) -> SendFault {
+        SendFault::Memory(fault)
+    }
+}
+
 /// A line that is put together piece by piece and then sent. It keeps its memory from one line to
 /// the next. A contract sees it as the list of its bytes.
 #[derive(Drop, Debug)]

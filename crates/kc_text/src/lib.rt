@@ -45,4 +45,4 @@ pub use sink::{Sink, put_all};
 pub use source::{Failed, Source};
 pub use std_sink::StdSink;
 pub use std_source::StdSource;
-pub use word::{is_skipped, next_word};
+pub use word::{is_named, is_skipped, next_word};

@@ -34,16 +34,22 @@ fn is_digit(byte: u8) -> bool
     byte >= b'0' && byte <= b'9'
 }
 
-// The value of the digits from `start` on, and where they end. None where the value is too large.
+// As many digits are looked for at first, one more than any vertex has: the compiler lays out the loop over them, in which
+// no value is too large.
+const NEAR: usize = 8;
+
+// The value of the digits from `start` on, of which those before `from` come to `value`, and where they end. None where the
+// value is too large.
+#[inline(never)]
 #[tactic(auto, using(crate::proofs::Numbering::digit_steps))]
-pub(crate) fn pass_digits(line: &[u8], start: usize) -> Option<(u32, usize)>
-    requires { start ≤ length line.now }
+fn pass_more_digits(line: &[u8], start: usize, value: u32, from: usize) -> Option<(u32, usize)>
+    requires { DigitsAt line.now start value from }
     ensures digits { IfSome result (λ r. DigitsAt line.now start r.0 r.1) }
     ensures stop { IfSome result (λ r. StopsAt line.now r.1) }
     ensures none { IfNone result (HasNoNumber line.now start) }
 {
-    let mut value: u64 = 0;
-    let mut at = start;
+    let mut value = value as u64;
+    let mut at = from;
     while at < line.len() {
         if !is_digit(line[at]) {
             return Some((value as u32, at));
@@ -55,6 +61,34 @@ pub(crate) fn pass_digits(line: &[u8], start: usize) -> Option<(u32, usize)>
         at += 1;
     }
     Some((value as u32, at))
+}
+
+// The value of the digits from `start` on, and where they end. None where the value is too large.
+#[inline(always)]
+#[tactic(auto, using(crate::proofs::Numbering::digit_steps))]
+pub(crate) fn pass_digits(line: &[u8], start: usize) -> Option<(u32, usize)>
+    requires { start ≤ length line.now }
+    ensures digits { IfSome result (λ r. DigitsAt line.now start r.0 r.1) }
+    ensures stop { IfSome result (λ r. StopsAt line.now r.1) }
+    ensures none { IfNone result (HasNoNumber line.now start) }
+{
+    if line.len() - start < NEAR {
+        return pass_more_digits(line, start, 0, start);
+    }
+    let mut value: u64 = 0;
+    let mut count = 0;
+    while count < NEAR {
+        let byte = line[start + count];
+        if !is_digit(byte) {
+            return Some((value as u32, start + count));
+        }
+        value = 10 * value + (byte - b'0') as u64;
+        if value >= 1 << 32 {
+            return None;
+        }
+        count += 1;
+    }
+    pass_more_digits(line, start, value as u32, start + NEAR)
 }
 
 // The number of a word of digits that begins at `start`, and where the word ends.

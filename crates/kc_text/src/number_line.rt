@@ -72,6 +72,7 @@ fn pass_sign(bytes: &[u8]) -> Option<(Option<Sign>, usize)>
 }
 
 // The number that one to ten digits at `start` say, and where they end.
+#[inline(always)]
 #[tactic(auto, using(crate::proofs::DigitRuns::digit_steps))]
 fn digits_to(bytes: &[u8], start: usize) -> Option<(u32, usize)>
     requires { start ≤ length bytes.now }
@@ -133,6 +134,7 @@ fn numbers_to(bytes: &[u8], start: usize) -> Option<(u32, u32, usize)>
 
 // The line with which the bytes begin, where its line feed is among them and it is two numbers with one blank between
 // them, or a sign, a blank and such numbers. None where they don't begin with such a line.
+#[inline(always)]
 #[tactic(auto, using(crate::proofs::NumberLines::number_line))]
 pub(crate) fn number_line(bytes: &[u8]) -> Option<NumberLine>
     ensures line { IfSome result (λ line. IsNumberLine bytes.now line) }

@@ -4,7 +4,8 @@ ghost use Rattle.std.specs.Prelude.{◌≡◌, ◌<◌, IfOk};
 use crate::{
     Body, Failed, Line, LineBuf, LineFault, LineReader, MemSink, MemSource, NamedNumbers, NullSink,
     NumberLine, Reason, SendFault, Sign, Sink, Source, StdSink, StdSource, Words, fill_named,
-    give_back, is_skipped, next_kept, next_number, next_word, put_all, read_number, text_of,
+    give_back, is_named, is_skipped, next_kept, next_number, next_word, put_all, read_number,
+    text_of,
 };
 use std::alloc::Global;
 use std::io;
@@ -147,7 +148,7 @@ fn lines_over_faults(rt: HostRuntime) -> Result<(), Fail> {
 #[test]
 fn lines_of_two_numbers(rt: HostRuntime) -> Result<(), Fail> {
     // the limits of a line and of the input, the input, and sign, numbers and length of its second line
-    let rows: [(u32, u32, &[u8], Option<(Option<Sign>, u32, u32, usize)>); 16] = [
+    let rows: [(u32, u32, &[u8], Option<(Option<Sign>, u32, u32, usize)>); 21] = [
         (3, 6, b"#\n1 2\n", Some((None, 1, 2, 3))),
         (2, 6, b"#\n1 2\n", None),
         (3, 5, b"#\n1 2\n", None),
@@ -161,6 +162,21 @@ fn lines_of_two_numbers(rt: HostRuntime) -> Result<(), Fail> {
             Some((None, 4294967295, 1, 21)),
         ),
         (99, 99, b"#\n4294967296 1\n", None),
+        (99, 99, b"#\n1 2\n345678901", Some((None, 1, 2, 3))),
+        (
+            99,
+            99,
+            b"#\n1234567 12345678\n3",
+            Some((None, 1234567, 12345678, 16)),
+        ),
+        (
+            99,
+            99,
+            b"#\n+ 123456789 987654321\r\n",
+            Some((Some(Sign::Plus), 123456789, 987654321, 22)),
+        ),
+        (99, 99, b"#\n42949672960 1\n", None),
+        (99, 99, b"#\n1 2345678x\n0", None),
         (99, 99, b"#\n1 00000000001\n", None),
         (99, 99, b"#\n1 2", None),
         (99, 99, b"#\n1\n2\n", None),
@@ -487,6 +503,8 @@ fn words_and_numbers(rt: HostRuntime) {
         assert!(rt; from <= 9);
         assert_eq!(rt; next_word(line, from), want, "from {from}");
     }
+    assert!(rt; is_named(b"ab", b"ab") && is_named(b"", b""));
+    assert!(rt; !is_named(b"ab", b"a") && !is_named(b"a", b"ab") && !is_named(b"ab", b"aB"));
     let skips: [(&[u8], bool); 5] = [
         (b"", true),
         (b" \t", true),

@@ -1,6 +1,7 @@
-//! Where the words of a line begin and end, between its blanks and tabs, and which lines say nothing.
+//! Where the words of a line begin and end, between its blanks and tabs, which word is a name, and which lines say nothing.
 ghost use Rattle.std.specs.Prelude.{◌≡◌, ◌<◌, ◌≤◌, [], length, drop, IfSome, IfNone, false, slice_index};
 ghost use Rattle.std.specs.List.{slice_range};
+ghost use Rattle.std.specs.Str.{bytes_eq};
 ghost use Rattle.kc_text.specs.Words.{words, is_blank, is_skip, WordAt, closed};
 
 // Whether the byte parts words.
@@ -62,6 +63,13 @@ pub fn next_word(line: &[u8], from: usize) -> Option<(usize, usize)>
     }
     let end = pass_word(line, start);
     Some((start, end))
+}
+
+/// Whether a word is this name, byte for byte.
+pub fn is_named(word: &[u8], name: &[u8]) -> bool
+    ensures { result ≡ bytes_eq word.now name.now }
+{
+    word == name
 }
 
 /// Whether a line says nothing: it has no word, or its first word begins with `#`.

@@ -35,10 +35,8 @@ fn write_verdict<K: Sink>(
     ensures cause { WriteCause (K.faults sink.old) (K.faults sink.new) result }
 {
     let mut buf = LineBuf::new(alloc);
-    match fill_verdict(alloc, &mut buf, verdict) {
-        Ok(()) => buf.send(alloc, sink),
-        Err(fault) => Err(SendFault::Memory(fault)),
-    }
+    fill_verdict(alloc, &mut buf, verdict)?;
+    buf.send(alloc, sink)
 }
 
 /// Reads a run text and writes the one line of whether its groups explain its readers, or of the line at which it is refused. Says

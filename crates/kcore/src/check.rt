@@ -43,10 +43,8 @@ fn write_verdict<K: Sink>(
     ensures cause { WriteCause (K.faults sink.old) (K.faults sink.new) result }
 {
     let mut buf = LineBuf::new(alloc);
-    match fill_verdict(alloc, &mut buf, cert, verdict) {
-        Ok(()) => buf.send(alloc, sink),
-        Err(fault) => Err(SendFault::Memory(fault)),
-    }
+    fill_verdict(alloc, &mut buf, cert, verdict)?;
+    buf.send(alloc, sink)
 }
 
 /// Reads a certificate and writes the one line of what its levels come to, or of the line at which it is refused. Says whether it is

@@ -4,9 +4,8 @@ ghost use Rattle.kc_text.specs.Numbers.{number_of};
 ghost use Rattle.kcore.specs.Commands.{few_workers, fits_load, gen_with, command_of};
 ghost use Rattle.kcore.specs.private.Commands.{FitsWorkers};
 
-use crate::word::is_word;
 use kc_graph::{MAX_ITEMS, MAX_VERTICES};
-use kc_text::{Words, read_number};
+use kc_text::{Words, is_named, read_number};
 
 /// What the words of a command line ask for.
 #[derive(Clone, Copy, Debug, PartialEq, Eq)]
@@ -63,11 +62,11 @@ fn of_two(name: &[u8], workers: &[u8]) -> Option<Command>
     ensures few { FitsWorkers result }
 {
     let workers = few_workers(workers)?;
-    if is_word(name, b"run") {
+    if is_named(name, b"run") {
         Some(Command::Run { workers })
-    } else if is_word(name, b"final") {
+    } else if is_named(name, b"final") {
         Some(Command::Final { workers })
-    } else if is_word(name, b"orient") {
+    } else if is_named(name, b"orient") {
         Some(Command::Orient { workers })
     } else {
         None
@@ -80,13 +79,13 @@ fn of_one(name: &[u8]) -> Option<Command>
     ensures command { result ≡ command_of (name.now ∷ []) }
     ensures few { FitsWorkers result }
 {
-    if is_word(name, b"exact") {
+    if is_named(name, b"exact") {
         Some(Command::Exact)
-    } else if is_word(name, b"check") {
+    } else if is_named(name, b"check") {
         Some(Command::Check)
-    } else if is_word(name, b"audit") {
+    } else if is_named(name, b"audit") {
         Some(Command::Audit)
-    } else if is_word(name, b"dense") {
+    } else if is_named(name, b"dense") {
         Some(Command::Dense)
     } else {
         None
@@ -140,7 +139,7 @@ fn of_six(
     ensures command { result ≡ command_of (name.now ∷ seed.now ∷ n.now ∷ batches.now ∷ items.now ∷ workers.now ∷ []) }
     ensures few { FitsWorkers result }
 {
-    if is_word(name, b"gen") {
+    if is_named(name, b"gen") {
         gen_with(seed, n, batches, items, workers)
     } else {
         None

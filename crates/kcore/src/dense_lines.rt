@@ -16,10 +16,8 @@ fn write_magic<K: Sink>(alloc: Global, buf: &mut LineBuf, sink: &mut K) -> Resul
     ensures buffer { IsCleared buf.new result }
     ensures cause { WriteCause (K.faults sink.old) (K.faults sink.new) result }
 {
-    match buf.text(alloc, b"kcore-dense 1") {
-        Ok(()) => buf.send(alloc, sink),
-        Err(fault) => Err(SendFault::Memory(fault)),
-    }
+    buf.text(alloc, b"kcore-dense 1")?;
+    buf.send(alloc, sink)
 }
 
 /// Writes the first two lines, for n vertices (`dense_head_text`).
@@ -59,10 +57,8 @@ pub fn write_size<K: Sink>(
     ensures buffer { IsCleared buf.new result }
     ensures cause { WriteCause (K.faults sink.old) (K.faults sink.new) result }
 {
-    match fill_size(alloc, buf, size, edges) {
-        Ok(()) => buf.send(alloc, sink),
-        Err(fault) => Err(SendFault::Memory(fault)),
-    }
+    fill_size(alloc, buf, size, edges)?;
+    buf.send(alloc, sink)
 }
 
 // Writes the line of a member.
@@ -77,10 +73,8 @@ fn write_member<K: Sink>(
     ensures buffer { IsCleared buf.new result }
     ensures cause { WriteCause (K.faults sink.old) (K.faults sink.new) result }
 {
-    match fill_named(alloc, buf, b"member ", v) {
-        Ok(()) => buf.send(alloc, sink),
-        Err(fault) => Err(SendFault::Memory(fault)),
-    }
+    fill_named(alloc, buf, b"member ", v)?;
+    buf.send(alloc, sink)
 }
 
 /// Writes the lines of the members (`member_line`), one after another.

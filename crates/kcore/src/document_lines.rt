@@ -31,8 +31,6 @@ pub fn write_document_refused<K: Sink>(
     ensures cause { WriteCause (K.faults sink.old) (K.faults sink.new) result }
 {
     let mut buf = LineBuf::new(alloc);
-    match fill_refused(alloc, &mut buf, line, reason) {
-        Ok(()) => buf.send(alloc, sink),
-        Err(fault) => Err(SendFault::Memory(fault)),
-    }
+    fill_refused(alloc, &mut buf, line, reason)?;
+    buf.send(alloc, sink)
 }

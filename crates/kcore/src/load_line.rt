@@ -27,8 +27,6 @@ pub fn write_load<K: Sink>(alloc: Global, sink: &mut K, ended: &Ended) -> Result
     ensures cause { WriteCause (K.faults sink.old) (K.faults sink.new) result }
 {
     let mut buf = LineBuf::new(alloc);
-    match fill_load(alloc, &mut buf, ended) {
-        Ok(()) => buf.send(alloc, sink),
-        Err(fault) => Err(SendFault::Memory(fault)),
-    }
+    fill_load(alloc, &mut buf, ended)?;
+    buf.send(alloc, sink)
 }

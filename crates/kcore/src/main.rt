@@ -32,7 +32,6 @@ mod status;
 #[cfg(test)]
 mod tests;
 pub mod top;
-mod word;
 
 use kc_rounds::OpenGate;
 use kc_text::{StdSink, StdSource, Words};

@@ -16,10 +16,8 @@ fn write_magic<K: Sink>(alloc: Global, buf: &mut LineBuf, sink: &mut K) -> Resul
     ensures buffer { IsCleared buf.new result }
     ensures cause { WriteCause (K.faults sink.old) (K.faults sink.new) result }
 {
-    match buf.text(alloc, b"kcore-orient 1") {
-        Ok(()) => buf.send(alloc, sink),
-        Err(fault) => Err(SendFault::Memory(fault)),
-    }
+    buf.text(alloc, b"kcore-orient 1")?;
+    buf.send(alloc, sink)
 }
 
 /// Writes the two lines ahead of the vertices, for n vertices (`orient_head_text`).
@@ -78,8 +76,6 @@ pub fn write_oriented<K: Sink>(
     ensures buffer { IsCleared buf.new result }
     ensures cause { WriteCause (K.faults sink.old) (K.faults sink.new) result }
 {
-    match fill_oriented(alloc, buf, v, colour, out) {
-        Ok(()) => buf.send(alloc, sink),
-        Err(fault) => Err(SendFault::Memory(fault)),
-    }
+    fill_oriented(alloc, buf, v, colour, out)?;
+    buf.send(alloc, sink)
 }

@@ -1,7 +1,6 @@
 //! The first two lines of an input.
 ghost use Rattle.std.specs.Prelude.{◌≡◌, false, IfOk};
 ghost use Rattle.std.specs.Option.{option_map};
-ghost use Rattle.std.specs.Str.{bytes_eq};
 ghost use Rattle.kc_text.specs.Causes.{ReadCause};
 ghost use Rattle.kc_text.specs.Words.{words};
 ghost use Rattle.kc_text.specs.Kept.{kept_left};
@@ -9,7 +8,7 @@ ghost use Rattle.kserve.specs.Inputs.{is_magic, input_from, after_magic, after_h
 ghost use Rattle.kserve.specs.private.Inputs.{HasRange};
 
 use kc_batch::vertices_in;
-use kc_text::{LineFault, LineReader, Source, next_kept, next_word, text_of};
+use kc_text::{LineFault, LineReader, Source, is_named, next_kept, next_word, text_of};
 use std::alloc::Global;
 
 /// What the first two lines of an input say.
@@ -19,13 +18,6 @@ pub enum Head {
     Vertices(u32),
     /// The line that doesn't have its form.
     Refused { line: u32 },
-}
-
-// Whether a word is this name.
-fn is_word(word: &[u8], name: &[u8]) -> bool
-    ensures { result ≡ bytes_eq word.now name.now }
-{
-    word == name
 }
 
 // Whether a line is `kserve 1`.
@@ -41,7 +33,7 @@ fn is_magic(text: &[u8]) -> bool
         return false;
     };
     let version = &text[start..end];
-    next_word(text, end).is_none() && is_word(name, b"kserve") && is_word(version, b"1")
+    next_word(text, end).is_none() && is_named(name, b"kserve") && is_named(version, b"1")
 }
 
 // Reads the line `vertices N`.

@@ -19,10 +19,8 @@ fn write_magic<K: Sink>(alloc: Global, buf: &mut LineBuf, sink: &mut K) -> Resul
     ensures buffer { IsCleared buf.new result }
     ensures cause { WriteCause (K.faults sink.old) (K.faults sink.new) result }
 {
-    match buf.text(alloc, b"kserve-run 1") {
-        Ok(()) => buf.send(alloc, sink),
-        Err(fault) => Err(SendFault::Memory(fault)),
-    }
+    buf.text(alloc, b"kserve-run 1")?;
+    buf.send(alloc, sink)
 }
 
 /// Writes the first two lines, for n vertices (`head_text`).
@@ -67,10 +65,8 @@ pub fn write_refused<K: Sink>(
     ensures text { Appends (K.taken sink.old) (K.taken sink.new) (refused_line line reason) result }
     ensures cause { WriteCause (K.faults sink.old) (K.faults sink.new) result }
 {
-    match fill_refused(alloc, buf, line, reason) {
-        Ok(()) => buf.send(alloc, sink),
-        Err(fault) => Err(SendFault::Memory(fault)),
-    }
+    fill_refused(alloc, buf, line, reason)?;
+    buf.send(alloc, sink)
 }
 
 // Writes the first line of a batch.
@@ -85,10 +81,8 @@ fn write_number<K: Sink>(
     ensures buffer { IsCleared buf.new result }
     ensures cause { WriteCause (K.faults sink.old) (K.faults sink.new) result }
 {
-    match fill_named(alloc, buf, b"batch ", number) {
-        Ok(()) => buf.send(alloc, sink),
-        Err(fault) => Err(SendFault::Memory(fault)),
-    }
+    fill_named(alloc, buf, b"batch ", number)?;
+    buf.send(alloc, sink)
 }
 
 // The words of an item, each after a blank.
@@ -128,10 +122,8 @@ fn write_take<K: Sink>(
     ensures buffer { IsCleared buf.new result }
     ensures cause { WriteCause (K.faults sink.old) (K.faults sink.new) result }
 {
-    match fill_take(alloc, buf, *update) {
-        Ok(()) => buf.send(alloc, sink),
-        Err(fault) => Err(SendFault::Memory(fault)),
-    }
+    fill_take(alloc, buf, *update)?;
+    buf.send(alloc, sink)
 }
 
 // Writes the lines of updates, one after another.

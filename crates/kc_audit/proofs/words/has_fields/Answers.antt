@@ -5,8 +5,8 @@ use Rattle.kc_audit.proofs.words.has_fields.Goals as goal
 pub returns-in_default-next_word : goal.returns-in_default-next_word
 returns-in_default-next_word c = sym (c.loop-name_start.invariant.same ∙ field_missing _ _ _ _ c.in-Some.ensures.word.words c.in_default-next_word.ensures.none)
 
-pub returns-then-not-is : goal.returns-then-not-is
-returns-then-not-is c = sym (c.loop-name_start.invariant.same ∙ field_other _ _ _ _ _ _ c.in-Some.ensures.word.words c.in-Some-next_word.ensures.word.words (sym c.is.ensures ∙ c.if-not-is.true))
+pub returns-then-not-is_named : goal.returns-then-not-is_named
+returns-then-not-is_named c = sym (c.loop-name_start.invariant.same ∙ field_other _ _ _ _ _ _ c.in-Some.ensures.word.words c.in-Some-next_word.ensures.word.words (sym c.is_named.ensures ∙ c.if-not-is_named.true))
 
 pub returns-in_default-number_at : goal.returns-in_default-number_at
 returns-in_default-number_at c =
@@ -14,7 +14,7 @@ returns-in_default-number_at c =
 
 pub loop-name_start-preserved : goal.loop-name_start-preserved
 loop-name_start-preserved c = record {
-  same = c.loop-name_start.invariant.same ∙ field_there _ _ _ _ _ _ _ _ c.in-Some.ensures.word.words c.in-Some-next_word.ensures.word.words (sym c.is.ensures ∙ c.if-not-is.false) c.in-Some-number_at.ensures.number;
+  same = c.loop-name_start.invariant.same ∙ field_there _ _ _ _ _ _ _ _ c.in-Some.ensures.word.words c.in-Some-next_word.ensures.word.words (sym c.is_named.ensures ∙ c.if-not-is_named.false) c.in-Some-number_at.ensures.number;
   within = c.in-Some-number_at.ensures.within;
   names_within = c.in-Some.ensures.word.within;
 }

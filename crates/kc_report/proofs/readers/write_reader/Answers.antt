@@ -1,5 +1,5 @@
 use Rattle.kc_report.proofs.LineLemmas.{sent_as}
 use Rattle.kc_report.proofs.readers.write_reader.Goals as goal
 
-pub returns-in-Ok-clause-text : goal.returns-in-Ok-clause-text
-returns-in-Ok-clause-text g c = sent_as _ _ _ _ _ c.in-Ok.ensures c.send.ensures.sent
+pub returns-clause-text : goal.returns-clause-text
+returns-clause-text g c = sent_as _ _ _ _ _ c.in_ok-fill_reader.ensures c.send.ensures.sent

@@ -1,12 +1,14 @@
-use Rattle.std.proofs.Common.{◌<◌, ◌-◌, ◌^◌, length}
+use Rattle.std.proofs.Common.{◌<◌, ◌≤◌, ◌-◌, ◌+◌, ◌^◌, length}
 use Rattle.kc_text.specs.private.Numbers.{DigitsAt}
 use Rattle.kc_text.proofs.number.pass_digits.Given as goal
 
-abbrev pub invariant-loop-at : goal.invariant-loop-at
-invariant-loop-at l = record {
-  digits : DigitsAt l.line l.start l.value l.at;
+abbrev pub invariant-loop-count : goal.invariant-loop-count
+invariant-loop-count l = record {
+  room : l.start + 8 ≤ length l.line;
+  few : l.count ≤ 8;
+  digits : DigitsAt l.line l.start l.value (l.start + l.count);
   small : l.value < 2 ^ 32;
 }
 
-abbrev pub decreases-loop-at : goal.decreases-loop-at
-decreases-loop-at l = length l.line - l.at
+abbrev pub decreases-loop-count : goal.decreases-loop-count
+decreases-loop-count l = 8 - l.count

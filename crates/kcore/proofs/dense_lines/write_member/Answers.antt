@@ -2,5 +2,5 @@ use Rattle.kc_report.proofs.lemmas.Lines.{sent_as}
 use Rattle.kcore.proofs.DenseLineLemmas.{member_filled}
 use Rattle.kcore.proofs.dense_lines.write_member.Goals as goal
 
-pub returns-in-Ok-clause-text : goal.returns-in-Ok-clause-text
-returns-in-Ok-clause-text g c = sent_as _ _ _ _ _ (member_filled c.args.v _ _ c.requires c.in-Ok.ensures) c.send.ensures.sent
+pub returns-clause-text : goal.returns-clause-text
+returns-clause-text g c = sent_as _ _ _ _ _ (member_filled c.args.v _ _ c.requires c.in_ok-fill_named.ensures) c.send.ensures.sent

@@ -2,5 +2,5 @@ use Rattle.std.proofs.Common.{refl}
 use Rattle.kc_report.proofs.lemmas.Lines.{sent_as}
 use Rattle.kserve.proofs.lines.write_magic.Goals as goal
 
-pub returns-in-Ok-clause-text : goal.returns-in-Ok-clause-text
-returns-in-Ok-clause-text g c = sent_as _ _ _ _ _ (rw (c.in-Ok.ensures.ok, c.requires) refl) c.send.ensures.sent
+pub returns-clause-text : goal.returns-clause-text
+returns-clause-text g c = sent_as _ _ _ _ _ (rw (c.in_ok-text.ensures.ok, c.requires) refl) c.send.ensures.sent
