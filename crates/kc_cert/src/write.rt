@@ -17,11 +17,10 @@ fn write_text<K: Sink>(
     sink: &mut K,
     text: &[u8],
 ) -> Result<(), SendFault>
-    requires { buf.old ≡ [] }
     ensures text { Appends (K.taken sink.old) (K.taken sink.new) (text.now ++ 10 ∷ []) result }
-    ensures buffer { OnOk result (buf.new ≡ []) }
     ensures cause { WriteCause (K.faults sink.old) (K.faults sink.new) result }
 {
+    buf.clear();
     match buf.text(alloc, text) {
         Ok(()) => buf.send(alloc, sink),
         Err(fault) => Err(SendFault::Memory(fault)),
@@ -36,11 +35,10 @@ fn write_named<K: Sink>(
     name: &[u8],
     value: u32,
 ) -> Result<(), SendFault>
-    requires { buf.old ≡ [] }
     ensures text { Appends (K.taken sink.old) (K.taken sink.new) ((name.now ++ decimal value) ++ 10 ∷ []) result }
-    ensures buffer { OnOk result (buf.new ≡ []) }
     ensures cause { WriteCause (K.faults sink.old) (K.faults sink.new) result }
 {
+    buf.clear();
     match fill_named(alloc, buf, name, value) {
         Ok(()) => buf.send(alloc, sink),
         Err(fault) => Err(SendFault::Memory(fault)),
@@ -70,11 +68,10 @@ fn write_pair<K: Sink>(
     first: u32,
     second: u32,
 ) -> Result<(), SendFault>
-    requires { buf.old ≡ [] }
     ensures text { Appends (K.taken sink.old) (K.taken sink.new) ((((name.now ++ decimal first) ++ codes " ") ++ decimal second) ++ 10 ∷ []) result }
-    ensures buffer { OnOk result (buf.new ≡ []) }
     ensures cause { WriteCause (K.faults sink.old) (K.faults sink.new) result }
 {
+    buf.clear();
     match fill_pair(alloc, buf, name, first, second) {
         Ok(()) => buf.send(alloc, sink),
         Err(fault) => Err(SendFault::Memory(fault)),
@@ -98,9 +95,7 @@ fn write_head<K: Sink>(
     profile: Profile,
     graph: &Graph,
 ) -> Result<(), SendFault>
-    requires { buf.old ≡ [] }
     ensures text { Appends (K.taken sink.old) (K.taken sink.new) (printed (head_lines profile graph.now)) result }
-    ensures buffer { OnOk result (buf.new ≡ []) }
     ensures cause { WriteCause (K.faults sink.old) (K.faults sink.new) result }
 {
     write_text(alloc, buf, sink, b"kcore-cert 1")?;
@@ -117,9 +112,7 @@ fn write_row<K: Sink>(
     v: u32,
     neighbours: &[u32],
 ) -> Result<(), SendFault>
-    requires { buf.old ≡ [] }
     ensures text { Appends (K.taken sink.old) (K.taken sink.new) (printed (row_lines v neighbours.now)) result }
-    ensures buffer { OnOk result (buf.new ≡ []) }
     ensures cause { WriteCause (K.faults sink.old) (K.faults sink.new) result }
 {
     for w in neighbours {
@@ -138,9 +131,7 @@ fn write_edges<K: Sink>(
     sink: &mut K,
     graph: &Graph,
 ) -> Result<(), SendFault>
-    requires { buf.old ≡ [] }
     ensures text { Appends (K.taken sink.old) (K.taken sink.new) (printed (map edge_line graph.now.edges)) result }
-    ensures buffer { OnOk result (buf.new ≡ []) }
     ensures cause { WriteCause (K.faults sink.old) (K.faults sink.new) result }
 {
     for v in 0..graph.vertices() {
@@ -157,10 +148,8 @@ fn write_levels<K: Sink>(
     n: u32,
     levels: &Levels,
 ) -> Result<(), SendFault>
-    requires buffer { buf.old ≡ [] }
     requires sized { length levels.now ≡ n }
     ensures text { Appends (K.taken sink.old) (K.taken sink.new) (printed (level_lines 0 levels.now)) result }
-    ensures buffer { OnOk result (buf.new ≡ []) }
     ensures cause { WriteCause (K.faults sink.old) (K.faults sink.new) result }
 {
     for v in 0..n {
