@@ -2,7 +2,6 @@
 ghost use Rattle.std.specs.Prelude.{◌≡◌, [], ◌∷◌, ◌++◌, OnOk};
 ghost use Rattle.std.specs.List.{flat_map};
 ghost use Rattle.kc_text.specs.Writing.{Appends, WriteCause};
-ghost use Rattle.kc_report.specs.Buffer.{IsCleared};
 ghost use Rattle.kcore.specs.DenseLines.{dense_magic_line, dense_head_text, size_line, member_line};
 
 use kc_report::write_vertex_count;
@@ -11,11 +10,10 @@ use std::alloc::{AllocError, Global};
 
 // Writes the first line.
 fn write_magic<K: Sink>(alloc: Global, buf: &mut LineBuf, sink: &mut K) -> Result<(), SendFault>
-    requires { buf.old ≡ [] }
     ensures text { Appends (K.taken sink.old) (K.taken sink.new) dense_magic_line result }
-    ensures buffer { IsCleared buf.new result }
     ensures cause { WriteCause (K.faults sink.old) (K.faults sink.new) result }
 {
+    buf.clear();
     match buf.text(alloc, b"kcore-dense 1") {
         Ok(()) => buf.send(alloc, sink),
         Err(fault) => Err(SendFault::Memory(fault)),
@@ -29,9 +27,7 @@ pub fn write_dense_head<K: Sink>(
     sink: &mut K,
     n: u32,
 ) -> Result<(), SendFault>
-    requires { buf.old ≡ [] }
     ensures text { Appends (K.taken sink.old) (K.taken sink.new) (dense_head_text n) result }
-    ensures buffer { IsCleared buf.new result }
     ensures cause { WriteCause (K.faults sink.old) (K.faults sink.new) result }
 {
     write_magic(alloc, buf, sink)?;
@@ -39,9 +35,9 @@ pub fn write_dense_head<K: Sink>(
 }
 
 fn fill_size(alloc: Global, buf: &mut LineBuf, size: u32, edges: u32) -> Result<(), AllocError>
-    requires { buf.old ≡ [] }
     ensures { OnOk result (buf.new ++ 10 ∷ [] ≡ size_line size edges) }
 {
+    buf.clear();
     fill_named(alloc, buf, b"size ", size)?;
     fill_named(alloc, buf, b" edges ", edges)
 }
@@ -54,9 +50,7 @@ pub fn write_size<K: Sink>(
     size: u32,
     edges: u32,
 ) -> Result<(), SendFault>
-    requires { buf.old ≡ [] }
     ensures text { Appends (K.taken sink.old) (K.taken sink.new) (size_line size edges) result }
-    ensures buffer { IsCleared buf.new result }
     ensures cause { WriteCause (K.faults sink.old) (K.faults sink.new) result }
 {
     match fill_size(alloc, buf, size, edges) {
@@ -72,11 +66,10 @@ fn write_member<K: Sink>(
     sink: &mut K,
     v: u32,
 ) -> Result<(), SendFault>
-    requires { buf.old ≡ [] }
     ensures text { Appends (K.taken sink.old) (K.taken sink.new) (member_line v) result }
-    ensures buffer { IsCleared buf.new result }
     ensures cause { WriteCause (K.faults sink.old) (K.faults sink.new) result }
 {
+    buf.clear();
     match fill_named(alloc, buf, b"member ", v) {
         Ok(()) => buf.send(alloc, sink),
         Err(fault) => Err(SendFault::Memory(fault)),
@@ -90,9 +83,7 @@ pub fn write_members<K: Sink>(
     sink: &mut K,
     members: &[u32],
 ) -> Result<(), SendFault>
-    requires { buf.old ≡ [] }
     ensures text { Appends (K.taken sink.old) (K.taken sink.new) (flat_map member_line members.now) result }
-    ensures buffer { IsCleared buf.new result }
     ensures cause { WriteCause (K.faults sink.old) (K.faults sink.new) result }
 {
     for v in members {

@@ -1,8 +1,7 @@
 //! The command `exact`: the coreness of each vertex after the batches of an input.
-ghost use Rattle.std.specs.Prelude.{◌≡◌, ◌<◌, ◌++◌, [], false, length};
+ghost use Rattle.std.specs.Prelude.{◌≡◌, ◌<◌, ◌++◌, false, length};
 ghost use Rattle.kc_text.specs.Writing.{Appends, WriteCause};
 ghost use Rattle.kc_graph.specs.declared.limits.TheConstants.{MAX_EDGES};
-ghost use Rattle.kc_report.specs.Buffer.{IsCleared};
 ghost use Rattle.kc_report.specs.Lines.{end_line};
 ghost use Rattle.kc_engine.specs.States.{IsSound};
 ghost use Rattle.kcore.specs.ExactText.{exact_vertex_text, IsExact};
@@ -25,13 +24,11 @@ fn write_one<K: Sink>(
     corenesses: &[u32],
     v: u32,
 ) -> Result<(), SendFault>
-    requires empty { buf.old ≡ [] }
     requires running { engine.now.halted ≡ false }
     requires sound { IsSound MAX_EDGES engine.now.state }
     requires vertex { v < engine.now.state.graph.vertices }
     requires sized { length corenesses.now ≡ engine.now.state.graph.vertices }
     ensures text { Appends (K.taken sink.old) (K.taken sink.new) (exact_vertex_text engine.now.state corenesses.now v) result }
-    ensures buffer { IsCleared buf.new result }
     ensures cause { WriteCause (K.faults sink.old) (K.faults sink.new) result }
 {
     let estimate = engine.thresholds().estimate(engine.levels().get(v));
@@ -47,13 +44,11 @@ fn write_vertices<K: Sink>(
     engine: &Engine,
     corenesses: &[u32],
 ) -> Result<(), SendFault>
-    requires empty { buf.old ≡ [] }
     requires running { engine.now.halted ≡ false }
     requires sound { IsSound MAX_EDGES engine.now.state }
     requires vertices { engine.now.state.graph.vertices ≡ n }
     requires sized { length corenesses.now ≡ n }
     ensures text { Appends (K.taken sink.old) (K.taken sink.new) (vertex_lines (exact_vertex_text engine.now.state corenesses.now) n) result }
-    ensures buffer { IsCleared buf.new result }
     ensures cause { WriteCause (K.faults sink.old) (K.faults sink.new) result }
 {
     for v in 0..n {
@@ -71,7 +66,6 @@ fn write_after_head<K: Sink>(
     engine: &Engine,
     corenesses: &[u32],
 ) -> Result<(), SendFault>
-    requires empty { buf.old ≡ [] }
     requires running { engine.now.halted ≡ false }
     requires sound { IsSound MAX_EDGES engine.now.state }
     requires vertices { engine.now.state.graph.vertices ≡ n }

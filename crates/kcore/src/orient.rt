@@ -1,8 +1,7 @@
 //! The command `orient`: the edges directed and the vertices coloured after the batches of an input.
-ghost use Rattle.std.specs.Prelude.{◌≡◌, ◌<◌, ◌++◌, [], IfOk, false, length};
+ghost use Rattle.std.specs.Prelude.{◌≡◌, ◌<◌, ◌++◌, IfOk, length};
 ghost use Rattle.kc_text.specs.Writing.{Appends, WriteCause};
 ghost use Rattle.kc_graph.specs.declared.limits.TheConstants.{MAX_EDGES};
-ghost use Rattle.kc_report.specs.Buffer.{IsCleared};
 ghost use Rattle.kc_report.specs.Lines.{end_line};
 ghost use Rattle.kc_orient.specs.Shape.{orientation};
 ghost use Rattle.kc_orient.specs.Colouring.{IsColouring};
@@ -44,11 +43,9 @@ fn write_one<K: Sink>(
     colours: &[u32],
     v: u32,
 ) -> Result<(), SendFault>
-    requires empty { buf.old ≡ [] }
     requires vertex { v < length oriented.now.levels }
     requires sized { length colours.now ≡ length oriented.now.levels }
     ensures text { Appends (K.taken sink.old) (K.taken sink.new) (oriented_vertex_text oriented.now colours.now v) result }
-    ensures buffer { IsCleared buf.new result }
     ensures cause { WriteCause (K.faults sink.old) (K.faults sink.new) result }
 {
     write_oriented(alloc, buf, sink, v, colours[v as usize], oriented.out(v))
@@ -63,11 +60,9 @@ fn write_vertices<K: Sink>(
     oriented: &Orientation,
     colours: &[u32],
 ) -> Result<(), SendFault>
-    requires empty { buf.old ≡ [] }
     requires vertices { length oriented.now.levels ≡ n }
     requires sized { length colours.now ≡ n }
     ensures text { Appends (K.taken sink.old) (K.taken sink.new) (vertex_lines (oriented_vertex_text oriented.now colours.now) n) result }
-    ensures buffer { IsCleared buf.new result }
     ensures cause { WriteCause (K.faults sink.old) (K.faults sink.new) result }
 {
     for v in 0..n {
@@ -85,7 +80,6 @@ fn write_after_head<K: Sink>(
     oriented: &Orientation,
     colours: &[u32],
 ) -> Result<(), SendFault>
-    requires empty { buf.old ≡ [] }
     requires vertices { length oriented.now.levels ≡ n }
     requires sized { length colours.now ≡ n }
     ensures text { Appends (K.taken sink.old) (K.taken sink.new) (vertex_lines (oriented_vertex_text oriented.now colours.now) n ++ end_line) result }

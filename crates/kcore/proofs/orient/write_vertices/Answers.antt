@@ -8,7 +8,7 @@ use Rattle.kcore.proofs.orient.write_vertices.Goals as goal
 
 pub loop-v-init : goal.loop-v-init
 unfolding vertex_lines
-loop-v-init g c = record { taken = append_none _; empty = c.requires.empty; faults = refl }
+loop-v-init g c = record { taken = append_none _; faults = refl }
 
 pub returns-in_err-write_one-clause-text : goal.returns-in_err-write_one-clause-text
 returns-in_err-write_one-clause-text g c =
@@ -18,6 +18,5 @@ returns-in_err-write_one-clause-text g c =
 pub loop-v-preserved : goal.loop-v-preserved
 loop-v-preserved g c = record {
   taken = lines_more (oriented_vertex_text c.args.oriented.now c.args.colours.now) _ _ _ c.loop-v.v c.loop-v.invariant.taken c.in_ok-write_one.ensures.text;
-  empty = c.in_ok-write_one.ensures.buffer;
   faults = c.in_ok-write_one.ensures.cause ∙ c.loop-v.invariant.faults;
 }
