@@ -17,11 +17,10 @@ fn write_text<K: Sink>(
     sink: &mut K,
     text: &[u8],
 ) -> Result<(), SendFault>
-    requires { buf.old ≡ [] }
     ensures text { Appends (K.taken sink.old) (K.taken sink.new) (text.now ++ 10 ∷ []) result }
-    ensures buffer { OnOk result (buf.new ≡ []) }
     ensures cause { WriteCause (K.faults sink.old) (K.faults sink.new) result }
 {
+    buf.clear();
     buf.text(alloc, text)?;
     buf.send(alloc, sink)
 }
@@ -34,11 +33,10 @@ fn write_named<K: Sink>(
     name: &[u8],
     value: u32,
 ) -> Result<(), SendFault>
-    requires { buf.old ≡ [] }
     ensures text { Appends (K.taken sink.old) (K.taken sink.new) ((name.now ++ decimal value) ++ 10 ∷ []) result }
-    ensures buffer { OnOk result (buf.new ≡ []) }
     ensures cause { WriteCause (K.faults sink.old) (K.faults sink.new) result }
 {
+    buf.clear();
     fill_named(alloc, buf, name, value)?;
     buf.send(alloc, sink)
 }
@@ -66,11 +64,10 @@ fn write_pair<K: Sink>(
     first: u32,
     second: u32,
 ) -> Result<(), SendFault>
-    requires { buf.old ≡ [] }
     ensures text { Appends (K.taken sink.old) (K.taken sink.new) ((((name.now ++ decimal first) ++ codes " ") ++ decimal second) ++ 10 ∷ []) result }
-    ensures buffer { OnOk result (buf.new ≡ []) }
     ensures cause { WriteCause (K.faults sink.old) (K.faults sink.new) result }
 {
+    buf.clear();
     fill_pair(alloc, buf, name, first, second)?;
     buf.send(alloc, sink)
 }
@@ -92,9 +89,7 @@ fn write_head<K: Sink>(
     profile: Profile,
     graph: &Graph,
 ) -> Result<(), SendFault>
-    requires { buf.old ≡ [] }
     ensures text { Appends (K.taken sink.old) (K.taken sink.new) (printed (head_lines profile graph.now)) result }
-    ensures buffer { OnOk result (buf.new ≡ []) }
     ensures cause { WriteCause (K.faults sink.old) (K.faults sink.new) result }
 {
     write_text(alloc, buf, sink, b"kcore-cert 1")?;
@@ -111,9 +106,7 @@ fn write_row<K: Sink>(
     v: u32,
     neighbours: &[u32],
 ) -> Result<(), SendFault>
-    requires { buf.old ≡ [] }
     ensures text { Appends (K.taken sink.old) (K.taken sink.new) (printed (row_lines v neighbours.now)) result }
-    ensures buffer { OnOk result (buf.new ≡ []) }
     ensures cause { WriteCause (K.faults sink.old) (K.faults sink.new) result }
 {
     for w in neighbours {
@@ -132,9 +125,7 @@ fn write_edges<K: Sink>(
     sink: &mut K,
     graph: &Graph,
 ) -> Result<(), SendFault>
-    requires { buf.old ≡ [] }
     ensures text { Appends (K.taken sink.old) (K.taken sink.new) (printed (map edge_line graph.now.edges)) result }
-    ensures buffer { OnOk result (buf.new ≡ []) }
     ensures cause { WriteCause (K.faults sink.old) (K.faults sink.new) result }
 {
     for v in 0..graph.vertices() {
@@ -151,10 +142,8 @@ fn write_levels<K: Sink>(
     n: u32,
     levels: &Levels,
 ) -> Result<(), SendFault>
-    requires buffer { buf.old ≡ [] }
     requires sized { length levels.now ≡ n }
     ensures text { Appends (K.taken sink.old) (K.taken sink.new) (printed (level_lines 0 levels.now)) result }
-    ensures buffer { OnOk result (buf.new ≡ []) }
     ensures cause { WriteCause (K.faults sink.old) (K.faults sink.new) result }
 {
     for v in 0..n {

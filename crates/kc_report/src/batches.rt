@@ -36,11 +36,11 @@ fn fill_batch(
     number: u32,
     cleaned: &Cleaned,
 ) -> Result<(), AllocError>
-    requires empty { buf.old ≡ [] }
     requires few_removed { length cleaned.now.removed < 2 ^ 32 }
     requires few_added { length cleaned.now.added < 2 ^ 32 }
     ensures { OnOk result (buf.new ++ 10 ∷ [] ≡ batch_line number cleaned.now) }
 {
+    buf.clear();
     fill_counts(alloc, buf, number, cleaned)?;
     fill_named(alloc, buf, b" removed ", cleaned.removed.len() as u32)?;
     fill_named(alloc, buf, b" added ", cleaned.added.len() as u32)
@@ -54,7 +54,6 @@ fn write_batch_line<K: Sink>(
     number: u32,
     cleaned: &Cleaned,
 ) -> Result<(), SendFault>
-    requires empty { buf.old ≡ [] }
     requires few_removed { length cleaned.now.removed < 2 ^ 32 }
     requires few_added { length cleaned.now.added < 2 ^ 32 }
     ensures text { Appends (K.taken sink.old) (K.taken sink.new) (batch_line number cleaned.now) result }
@@ -81,7 +80,6 @@ pub fn write_batch<K: Sink>(
     cleaned: &Cleaned,
     phases: &[PhasePlan],
 ) -> Result<(), SendFault>
-    requires empty { buf.old ≡ [] }
     requires few_removed { length cleaned.now.removed < 2 ^ 32 }
     requires few_added { length cleaned.now.added < 2 ^ 32 }
     requires few_quiet { All (λ plan. length plan.quiet.edges < 2 ^ 32) phases.now }
@@ -122,11 +120,11 @@ pub fn write_refused<K: Sink>(
     line: u32,
     reason: Reason,
 ) -> Result<(), SendFault>
-    requires { buf.old ≡ [] }
     ensures text { Appends (K.taken sink.old) (K.taken sink.new) (refused_line number line reason) result }
     ensures buffer { IsCleared buf.new result }
     ensures cause { WriteCause (K.faults sink.old) (K.faults sink.new) result }
 {
+    buf.clear();
     fill_refused(alloc, buf, number, line, reason)?;
     buf.send(alloc, sink)
 }

@@ -15,11 +15,11 @@ fn write_exact_magic<K: Sink>(
     buf: &mut LineBuf,
     sink: &mut K,
 ) -> Result<(), SendFault>
-    requires { buf.old ≡ [] }
     ensures text { Appends (K.taken sink.old) (K.taken sink.new) exact_magic_line result }
     ensures buffer { IsCleared buf.new result }
     ensures cause { WriteCause (K.faults sink.old) (K.faults sink.new) result }
 {
+    buf.clear();
     buf.text(alloc, b"kcore-exact 1")?;
     buf.send(alloc, sink)
 }
@@ -35,7 +35,6 @@ pub fn write_exact_head<K: Sink>(
     sink: &mut K,
     n: u32,
 ) -> Result<(), SendFault>
-    requires { buf.old ≡ [] }
     ensures text { Appends (K.taken sink.old) (K.taken sink.new) (exact_head_text n) result }
     ensures buffer { IsCleared buf.new result }
     ensures cause { WriteCause (K.faults sink.old) (K.faults sink.new) result }
@@ -51,9 +50,9 @@ fn fill_coreness(
     coreness: u32,
     estimate: Estimate,
 ) -> Result<(), AllocError>
-    requires { buf.old ≡ [] }
     ensures { OnOk result (buf.new ++ 10 ∷ [] ≡ coreness_line v coreness estimate) }
 {
+    buf.clear();
     fill_named(alloc, buf, b"vertex ", v)?;
     fill_named(alloc, buf, b" coreness ", coreness)?;
     fill_named(alloc, buf, b" low ", estimate.lo)?;
@@ -74,7 +73,6 @@ pub fn write_coreness<K: Sink>(
     coreness: u32,
     estimate: Estimate,
 ) -> Result<(), SendFault>
-    requires { buf.old ≡ [] }
     ensures text { Appends (K.taken sink.old) (K.taken sink.new) (coreness_line v coreness estimate) result }
     ensures buffer { IsCleared buf.new result }
     ensures cause { WriteCause (K.faults sink.old) (K.faults sink.new) result }

@@ -9,11 +9,11 @@ use std::alloc::{AllocError, Global};
 
 // Writes the first line.
 fn write_magic<K: Sink>(alloc: Global, buf: &mut LineBuf, sink: &mut K) -> Result<(), SendFault>
-    requires { buf.old ≡ [] }
     ensures text { Appends (K.taken sink.old) (K.taken sink.new) magic_line result }
     ensures buffer { IsCleared buf.new result }
     ensures cause { WriteCause (K.faults sink.old) (K.faults sink.new) result }
 {
+    buf.clear();
     buf.text(alloc, b"kcore-run 1")?;
     buf.send(alloc, sink)
 }
@@ -27,11 +27,11 @@ pub fn write_vertex_count<K: Sink>(
     sink: &mut K,
     n: u32,
 ) -> Result<(), SendFault>
-    requires { buf.old ≡ [] }
     ensures text { Appends (K.taken sink.old) (K.taken sink.new) (vertices_line n) result }
     ensures buffer { IsCleared buf.new result }
     ensures cause { WriteCause (K.faults sink.old) (K.faults sink.new) result }
 {
+    buf.clear();
     fill_named(alloc, buf, b"vertices ", n)?;
     buf.send(alloc, sink)
 }
@@ -46,7 +46,6 @@ pub fn write_head<K: Sink>(
     sink: &mut K,
     n: u32,
 ) -> Result<(), SendFault>
-    requires { buf.old ≡ [] }
     ensures text { Appends (K.taken sink.old) (K.taken sink.new) (head_text n) result }
     ensures buffer { IsCleared buf.new result }
     ensures cause { WriteCause (K.faults sink.old) (K.faults sink.new) result }
@@ -72,11 +71,11 @@ pub fn write_header_refused<K: Sink>(
     sink: &mut K,
     line: u32,
 ) -> Result<(), SendFault>
-    requires { buf.old ≡ [] }
     ensures text { Appends (K.taken sink.old) (K.taken sink.new) (header_refused_line line) result }
     ensures buffer { IsCleared buf.new result }
     ensures cause { WriteCause (K.faults sink.old) (K.faults sink.new) result }
 {
+    buf.clear();
     fill_header_refused(alloc, buf, line)?;
     buf.send(alloc, sink)
 }
@@ -85,11 +84,11 @@ pub fn write_header_refused<K: Sink>(
 ///
 /// After `WriteFault`, which only a failed write gives, and after `Memory` the sink took a prefix of the line.
 pub fn write_end<K: Sink>(alloc: Global, buf: &mut LineBuf, sink: &mut K) -> Result<(), SendFault>
-    requires { buf.old ≡ [] }
     ensures text { Appends (K.taken sink.old) (K.taken sink.new) end_line result }
     ensures buffer { IsCleared buf.new result }
     ensures cause { WriteCause (K.faults sink.old) (K.faults sink.new) result }
 {
+    buf.clear();
     buf.text(alloc, b"end")?;
     buf.send(alloc, sink)
 }

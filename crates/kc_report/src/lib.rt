@@ -1,12 +1,12 @@
 //! The lines that a run writes, and those of an exact text.
 //!
-//! Each call asks for an empty line buffer, puts a line together in it and sends it whole. The sink takes the lines of
-//! the definition that the call names. A line has at most 106 bytes, and one of a group or of a reader as many more as its
-//! vertices take; the buffer keeps their memory for the next one.
+//! Each call empties the line buffer, whatever it held, puts a line together in it and sends it whole. The sink takes the
+//! lines of the definition that the call names. A line has at most 106 bytes, and one of a group or of a reader as many
+//! more as its vertices take; the buffer keeps their memory for the next one.
 //!
 //! After either fault the sink took a prefix of the lines. `WriteFault` comes only where a write to the sink failed in
 //! this call; the buffer is empty then, as after success. `Memory` says that there was none for a line; the buffer may
-//! hold a part of it then, and isn't used again.
+//! hold a part of it then, which the next call drops.
 #![tactic(auto)]
 
 mod batches;

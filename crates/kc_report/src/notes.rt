@@ -15,9 +15,9 @@ fn fill_note(
     line: u32,
     reason: Reason,
 ) -> Result<(), AllocError>
-    requires { buf.old ≡ [] }
     ensures { OnOk result (buf.new ++ 10 ∷ [] ≡ note_line number line reason) }
 {
+    buf.clear();
     buf.text(alloc, b"# ")?;
     fill_refused(alloc, buf, number, line, reason)
 }
@@ -35,7 +35,6 @@ pub fn write_note<K: Sink>(
     line: u32,
     reason: Reason,
 ) -> Result<(), SendFault>
-    requires { buf.old ≡ [] }
     ensures text { Appends (K.taken sink.old) (K.taken sink.new) (note_line number line reason) result }
     ensures buffer { IsCleared buf.new result }
     ensures cause { WriteCause (K.faults sink.old) (K.faults sink.new) result }

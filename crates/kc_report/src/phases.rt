@@ -23,10 +23,10 @@ fn direction(add: bool) -> &'static [u8]
 }
 
 fn fill_phase(alloc: Global, buf: &mut LineBuf, plan: &PhasePlan) -> Result<(), AllocError>
-    requires empty { buf.old ≡ [] }
     requires few_quiet { length plan.now.quiet.edges < 2 ^ 32 }
     ensures { OnOk result (buf.new ++ 10 ∷ [] ≡ phase_line plan.now) }
 {
+    buf.clear();
     let quiet = plan.quiet.edges.len() as u32;
     fill_named(alloc, buf, b"phase ", plan.quiet.phase)?;
     fill_named(alloc, buf, direction(plan.quiet.add), quiet)
@@ -39,7 +39,6 @@ fn write_phase_line<K: Sink>(
     sink: &mut K,
     plan: &PhasePlan,
 ) -> Result<(), SendFault>
-    requires empty { buf.old ≡ [] }
     requires few_quiet { length plan.now.quiet.edges < 2 ^ 32 }
     ensures text { Appends (K.taken sink.old) (K.taken sink.new) (phase_line plan.now) result }
     ensures buffer { IsCleared buf.new result }
@@ -61,10 +60,10 @@ fn fill_members(alloc: Global, buf: &mut LineBuf, moves: &[Move]) -> Result<(), 
 }
 
 fn fill_group(alloc: Global, buf: &mut LineBuf, group: &Entry) -> Result<(), AllocError>
-    requires empty { buf.old ≡ [] }
     requires label { IsSome group.now.label }
     ensures { OnOk result (buf.new ++ 10 ∷ [] ≡ group_line group.now) }
 {
+    buf.clear();
     fill_named(alloc, buf, b"group ", group.phase)?;
     fill_named(alloc, buf, b" ", group.label.unwrap())?;
     fill_members(alloc, buf, group.moves.as_slice())
@@ -77,7 +76,6 @@ fn write_group<K: Sink>(
     sink: &mut K,
     group: &Entry,
 ) -> Result<(), SendFault>
-    requires empty { buf.old ≡ [] }
     requires label { IsSome group.now.label }
     ensures text { Appends (K.taken sink.old) (K.taken sink.new) (group_line group.now) result }
     ensures buffer { IsCleared buf.new result }
@@ -94,12 +92,13 @@ fn write_groups<K: Sink>(
     sink: &mut K,
     groups: &[Entry],
 ) -> Result<(), SendFault>
-    requires empty { buf.old ≡ [] }
     requires labels { All (λ group. IsSome group.label) groups.now }
     ensures text { Appends (K.taken sink.old) (K.taken sink.new) (flat_map group_line groups.now) result }
     ensures buffer { IsCleared buf.new result }
     ensures cause { WriteCause (K.faults sink.old) (K.faults sink.new) result }
 {
+    // Without groups too the line is empty after this call.
+    buf.clear();
     for group in groups {
         write_group(alloc, buf, sink, group)?;
     }
@@ -113,7 +112,6 @@ fn write_phase<K: Sink>(
     sink: &mut K,
     plan: &PhasePlan,
 ) -> Result<(), SendFault>
-    requires empty { buf.old ≡ [] }
     requires few_quiet { length plan.now.quiet.edges < 2 ^ 32 }
     requires well_formed { (n : ℕ) × IsWellFormed n plan.now }
     ensures text { Appends (K.taken sink.old) (K.taken sink.new) (phase_text plan.now) result }
@@ -131,13 +129,14 @@ pub fn write_phases<K: Sink>(
     sink: &mut K,
     phases: &[PhasePlan],
 ) -> Result<(), SendFault>
-    requires empty { buf.old ≡ [] }
     requires few_quiet { All (λ plan. length plan.quiet.edges < 2 ^ 32) phases.now }
     requires well_formed { All (λ plan. (n : ℕ) × IsWellFormed n plan) phases.now }
     ensures text { Appends (K.taken sink.old) (K.taken sink.new) (flat_map phase_text phases.now) result }
     ensures buffer { IsCleared buf.new result }
     ensures cause { WriteCause (K.faults sink.old) (K.faults sink.new) result }
 {
+    // Without phases too the line is empty after this call.
+    buf.clear();
     for plan in phases {
         write_phase(alloc, buf, sink, plan)?;
     }

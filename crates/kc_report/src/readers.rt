@@ -26,9 +26,9 @@ fn fill_reader(
     reader: u32,
     replies: &[Reply],
 ) -> Result<(), AllocError>
-    requires { buf.old ≡ [] }
     ensures { OnOk result (buf.new ++ 10 ∷ [] ≡ reader_line reader replies.now) }
 {
+    buf.clear();
     fill_named(alloc, buf, b"reader ", reader)?;
     fill_replies(alloc, buf, replies)
 }
@@ -45,7 +45,6 @@ pub fn write_reader<K: Sink>(
     reader: u32,
     replies: &[Reply],
 ) -> Result<(), SendFault>
-    requires { buf.old ≡ [] }
     ensures text { Appends (K.taken sink.old) (K.taken sink.new) (reader_line reader replies.now) result }
     ensures buffer { IsCleared buf.new result }
     ensures cause { WriteCause (K.faults sink.old) (K.faults sink.new) result }

@@ -1,5 +1,5 @@
 //! The end of a text: a line for each vertex, and the last line.
-ghost use Rattle.std.specs.Prelude.{◌≡◌, ◌<◌, ◌++◌, [], ℕ, List};
+ghost use Rattle.std.specs.Prelude.{◌<◌, ◌++◌, ℕ, List};
 ghost use Rattle.kc_text.specs.Writing.{Appends, WriteCause};
 ghost use Rattle.kc_report.specs.Buffer.{IsCleared};
 ghost use Rattle.kc_report.specs.Lines.{end_line};
@@ -25,7 +25,6 @@ pub trait VertexLines {
         sink: &mut K,
         v: u32,
     ) -> Result<(), SendFault>
-        requires empty { buf.old ≡ [] }
         requires vertex { has_line self.now v }
         ensures text { Appends (K.taken sink.old) (K.taken sink.new) (line self.now v) result }
         ensures buffer { IsCleared buf.new result }
@@ -40,12 +39,13 @@ fn write_lines<L: VertexLines, K: Sink>(
     n: u32,
     lines: &L,
 ) -> Result<(), SendFault>
-    requires empty { buf.old ≡ [] }
     requires vertices { (v : ℕ) → v < n → L.has_line lines.now v }
     ensures text { Appends (K.taken sink.old) (K.taken sink.new) (vertex_lines (L.line lines.now) n) result }
     ensures buffer { IsCleared buf.new result }
     ensures cause { WriteCause (K.faults sink.old) (K.faults sink.new) result }
 {
+    // Without vertices too the line is empty after this call.
+    buf.clear();
     for v in 0..n {
         lines.write_line(alloc, buf, sink, v)?;
     }
@@ -63,7 +63,6 @@ pub fn write_tail<L: VertexLines, K: Sink>(
     n: u32,
     lines: &L,
 ) -> Result<(), SendFault>
-    requires empty { buf.old ≡ [] }
     requires vertices { (v : ℕ) → v < n → L.has_line lines.now v }
     ensures text { Appends (K.taken sink.old) (K.taken sink.new) (vertex_lines (L.line lines.now) n ++ end_line) result }
     ensures buffer { IsCleared buf.new result }

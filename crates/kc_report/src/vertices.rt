@@ -42,9 +42,9 @@ struct VertexLine {
 }
 
 fn fill_vertex(alloc: Global, buf: &mut LineBuf, line: VertexLine) -> Result<(), AllocError>
-    requires { buf.old ≡ [] }
     ensures { OnOk result (buf.new ++ 10 ∷ [] ≡ vertex_line line.v line.level line.estimate line.up line.down) }
 {
+    buf.clear();
     fill_named(alloc, buf, b"vertex ", line.v)?;
     fill_bounds(alloc, buf, line.level, line.estimate)?;
     fill_named(alloc, buf, b" up ", line.up)?;
@@ -66,7 +66,6 @@ pub fn write_vertex<K: Sink>(
     up: u32,
     down: u32,
 ) -> Result<(), SendFault>
-    requires { buf.old ≡ [] }
     ensures text { Appends (K.taken sink.old) (K.taken sink.new) (vertex_line v level estimate up down) result }
     ensures buffer { IsCleared buf.new result }
     ensures cause { WriteCause (K.faults sink.old) (K.faults sink.new) result }

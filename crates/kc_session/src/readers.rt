@@ -1,5 +1,5 @@
 //! What all readers of a session were told, a line for each, in order.
-ghost use Rattle.std.specs.Prelude.{◌≡◌, ◌≤◌, ◌<◌, ◌^◌, [], length};
+ghost use Rattle.std.specs.Prelude.{◌<◌, ◌^◌, length};
 ghost use Rattle.kc_text.specs.Writing.{Appends, WriteCause};
 ghost use Rattle.kc_report.specs.Buffer.{IsCleared};
 ghost use Rattle.kc_session.specs.ReaderLines.{reader_lines};
@@ -19,12 +19,13 @@ pub fn write_readers<K: Sink>(
     sink: &mut K,
     replies: &[Replies],
 ) -> Result<(), SendFault>
-    requires empty { buf.old ≡ [] }
     requires few { length replies.now < 2 ^ 32 }
     ensures text { Appends (K.taken sink.old) (K.taken sink.new) (reader_lines 0 replies.now) result }
     ensures buffer { IsCleared buf.new result }
     ensures cause { WriteCause (K.faults sink.old) (K.faults sink.new) result }
 {
+    // Without readers too the line is empty after this call.
+    buf.clear();
     for i in 0..replies.len() {
         write_reader(alloc, buf, sink, i as u32, replies[i].as_slice())?;
     }

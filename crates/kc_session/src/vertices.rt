@@ -1,5 +1,5 @@
 //! The end of a text: a line for each vertex with its level and counts, and the last line.
-ghost use Rattle.std.specs.Prelude.{◌≡◌, [], false};
+ghost use Rattle.std.specs.Prelude.{◌≡◌, false};
 ghost use Rattle.kc_text.specs.Writing.{Appends, WriteCause};
 ghost use Rattle.kc_report.specs.Buffer.{IsCleared};
 ghost use Rattle.kc_report.specs.VertexLines.{vertex_text, tail_text};
@@ -55,7 +55,6 @@ pub fn write_tail<K: Sink>(
     engine: &Engine,
     levels: &[u16],
 ) -> Result<(), SendFault>
-    requires empty { buf.old ≡ [] }
     requires running { engine.now.halted ≡ false }
     requires levels { levels.now ≡ engine.now.state.levels }
     requires vertices { engine.now.state.graph.vertices ≡ n }

@@ -55,6 +55,13 @@ impl LineBuf {
         }
     }
 
+    /// Empties the line. It keeps its memory.
+    pub fn clear(&mut self)
+        ensures { self.new ≡ [] }
+    {
+        self.bytes.clear();
+    }
+
     /// Appends bytes. Without memory the line stays as it was.
     pub fn text(&mut self, _alloc: Global, bytes: &[u8]) -> Result<(), AllocError>
         ensures ok { OnOk result (self.new ≡ self.old ++ bytes.now) }
@@ -87,7 +94,7 @@ impl LineBuf {
             return Err(SendFault::Memory(AllocError));
         }
         let sent = put_all(sink, &self.bytes);
-        self.bytes.clear();
+        self.clear();
         match sent {
             Ok(()) => Ok(()),
             Err(Failed) => Err(SendFault::WriteFault),

@@ -13,9 +13,9 @@ use kc_text::{LineBuf, LineReader, SendFault, Sink, Source, fill_named};
 use std::alloc::{AllocError, Global};
 
 fn fill_verdict(alloc: Global, buf: &mut LineBuf, verdict: AuditVerdict) -> Result<(), AllocError>
-    requires { buf.old ≡ [] }
     ensures { OnOk result (buf.new ++ 10 ∷ [] ≡ verdict_line verdict) }
 {
+    buf.clear();
     match verdict {
         AuditVerdict::Explained => buf.text(alloc, b"explained"),
         AuditVerdict::Unexplained { reader, ask } => {

@@ -19,9 +19,9 @@ fn fill_verdict(
     cert: &Certificate,
     verdict: Verdict,
 ) -> Result<(), AllocError>
-    requires { buf.old ≡ [] }
     ensures { OnOk result (buf.new ++ 10 ∷ [] ≡ verdict_line cert.now verdict) }
 {
+    buf.clear();
     match verdict {
         Verdict::Certified => {
             fill_named(alloc, buf, b"certified vertices ", cert.graph.vertices())?;

@@ -1,5 +1,5 @@
 //! The command `dense`: a dense part of the graph after the batches of an input.
-ghost use Rattle.std.specs.Prelude.{◌≡◌, ◌<◌, ◌^◌, ◌++◌, [], length};
+ghost use Rattle.std.specs.Prelude.{◌<◌, ◌^◌, ◌++◌, length};
 ghost use Rattle.std.specs.List.{flat_map};
 ghost use Rattle.kc_text.specs.Writing.{Appends, WriteCause};
 ghost use Rattle.kc_report.specs.Lines.{end_line};
@@ -22,7 +22,6 @@ fn write_after_size<K: Sink>(
     sink: &mut K,
     members: &[u32],
 ) -> Result<(), SendFault>
-    requires { buf.old ≡ [] }
     ensures text { Appends (K.taken sink.old) (K.taken sink.new) (flat_map member_line members.now ++ end_line) result }
     ensures cause { WriteCause (K.faults sink.old) (K.faults sink.new) result }
 {
@@ -38,7 +37,6 @@ fn write_after_head<K: Sink>(
     members: &[u32],
     edges: u32,
 ) -> Result<(), SendFault>
-    requires empty { buf.old ≡ [] }
     requires few { length members.now < 2 ^ 32 }
     ensures text { Appends (K.taken sink.old) (K.taken sink.new) (size_line (length members.now) edges ++ (flat_map member_line members.now ++ end_line)) result }
     ensures cause { WriteCause (K.faults sink.old) (K.faults sink.new) result }

@@ -2,7 +2,6 @@
 ghost use Rattle.std.specs.Prelude.{◌≡◌, [], ◌∷◌, ◌++◌, OnOk};
 ghost use Rattle.std.specs.List.{flat_map};
 ghost use Rattle.kc_text.specs.Writing.{Appends, WriteCause};
-ghost use Rattle.kc_report.specs.Buffer.{IsCleared};
 ghost use Rattle.kcore.specs.DenseLines.{dense_magic_line, dense_head_text, size_line, member_line};
 
 use kc_report::write_vertex_count;
@@ -11,11 +10,10 @@ use std::alloc::{AllocError, Global};
 
 // Writes the first line.
 fn write_magic<K: Sink>(alloc: Global, buf: &mut LineBuf, sink: &mut K) -> Result<(), SendFault>
-    requires { buf.old ≡ [] }
     ensures text { Appends (K.taken sink.old) (K.taken sink.new) dense_magic_line result }
-    ensures buffer { IsCleared buf.new result }
     ensures cause { WriteCause (K.faults sink.old) (K.faults sink.new) result }
 {
+    buf.clear();
     buf.text(alloc, b"kcore-dense 1")?;
     buf.send(alloc, sink)
 }
@@ -27,9 +25,7 @@ pub fn write_dense_head<K: Sink>(
     sink: &mut K,
     n: u32,
 ) -> Result<(), SendFault>
-    requires { buf.old ≡ [] }
     ensures text { Appends (K.taken sink.old) (K.taken sink.new) (dense_head_text n) result }
-    ensures buffer { IsCleared buf.new result }
     ensures cause { WriteCause (K.faults sink.old) (K.faults sink.new) result }
 {
     write_magic(alloc, buf, sink)?;
@@ -37,9 +33,9 @@ pub fn write_dense_head<K: Sink>(
 }
 
 fn fill_size(alloc: Global, buf: &mut LineBuf, size: u32, edges: u32) -> Result<(), AllocError>
-    requires { buf.old ≡ [] }
     ensures { OnOk result (buf.new ++ 10 ∷ [] ≡ size_line size edges) }
 {
+    buf.clear();
     fill_named(alloc, buf, b"size ", size)?;
     fill_named(alloc, buf, b" edges ", edges)
 }
@@ -52,9 +48,7 @@ pub fn write_size<K: Sink>(
     size: u32,
     edges: u32,
 ) -> Result<(), SendFault>
-    requires { buf.old ≡ [] }
     ensures text { Appends (K.taken sink.old) (K.taken sink.new) (size_line size edges) result }
-    ensures buffer { IsCleared buf.new result }
     ensures cause { WriteCause (K.faults sink.old) (K.faults sink.new) result }
 {
     fill_size(alloc, buf, size, edges)?;
@@ -68,11 +62,10 @@ fn write_member<K: Sink>(
     sink: &mut K,
     v: u32,
 ) -> Result<(), SendFault>
-    requires { buf.old ≡ [] }
     ensures text { Appends (K.taken sink.old) (K.taken sink.new) (member_line v) result }
-    ensures buffer { IsCleared buf.new result }
     ensures cause { WriteCause (K.faults sink.old) (K.faults sink.new) result }
 {
+    buf.clear();
     fill_named(alloc, buf, b"member ", v)?;
     buf.send(alloc, sink)
 }
@@ -84,9 +77,7 @@ pub fn write_members<K: Sink>(
     sink: &mut K,
     members: &[u32],
 ) -> Result<(), SendFault>
-    requires { buf.old ≡ [] }
     ensures text { Appends (K.taken sink.old) (K.taken sink.new) (flat_map member_line members.now) result }
-    ensures buffer { IsCleared buf.new result }
     ensures cause { WriteCause (K.faults sink.old) (K.faults sink.new) result }
 {
     for v in members {

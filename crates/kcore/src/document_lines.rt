@@ -12,9 +12,9 @@ fn fill_refused(
     line: u32,
     reason: Reason,
 ) -> Result<(), AllocError>
-    requires { buf.old ≡ [] }
     ensures { OnOk result (buf.new ++ 10 ∷ [] ≡ refused_document_line line reason) }
 {
+    buf.clear();
     fill_named(alloc, buf, b"refused line ", line)?;
     buf.text(alloc, b" ")?;
     buf.text(alloc, reason.word())

@@ -8,9 +8,9 @@ use kc_text::{LineBuf, SendFault, Sink, fill_named};
 use std::alloc::{AllocError, Global};
 
 fn fill_load(alloc: Global, buf: &mut LineBuf, ended: &Ended) -> Result<(), AllocError>
-    requires { buf.old ≡ [] }
     ensures { OnOk result (buf.new ++ 10 ∷ [] ≡ load_line ended.now) }
 {
+    buf.clear();
     fill_named(alloc, buf, b"gen batches ", ended.batches)?;
     fill_named(alloc, buf, b" refused ", ended.refused)?;
     fill_named(alloc, buf, b" phases ", ended.phases)?;

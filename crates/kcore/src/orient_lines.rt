@@ -11,11 +11,10 @@ use std::alloc::{AllocError, Global};
 
 // Writes the first line.
 fn write_magic<K: Sink>(alloc: Global, buf: &mut LineBuf, sink: &mut K) -> Result<(), SendFault>
-    requires { buf.old ≡ [] }
     ensures text { Appends (K.taken sink.old) (K.taken sink.new) orient_magic_line result }
-    ensures buffer { IsCleared buf.new result }
     ensures cause { WriteCause (K.faults sink.old) (K.faults sink.new) result }
 {
+    buf.clear();
     buf.text(alloc, b"kcore-orient 1")?;
     buf.send(alloc, sink)
 }
@@ -27,9 +26,7 @@ pub fn write_orient_head<K: Sink>(
     sink: &mut K,
     n: u32,
 ) -> Result<(), SendFault>
-    requires { buf.old ≡ [] }
     ensures text { Appends (K.taken sink.old) (K.taken sink.new) (orient_head_text n) result }
-    ensures buffer { IsCleared buf.new result }
     ensures cause { WriteCause (K.faults sink.old) (K.faults sink.new) result }
 {
     write_magic(alloc, buf, sink)?;
@@ -53,9 +50,9 @@ fn fill_oriented(
     colour: u32,
     out: &[u32],
 ) -> Result<(), AllocError>
-    requires { buf.old ≡ [] }
     ensures { OnOk result (buf.new ++ 10 ∷ [] ≡ oriented_line v colour out.now) }
 {
+    buf.clear();
     fill_named(alloc, buf, b"vertex ", v)?;
     fill_named(alloc, buf, b" colour ", colour)?;
     buf.text(alloc, b" out")?;
@@ -71,7 +68,6 @@ pub fn write_oriented<K: Sink>(
     colour: u32,
     out: &[u32],
 ) -> Result<(), SendFault>
-    requires { buf.old ≡ [] }
     ensures text { Appends (K.taken sink.old) (K.taken sink.new) (oriented_line v colour out.now) result }
     ensures buffer { IsCleared buf.new result }
     ensures cause { WriteCause (K.faults sink.old) (K.faults sink.new) result }

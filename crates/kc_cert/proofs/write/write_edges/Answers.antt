@@ -7,7 +7,6 @@ use Rattle.kc_cert.proofs.write.write_edges.Goals as goal
 pub loop-v-init : goal.loop-v-init
 loop-v-init g c = record {
   text = rw (all_edges c.args.graph.now.edges) (writes_start _ _);
-  buffer = c.requires;
   faults = refl;
 }
 
@@ -22,7 +21,6 @@ loop-v-preserved g c =
     let rest = row_printed c.args.graph.now.vertices c.loop-v.v c.args.graph.now.edges c.neighbours.result.now c.vertices-v-end.ensures.graph c.neighbours.ensures.value in
     record {
       text = writes_on _ _ _ _ _ _ _ rest c.loop-v.invariant.text c.in_ok-write_row.ensures.text;
-      buffer = c.in_ok-write_row.ensures.buffer;
       faults = c.in_ok-write_row.ensures.cause ∙ c.loop-v.invariant.faults;
     }
 

@@ -1,4 +1,4 @@
-use Rattle.std.proofs.Common.{◌≡◌, []}
+use Rattle.std.proofs.Common.{◌≡◌}
 use Rattle.kc_text.specs.Printing.{printed}
 use Rattle.std.specs.Prelude.{map}
 use Rattle.kc_cert.specs.Texts.{edge_line}
@@ -9,6 +9,5 @@ use Rattle.kc_cert.proofs.write.write_edges.Given as goal
 abbrev pub invariant-loop-v : goal.invariant-loop-v
 invariant-loop-v g l = record {
   text : Writes (g.K.Sink.taken l.fn.sink) (g.K.Sink.taken l.sink) (printed (map edge_line l.graph.edges)) (printed (map edge_line (edges_from l.v l.graph.edges)));
-  buffer : l.buf ≡ [];
   faults : g.K.Sink.faults l.sink ≡ g.K.Sink.faults l.fn.sink;
 }

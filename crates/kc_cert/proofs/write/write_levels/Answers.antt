@@ -15,7 +15,6 @@ loop-v-preserved g c =
     let rest = level_rest c.loop-v.v c.from.result c.args.levels.now (omega (arith, c.loop-v-test.true, c.requires.sized)) (c.from.ensures ∙ c.get.ensures) in
     record {
       text = writes_on _ _ _ _ _ _ _ rest c.loop-v.invariant.text c.in_ok-write_pair.ensures.text;
-      buffer = c.in_ok-write_pair.ensures.buffer;
       faults = c.in_ok-write_pair.ensures.cause ∙ c.loop-v.invariant.faults;
     }
 

@@ -15,7 +15,6 @@ loop-w-preserved g c =
     let rest = row_rest c.args.v c.loop-w.w-index c.args.neighbours.now c.loop-w-test.true c.if-w-v.false in
     record {
       text = writes_on _ _ _ _ _ _ _ rest c.loop-w.invariant.text c.in_ok-write_pair.ensures.text;
-      buffer = c.in_ok-write_pair.ensures.buffer;
       faults = c.in_ok-write_pair.ensures.cause ∙ c.loop-w.invariant.faults;
     }
 

@@ -5,5 +5,5 @@ use Rattle.kc_report.proofs.batches.fill_batch.Goals as goal
 pub returns : goal.returns
 returns c =
     on_ok_weaker c.fill_named-2.result
-    (λ added. batch_filled c.args.number c.len.result c.len-2.result c.args.cleaned.now _ _ _ _ c.requires.empty c.in_ok-fill_counts.ensures c.len.ensures c.len-2.ensures c.in_ok-fill_named.ensures added)
+    (λ added. batch_filled c.args.number c.len.result c.len-2.result c.args.cleaned.now _ _ _ _ c.clear.ensures c.in_ok-fill_counts.ensures c.len.ensures c.len-2.ensures c.in_ok-fill_named.ensures added)
     c.fill_named-2.ensures

@@ -6,7 +6,7 @@ use Rattle.kc_report.proofs.TextLemmas.{texts_more, texts_prefix}
 use Rattle.kc_report.proofs.phases.write_groups.Goals as goal
 
 pub loop-group-init : goal.loop-group-init
-loop-group-init g c = record { taken = append_none _; empty = c.requires.empty; faults = refl }
+loop-group-init g c = record { taken = append_none _; empty = c.clear.ensures; faults = refl }
 
 pub returns-in_err-write_group-clause-text : goal.returns-in_err-write_group-clause-text
 returns-in_err-write_group-clause-text g c =

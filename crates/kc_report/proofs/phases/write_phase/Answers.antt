@@ -5,8 +5,8 @@ use Rattle.kc_report.specs.Lines.{phase_line, group_line}
 use Rattle.kc_report.proofs.TextLemmas.{has_labels}
 use Rattle.kc_report.proofs.phases.write_phase.Goals as goal
 
-pub write_groups-requires-clause-labels : goal.write_groups-requires-clause-labels
-write_groups-requires-clause-labels g c = rw c.as_slice.ensures (has_labels c.requires.well_formed.0 c.args.plan.now c.requires.well_formed.1)
+pub write_groups-requires : goal.write_groups-requires
+write_groups-requires g c = record { labels = rw c.as_slice.ensures (has_labels c.requires.well_formed.0 c.args.plan.now c.requires.well_formed.1) }
 
 pub returns-in_err-write_phase_line-clause-text : goal.returns-in_err-write_phase_line-clause-text
 returns-in_err-write_phase_line-clause-text g c =

@@ -8,7 +8,7 @@ use Rattle.kc_report.proofs.TextLemmas.{texts_more, texts_prefix}
 use Rattle.kc_report.proofs.phases.write_phases.Goals as goal
 
 pub loop-plan-init : goal.loop-plan-init
-loop-plan-init g c = record { taken = append_none _; empty = c.requires.empty; faults = refl }
+loop-plan-init g c = record { taken = append_none _; empty = c.clear.ensures; faults = refl }
 
 pub write_phase-requires-clause-well_formed : goal.write_phase-requires-clause-well_formed
 write_phase-requires-clause-well_formed g c =

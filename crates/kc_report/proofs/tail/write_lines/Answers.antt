@@ -7,7 +7,7 @@ use Rattle.kc_report.proofs.tail.write_lines.Goals as goal
 
 pub loop-v-init : goal.loop-v-init
 unfolding vertex_lines
-loop-v-init g c = record { taken = append_none _; empty = c.requires.empty; faults = refl }
+loop-v-init g c = record { taken = append_none _; empty = c.clear.ensures; faults = refl }
 
 pub returns-in_err-write_line-clause-text : goal.returns-in_err-write_line-clause-text
 returns-in_err-write_line-clause-text g c =

@@ -6,7 +6,7 @@ use Rattle.kcore.specs.DenseLines.{member_line}
 use Rattle.kcore.proofs.dense_lines.write_members.Goals as goal
 
 pub loop-v-init : goal.loop-v-init
-loop-v-init g c = record { taken = append_none _; empty = c.requires; faults = refl }
+loop-v-init g c = record { taken = append_none _; faults = refl }
 
 pub returns-in_err-write_member-clause-text : goal.returns-in_err-write_member-clause-text
 returns-in_err-write_member-clause-text g c =
@@ -17,6 +17,5 @@ returns-in_err-write_member-clause-text g c =
 pub loop-v-preserved : goal.loop-v-preserved
 loop-v-preserved g c = record {
   taken = texts_more member_line c.args.members.now c.loop-v.v-index 0 (get_or c.args.members.now c.loop-v.v-index 0) _ _ _ c.loop-v-test.true refl c.loop-v.invariant.taken c.in_ok-write_member.ensures.text;
-  empty = c.in_ok-write_member.ensures.buffer;
   faults = c.in_ok-write_member.ensures.cause ∙ c.loop-v.invariant.faults;
 }

@@ -13,9 +13,10 @@ use Rattle.kcore.proofs.dense.DenseDocument.write.Goals as goal
 pub returns-in-Err-clause-text : goal.returns-in-Err-clause-text
 returns-in-Err-clause-text g c = nothing_of_it c.args.engine.now.state (g.K.Sink.taken c.args.sink.now) _ c.requires.sound
 
-pub write_after_head-requires-clause-few : goal.write_after_head-requires-clause-few
-write_after_head-requires-clause-few g c =
-    omega (arith, ap length c.as_slice.ensures.value, c.in-Ok.ensures.few, c.vertices-n.ensures.small, ap (λ (h : GraphShape). h.vertices) (c.graph.ensures.value ∙ sym c.graph-2.ensures.value))
+pub write_after_head-requires : goal.write_after_head-requires
+write_after_head-requires g c = record {
+  few = omega (arith, ap length c.as_slice.ensures.value, c.in-Ok.ensures.few, c.vertices-n.ensures.small, ap (λ (h : GraphShape). h.vertices) (c.graph.ensures.value ∙ sym c.graph-2.ensures.value));
+}
 
 pub returns-in_err-write_dense_head-clause-text : goal.returns-in_err-write_dense_head-clause-text
 returns-in_err-write_dense_head-clause-text g c =
