@@ -14,11 +14,11 @@ use std::alloc::{AllocError, Global};
 
 // Writes the first line.
 fn write_magic<K: Sink>(alloc: Global, buf: &mut LineBuf, sink: &mut K) -> Result<(), SendFault>
-    requires { buf.old ≡ [] }
     ensures text { Appends (K.taken sink.old) (K.taken sink.new) magic_line result }
     ensures buffer { IsCleared buf.new result }
     ensures cause { WriteCause (K.faults sink.old) (K.faults sink.new) result }
 {
+    buf.clear();
     buf.text(alloc, b"kserve-run 1")?;
     buf.send(alloc, sink)
 }
@@ -30,7 +30,6 @@ pub fn write_head<K: Sink>(
     sink: &mut K,
     n: u32,
 ) -> Result<(), SendFault>
-    requires { buf.old ≡ [] }
     ensures text { Appends (K.taken sink.old) (K.taken sink.new) (head_text n) result }
     ensures buffer { IsCleared buf.new result }
     ensures cause { WriteCause (K.faults sink.old) (K.faults sink.new) result }
@@ -45,9 +44,9 @@ fn fill_refused(
     line: u32,
     reason: Reason,
 ) -> Result<(), AllocError>
-    requires { buf.old ≡ [] }
     ensures { OnOk result (buf.new ++ 10 ∷ [] ≡ refused_line line reason) }
 {
+    buf.clear();
     fill_named(alloc, buf, b"refused line ", line)?;
     buf.text(alloc, b" ")?;
     buf.text(alloc, reason.word())
@@ -61,7 +60,6 @@ pub fn write_refused<K: Sink>(
     line: u32,
     reason: Reason,
 ) -> Result<(), SendFault>
-    requires { buf.old ≡ [] }
     ensures text { Appends (K.taken sink.old) (K.taken sink.new) (refused_line line reason) result }
     ensures cause { WriteCause (K.faults sink.old) (K.faults sink.new) result }
 {
@@ -76,11 +74,10 @@ fn write_number<K: Sink>(
     sink: &mut K,
     number: u32,
 ) -> Result<(), SendFault>
-    requires { buf.old ≡ [] }
     ensures text { Appends (K.taken sink.old) (K.taken sink.new) (batch_line number) result }
-    ensures buffer { IsCleared buf.new result }
     ensures cause { WriteCause (K.faults sink.old) (K.faults sink.new) result }
 {
+    buf.clear();
     fill_named(alloc, buf, b"batch ", number)?;
     buf.send(alloc, sink)
 }
@@ -103,9 +100,9 @@ fn fill_item(alloc: Global, buf: &mut LineBuf, item: Item) -> Result<(), AllocEr
 }
 
 fn fill_take(alloc: Global, buf: &mut LineBuf, update: Update) -> Result<(), AllocError>
-    requires { buf.old ≡ [] }
     ensures { OnOk result (buf.new ++ 10 ∷ [] ≡ take_line update) }
 {
+    buf.clear();
     fill_named(alloc, buf, b"take ", update.client)?;
     fill_item(alloc, buf, update.item)
 }
@@ -117,9 +114,7 @@ fn write_take<K: Sink>(
     sink: &mut K,
     update: &Update,
 ) -> Result<(), SendFault>
-    requires { buf.old ≡ [] }
     ensures text { Appends (K.taken sink.old) (K.taken sink.new) (take_line update.now) result }
-    ensures buffer { IsCleared buf.new result }
     ensures cause { WriteCause (K.faults sink.old) (K.faults sink.new) result }
 {
     fill_take(alloc, buf, *update)?;
@@ -133,9 +128,7 @@ fn write_takes<K: Sink>(
     sink: &mut K,
     updates: &[Update],
 ) -> Result<(), SendFault>
-    requires { buf.old ≡ [] }
     ensures text { Appends (K.taken sink.old) (K.taken sink.new) (flat_map take_line updates.now) result }
-    ensures buffer { IsCleared buf.new result }
     ensures cause { WriteCause (K.faults sink.old) (K.faults sink.new) result }
 {
     for update in updates {
@@ -152,9 +145,7 @@ pub fn write_batch<K: Sink>(
     number: u32,
     updates: &[Update],
 ) -> Result<(), SendFault>
-    requires { buf.old ≡ [] }
     ensures text { Appends (K.taken sink.old) (K.taken sink.new) (batch_text number updates.now) result }
-    ensures buffer { IsCleared buf.new result }
     ensures cause { WriteCause (K.faults sink.old) (K.faults sink.new) result }
 {
     write_number(alloc, buf, sink, number)?;

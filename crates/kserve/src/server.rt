@@ -22,14 +22,13 @@ use std::sync::Wait;
 use std::thread;
 use std::thread::Threads;
 
-/// The server: the engine that applies its batches, and the line that is put together for them, empty between two calls.
+/// The server: the engine that applies its batches, and the line that is put together for them.
 #[derive(Drop)]
 pub struct Server {
     /// The engine that applies the batches.
     pub engine: Engine,
     // Keeps its memory from one line to the next.
     buf: LineBuf,
-    ghost empty: { buf ≡ [] },
 }
 
 impl Server {
@@ -71,12 +70,7 @@ impl Server {
             return Err(Stop::Stray);
         };
         apply(*rt, alloc, *gate, &mut self.engine, items.as_slice())?;
-        let sent = write_batch(alloc, &mut self.buf, sink, number, updates);
-        // Without memory a part of a line is left.
-        if sent.is_err() {
-            self.buf = LineBuf::new(alloc);
-        }
-        sent?;
+        write_batch(alloc, &mut self.buf, sink, number, updates)?;
         Ok(())
     }
 

@@ -3,4 +3,4 @@ use Rattle.kserve.proofs.LineLemmas.{batch_filled}
 use Rattle.kserve.proofs.lines.write_number.Goals as goal
 
 pub returns-clause-text : goal.returns-clause-text
-returns-clause-text g c = sent_as _ _ _ _ _ (batch_filled c.args.number _ _ c.requires c.in_ok-fill_named.ensures) c.send.ensures.sent
+returns-clause-text g c = sent_as _ _ _ _ _ (batch_filled c.args.number _ _ c.clear.ensures c.in_ok-fill_named.ensures) c.send.ensures.sent

@@ -7,7 +7,7 @@ use Rattle.kserve.specs.Lines.{take_line}
 use Rattle.kserve.proofs.lines.write_takes.Goals as goal
 
 pub loop-update-init : goal.loop-update-init
-loop-update-init g c = record { taken = append_none _; empty = c.requires; faults = refl }
+loop-update-init g c = record { taken = append_none _; faults = refl }
 
 pub returns-in_err-write_take-clause-text : goal.returns-in_err-write_take-clause-text
 returns-in_err-write_take-clause-text g c =
@@ -18,6 +18,5 @@ returns-in_err-write_take-clause-text g c =
 pub loop-update-preserved : goal.loop-update-preserved
 loop-update-preserved g c = record {
   taken = texts_more take_line c.args.updates.now c.loop-update.update-index none (get_or c.args.updates.now c.loop-update.update-index none) _ _ _ c.loop-update-test.true refl c.loop-update.invariant.taken c.in_ok-write_take.ensures.text;
-  empty = c.in_ok-write_take.ensures.buffer;
   faults = c.in_ok-write_take.ensures.cause ∙ c.loop-update.invariant.faults;
 }

@@ -1,4 +1,4 @@
-use Rattle.std.proofs.Common.{◌≡◌, [], take}
+use Rattle.std.proofs.Common.{◌≡◌, take}
 use Rattle.std.specs.List.{flat_map}
 use Rattle.std.specs.Io.KnownBytes.{append_known}
 use Rattle.kserve.specs.Lines.{take_line}
@@ -7,6 +7,5 @@ use Rattle.kserve.proofs.lines.write_takes.Given as goal
 abbrev pub invariant-loop-update : goal.invariant-loop-update
 invariant-loop-update g l = record {
   taken : g.K.Sink.taken l.sink ≡ append_known (g.K.Sink.taken l.fn.sink) (flat_map take_line (take l.update-index l.updates));
-  empty : l.buf ≡ [];
   faults : g.K.Sink.faults l.sink ≡ g.K.Sink.faults l.fn.sink;
 }
