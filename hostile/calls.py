@@ -182,14 +182,17 @@ def threads_not_started(kcore):
 
 
 def one_worker(kcore):
-    """A batch that two workers sort by threads."""
+    """Batches long enough for several threads to sort: insertions, and an isolation that takes out as many edges."""
     trial = Trial("one worker starts no thread, however long a batch is")
     lines = [f"+ {v} {(v + step) % 10_000}" for step in range(1, 9) for v in range(10_000)]
-    data = "\n".join(["kcore 1", "vertices 10000", "batch", *lines, "end", ""]).encode()
-    for words, is_alone in ("run 1", True), ("final 1", True), ("exact", True), ("run 2", False):
-        ended = kcore.program.run(words.split(), data, Failing())
-        trial.ended(words, ended, {DONE: "whole"}, kcore.program.run(words.split(), data).text)
-        trial.holds((ended.calls["threads"] == 0) == is_alone, f"{words}: {ended.calls['threads']} threads were started")
+    many = "\n".join(["kcore 1", "vertices 10000", "batch", *lines, "end", ""]).encode()
+    star = [f"+ 0 {v}" for v in range(1, 80_001)]
+    isolated = "\n".join(["kcore 2", "vertices 80001", "batch", *star, "end", "batch", "x 0", "end", ""]).encode()
+    for name, data in ("80,000 insertions", many), ("an isolation of 80,000 edges", isolated):
+        for words, is_alone in ("run 1", True), ("final 1", True), ("exact", True), ("run 2", False):
+            ended = kcore.program.run(words.split(), data, Failing())
+            trial.ended(f"{words}, {name}", ended, {DONE: "whole"}, kcore.program.run(words.split(), data).text)
+            trial.holds((ended.calls["threads"] == 0) == is_alone, f"{words}, {name}: {ended.calls['threads']} threads were started")
     yield trial
 
 

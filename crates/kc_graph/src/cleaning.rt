@@ -70,7 +70,7 @@ impl Cleaned {
     }
 }
 
-// The most workers that a phase may have.
+// As many workers as an engine may have. Any number from 2 on does the same here.
 const MAX_WORKERS: u32 = 64;
 
 // The number of keys whose rows are looked at together.
@@ -156,13 +156,15 @@ fn has_isolation(items: &[Item]) -> bool
         .any(|item| matches!(*item, Item::Isolate { .. }))
 }
 
-/// As `clean`, for a caller whose phases have this many workers (0 counts as 1).
+/// What the items of a batch come to in the graph, which stays as it is (`cleaned`), for a caller with this
+/// many workers: any number.
 ///
 /// The vertices of the items are below n, and they are at most `MAX_ITEMS`. The answer is the same
 /// for any number of workers. Fails only if memory runs out.
 ///
-/// Costs what `clean` costs, which is this with 64 workers. With one worker the calling thread alone
-/// sorts lists of any length, and no thread is started.
+/// With 1 worker or 0 the calling thread sorts the lists, and no thread is started. With 2 or more a list
+/// of 65,536 keys or edges or more is sorted by as many threads as the runtime has. Else it costs what
+/// `clean` costs.
 pub fn clean_by<R: Threads + Sync>(
     rt: &R,
     alloc: Global,

@@ -88,7 +88,7 @@ impl Edges {
         Ok(())
     }
 
-    /// Puts the edges in ascending order, by threads where they are many and `workers` is 2 or more.
+    /// Puts the edges in ascending order, by threads where the list is shared (`is_shared`).
     pub(crate) fn sort<R: Threads + Sync>(&mut self, rt: &R, workers: u32)
         ensures same { IsPermutation self.old self.new }
         ensures in_order { IsSorted pair_cmp self.new }

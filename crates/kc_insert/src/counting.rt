@@ -186,7 +186,7 @@ pub fn come_up(step: &Step, counted: &mut Counted, meetings: &[Meeting]) -> Resu
     Ok(())
 }
 
-// Puts w behind the first `end` items, and gives where they end then: behind w where it holds, else before it. There is no branch,
+// Puts w behind the first `end` items, and gives where they end then: behind w if `holds`, else before it. There is no branch,
 // since a processor couldn't predict it.
 fn put_where(items: &mut Vec<u32>, end: usize, w: u32, holds: bool) -> usize
     requires { end < length items.old.items }

@@ -1,7 +1,7 @@
-//! The lines that a run writes, and those of an exact text.
+//! The lines that a run writes, those of an exact text, and the end of any text that has a line for each vertex.
 //!
 //! Each call empties the line buffer, whatever it held, puts a line together in it and sends it whole. The sink takes the
-//! lines of the definition that the call names. A line has at most 106 bytes, and one of a group or of a reader as many
+//! lines of the definition that the call names. A line of this crate has at most 106 bytes, and one of a group or of a reader as many
 //! more as its vertices take; the buffer keeps their memory for the next one.
 //!
 //! After either fault the sink took a prefix of the lines. `WriteFault` comes only where a write to the sink failed in

@@ -11,13 +11,14 @@ use std::alloc::Global;
 
 /// Lines of vertices: what the line of a vertex is, and how it is written.
 pub trait VertexLines {
-    /// The line of a vertex, with its line feed.
+    /// The line of a vertex; its line feed is the last byte.
     ghost line: { Self → ℕ → List ℕ };
 
     /// Which vertices have a line.
     ghost has_line: { Self → ℕ → Type 0 };
 
-    /// Writes the line of `v`. After either fault the sink took a prefix of it.
+    /// Writes the line of `v`, which has one, whatever the buffer holds before. After `WriteFault`, which only a failed write gives, and
+    /// after `Memory` the sink took a prefix of the line. The buffer is empty afterwards, but after `Memory`, where it may hold anything.
     fn write_line<K: Sink>(
         &self,
         alloc: Global,

@@ -237,7 +237,7 @@ fn run_without_readers<R: Threads + Sync, S: Source, K: Sink, G: Gate + Sync>(
 }
 
 /// Runs what is after a header, its batches beside its readers, and writes the text of the session (`session_text`). A phase uses up to
-/// `workers` threads, 1 to 64, and each reader has one of its own where one can be made.
+/// `workers` threads, 1 to 64, a long batch is cleaned as `clean_by` says, and each reader has a thread of its own where one can be made.
 ///
 /// The head is written first. Then two branches run side by side: one reads batch after batch, applies it, shows it in a store and
 /// tells it; the other lets an agent for each ask put its questions. Afterwards a line for each reader is written, a last pass reads each

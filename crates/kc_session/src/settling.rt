@@ -29,13 +29,14 @@ pub struct Settled {
     pub refused: u32,
 }
 
-/// Applies the batches after a header, in up to `workers` threads, 1 to 64, and writes a note of each that is refused (`Settles`).
+/// Applies the batches after a header and writes a note of each that is refused (`Settles`). A phase uses up to `workers` threads, 1 to
+/// 64, and a long batch is cleaned as `clean_by` says.
 ///
 /// After Ok the engine hasn't halted, no plan waits in it, it is for the header's profile and number of vertices, and both invariants
 /// hold (`IsSettled`).
 /// `ReadFault` and `WriteFault` come only where a read of the source, or a write to the sink, failed in this call; after either, and
 /// after `Memory`, the sink took a prefix of the notes. Asks are not put: no phase is shown, and no store is opened. Costs what
-/// reading, `clean` and `Engine::plan` cost.
+/// reading, `clean_by` and `Engine::plan` cost.
 pub fn settle<R: Threads + Sync, S: Source, K: Sink, G: Gate + Sync>(
     rt: &R,
     alloc: Global,

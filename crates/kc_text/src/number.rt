@@ -34,8 +34,8 @@ fn is_digit(byte: u8) -> bool
     byte >= b'0' && byte <= b'9'
 }
 
-// As many digits are looked for at first, one more than any vertex has: the compiler lays out the loop over them, in which
-// no value is too large.
+// As many digits are looked for at first as the greatest vertex has. The compiler lays out the loop over them, in which no value is too
+// large; a number of fewer digits ends in it.
 const NEAR: usize = 8;
 
 // The value of the digits from `start` on, of which those before `from` come to `value`, and where they end. None where the

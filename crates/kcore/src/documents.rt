@@ -43,7 +43,7 @@ pub trait Document {
         ensures { HasDocuments is_document };
 }
 
-/// Reads a batch input and applies its batches in turn, in up to `workers` threads. Asks aren't put. Writes a note of each refused batch,
+/// Reads a batch input and applies its batches in turn, with so many `workers`. Asks aren't put. Writes a note of each refused batch,
 /// and then this document of what the others lead to. Says whether something was refused.
 pub fn settle_input<D: Document, R: Threads + Sync, S: Source, K: Sink, G: Gate + Sync>(
     rt: &R,

@@ -274,8 +274,11 @@ fn a_reader_looks_while_batches_are_shown(rt: HostRuntime) -> Result<(), Fail> {
 // the first group has taken effect.
 #[derive(Drop)]
 struct PublishesBetween {
+    // Whether a reply was told.
     replied: AtomicBool,
+    // Whether the second publication was told.
     shown: AtomicBool,
+    // Whether somebody was held for all turns.
     ran_out: AtomicBool,
 }
 
