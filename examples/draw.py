@@ -138,7 +138,7 @@ def draw_run(text, picture):
     for axes in (left, scale, right):
         axes.spines["top"].set_visible(False)
         axes.yaxis.get_major_locator().set_params(integer=True)
-    right.xaxis.get_major_locator().set_params(integer=True)
+    right.xaxis.get_major_locator().set_params(integer=True, min_n_ticks=1)
     save(figure, picture)
 
 
