@@ -64,7 +64,7 @@ moving-few g x v k d w counts rest graph s h = elim (cases_Bool (has_number w re
 ]
 
 -- a level that is passed on the way up is reached from above alone
-pass_up : (m r o k : ℕ) → o ≤ k → (m + cond (ltb o r && leb r k) 1 0) + cond (leb r o) 1 0 ≡ m + cond (leb r k) 1 0
+pub pass_up : (m r o k : ℕ) → o ≤ k → (m + cond (ltb o r && leb r k) 1 0) + cond (leb r o) 1 0 ≡ m + cond (leb r k) 1 0
 pass_up m r o k le = elim (cases_lt o r) [
   | inl lt ↦ elim (cases_lt k r) [ inl over ↦ grind (arith, nat_tests, lt, over) | inr within ↦ grind (arith, nat_tests, lt, within) ]
   | inr ge ↦ let within : r ≤ k = omega (arith, ge, le) in grind (arith, nat_tests, ge, within)

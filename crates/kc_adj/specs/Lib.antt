@@ -1,3 +1,4 @@
+pub mod Degrees
 pub mod LeveledGraph
 pub mod LevelLists
 pub mod private

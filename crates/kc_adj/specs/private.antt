@@ -1,3 +1,5 @@
 -- Words of private contracts and loop invariants: no public contract needs them.
+pub mod Lifting
 pub mod Linking
 pub mod Moving
+pub mod Passing

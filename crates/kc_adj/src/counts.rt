@@ -1,6 +1,6 @@
 //! The two counts of neighbours that a level adjacency keeps for each vertex, and how a count gains or loses a neighbour.
 
-ghost use Rattle.std.specs.Prelude.{◌≡◌, ◌+◌, ◌-◌, ◌<◌, ◌≤◌, ◌^◌, cond, length, slice_index, slice_set};
+ghost use Rattle.std.specs.Prelude.{◌≡◌, ◌+◌, ◌-◌, ◌<◌, ◌≤◌, ◌^◌, ◌&&◌, cond, nat_le, nat_lt, length, slice_index, slice_set};
 ghost use Rattle.kc_adj.specs.private.Moving.{is_passed};
 
 /// For each vertex two counts of its neighbours, each below the number of vertices.
@@ -20,6 +20,14 @@ pub fn as_one(holds: bool) -> u32
     if holds { 1 } else { 0 }
 }
 
+/// Whether, on the way up from a level to another, one of the two levels is passed or reached that a vertex on `level` counts from: else
+/// none of its counts changes.
+pub fn is_reached(from: u16, to: u16, level: u16) -> bool
+    ensures { result ≡ nat_lt from level && nat_le (level - 1) to }
+{
+    from < level && level - 1 <= to
+}
+
 /// A neighbour of w goes up from a level to another. w is on `level`: each of its counts gains the neighbour if the level that
 /// it counts from is passed or reached on the way.
 ///
@@ -32,7 +40,7 @@ pub fn gain(counts: &mut Counts, w: u32, from: u16, to: u16, level: u16)
     ensures own { counts.new.own.items ≡ slice_set counts.old.own.items w (slice_index counts.old.own.items w + cond (is_passed from to level) 1 0) }
     ensures below { counts.new.below.items ≡ slice_set counts.old.below.items w (slice_index counts.old.below.items w + cond (is_passed from to (level - 1)) 1 0) }
 {
-    if from < level && level - 1 <= to {
+    if is_reached(from, to, level) {
         counts.own[w as usize] += as_one(level <= to);
         counts.below[w as usize] += as_one(from < level - 1);
     }

@@ -1,15 +1,18 @@
 //! A graph with levels whose counts of neighbours follow each edge that comes or leaves, and each vertex that rises or falls.
 
-ghost use Rattle.std.specs.Prelude.{◌≡◌, ◌+◌, ◌*◌, ◌-◌, ◌<◌, ◌≤◌, ◌↔◌, [], IsTrue, OnOk, OnErr, IfOk, true, false, length, replicate, slice_index, slice_set};
+ghost use Rattle.std.specs.Prelude.{◌≡◌, ◌+◌, ◌*◌, ◌-◌, ◌<◌, ◌≤◌, ◌↔◌, ℕ, [], IsTrue, OnOk, OnErr, IfOk, true, false, length, replicate, slice_index, slice_set};
 ghost use Rattle.kc_graph.specs.Shape.{EdgesFrom, IsGraph, neighbours_of, has_edge, with_edge, without_edge, with_edges, without_edges};
+ghost use Rattle.kc_graph.specs.Numbers.{has_number};
 ghost use Rattle.kc_graph.specs.Changes.{AllAbsent, AllPresent};
 ghost use Rattle.kc_levels.specs.Thresholds.{top_level};
-ghost use Rattle.kc_levels.specs.LevelList.{at_least, MeetsLower, IsDesired};
+ghost use Rattle.kc_levels.specs.LevelList.{at_least, MeetsLower, IsBelow, IsDesired};
+ghost use Rattle.kc_levels.specs.Following.{AreDistinct};
+ghost use Rattle.kc_adj.specs.Degrees.{degrees};
 ghost use Rattle.kc_adj.specs.LeveledGraph.{LeveledGraph, IsCounted};
 
 use crate::counts::Counts;
 use crate::steps::Steps;
-use crate::{desired, links, moves};
+use crate::{desired, lifting, links, moves, passes};
 use kc_graph::{Edge, Graph, MAX_EDGES, MAX_VERTICES};
 use kc_levels::{Levels, Thresholds};
 use std::alloc::{AllocError, Global};
@@ -22,8 +25,9 @@ use std::thread::Threads;
 ///
 /// Contracts see it as a `LeveledGraph`: the graph and the list of the levels. A level is 0 to 65,535.
 ///
-/// Besides the graph it takes 10 bytes a vertex. `link`, `link_all`, `unlink`, `unlink_all`, `rise`, `lift` and `fall` count one step
-/// for themselves, and one for each half-edge that they visit: a neighbour of the vertex that moves, or an end of the edge.
+/// Besides the graph it takes 10 bytes a vertex. `link`, `unlink`, `rise`, `lift` and `fall` count one step for themselves, and one for
+/// each half-edge that they visit: a neighbour of the vertex that moves, or an end of the edge. `link_all`, `unlink_all`, `lift_all`
+/// and `par_lift_all` count as much for each edge or vertex of their list.
 #[derive(Drop)]
 pub struct LevelAdj {
     // The graph; `levels` and `counts` are for its vertices.
@@ -304,6 +308,74 @@ impl LevelAdj {
             to,
             steps,
         );
+    }
+
+    /// Puts each vertex of the list up to its level in `new`, which has no other changes. Takes no memory.
+    ///
+    /// A level is 0 to 65,535, and no vertex stands lower in `new` than before; one of the list may stand where it stood. Each is in the
+    /// list once, in any order.
+    ///
+    /// One pass over the neighbours of each, however far it rises; at a neighbour that moves too nothing is written. Costs least where the
+    /// list is ascending. Counts a step for each neighbour, and one more for each vertex.
+    pub fn lift_all<L: Ledger>(&mut self, vertices: &[u32], new: &Levels, steps: &mut Steps<L>)
+        requires sized { length new.now ≡ self.old.graph.vertices }
+        requires vertices { (v : ℕ) → has_number v vertices.now ≡ true → v < self.old.graph.vertices }
+        requires over { IsBelow self.old.graph.vertices self.old.levels new.now }
+        requires moved { (v : ℕ) → slice_index self.old.levels v < slice_index new.now v → has_number v vertices.now ≡ true }
+        requires once { AreDistinct vertices.now }
+        ensures value { self.new ≡ record self.old { levels = new.now } }
+        ensures cost { steps.new ≡ steps.old + (degrees self.old.graph vertices.now + length vertices.now) }
+    {
+        lifting::lift_all(
+            &self.graph,
+            &mut self.levels,
+            &mut self.counts,
+            vertices,
+            new,
+            steps,
+        );
+    }
+
+    /// As `lift_all`, by threads where the list is long.
+    ///
+    /// `workers` is 1 to 64, and nothing but the time depends on it. The vertices are cut into no more pieces than that, nor than they
+    /// have full ones of 4,096; so with one worker, or fewer than 8,192 vertices, it is `lift_all`, and takes no memory. Else each piece
+    /// goes to a thread of its own where one can be made, which passes over the neighbours and writes nothing, and then one thread writes
+    /// down what they found. Takes memory for that: 12 bytes a vertex, and 4, or up to twice that, for each neighbour that stays and may
+    /// gain.
+    ///
+    /// Fails only if memory runs out, and all is then unchanged, the steps too. Counts what `lift_all` counts.
+    pub fn par_lift_all<R: Threads + Sync, L: Ledger>(
+        &mut self,
+        rt: &R,
+        alloc: Global,
+        workers: u32,
+        vertices: &[u32],
+        new: &Levels,
+        steps: &mut Steps<L>,
+    ) -> Result<(), AllocError>
+        requires few_workers { (1 ≤ workers) × (workers ≤ 64) }
+        requires sized { length new.now ≡ self.old.graph.vertices }
+        requires vertices { (v : ℕ) → has_number v vertices.now ≡ true → v < self.old.graph.vertices }
+        requires over { IsBelow self.old.graph.vertices self.old.levels new.now }
+        requires moved { (v : ℕ) → slice_index self.old.levels v < slice_index new.now v → has_number v vertices.now ≡ true }
+        requires once { AreDistinct vertices.now }
+        ensures ok { OnOk result (self.new ≡ record self.old { levels = new.now }) }
+        ensures cost { OnOk result (steps.new ≡ steps.old + (degrees self.old.graph vertices.now + length vertices.now)) }
+        ensures err { OnErr result (self.new ≡ self.old) }
+        ensures steps_kept { OnErr result (steps.new ≡ steps.old) }
+    {
+        passes::par_lift_all(
+            rt,
+            alloc,
+            workers,
+            &self.graph,
+            &mut self.levels,
+            &mut self.counts,
+            vertices,
+            new,
+            steps,
+        )
     }
 
     /// Puts `v` down to the level `to`, which is at most its own. Takes no memory.

@@ -9,8 +9,10 @@ mod counts;
 mod desired;
 mod level_adj;
 mod level_lists;
+mod lifting;
 mod links;
 mod moves;
+mod passes;
 mod steps;
 
 pub use level_adj::LevelAdj;

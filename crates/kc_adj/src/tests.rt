@@ -1,15 +1,18 @@
 //! Counts and desired levels of small graphs, worked out by hand, as edges and levels change, and items filed under levels.
 
-ghost use Rattle.std.specs.Prelude.{◌≡◌, ◌<◌, true};
+ghost use Rattle.std.specs.Prelude.{◌≡◌, ◌<◌, ◌≤◌, ◌^◌, ℕ, IfOk, length, slice_index, true};
+ghost use Rattle.kc_graph.specs.Numbers.{has_number};
+ghost use Rattle.kc_levels.specs.Following.{AreDistinct};
 
 use crate::{LevelAdj, LevelLists, Steps};
-use kc_graph::{Edge, MAX_EDGES};
-use kc_levels::{Profile, Thresholds, at_least};
-use std::alloc::Global;
+use kc_graph::{Edge, MAX_EDGES, MAX_VERTICES};
+use kc_levels::{Levels, Profile, Thresholds, at_least};
+use std::alloc::{AllocError, Global};
 use std::marker::Brand;
 use std::process::Abort;
 use std::sync::ledger::{Blank, Ledger};
 use std::test::Fail;
+use std::thread::Threads;
 
 // One change.
 #[derive(Clone, Copy, Debug)]
@@ -222,6 +225,199 @@ fn check<L: Ledger>(rt: &impl Abort, alloc: Global, case: &Case, blank: Blank) -
 fn counts_and_desired_levels(rt: HostRuntime) -> Result<(), Fail> {
     for case in &CASES {
         check::<Brand>(&rt, rt.alloc(), case, Blank::new(1))?;
+    }
+    Ok(())
+}
+
+// Numbers that look random, by a linear congruence.
+fn next(number: &mut u64) -> u64
+    ensures { result < 2 ^ 31 }
+{
+    *number = number
+        .wrapping_mul(6_364_136_223_846_793_005)
+        .wrapping_add(1_442_695_040_888_963_407);
+    *number >> 33
+}
+
+// Puts in an edge between two vertices, unless they are one or share one already.
+fn join<L: Ledger>(
+    rt: &impl Abort,
+    alloc: Global,
+    adj: &mut LevelAdj,
+    a: u32,
+    b: u32,
+    steps: &mut Steps<L>,
+) -> Result<(), Fail> {
+    if a != b {
+        let e = edge(rt, adj, a.min(b), a.max(b));
+        if !adj.graph().has(e) {
+            assert!(rt; adj.graph().edge_count() < MAX_EDGES);
+            adj.link(alloc, e, steps)?;
+        }
+    }
+    Ok(())
+}
+
+// A graph on n vertices with up to three edges for each, and levels from 0 to 4. It is the same each time.
+fn generated<L: Ledger>(
+    rt: &impl Abort,
+    alloc: Global,
+    n: u32,
+    steps: &mut Steps<L>,
+) -> Result<LevelAdj, Fail> {
+    assert!(rt; 1 <= n && n <= MAX_VERTICES);
+    let mut adj = LevelAdj::new(alloc, n)?;
+    let mut number = 1u64;
+    for v in 0..n {
+        let level = (next(&mut number) % 5) as u16;
+        apply(rt, alloc, &mut adj, Lift(v, level), steps)?;
+    }
+    for _ in 0..3 * u64::from(n) {
+        let a = (next(&mut number) % u64::from(n)) as u32;
+        let b = (next(&mut number) % u64::from(n)) as u32;
+        join(rt, alloc, &mut adj, a, b, steps)?;
+    }
+    Ok(adj)
+}
+
+// Levels at or above those of the graph, up to 7.
+fn raised(alloc: Global, adj: &LevelAdj) -> Result<Levels, AllocError>
+    ensures sized { IfOk result (λ new. length new ≡ adj.now.graph.vertices) }
+    ensures over { IfOk result (λ new. (v : ℕ) → slice_index adj.now.levels v ≤ slice_index new v) }
+{
+    let mut new = adj.levels().copy(alloc)?;
+    let mut number = 2u64;
+    for v in 0..adj.graph().vertices() {
+        let level = (next(&mut number) % 8) as u16;
+        new.set(v, adj.level(v).max(level));
+    }
+    Ok(new)
+}
+
+// Whether the vertex moves, or is a third one.
+fn is_listed(adj: &LevelAdj, new: &Levels, v: u32) -> bool
+    requires vertex { v < adj.now.graph.vertices }
+    requires sized { length new.now ≡ adj.now.graph.vertices }
+    ensures { slice_index adj.now.levels v < slice_index new.now v → result ≡ true }
+{
+    adj.level(v) < new.get(v) || v % 3 == 0
+}
+
+// The vertices that move, and among them every third one.
+fn listed(alloc: Global, adj: &LevelAdj, new: &Levels) -> Result<Vec<u32>, AllocError>
+    requires sized { length new.now ≡ adj.now.graph.vertices }
+    ensures vertices { IfOk result (λ vs. (v : ℕ) → has_number v vs.items ≡ true → v < adj.now.graph.vertices) }
+    ensures moved { IfOk result (λ vs. (v : ℕ) → slice_index adj.now.levels v < slice_index new.now v → has_number v vs.items ≡ true) }
+    ensures once { IfOk result (λ vs. AreDistinct vs.items) }
+{
+    let mut vertices = Vec::new(alloc);
+    let _levels = adj.levels();
+    for v in 0..adj.graph().vertices() {
+        if is_listed(adj, new, v) {
+            vertices.push(v)?;
+        }
+    }
+    Ok(vertices)
+}
+
+// Lifts the vertices of the list one by one.
+fn lift_each<L: Ledger>(
+    rt: &impl Abort,
+    alloc: Global,
+    adj: &mut LevelAdj,
+    vertices: &[u32],
+    new: &Levels,
+    steps: &mut Steps<L>,
+) -> Result<(), Fail>
+    requires { (v : ℕ) → has_number v vertices.now ≡ true → v < length new.now }
+{
+    for v in vertices {
+        apply(rt, alloc, adj, Lift(*v, new.get(*v)), steps)?;
+    }
+    Ok(())
+}
+
+// The two have the same levels and counts.
+fn check_same(rt: &impl Abort, a: &LevelAdj, b: &LevelAdj) {
+    assert_eq!(rt; a.graph().vertices(), b.graph().vertices());
+    for v in 0..a.graph().vertices() {
+        assert_eq!(rt; a.level(v), b.level(v), "level of {v}");
+        assert_eq!(rt; a.at_least_own(v), b.at_least_own(v), "at {v}");
+        assert_eq!(rt; a.at_least_below(v), b.at_least_below(v), "below {v}");
+    }
+}
+
+// The generated graph whose vertices were lifted one by one.
+fn lifted_one_by_one<L: Ledger>(
+    rt: &impl Abort,
+    alloc: Global,
+    n: u32,
+    steps: &mut Steps<L>,
+) -> Result<LevelAdj, Fail> {
+    let mut adj = generated(rt, alloc, n, steps)?;
+    let new = raised(alloc, &adj)?;
+    let vertices = listed(alloc, &adj, &new)?;
+    lift_each(rt, alloc, &mut adj, &vertices, &new, steps)?;
+    Ok(adj)
+}
+
+// The generated graph whose vertices were lifted together.
+fn lifted_together<L: Ledger>(
+    rt: &impl Abort,
+    alloc: Global,
+    n: u32,
+    steps: &mut Steps<L>,
+) -> Result<LevelAdj, Fail> {
+    let mut adj = generated(rt, alloc, n, steps)?;
+    let new = raised(alloc, &adj)?;
+    let vertices = listed(alloc, &adj, &new)?;
+    adj.lift_all(&vertices, &new, steps);
+    Ok(adj)
+}
+
+// The generated graph whose vertices were lifted together, with this number of workers.
+fn lifted_by<R: Abort + Threads + Sync, L: Ledger>(
+    rt: &R,
+    alloc: Global,
+    workers: u32,
+    n: u32,
+    steps: &mut Steps<L>,
+) -> Result<LevelAdj, Fail>
+    requires { (1 ≤ workers) × (workers ≤ 64) }
+{
+    let mut adj = generated(rt, alloc, n, steps)?;
+    let new = raised(alloc, &adj)?;
+    let vertices = listed(alloc, &adj, &new)?;
+    adj.par_lift_all(rt, alloc, workers, &vertices, &new, steps)?;
+    Ok(adj)
+}
+
+// Vertices that are lifted together, alone or by threads, come out as those that are lifted one by one.
+fn check_lifted<R: Abort + Threads + Sync, L: Ledger>(
+    rt: &R,
+    alloc: Global,
+    n: u32,
+    blank: Blank,
+) -> Result<(), Fail>
+    requires name { blank.name ≡ L.name }
+    requires parts { blank.parts ≡ L.parts }
+    requires positive { 0 < blank.parts }
+{
+    let mut steps = Steps::<L>::new(blank);
+    let one_by_one = lifted_one_by_one(rt, alloc, n, &mut steps)?;
+    let together = lifted_together(rt, alloc, n, &mut steps)?;
+    check_same(rt, &together, &one_by_one);
+    for workers in [1, 3, 64] {
+        let shared = lifted_by(rt, alloc, workers, n, &mut steps)?;
+        check_same(rt, &shared, &one_by_one);
+    }
+    Ok(())
+}
+
+#[test]
+fn lifted_together_as_one_by_one(rt: HostRuntime) -> Result<(), Fail> {
+    for n in [2, 9, 20_000] {
+        check_lifted::<_, Brand>(&rt, rt.alloc(), n, Blank::new(1))?;
     }
     Ok(())
 }

@@ -1,11 +1,11 @@
 //! What a reader asks, as the line `ask TIMES V V ..` of a header says it.
-ghost use Rattle.std.specs.Prelude.{◌≡◌, ◌<◌, [], ◌∷◌, ◌++◌, length, nat_lt, None, true, if◌then◌else◌, IfOk, IfSome, OnOk, OnErr};
+ghost use Rattle.std.specs.Prelude.{◌≡◌, ◌<◌, nat_lt, None, true, if◌then◌else◌, IfOk, IfSome};
 ghost use Rattle.kc_text.specs.Words.{words};
 
 use crate::text::{all_below, read_numbers};
+use kc_graph::List;
 use kc_text::{is_named, next_word, read_number};
 use std::alloc::{AllocError, Global};
-use std::marker::Model;
 
 // The greatest number of ask lines.
 const MAX_ASKS: usize = 64;
@@ -13,61 +13,8 @@ const MAX_ASKS: usize = 64;
 // The greatest number of questions of an ask.
 const MAX_QUESTIONS: u64 = 65_536;
 
-/// Vertices that a contract sees as a list.
-#[derive(Drop, Debug)]
-pub struct Vertices {
-    // In the order in which they are asked for, some maybe more than once.
-    items: Vec<u32>,
-}
-
-impl Model for Vertices {
-    ghost use Rattle.std.specs.Prelude.{List, ℕ};
-
-    ghost Value = { List ℕ };
-
-    ghost view = { λ v. v.items.items };
-}
-
-impl Vertices {
-    /// The vertices of a `Vec`; takes no memory.
-    pub fn from_vec(items: Vec<u32>) -> Self
-        ensures { result ≡ items.items }
-    {
-        Vertices { items }
-    }
-
-    /// The vertices as a `Vec`; takes no memory.
-    pub fn into_vec(self) -> Vec<u32>
-        ensures { result.items ≡ self }
-    {
-        self.items
-    }
-
-    /// The vertices as a slice.
-    pub fn as_slice(&self) -> &[u32]
-        ensures { result.now ≡ self.now }
-    {
-        &self.items
-    }
-
-    // No vertices; takes no memory.
-    pub(crate) fn new(alloc: Global) -> Self
-        ensures { result ≡ [] }
-    {
-        Vertices {
-            items: Vec::new(alloc),
-        }
-    }
-
-    // Puts a vertex at the end.
-    pub(crate) fn push(&mut self, vertex: u32) -> Result<(), AllocError>
-        ensures ok { OnOk result (self.new ≡ self.old ++ vertex ∷ []) }
-        ensures err { OnErr result (self.new ≡ self.old) }
-    {
-        self.items.push(vertex)?;
-        Ok(())
-    }
-}
+/// Vertices one after another, in the order in which they are asked for, some maybe more than once. Contracts see them as a list.
+pub type Vertices = List<u32>;
 
 /// What one reader asks: the levels of these vertices in order, the whole list `times` times over.
 ///
@@ -81,69 +28,8 @@ pub struct Ask {
     pub vertices: Vertices,
 }
 
-/// Asks that a contract sees as a list.
-#[derive(Drop, Debug)]
-pub struct Asks {
-    // One for each reader, in the order of the header's lines.
-    items: Vec<Ask>,
-}
-
-impl Model for Asks {
-    ghost use Rattle.std.specs.Prelude.{List};
-    ghost use Rattle.kc_batch.specs.declared.ask.Ask.{Ask};
-
-    ghost Value = { List Ask };
-
-    ghost view = { λ a. a.items.items };
-}
-
-impl Asks {
-    /// The asks of a `Vec`; takes no memory.
-    pub fn from_vec(items: Vec<Ask>) -> Self
-        ensures { result ≡ items.items }
-    {
-        Asks { items }
-    }
-
-    /// The asks as a `Vec`; takes no memory.
-    pub fn into_vec(self) -> Vec<Ask>
-        ensures { result.items ≡ self }
-    {
-        self.items
-    }
-
-    /// The asks as a slice.
-    pub fn as_slice(&self) -> &[Ask]
-        ensures { result.now ≡ self.now }
-    {
-        &self.items
-    }
-
-    // No asks; takes no memory.
-    pub(crate) fn new(alloc: Global) -> Self
-        ensures { result ≡ [] }
-    {
-        Asks {
-            items: Vec::new(alloc),
-        }
-    }
-
-    // How many asks there are.
-    pub(crate) fn len(&self) -> usize
-        ensures { result ≡ length self.now }
-    {
-        self.items.len()
-    }
-
-    // Puts an ask at the end.
-    pub(crate) fn push(&mut self, ask: Ask) -> Result<(), AllocError>
-        ensures ok { OnOk result (self.new ≡ self.old ++ ask ∷ []) }
-        ensures err { OnErr result (self.new ≡ self.old) }
-    {
-        self.items.push(ask)?;
-        Ok(())
-    }
-}
+/// Asks one after another, one for each reader, in the order of the header's lines. Contracts see them as a list.
+pub type Asks = List<Ask>;
 
 ghost use Rattle.kc_batch.specs.Headers.{is_ask, fits_ask, ask_in, IsAsk};
 

@@ -13,7 +13,8 @@ use Rattle.kc_graph.proofs.lemmas.Neighbours.{fewer_neighbours, neighbour_below,
 use Rattle.kc_levels.specs.LevelList.{at_least}
 use Rattle.kc_levels.specs.Following.{AreDistinct}
 use Rattle.kc_insert.specs.private.Meetings.{AreApart, IsMeeting, AreMeetings}
-use Rattle.kc_insert.specs.private.Counting.{is_next, sees_unlisted, degrees, stood_above, AreSeen, IsNoting, AreBeginners, HasBegun, HaveBegun, meetings_on}
+use Rattle.kc_adj.specs.Degrees.{degrees}
+use Rattle.kc_insert.specs.private.Counting.{is_next, sees_unlisted, stood_above, AreSeen, IsNoting, AreBeginners, HasBegun, HaveBegun, meetings_on}
 use Rattle.kc_insert.proofs.Flips.{count_agree, count_less}
 use Rattle.kc_insert.proofs.Buckets.{has_number-filter}
 use Rattle.kc_insert.proofs.Starting.{rises_filter, passes_at}

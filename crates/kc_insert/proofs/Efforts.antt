@@ -9,7 +9,8 @@ use Rattle.kc_graph.proofs.lemmas.Numbers.{has_number-append}
 use Rattle.kc_insert.specs.Effort.{effort}
 use Rattle.kc_insert.specs.private.Round.{is_over}
 use Rattle.kc_levels.specs.Following.{AreDistinct}
-use Rattle.kc_insert.specs.private.Counting.{degrees, steps_on}
+use Rattle.kc_adj.specs.Degrees.{degrees}
+use Rattle.kc_insert.specs.private.Counting.{steps_on}
 use Rattle.kc_insert.specs.private.Sweeping.{all_at}
 use Rattle.kc_insert.proofs.Buckets.{has_number-filter}
 
@@ -63,7 +64,7 @@ degrees-append g [] vs = omega arith
 degrees-append g (u ∷ us) vs = omega (arith, degrees-append g us vs)
 
 -- those who stay on the level, and those who go on, are not more than all together
-pub fee_parts : (g : GraphShape) (z c vs : List ℕ) (l most : ℕ) → ((v : ℕ) → has_number v vs ≡ true → is_over c most v ≡ true → get_or z v 0 ≡ l + 1) → steps_on g z l vs + (2 * degrees g (filter (is_over c most) vs) + length (filter (is_over c most) vs)) ≤ 2 * degrees g vs + length vs
+pub fee_parts : (g : GraphShape) (z c vs : List ℕ) (l most : ℕ) → ((v : ℕ) → has_number v vs ≡ true → is_over c most v ≡ true → get_or z v 0 ≡ l + 1) → steps_on g z l vs + degrees g (filter (is_over c most) vs) ≤ degrees g vs
 fee_parts g z c [] l most up = omega arith
 fee_parts g z c (v ∷ vs) l most up =
     let more = fee_parts g z c vs l most (λ u there over. up u (grind (arith, nat_tests, there)) over) in

@@ -1,4 +1,4 @@
--- Some vertices of one level that come to the next, and vertices that are lifted to their new levels in the graph.
+-- Some vertices of one level that come to the next, and vertices that are put on their new levels.
 use Rattle.std.proofs.Common.{ℕ, suc, ◌+◌, ◌≤◌, ◌<◌, ◌≡◌, ◌≢◌, ◌⊎◌, inl, inr, true, false, List, [], ◌∷◌, ◌++◌, length, get_or, set, drop, add-one, refl, ap, sym, ◌∙◌, arith, subst}
 use Rattle.std.proofs.lemmas.Bool.{cases_eq, cases_lt, cases_Bool, true≢false}
 use Rattle.std.proofs.lemmas.Bool.Decides.{nat_tests}
@@ -6,12 +6,11 @@ use Rattle.std.proofs.lemmas.List.{length-set, get_or-set_same, get_or-set_other
 use Rattle.std.proofs.lemmas.Grind.{same_number_lists}
 use Rattle.std.proofs.Math.Seq.{drop-cons}
 use Rattle.kc_graph.specs.Numbers.{has_number}
-use Rattle.kc_graph.specs.Shape.{GraphShape, neighbours_of}
+use Rattle.kc_graph.specs.Shape.{GraphShape}
 use Rattle.kc_graph.proofs.lemmas.Numbers.{has_number_at, has_number_index, has_number-push}
 use Rattle.kc_levels.specs.LevelList.{IsBelow}
 use Rattle.kc_adj.specs.LeveledGraph.{LeveledGraph}
 use Rattle.kc_levels.specs.Following.{AreDistinct}
-use Rattle.kc_insert.specs.private.Counting.{degrees}
 use Rattle.kc_insert.specs.private.Sweeping.{all_at}
 use Rattle.kc_insert.proofs.Buckets.{pushed_is, has_last}
 
@@ -116,7 +115,7 @@ lifting_same y vertices l i z lifted end s v = elim (cases_Bool (has_number v ve
   ]
 ]
 
--- of the vertices that rose from x to y those in `rest` are still to be lifted in the graph
+-- of the vertices that rose from x to y those in `rest` are still to be put on their new levels
 pub record IsLiftingAll (a b : LeveledGraph) (y rest : List ℕ) : Type 0 where
   pub graph : b.graph ≡ a.graph
   pub sized : length b.levels ≡ a.graph.vertices
@@ -142,9 +141,6 @@ module _ (a b : LeveledGraph) (y risen : List ℕ) (i : ℕ) (at : i < length ri
   pub all_vertex : riser < a.graph.vertices
   all_vertex = vertices riser (has_number_at riser risen i at refl)
 
-  pub all_above : get_or b.levels riser 0 ≤ get_or y riser 0
-  all_above = elim (s.each riser) [ inl done ↦ omega (arith, done) | inr old ↦ omega (arith, old.0, above riser all_vertex) ]
-
   pub lifting_all_next : (c : LeveledGraph) → c ≡ record b { levels = set b.levels riser (get_or y riser 0) } → IsLiftingAll a c y (drop (i + 1) risen)
   lifting_all_next c is = record {
     graph = ap (λ (k : LeveledGraph). k.graph) is ∙ s.graph;
@@ -161,9 +157,6 @@ module _ (a b : LeveledGraph) (y risen : List ℕ) (i : ℕ) (at : i < length ri
           ]
     ]);
   }
-
-  pub all_fee : degrees a.graph (drop i risen) ≡ length (neighbours_of riser a.graph.edges) + degrees a.graph (drop (i + 1) risen)
-  all_fee = ap (λ vs. degrees a.graph vs) (drop-cons risen i 0 at) ∙ rw (add-one i) refl
 
 pub lifting_all_last : (a b : LeveledGraph) (y risen : List ℕ) (i : ℕ) → length risen ≤ i → length y ≡ a.graph.vertices → IsLiftingAll a b y (drop i risen) → b ≡ record a { levels = y }
 lifting_all_last a b y risen i end sized s =

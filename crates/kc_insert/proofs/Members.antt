@@ -1,12 +1,16 @@
 -- Lists of the same numbers.
-use Rattle.std.proofs.Common.{ℕ, ◌+◌, ◌<◌, ◌≡◌, ◌≢◌, inl, inr, Bool, true, false, eqb, not, ◌&&◌, List, [], ◌∷◌, length, get_or, filter, refl, ap, sym, ◌∙◌, arith}
+use Rattle.std.proofs.Common.{ℕ, suc, ◌+◌, ◌<◌, ◌≡◌, ◌≢◌, inl, inr, Bool, true, false, eqb, not, ◌&&◌, List, [], ◌∷◌, length, get_or, set, filter, refl, ap, sym, ◌∙◌, arith}
 use Rattle.std.proofs.lemmas.Bool.{cases_eq, cases_Bool, true≢false}
 use Rattle.std.proofs.lemmas.Bool.Decides.{nat_tests}
 use Rattle.std.proofs.lemmas.Grind.{same_number_lists}
-use Rattle.kc_graph.specs.Numbers.{has_number}
-use Rattle.kc_graph.specs.Shape.{GraphShape}
+use Rattle.kc_graph.specs.Numbers.{has_number, RisesFrom}
+use Rattle.kc_graph.specs.Shape.{GraphShape, neighbours_of}
+use Rattle.kc_graph.proofs.lemmas.Numbers.{has_number_below}
 use Rattle.kc_levels.specs.Following.{AreDistinct}
+use Rattle.kc_adj.specs.LeveledGraph.{LeveledGraph}
+use Rattle.kc_adj.specs.Degrees.{degrees}
 use Rattle.kc_insert.specs.private.Counting.{steps_on, settled_at}
+use Rattle.kc_insert.specs.private.Sweeping.{all_at}
 use Rattle.kc_insert.proofs.Buckets.{has_number-filter}
 use Rattle.kc_insert.proofs.Efforts.{distinct_filter}
 use Rattle.kc_insert.proofs.Parting.{length-settled_at, settled_at-get, settled_at-there}
@@ -80,6 +84,51 @@ same_steps g z l (v ∷ vs) us once too same =
       | inl e ↦ ap (λ t. has_number t vs) e ∙ once.0 ∙ grind (arith, nat_tests, e)
       | inr ne ↦ grind (arith, nat_tests, ne, same u)
     ]
+
+fee_but : (g : GraphShape) (v : ℕ) (vs : List ℕ) → AreDistinct vs → has_number v vs ≡ true → degrees g vs + length vs ≡ (length (neighbours_of v g.edges) + 1) + (degrees g (filter (but v) vs) + length (filter (but v) vs))
+fee_but g v [] once there = absurd (true≢false (sym there))
+fee_but g v (u ∷ us) once there = elim (cases_eq u v) [
+  | inl e ↦
+      let all : filter (but v) us ≡ us = filter_all (but v) us (λ w at. grind (arith, nat_tests, other w at)) in
+      let kept : filter (but v) (u ∷ us) ≡ us = filter_no (but v) u us (grind (arith, nat_tests, e)) ∙ all in
+      rw kept (rw e (omega arith))
+  | inr ne ↦
+      let later : has_number v us ≡ true = grind (arith, nat_tests, there, ne) in
+      let kept : filter (but v) (u ∷ us) ≡ u ∷ filter (but v) us = filter_yes (but v) u us (grind (arith, nat_tests, ne)) in
+      rw kept (omega (arith, fee_but g v us once.1 later))
+]
+  where
+    other : (w : ℕ) → has_number w us ≡ true → w ≢ u
+    other w at e = true≢false (sym at ∙ ap (λ t. has_number t us) e ∙ once.0)
+
+-- what a pass over the neighbours of each and a step more come to depends on who is in the list, and not on the order
+pub same_fees : (g : GraphShape) (vs us : List ℕ) → AreDistinct vs → AreDistinct us → ((v : ℕ) → has_number v vs ≡ has_number v us) → degrees g vs + length vs ≡ degrees g us + length us
+same_fees g [] us once too same = ap (λ ws. degrees g ws + length ws) (sym (nobody_in us (λ v. sym (same v))))
+same_fees g (v ∷ vs) us once too same =
+    let here : has_number v us ≡ true = sym (same v) ∙ grind (arith, nat_tests) in
+    let rest : degrees g vs + length vs ≡ degrees g (filter (but v) us) + length (filter (but v) us) = same_fees g vs (filter (but v) us) once.1 (distinct_filter (but v) us too) (λ u. left u ∙ sym (has_number-filter u (but v) us)) in
+    omega (arith, rest, fee_but g v us too here)
+  where
+    left : (u : ℕ) → has_number u vs ≡ has_number u us && but v u
+    left u = elim (cases_eq u v) [
+      | inl e ↦ ap (λ t. has_number t vs) e ∙ once.0 ∙ grind (arith, nat_tests, e)
+      | inr ne ↦ grind (arith, nat_tests, ne, same u)
+    ]
+
+pub rising_once : (k : ℕ) (vs : List ℕ) → RisesFrom k vs → AreDistinct vs
+rising_once k [] r = record {}
+rising_once k (v ∷ vs) r = (has_number_below (suc v) v vs r.1 (omega arith), rising_once (suc v) vs r.1)
+
+-- the graph with other levels
+abbrev pub placed_at : LeveledGraph → List ℕ → LeveledGraph
+placed_at a x = record a { levels = x }
+
+-- where all of the list stay on the level l, they are put there
+pub settled_all_at : (x z : List ℕ) (l : ℕ) (vs : List ℕ) → ((v : ℕ) → has_number v vs ≡ true → get_or z v 0 ≡ l) → settled_at x z l vs ≡ all_at x vs l
+settled_all_at x z l [] here = refl
+settled_all_at x z l (v ∷ vs) here =
+    let on : eqb (get_or z v 0) l ≡ true = grind (arith, nat_tests, here v (grind (arith, nat_tests))) in
+    rw on (settled_all_at (set x v l) z l vs (λ u there. here u (grind (arith, nat_tests, there))))
 
 -- who is put on the level l depends on who is in the list and on it
 pub same_settled : (x z : List ℕ) (l : ℕ) (vs us : List ℕ) → ((v : ℕ) → has_number v vs ≡ true → v < length x) → ((v : ℕ) → has_number v us ≡ true → v < length x) → ((v : ℕ) → get_or z v 0 ≡ l → has_number v vs ≡ has_number v us) → settled_at x z l vs ≡ settled_at x z l us

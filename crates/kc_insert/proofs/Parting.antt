@@ -1,5 +1,5 @@
 -- How the counts follow where one of the list stays behind, neighbour by neighbour.
-use Rattle.std.proofs.Common.{ℕ, suc, ◌+◌, ◌-◌, ◌*◌, ◌≤◌, ◌<◌, ◌≡◌, ◌≢◌, ◌⊎◌, inl, inr, Bool, true, false, cond, eqb, ltb, ◌&&◌, List, [], ◌∷◌, length, get_or, set, drop, add-one, refl, ap, sym, ◌∙◌, arith}
+use Rattle.std.proofs.Common.{ℕ, suc, ◌+◌, ◌-◌, ◌≤◌, ◌<◌, ◌≡◌, ◌≢◌, ◌⊎◌, inl, inr, Bool, true, false, cond, eqb, ◌&&◌, List, [], ◌∷◌, length, get_or, set, drop, add-one, refl, ap, sym, ◌∙◌, arith}
 use Rattle.std.specs.Prelude.{count_by, filter}
 use Rattle.std.proofs.lemmas.Bool.{cases_eq, cases_Bool, true≢false}
 use Rattle.std.proofs.lemmas.Bool.Decides.{nat_tests}
@@ -7,13 +7,14 @@ use Rattle.std.proofs.Math.Seq.{drop-cons}
 use Rattle.std.proofs.lemmas.List.{drop_all, length-set, get_or-set_same, get_or-set_other}
 use Rattle.kc_graph.specs.Numbers.{has_number, RisesFrom}
 use Rattle.kc_graph.specs.Shape.{GraphShape, IsGraph, neighbours_of}
-use Rattle.kc_graph.proofs.lemmas.Numbers.{has_number_below, has_number_at}
+use Rattle.kc_graph.proofs.lemmas.Numbers.{has_number_below}
 use Rattle.kc_graph.proofs.lemmas.Neighbours.{neighbours_rise, neighbours_both, neighbour_below}
 use Rattle.kc_levels.proofs.lemmas.Writes.{changed}
 use Rattle.kc_levels.specs.Following.{AreDistinct}
-use Rattle.kc_adj.specs.LeveledGraph.{LeveledGraph}
-use Rattle.kc_insert.specs.private.Counting.{AreSeen, AreLess, goes_on, stays_on, sees_listed, steps_on, settled_at}
+use Rattle.kc_insert.specs.private.Counting.{AreSeen, AreLess, stays_on, sees_listed, steps_on, settled_at}
+use Rattle.kc_insert.proofs.Buckets.{has_number-filter}
 use Rattle.kc_insert.proofs.Flips.{count_agree, count_less}
+use Rattle.kc_insert.proofs.Starting.{rises_filter}
 
 one_of : (a b : Bool) → a ≡ true → b ≡ true → ◌≡◌ {A = ℕ} (cond (a && b) 1 0) 1
 one_of a b e f = grind (arith, nat_tests, e, f)
@@ -105,6 +106,35 @@ parting_last g asked v near before counts i s end are =
     let none : IsParting g asked near [] before counts = rw (drop_all i near end) at s in
     record { sized = none.sized; less = λ u. none.done u refl ∙ ap (λ (ws : List ℕ). get_or before u 0 - cond (asked u && has_number u ws) 1 0) are }
 
+pub parting_begins : (g : GraphShape) (near counts : List ℕ) → RisesFrom 0 near → length counts ≡ g.vertices → IsParting g (λ u. true) near near counts counts
+parting_begins g near counts rises sized = record {
+  sized = sized;
+  first = 0;
+  rises = rises;
+  within = λ u there. there;
+  waits = λ u there. refl;
+  done = λ u far. grind (arith, nat_tests, far);
+}
+
+-- the neighbours of v that are asked: they ascend, and where each of them counts one less, it is one less for each that is asked
+module _ (g : GraphShape) (asked : ℕ → Bool) (v : ℕ) (graph : IsGraph g) where
+  pub going_rise : RisesFrom 0 (filter asked (neighbours_of v g.edges))
+  going_rise = rises_filter asked 0 (neighbours_of v g.edges) (neighbours_rise g.vertices v g.edges graph)
+
+  pub going_asked : (u : ℕ) → has_number u (filter asked (neighbours_of v g.edges)) ≡ true → (has_number u (neighbours_of v g.edges) ≡ true) × (asked u ≡ true)
+  going_asked u there =
+      let both : (has_number u (neighbours_of v g.edges) && asked u) ≡ true = sym (has_number-filter u asked (neighbours_of v g.edges)) ∙ there in
+      (grind (arith, nat_tests, both), grind (arith, nat_tests, both))
+
+  pub going_inside : (u : ℕ) → has_number u (filter asked (neighbours_of v g.edges)) ≡ true → u < g.vertices
+  going_inside u there = neighbour_below g.vertices v u g.edges graph (going_asked u there).0
+
+  pub less_of_going : (before counts : List ℕ) → length counts ≡ g.vertices → ((u : ℕ) → get_or counts u 0 ≡ get_or before u 0 - cond (has_number u (filter asked (neighbours_of v g.edges))) 1 0) → AreLess g asked v before counts
+  less_of_going before counts sized less = record {
+    sized = sized;
+    less = λ u. less u ∙ ap (λ b. get_or before u 0 - cond b 1 0) (has_number-filter u asked (neighbours_of v g.edges) ∙ grind (arith, nat_tests));
+  }
+
 -- v, of the list, stays on the level l and is in the list no more, or isn't on the level
 module _ (g : GraphShape) (z : List ℕ) (l v : ℕ) (rest : List ℕ) (graph : IsGraph g) where
   -- a neighbour of it sees one less
@@ -119,15 +149,6 @@ module _ (g : GraphShape) (z : List ℕ) (l v : ℕ) (rest : List ℕ) (graph : 
     where
       other : (t : ℕ) → t ≢ v → sees_listed z l (v ∷ rest) u t ≡ sees_listed z l rest u t
       other t ne = grind (arith, nat_tests, ne)
-
-  seen_as_off : (u : ℕ) → get_or z v 0 ≢ l → count_by (sees_listed z l (v ∷ rest) u) (neighbours_of u g.edges) ≡ count_by (sees_listed z l rest u) (neighbours_of u g.edges)
-  seen_as_off u off = count_agree (sees_listed z l (v ∷ rest) u) (sees_listed z l rest u) (neighbours_of u g.edges) (λ t there. same t)
-    where
-      same : (t : ℕ) → sees_listed z l (v ∷ rest) u t ≡ sees_listed z l rest u t
-      same t = elim (cases_eq t v) [
-        | inl e ↦ rw e (grind (arith, nat_tests, off))
-        | inr ne ↦ grind (arith, nat_tests, ne)
-      ]
 
   module _ (asked : ℕ → Bool) (before counts : List ℕ) (s : AreSeen g asked (sees_listed z l (v ∷ rest)) before counts) where
     pub parted_some : get_or z v 0 ≡ l → has_number v rest ≡ false → (u : ℕ) → asked u ≡ true → has_number u (neighbours_of v g.edges) ≡ true → 1 ≤ get_or counts u 0
@@ -145,9 +166,6 @@ module _ (g : GraphShape) (z : List ℕ) (l v : ℕ) (rest : List ℕ) (graph : 
       others = λ u is. omega (arith, less.less u, none_of (asked u) (has_number u (neighbours_of v g.edges)) is, s.others u is);
     }
 
-    pub parted_off : get_or z v 0 ≢ l → AreSeen g asked (sees_listed z l rest) before counts
-    parted_off off = record { sized = s.sized; seen = λ u h is. s.seen u h is ∙ seen_as_off u off; others = s.others }
-
 -- the step of a loop at place i of the list
 module _ (g : GraphShape) (z : List ℕ) (l : ℕ) (items : List ℕ) (i : ℕ) (at : i < length items) where
   parts : drop i items ≡ get_or items i 0 ∷ drop (i + 1) items
@@ -156,15 +174,10 @@ module _ (g : GraphShape) (z : List ℕ) (l : ℕ) (items : List ℕ) (i : ℕ) 
   pub distinct_at : AreDistinct (drop i items) → (has_number (get_or items i 0) (drop (i + 1) items) ≡ false) × AreDistinct (drop (i + 1) items)
   distinct_at d = rw parts at d
 
-  pub steps_at_on : (s t : ℕ) → get_or z (get_or items i 0) 0 ≡ l → s + steps_on g z l (drop i items) ≡ t → ((s + length (neighbours_of (get_or items i 0) g.edges)) + (length (neighbours_of (get_or items i 0) g.edges) + 1)) + steps_on g z l (drop (i + 1) items) ≡ t
+  pub steps_at_on : (s t : ℕ) → get_or z (get_or items i 0) 0 ≡ l → s + steps_on g z l (drop i items) ≡ t → (s + length (neighbours_of (get_or items i 0) g.edges)) + steps_on g z l (drop (i + 1) items) ≡ t
   steps_at_on s t on is =
-      let all : s + (cond (eqb (get_or z (get_or items i 0) 0) l) (2 * length (neighbours_of (get_or items i 0) g.edges) + 1) 0 + steps_on g z l (drop (i + 1) items)) ≡ t = rw parts at is in
+      let all : s + (cond (eqb (get_or z (get_or items i 0) 0) l) (length (neighbours_of (get_or items i 0) g.edges)) 0 + steps_on g z l (drop (i + 1) items)) ≡ t = rw parts at is in
       grind (arith, nat_tests, all, on)
-
-  pub steps_at_off : (s t : ℕ) → get_or z (get_or items i 0) 0 ≢ l → s + steps_on g z l (drop i items) ≡ t → s + steps_on g z l (drop (i + 1) items) ≡ t
-  steps_at_off s t off is =
-      let all : s + (cond (eqb (get_or z (get_or items i 0) 0) l) (2 * length (neighbours_of (get_or items i 0) g.edges) + 1) 0 + steps_on g z l (drop (i + 1) items)) ≡ t = rw parts at is in
-      grind (arith, nat_tests, all, off)
 
   module _ (asked : ℕ → Bool) (before counts : List ℕ) (graph : IsGraph g) (s : AreSeen g asked (sees_listed z l (drop i items)) before counts) where
     next_seen : AreSeen g asked (sees_listed z l (get_or items i 0 ∷ drop (i + 1) items)) before counts
@@ -176,90 +189,11 @@ module _ (g : GraphShape) (z : List ℕ) (l : ℕ) (items : List ℕ) (i : ℕ) 
     pub parted_on_at : (after : List ℕ) → AreDistinct (drop i items) → get_or z (get_or items i 0) 0 ≡ l → AreLess g asked (get_or items i 0) counts after → AreSeen g asked (sees_listed z l (drop (i + 1) items)) before after
     parted_on_at after d on less = parted_on g z l (get_or items i 0) (drop (i + 1) items) graph asked before counts next_seen after on (distinct_at d).0 less
 
-    pub parted_off_at : get_or z (get_or items i 0) 0 ≢ l → AreSeen g asked (sees_listed z l (drop (i + 1) items)) before counts
-    parted_off_at off = parted_off g z l (get_or items i 0) (drop (i + 1) items) graph asked before counts next_seen off
-
 pub parted_last : (g : GraphShape) (z : List ℕ) (l : ℕ) (items : List ℕ) (i : ℕ) (asked : ℕ → Bool) (before counts : List ℕ) → AreSeen g asked (sees_listed z l (drop i items)) before counts → length items ≤ i → AreSeen g asked (sees_listed z l []) before counts
 parted_last g z l items i asked before counts s end = rw (drop_all i items end) at s
 
 pub steps_last : (g : GraphShape) (z : List ℕ) (l : ℕ) (items : List ℕ) (i s t : ℕ) → s + steps_on g z l (drop i items) ≡ t → length items ≤ i → s ≡ t
 steps_last g z l items i s t is end = omega (arith, rw (drop_all i items end) at is)
-
--- of the list those before `rest` that stay on the level l are on it in the graph, which was a and is b
-pub record IsSettling (a b : LeveledGraph) (z : List ℕ) (l : ℕ) (items rest : List ℕ) : Type 0 where
-  pub graph : b.graph ≡ a.graph
-  pub sized : length b.levels ≡ a.graph.vertices
-  pub levels : settled_at b.levels z l rest ≡ settled_at a.levels z l items
-  pub same : (u : ℕ) → (get_or b.levels u 0 ≡ get_or a.levels u 0) ⊎ (get_or z u 0 ≡ l)
-  pub below : (u : ℕ) → has_number u items ≡ true → get_or b.levels u 0 ≤ l
-
-pub settling_first : (a : LeveledGraph) (z : List ℕ) (l : ℕ) (items : List ℕ) → length a.levels ≡ a.graph.vertices → ((v : ℕ) → has_number v items ≡ true → get_or a.levels v 0 ≤ l) → IsSettling a a z l items items
-settling_first a z l items sized below = record { graph = refl; sized = sized; levels = refl; same = λ u. inl refl; below = below }
-
--- who goes on does so by both
-pub goes_same : (a b : LeveledGraph) (z : List ℕ) (l : ℕ) (items rest : List ℕ) → IsSettling a b z l items rest → (u : ℕ) → goes_on b.levels z l u ≡ goes_on a.levels z l u
-goes_same a b z l items rest s u = elim (s.same u) [
-  | inl e ↦ ap (λ k. eqb (get_or z u 0) (l + 1) && ltb k l) e
-  | inr on ↦ grind (arith, nat_tests, on)
-]
-
-pub less_same : (a b : LeveledGraph) (z : List ℕ) (l : ℕ) (items rest : List ℕ) (v : ℕ) (counts after : List ℕ) → IsSettling a b z l items rest → AreLess b.graph (goes_on b.levels z l) v counts after → AreLess a.graph (goes_on a.levels z l) v counts after
-less_same a b z l items rest v counts after s r = record {
-  sized = r.sized ∙ ap (λ (h : GraphShape). h.vertices) s.graph;
-  less = λ u. r.less u ∙ ap (λ t. get_or counts u 0 - cond (t && has_number u (neighbours_of v b.graph.edges)) 1 0) (goes_same a b z l items rest s u) ∙ ap (λ (h : GraphShape). get_or counts u 0 - cond (goes_on a.levels z l u && has_number u (neighbours_of v h.edges)) 1 0) s.graph;
-}
-
-module _ (a b : LeveledGraph) (z : List ℕ) (l : ℕ) (items : List ℕ) (i : ℕ) (at : i < length items) (s : IsSettling a b z l items (drop i items)) where
-  split : drop i items ≡ get_or items i 0 ∷ drop (i + 1) items
-  split = rw add-one (drop-cons items i 0 at)
-
-  pub settles_below : get_or b.levels (get_or items i 0) 0 ≤ l
-  settles_below = s.below (get_or items i 0) (has_number_at (get_or items i 0) items i at refl)
-
-  pub settles : (c : LeveledGraph) → get_or items i 0 < a.graph.vertices → get_or z (get_or items i 0) 0 ≡ l → c ≡ record b { levels = set b.levels (get_or items i 0) l } → IsSettling a c z l items (drop (i + 1) items)
-  settles c h on is = record {
-    graph = ap (λ (k : LeveledGraph). k.graph) is ∙ s.graph;
-    sized = ap (λ (k : LeveledGraph). length k.levels) is ∙ length-set b.levels (get_or items i 0) l ∙ s.sized;
-    levels = ap (λ (k : LeveledGraph). settled_at k.levels z l (drop (i + 1) items)) is ∙ sym step ∙ s.levels;
-    same = λ u. elim (cases_eq u (get_or items i 0)) [
-      | inl e ↦ inr (ap (λ t. get_or z t 0) e ∙ on)
-      | inr ne ↦ elim (s.same u) [
-        | inl old ↦ inl (ap (λ (k : LeveledGraph). get_or k.levels u 0) is ∙ get_or-set_other b.levels (get_or items i 0) u l 0 ne ∙ old)
-        | inr there ↦ inr there
-      ]
-    ];
-    below = λ u there. elim (cases_eq u (get_or items i 0)) [
-      | inl e ↦
-          let now : get_or c.levels u 0 ≡ l = ap (λ (k : LeveledGraph). get_or k.levels u 0) is ∙ ap (λ t. get_or (set b.levels (get_or items i 0) l) t 0) e ∙ get_or-set_same b.levels (get_or items i 0) l 0 (omega (arith, h, s.sized)) in
-          omega (arith, now)
-      | inr ne ↦
-          let now : get_or c.levels u 0 ≡ get_or b.levels u 0 = ap (λ (k : LeveledGraph). get_or k.levels u 0) is ∙ get_or-set_other b.levels (get_or items i 0) u l 0 ne in
-          omega (arith, now, s.below u there)
-    ];
-  }
-    where
-      step : settled_at b.levels z l (drop i items) ≡ settled_at (set b.levels (get_or items i 0) l) z l (drop (i + 1) items)
-      step = let test : eqb (get_or z (get_or items i 0) 0) l ≡ true = grind (arith, nat_tests, on) in
-          ap (λ vs. settled_at b.levels z l vs) split ∙ ap (λ t. settled_at (cond t (set b.levels (get_or items i 0) l) b.levels) z l (drop (i + 1) items)) test
-
-  pub settles_not : get_or z (get_or items i 0) 0 ≢ l → IsSettling a b z l items (drop (i + 1) items)
-  settles_not off = record {
-    graph = s.graph;
-    sized = s.sized;
-    levels = sym step ∙ s.levels;
-    same = s.same;
-    below = s.below;
-  }
-    where
-      step : settled_at b.levels z l (drop i items) ≡ settled_at b.levels z l (drop (i + 1) items)
-      step = let test : eqb (get_or z (get_or items i 0) 0) l ≡ false = grind (arith, nat_tests, off) in
-          ap (λ vs. settled_at b.levels z l vs) split ∙ ap (λ t. settled_at (cond t (set b.levels (get_or items i 0) l) b.levels) z l (drop (i + 1) items)) test
-
-pub settling_last : (a b : LeveledGraph) (z : List ℕ) (l : ℕ) (items : List ℕ) (i : ℕ) → length items ≤ i → IsSettling a b z l items (drop i items) → b ≡ record a { levels = settled_at a.levels z l items }
-settling_last a b z l items i end s = whole b.graph a.graph b.levels (settled_at a.levels z l items) s.graph (ap (λ vs. settled_at b.levels z l vs) (sym (drop_all i items end)) ∙ s.levels)
-  where
-    whole : (g h : GraphShape) (x y : List ℕ) → g ≡ h → x ≡ y → ◌≡◌ {A = LeveledGraph} (record { graph = g; levels = x }) (record { graph = h; levels = y })
-    whole g h x y e f = rw (e, f) refl
 
 pub length-settled_at : (x z : List ℕ) (l : ℕ) (vs : List ℕ) → length (settled_at x z l vs) ≡ length x
 length-settled_at x z l [] = refl
@@ -314,8 +248,8 @@ module _ (z : List ℕ) (l : ℕ) where
   pub steps_stay : (g : GraphShape) (vs : List ℕ) → steps_on g z l (filter (stays_on z l) vs) ≡ steps_on g z l vs
   steps_stay g [] = refl
   steps_stay g (v ∷ vs) = elim (cases_Bool (eqb (get_or z v 0) l)) [
-    | inl on ↦ rw (keeps v vs on) (ap (λ k. cond (eqb (get_or z v 0) l) (2 * length (neighbours_of v g.edges) + 1) 0 + k) (steps_stay g vs))
+    | inl on ↦ rw (keeps v vs on) (ap (λ k. cond (eqb (get_or z v 0) l) (length (neighbours_of v g.edges)) 0 + k) (steps_stay g vs))
     | inr off ↦
-        let none : cond (eqb (get_or z v 0) l) (2 * length (neighbours_of v g.edges) + 1) 0 ≡ 0 = ap (λ t. cond t (2 * length (neighbours_of v g.edges) + 1) 0) off in
+        let none : cond (eqb (get_or z v 0) l) (length (neighbours_of v g.edges)) 0 ≡ 0 = ap (λ t. cond t (length (neighbours_of v g.edges)) 0) off in
         rw (drops v vs off) (omega (arith, none, steps_stay g vs))
   ]

@@ -14,9 +14,9 @@ use Rattle.kc_insert.specs.Working.{Working, IsReady}
 use Rattle.kc_insert.proofs.Followed.{counted_followed}
 
 -- after a deletion phase from a to b
-pub ready_followed : (p : Profile) (a b : LeveledGraph) (old new : Working) (es : List Pair) (moves : List Move) (fresh mid : List ℕ) → IsReady p a old → length a.levels ≡ a.graph.vertices → length b.levels ≡ b.graph.vertices → b.graph ≡ without_edges a.graph es → moves ≡ moves_between a.graph.vertices a.levels b.levels → IsCounted b.graph b.levels 0 fresh → ((y : List ℕ) → length y ≡ length old.before → moves ≡ moves_between (length old.before) old.before y → new.before ≡ y) → ((y : List ℕ) → length y ≡ length old.levels → moves ≡ moves_between (length old.levels) old.levels y → new.levels ≡ y) → IsCopied fresh old.counts mid (λ v. All (λ (e : Pair). (v ≢ e.0) × (v ≢ e.1)) es) → IsCopied fresh mid new.counts (λ v. All (λ (m : Move). (v ≢ m.vertex) × (has_number v (neighbours_of m.vertex b.graph.edges) ≡ false)) moves) → new.rising ≡ old.rising → new.risen ≡ old.risen → new.queue ≡ old.queue → new.meetings ≡ old.meetings → IsReady p b new
-ready_followed p a b old new es moves fresh mid r long wide is moved counted before levels ends rows rising risen queue meetings = record {
-  before = before b.levels (wide ∙ same ∙ sym (length_is old.before r.before)) (moves_from old.before r.before);
+pub ready_followed : (p : Profile) (a b : LeveledGraph) (old new : Working) (es : List Pair) (moves : List Move) (fresh mid : List ℕ) → IsReady p a old → length a.levels ≡ a.graph.vertices → length b.levels ≡ b.graph.vertices → b.graph ≡ without_edges a.graph es → moves ≡ moves_between a.graph.vertices a.levels b.levels → IsCounted b.graph b.levels 0 fresh → ((y : List ℕ) → length y ≡ length old.placed → moves ≡ moves_between (length old.placed) old.placed y → new.placed ≡ y) → ((y : List ℕ) → length y ≡ length old.levels → moves ≡ moves_between (length old.levels) old.levels y → new.levels ≡ y) → IsCopied fresh old.counts mid (λ v. All (λ (e : Pair). (v ≢ e.0) × (v ≢ e.1)) es) → IsCopied fresh mid new.counts (λ v. All (λ (m : Move). (v ≢ m.vertex) × (has_number v (neighbours_of m.vertex b.graph.edges) ≡ false)) moves) → new.rising ≡ old.rising → new.risen ≡ old.risen → new.queue ≡ old.queue → new.meetings ≡ old.meetings → IsReady p b new
+ready_followed p a b old new es moves fresh mid r long wide is moved counted placed levels ends rows rising risen queue meetings = record {
+  placed = placed b.levels (wide ∙ same ∙ sym (length_is old.placed r.placed)) (moves_from old.placed r.placed);
   levels = levels b.levels (wide ∙ same ∙ sym (length_is old.levels r.levels)) (moves_from old.levels r.levels);
   counted = counted_followed a.graph.vertices a.graph b.graph a.levels b.levels old.counts mid fresh new.counts es moves refl long (wide ∙ same) is moved r.counted counted ends rows;
   none_rising = rising ∙ r.none_rising;
@@ -35,9 +35,9 @@ ready_followed p a b old new es moves fresh mid r long wide is moved counted bef
     moves_from x e = moved ∙ ap (λ n. moves_between n a.levels b.levels) (sym (length_is x e)) ∙ ap (λ t. moves_between (length x) t b.levels) (sym e)
 
 -- after the moves were taken
-pub ready_taken : (p : Profile) (b : LeveledGraph) (old new : Working) → new ≡ record old { before = old.levels; rising = []; risen = []; queue = replicate (length old.queue) []; meetings = replicate (length old.meetings) [] } → old.levels ≡ b.levels → IsCounted b.graph b.levels 0 old.counts → length old.queue ≡ top_level p b.graph.vertices + 1 → length old.meetings ≡ top_level p b.graph.vertices + 1 → IsReady p b new
-ready_taken p b old new clean levels counted buckets places = rw clean (record {
-  before = levels;
+pub ready_taken : (p : Profile) (b : LeveledGraph) (old new : Working) → new ≡ record old { rising = []; risen = []; queue = replicate (length old.queue) []; meetings = replicate (length old.meetings) [] } → old.placed ≡ b.levels → old.levels ≡ b.levels → IsCounted b.graph b.levels 0 old.counts → length old.queue ≡ top_level p b.graph.vertices + 1 → length old.meetings ≡ top_level p b.graph.vertices + 1 → IsReady p b new
+ready_taken p b old new clean placed levels counted buckets places = rw clean (record {
+  placed = placed;
   levels = levels;
   counted = counted;
   none_rising = refl;

@@ -1,5 +1,5 @@
 -- The step of a sweep from level l to the next: who goes on, who begins, and who stays.
-use Rattle.std.proofs.Common.{ℕ, ◌+◌, ◌*◌, ◌≤◌, ◌<◌, ◌≡◌, ◌≢◌, ◌⊎◌, inl, inr, Bool, true, false, leb, ltb, eqb, not, ◌&&◌, ◌||◌, List, [], ◌++◌, length, get_or, set, filter, refl, ap, sym, ◌∙◌, arith, subst}
+use Rattle.std.proofs.Common.{ℕ, ◌+◌, ◌≤◌, ◌<◌, ◌≡◌, ◌≢◌, ◌⊎◌, inl, inr, Bool, true, false, leb, ltb, eqb, not, ◌&&◌, ◌||◌, List, [], ◌++◌, length, get_or, set, filter, refl, ap, sym, ◌∙◌, arith, subst}
 use Rattle.std.specs.Prelude.{count_by}
 use Rattle.std.proofs.lemmas.Bool.{cases_lt, cases_eq, cases_Bool, true≢false}
 use Rattle.std.proofs.lemmas.Bool.Decides.{nat_tests}
@@ -19,7 +19,8 @@ use Rattle.kc_insert.specs.Effort.{effort}
 use Rattle.kc_insert.specs.private.Round.{is_over}
 use Rattle.kc_levels.specs.Following.{AreDistinct}
 use Rattle.kc_insert.specs.private.Meetings.{IsMeeting, AreApart, AreMeetings}
-use Rattle.kc_insert.specs.private.Counting.{goes_on, is_next, stays_on, AreSeen, sees_met, sees_listed, sees_arrived, sees_unlisted, HaveBegun, MeetOn, AreWaiting, StillWait, AreNoted, IsNoting, AreBeginners, degrees, steps_on, settled_at}
+use Rattle.kc_adj.specs.Degrees.{degrees}
+use Rattle.kc_insert.specs.private.Counting.{goes_on, is_next, stays_on, AreSeen, sees_met, sees_listed, sees_arrived, sees_unlisted, HaveBegun, MeetOn, AreWaiting, StillWait, AreNoted, IsNoting, AreBeginners, steps_on, settled_at}
 use Rattle.kc_insert.specs.private.Sweeping.{all_at, Sweeping, IsFound, IsSweeping, HaveCome}
 use Rattle.kc_insert.proofs.Flips.{count_agree}
 use Rattle.kc_insert.proofs.Buckets.{has_number-filter}
@@ -42,9 +43,6 @@ lt_of a b e = grind (arith, nat_tests, e)
 
 pub lt_is : (a b : ℕ) → a < b → ltb a b ≡ true
 lt_is a b h = grind (arith, nat_tests, h)
-
-lt_not : (a b : ℕ) → b ≤ a → ltb a b ≡ false
-lt_not a b h = grind (arith, nat_tests, h)
 
 eq_of : (a b : ℕ) → eqb a b ≡ true → a ≡ b
 eq_of a b e = grind (arith, nat_tests, e)
@@ -257,10 +255,6 @@ module _ (p : Profile) (g : GraphShape) (x : List ℕ) (sweep : Sweeping) (most 
       let it = s.meet.only sweep.level v w (omega arith) there in
       ((s.risen_in v it.0).0, it.1)
 
-  -- no riser that had come to the level is above it in the graph
-  came_below : (v : ℕ) → has_number v sweep.rising ≡ true → get_or x v 0 ≤ sweep.level
-  came_below v there = omega (arith, (s.came v there).2)
-
   -- the meetings on the next level are those that were there
   pub next_meetings : get_or (set sweep.meetings sweep.level []) (sweep.level + 1) [] ≡ get_or sweep.meetings (sweep.level + 1) []
   next_meetings = get_or-set_other sweep.meetings sweep.level (sweep.level + 1) [] [] (λ e. absurd (omega (arith, e)))
@@ -284,9 +278,6 @@ module _ (p : Profile) (g : GraphShape) (x : List ℕ) (sweep : Sweeping) (most 
 
     pub stay_inside : (v : ℕ) → has_number v stay ≡ true → v < g.vertices
     stay_inside v there = (s.came v (stay_came v there).0).0
-
-    pub stay_below : (v : ℕ) → has_number v stay ≡ true → get_or x v 0 ≤ sweep.level
-    stay_below v there = came_below v (stay_came v there).0
 
     pub stay_here : (v : ℕ) → has_number v stay ≡ true → get_or z v 0 ≡ sweep.level
     stay_here v there = (stay_came v there).1
@@ -312,7 +303,7 @@ module _ (p : Profile) (g : GraphShape) (x : List ℕ) (sweep : Sweeping) (most 
     pub stay_steps : steps_on g z sweep.level stay ≡ steps_on g z sweep.level sweep.rising
     stay_steps = same_steps g z sweep.level stay (filter (stays_on z sweep.level) sweep.rising) once (distinct_filter (stays_on z sweep.level) sweep.rising s.distinct) (λ v. stay_is v ∙ sym (has_number-filter v (stays_on z sweep.level) sweep.rising)) ∙ steps_stay z sweep.level g sweep.rising
 
-  -- the levels in the graph after those who stay on the level were put there
+  -- the levels after those who stay on the level were put there
   module _ (x' : List ℕ) (x'_is : x' ≡ settled_at x z sweep.level sweep.rising) where
     pub settled_or_same : (u : ℕ) → (get_or x' u 0 ≡ get_or x u 0) ⊎ ((get_or sweep.levels u 0 ≡ sweep.level) × (get_or z u 0 ≡ sweep.level) × (get_or x u 0 < sweep.level) × (get_or x' u 0 ≡ sweep.level))
     settled_or_same u = elim (settled_at-get x z sweep.level sweep.rising u (λ v there. rw s.start (s.came v there).0)) [
@@ -323,7 +314,7 @@ module _ (p : Profile) (g : GraphShape) (x : List ℕ) (sweep : Sweeping) (most 
     settled_here : (u : ℕ) → get_or sweep.levels u 0 ≡ sweep.level → get_or z u 0 ≡ sweep.level → get_or x u 0 < sweep.level → get_or x' u 0 ≡ sweep.level
     settled_here u on stays below = ap (λ t. get_or t u 0) x'_is ∙ settled_at-there x z sweep.level sweep.rising u (λ v there. rw s.start (s.came v there).0) (s.all u on below) stays
 
-    -- who is on another level than that of the sweep afterwards is in the graph as before
+    -- who is on another level than that of the sweep afterwards is put where it was
     graph_kept : (u : ℕ) → get_or z u 0 ≢ sweep.level → get_or x' u 0 ≡ get_or x u 0
     graph_kept u off = elim (settled_or_same u) [ inl same ↦ same | inr it ↦ absurd (off it.1) ]
 
@@ -486,7 +477,7 @@ module _ (p : Profile) (g : GraphShape) (x : List ℕ) (sweep : Sweeping) (most 
       distinct = once;
     }
 
-    -- there are meetings for each level in the graph
+    -- there are meetings for each level
     pub places_on : sweep.level < top_level p g.vertices → (u : ℕ) → u < g.vertices → get_or x' u 0 < length (set sweep.meetings sweep.level [])
     places_on room u h = rw (length-set sweep.meetings sweep.level []) (elim (settled_or_same u) [
       | inl same ↦ omega (arith, same, s.under u h, s.capped u h, s.places)
@@ -707,15 +698,14 @@ module _ (p : Profile) (g : GraphShape) (x : List ℕ) (sweep : Sweeping) (most 
               or_false : (b : Bool) → b || false ≡ b
               or_false b = grind (arith, nat_tests)
 
-          cost_is : t2 + (2 * degrees g (up ++ begun) + length (up ++ begun)) ≤ s0 + effort g x0 z g.vertices
+          cost_is : t2 + (degrees g (up ++ begun) + (degrees g (sweep.risen ++ begun) + length (sweep.risen ++ begun))) ≤ s0 + effort g x0 z g.vertices
           cost_is =
               let one = effort_up g x0 sweep.levels up sweep.level g.vertices ups (λ v there. let it = goers_from v there in (it.0, rw s.sized it.0, it.1, omega (arith, it.2))) in
               let two = effort_up g x0 (all_at sweep.levels up (sweep.level + 1)) begun sweep.level g.vertices begins_once (λ v new. let it = half v new in (it.0, it.1, it.2, omega (arith, it.3))) in
               let three : effort g x0 z g.vertices ≡ effort g x0 (all_at (all_at sweep.levels up (sweep.level + 1)) begun (sweep.level + 1)) g.vertices = ap (λ t. effort g x0 t g.vertices) step.z_is in
               let parts = fee_parts g z sweep.counts sweep.rising sweep.level most (λ v there over. (goers v (step.up_is v ∙ both_of _ _ there over)).3) in
               let same : degrees g up ≡ degrees g (filter (is_over sweep.counts most) sweep.rising) = ap (λ vs. degrees g vs) kept in
-              let many : length up ≡ length (filter (is_over sweep.counts most) sweep.rising) = ap (λ vs. length vs) kept in
-              omega (arith, one, two, three, parts, same, many, e1, e2, r.cost, length-append up begun, degrees-append g up begun)
+              omega (arith, one, two, three, parts, same, e1, e2, r.cost, length-append sweep.risen begun, degrees-append g up begun, degrees-append g sweep.risen begun)
 
 pub step_from : (p : Profile) (g : GraphShape) (x : List ℕ) (sweep : Sweeping) (s : IsSweeping p g x sweep) (most : ℕ) (begun starting waiting half z asked lifting_off : List ℕ) → starting ≡ filter (is_over sweep.counts most) asked → asked ≡ waiting → waiting ≡ get_or sweep.queue sweep.level [] → half ≡ all_at sweep.levels (filter (is_over sweep.counts most) sweep.rising) (sweep.level + 1) → z ≡ all_at half begun (sweep.level + 1) → ((v : ℕ) → has_number v begun ≡ has_number v lifting_off) → lifting_off ≡ starting → IsStep sweep most (filter (is_over sweep.counts most) sweep.rising) begun z
 step_from p g x sweep s most begun starting waiting half z asked lifting_off f1 f2 f3 f4 f5 f6 f7 = record {

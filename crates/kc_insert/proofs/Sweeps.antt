@@ -120,7 +120,7 @@ come_on p g x0 x sweep new s t le same r = subst (λ w. HaveCome p g x0 x w s t)
   cost = r.cost;
 })
 
--- whoever is not yet on its new level in the graph came to the last level
+-- whoever is not yet put on its new level came to the last level
 pub rising_last : (p : Profile) (g : GraphShape) (x : List ℕ) (sweep : Sweeping) → IsSweeping p g x sweep → (v : ℕ) → get_or x v 0 < get_or sweep.levels v 0 → has_number v sweep.rising ≡ true
 rising_last p g x sweep s v rose = elim (cases_lt (get_or sweep.levels v 0) sweep.level) [
   | inl lt ↦ absurd (omega (arith, rose, s.settled v lt))

@@ -5,10 +5,10 @@ use Rattle.kc_levels.specs.declared.profile.Profile.{Profile}
 use Rattle.kc_levels.specs.Thresholds.{top_level}
 use Rattle.kc_adj.specs.LeveledGraph.{LeveledGraph, IsCounted}
 
--- what contracts see of an `InsertionWork`: the levels before a phase; the levels and the counts of a sweep, who came to its level
--- and who rose; those who wait, and the meetings, by level
+-- what contracts see of an `InsertionWork`: the levels on which the vertices are put; the levels and the counts of a sweep, who came to
+-- its level and who rose; those who wait, and the meetings, by level
 pub record Working : Type 0 where
-  pub before : List ℕ
+  pub placed : List ℕ
   pub levels : List ℕ
   pub counts : List ℕ
   pub rising : List ℕ
@@ -18,7 +18,7 @@ pub record Working : Type 0 where
 
 -- between phases: the levels and the counts are those of the graph, and nothing is left of a phase
 pub record IsReady (p : Profile) (a : LeveledGraph) (w : Working) : Type 0 where
-  pub before : w.before ≡ a.levels
+  pub placed : w.placed ≡ a.levels
   pub levels : w.levels ≡ a.levels
   pub counted : IsCounted a.graph a.levels 0 w.counts
   pub none_rising : w.rising ≡ []

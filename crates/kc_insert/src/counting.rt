@@ -1,22 +1,23 @@
-//! How the counts follow when vertices of a level rise to the next: one pass over the neighbours of each that begins to rise, and
-//! of each that stays behind, and a look at each meeting on the two levels.
+//! How the counts follow when vertices of a level rise to the next: one pass over the neighbours of each that begins to rise, and a
+//! look at each meeting on the two levels. `partings` has those who stay.
 //!
-//! `Counting` of the definitions says who counts whom. What it calls x are the levels in `adj`, where a riser stands on its old
+//! `Counting` of the definitions says who counts whom. What it calls x are the levels in `placed`, where a riser stands on its old
 //! level until it stays on a new one; what it calls z are those in `levels`, after the step.
 
-ghost use Rattle.std.specs.Prelude.{◌≡◌, ◌+◌, ◌<◌, ◌≤◌, ◌++◌, ◌∷◌, ◌==◌, ◌^◌, ◌||◌, Bool, ℕ, [], OnOk, cond, drop, false, filter, true, length, slice_index, slice_index_or, slice_set, take};
+ghost use Rattle.std.specs.Prelude.{◌≡◌, ◌+◌, ◌<◌, ◌≤◌, ◌++◌, ◌∷◌, ◌==◌, ◌^◌, ◌||◌, Bool, ℕ, [], OnOk, cond, drop, false, true, length, slice_index, slice_index_or, slice_set, take};
 ghost use Rattle.kc_graph.specs.Numbers.{has_number};
 ghost use Rattle.kc_graph.specs.Shape.{IsGraph, neighbours_of, has_edge};
-ghost use Rattle.kc_levels.specs.Following.{AreDistinct};
 ghost use Rattle.kc_insert.specs.private.Meetings.{AreApart, AreMeetings};
 ghost use Rattle.kc_insert.specs.private.Rising.{seen};
 ghost use Rattle.kc_insert.specs.private.Watched.{StayWatched};
-ghost use Rattle.kc_insert.specs.private.Counting.{goes_on, is_next, stays_on, AreSeen, sees_met, sees_listed, sees_arrived, sees_unlisted, steps_on, settled_at, degrees, stood_above, MeetOn, IsNoting, AreLess, AreBeginners, HasBegun, HaveBegun, meetings_on};
+ghost use Rattle.kc_adj.specs.Degrees.{degrees};
+ghost use Rattle.kc_insert.specs.private.Counting.{goes_on, is_next, AreSeen, sees_met, sees_arrived, sees_unlisted, stood_above, MeetOn, IsNoting, AreBeginners, HasBegun, HaveBegun, meetings_on};
 
 use crate::meetings::Meeting;
+use crate::placed::Placed;
 use crate::rising::RisingLevels;
 use crate::watched::WatchedCounts;
-use kc_adj::{LevelAdj, LevelLists, Steps};
+use kc_adj::{LevelLists, Steps};
 use kc_rounds::{Gate, RoundGather, Rounds};
 use std::alloc::{AllocError, Global};
 use std::sync::ledger::Ledger;
@@ -35,7 +36,7 @@ pub struct Counted {
 #[derive(Drop)]
 pub struct Step<'a> {
     /// The graph, where those who are still rising stand on their old levels.
-    pub adj: &'a LevelAdj,
+    pub placed: &'a Placed<'a>,
     /// The levels after the step.
     pub levels: &'a RisingLevels,
     /// The level that the step is from.
@@ -47,97 +48,25 @@ pub struct Step<'a> {
 /// For each meeting on the level: where the riser goes on and the other stays, the riser counts one less. Fails only if memory runs
 /// out.
 pub fn leave_behind(
-    adj: &LevelAdj,
+    placed: &Placed<'_>,
     levels: &RisingLevels,
     watched: &mut WatchedCounts,
     level: u16,
     meetings: &[Meeting],
 ) -> Result<(), AllocError>
     requires small { level < 65535 }
-    requires graph { IsGraph adj.now.graph }
-    requires sized { length (seen levels.now) ≡ adj.now.graph.vertices }
-    requires meet { MeetOn adj.now.graph adj.now.levels level meetings.now }
+    requires graph { IsGraph placed.now.graph }
+    requires sized { length (seen levels.now) ≡ placed.now.graph.vertices }
+    requires meet { MeetOn placed.now.graph placed.now.levels level meetings.now }
     requires apart { AreApart meetings.now }
-    requires met { AreSeen adj.now.graph (goes_on adj.now.levels (seen levels.now) level) (sees_met adj.now.levels (seen levels.now) level meetings.now) watched.old.counts.items watched.old.counts.items }
-    ensures seen { OnOk result (AreSeen adj.now.graph (goes_on adj.now.levels (seen levels.now) level) (sees_met adj.now.levels (seen levels.now) level []) watched.old.counts.items watched.new.counts.items) }
+    requires met { AreSeen placed.now.graph (goes_on placed.now.levels (seen levels.now) level) (sees_met placed.now.levels (seen levels.now) level meetings.now) watched.old.counts.items watched.old.counts.items }
+    ensures seen { OnOk result (AreSeen placed.now.graph (goes_on placed.now.levels (seen levels.now) level) (sees_met placed.now.levels (seen levels.now) level []) watched.old.counts.items watched.new.counts.items) }
     ensures watched { OnOk result (StayWatched watched.old watched.new) }
 {
     for m in meetings {
         if levels.get(m.riser) == level + 1 && levels.get(m.other) == level {
             watched.lessen(m.riser)?;
         }
-    }
-    Ok(())
-}
-
-// Whether the vertex went on from the level to the next.
-fn goes_on(adj: &LevelAdj, levels: &RisingLevels, level: u16, v: u32) -> bool
-    requires small { level < 65535 }
-    requires sized { length (seen levels.now) ≡ adj.now.graph.vertices }
-    requires vertex { v < adj.now.graph.vertices }
-    ensures { result ≡ goes_on adj.now.levels (seen levels.now) level v }
-{
-    levels.get(v) == level + 1 && adj.level(v) < level
-}
-
-// The neighbours of v that go on count it no more, as it stays on the level. Fails only if memory runs out.
-fn part_from<L: Ledger>(
-    adj: &LevelAdj,
-    levels: &RisingLevels,
-    watched: &mut WatchedCounts,
-    level: u16,
-    v: u32,
-    steps: &mut Steps<L>,
-) -> Result<(), AllocError>
-    requires small { level < 65535 }
-    requires sized { length (seen levels.now) ≡ adj.now.graph.vertices }
-    requires counts { length watched.old.counts.items ≡ adj.now.graph.vertices }
-    requires vertex { v < adj.now.graph.vertices }
-    requires some { (u : ℕ) → goes_on adj.now.levels (seen levels.now) level u ≡ true → has_number u (neighbours_of v adj.now.graph.edges) ≡ true → 1 ≤ slice_index watched.old.counts.items u }
-    ensures less { OnOk result (AreLess adj.now.graph (goes_on adj.now.levels (seen levels.now) level) v watched.old.counts.items watched.new.counts.items) }
-    ensures cost { OnOk result (steps.new ≡ steps.old + length (neighbours_of v adj.now.graph.edges)) }
-    ensures watched { OnOk result (StayWatched watched.old watched.new) }
-{
-    let _n = adj.graph().vertices();
-    for u in adj.graph().neighbours(v) {
-        steps.tick();
-        if goes_on(adj, levels, level, *u) {
-            watched.lessen(*u)?;
-        }
-    }
-    Ok(())
-}
-
-/// Those in the list had come to the level and stay on it: each is counted no more by those who go on, and is put on the level in
-/// the graph.
-///
-/// Two passes over the neighbours of each. Fails only if memory runs out.
-pub fn part<L: Ledger>(
-    adj: &mut LevelAdj,
-    levels: &RisingLevels,
-    watched: &mut WatchedCounts,
-    level: u16,
-    stay: &[u32],
-    steps: &mut Steps<L>,
-) -> Result<(), AllocError>
-    requires small { level < 65535 }
-    requires sized { length (seen levels.now) ≡ adj.old.graph.vertices }
-    requires vertices { (v : ℕ) → has_number v stay.now ≡ true → v < adj.old.graph.vertices }
-    requires below { (v : ℕ) → has_number v stay.now ≡ true → slice_index adj.old.levels v ≤ level }
-    requires here { (v : ℕ) → has_number v stay.now ≡ true → slice_index (seen levels.now) v ≡ level }
-    requires distinct { AreDistinct stay.now }
-    requires listed { AreSeen adj.old.graph (goes_on adj.old.levels (seen levels.now) level) (sees_listed (seen levels.now) level stay.now) watched.old.counts.items watched.old.counts.items }
-    ensures seen { OnOk result (AreSeen adj.old.graph (goes_on adj.old.levels (seen levels.now) level) (sees_listed (seen levels.now) level []) watched.old.counts.items watched.new.counts.items) }
-    ensures settled { OnOk result (adj.new ≡ record adj.old { levels = settled_at adj.old.levels (seen levels.now) level stay.now }) }
-    ensures cost { OnOk result (steps.new ≡ steps.old + steps_on adj.old.graph (seen levels.now) level stay.now) }
-    ensures watched { OnOk result (StayWatched watched.old watched.new) }
-{
-    let _n = adj.graph().vertices();
-    let _levels = adj.levels();
-    for i in 0..stay.len() {
-        let v = adj.graph().in_turn(stay, i);
-        part_from(adj, levels, watched, level, v, steps)?;
-        adj.lift(v, level, steps);
     }
     Ok(())
 }
@@ -163,18 +92,18 @@ fn meet(counted: &mut Counted, level: u16, most: u32, w: u32) -> Result<(), Allo
 /// it may.
 pub fn come_up(step: &Step, counted: &mut Counted, meetings: &[Meeting]) -> Result<(), AllocError>
     requires small { step.now.level < 65535 }
-    requires sized { length (seen step.now.levels.now) ≡ step.now.adj.now.graph.vertices }
+    requires sized { length (seen step.now.levels.now) ≡ step.now.placed.now.graph.vertices }
     requires room { step.now.level + 1 < length counted.old.queue }
-    requires meet { MeetOn step.now.adj.now.graph step.now.adj.now.levels (step.now.level + 1) meetings.now }
-    requires before { (v w : ℕ) → has_edge (v, w) meetings.now ≡ true → slice_index (seen step.now.levels.now) v ≡ step.now.level + 1 → slice_index step.now.adj.now.levels v < step.now.level }
+    requires meet { MeetOn step.now.placed.now.graph step.now.placed.now.levels (step.now.level + 1) meetings.now }
+    requires before { (v w : ℕ) → has_edge (v, w) meetings.now ≡ true → slice_index (seen step.now.levels.now) v ≡ step.now.level + 1 → slice_index step.now.placed.now.levels v < step.now.level }
     requires apart { AreApart meetings.now }
-    requires met { AreSeen step.now.adj.now.graph (is_next step.now.adj.now.levels step.now.level) (sees_arrived step.now.adj.now.levels (seen step.now.levels.now) step.now.level meetings.now) counted.old.watched.counts.items counted.old.watched.counts.items }
-    requires noting { IsNoting step.now.adj.now.graph.vertices step.now.adj.now.levels (step.now.level + 1) step.now.most counted.old.watched.counts.items counted.old.queue counted.old.queue }
-    ensures seen { OnOk result (AreSeen step.now.adj.now.graph (is_next step.now.adj.now.levels step.now.level) (sees_arrived step.now.adj.now.levels (seen step.now.levels.now) step.now.level []) counted.old.watched.counts.items counted.new.watched.counts.items) }
-    ensures noting { OnOk result (IsNoting step.now.adj.now.graph.vertices step.now.adj.now.levels (step.now.level + 1) step.now.most counted.new.watched.counts.items counted.old.queue counted.new.queue) }
+    requires met { AreSeen step.now.placed.now.graph (is_next step.now.placed.now.levels step.now.level) (sees_arrived step.now.placed.now.levels (seen step.now.levels.now) step.now.level meetings.now) counted.old.watched.counts.items counted.old.watched.counts.items }
+    requires noting { IsNoting step.now.placed.now.graph.vertices step.now.placed.now.levels (step.now.level + 1) step.now.most counted.old.watched.counts.items counted.old.queue counted.old.queue }
+    ensures seen { OnOk result (AreSeen step.now.placed.now.graph (is_next step.now.placed.now.levels step.now.level) (sees_arrived step.now.placed.now.levels (seen step.now.levels.now) step.now.level []) counted.old.watched.counts.items counted.new.watched.counts.items) }
+    ensures noting { OnOk result (IsNoting step.now.placed.now.graph.vertices step.now.placed.now.levels (step.now.level + 1) step.now.most counted.new.watched.counts.items counted.old.queue counted.new.queue) }
     ensures watched { OnOk result (StayWatched counted.old.watched counted.new.watched) }
 {
-    let _n = step.adj.graph().vertices();
+    let _n = step.placed.graph().vertices();
     let levels = step.levels;
     let next = step.level + 1;
     let most = step.most;
@@ -186,9 +115,9 @@ pub fn come_up(step: &Step, counted: &mut Counted, meetings: &[Meeting]) -> Resu
     Ok(())
 }
 
-// Puts w behind the first `end` items, and gives where they end then: behind w if `holds`, else before it. There is no branch,
-// since a processor couldn't predict it.
-fn put_where(items: &mut Vec<u32>, end: usize, w: u32, holds: bool) -> usize
+/// Puts w behind the first `end` items, and gives where they end then: behind w if `holds`, else before it. There is no branch,
+/// since a processor couldn't predict it.
+pub fn put_where(items: &mut Vec<u32>, end: usize, w: u32, holds: bool) -> usize
     requires { end < length items.old.items }
     ensures items { take result items.new.items ≡ cond holds (take end items.old.items ++ w ∷ []) (take end items.old.items) }
     ensures length { length items.new.items ≡ length items.old.items }
@@ -206,14 +135,14 @@ impl RoundGather for Step<'_> {
     ghost use Rattle.kc_insert.specs.private.Counting.{stood_above};
     ghost use Rattle.kc_insert.specs.private.Rising.{seen};
 
-    ghost number = { λ step v. at_least step.adj.now.graph (seen step.levels.now) v (step.level + 1) };
+    ghost number = { λ step v. at_least step.placed.now.graph (seen step.levels.now) v (step.level + 1) };
 
-    ghost finds = { λ step v. stood_above step.adj.now.graph step.adj.now.levels step.level v };
+    ghost finds = { λ step v. stood_above step.placed.now.graph step.placed.now.levels step.level v };
 
-    ghost may_gather = { λ step v. (v < step.adj.now.graph.vertices) × (length (seen step.levels.now) ≡ step.adj.now.graph.vertices) × (step.level < step.levels.now.level) × (step.level < 65535) };
+    ghost may_gather = { λ step v. (v < step.placed.now.graph.vertices) × (length (seen step.levels.now) ≡ step.placed.now.graph.vertices) × (step.level < step.levels.now.level) × (step.level < 65535) };
 
     fn room(&self, v: u32) -> usize {
-        let graph = self.adj.graph();
+        let graph = self.placed.graph();
         if graph.is_at_hand(v) {
             graph.neighbours(v).len()
         } else {
@@ -222,11 +151,11 @@ impl RoundGather for Step<'_> {
     }
 
     fn gather(&self, v: u32, found: &mut Vec<u32>) -> Result<u32, AllocError> {
-        let _n = self.adj.graph().vertices();
+        let _n = self.placed.graph().vertices();
         let level = self.level;
         let now = self.levels.stored.as_slice();
-        let before = self.adj.levels().as_slice();
-        let row = self.adj.graph().neighbours(v);
+        let before = self.placed.levels().as_slice();
+        let row = self.placed.graph().neighbours(v);
         let mut above = 0;
         let mut end = found.len();
         found.resize(end + row.len(), 0)?;
@@ -250,25 +179,25 @@ fn begin_one(
     above: &[u32],
 ) -> Result<(), AllocError>
     requires small { step.now.level < 65535 }
-    requires counts { length counted.old.watched.counts.items ≡ step.now.adj.now.graph.vertices }
-    requires few { (u : ℕ) → u < step.now.adj.now.graph.vertices → slice_index step.now.adj.now.levels u ≡ step.now.level + 1 → slice_index counted.old.watched.counts.items u < step.now.adj.now.graph.vertices }
-    requires begins { (v < step.now.adj.now.graph.vertices) × (slice_index step.now.adj.now.levels v ≡ step.now.level) }
-    requires above { above.now ≡ stood_above step.now.adj.now.graph step.now.adj.now.levels step.now.level v }
+    requires counts { length counted.old.watched.counts.items ≡ step.now.placed.now.graph.vertices }
+    requires few { (u : ℕ) → u < step.now.placed.now.graph.vertices → slice_index step.now.placed.now.levels u ≡ step.now.level + 1 → slice_index counted.old.watched.counts.items u < step.now.placed.now.graph.vertices }
+    requires begins { (v < step.now.placed.now.graph.vertices) × (slice_index step.now.placed.now.levels v ≡ step.now.level) }
+    requires above { above.now ≡ stood_above step.now.placed.now.graph step.now.placed.now.levels step.now.level v }
     requires room { step.now.level + 1 < length counted.old.queue }
-    requires places { (u : ℕ) → u < step.now.adj.now.graph.vertices → slice_index step.now.adj.now.levels u < length meetings.old }
-    requires noting { IsNoting step.now.adj.now.graph.vertices step.now.adj.now.levels (step.now.level + 1) step.now.most counted.old.watched.counts.items counted.old.queue counted.old.queue }
-    ensures begun { OnOk result (HasBegun step.now.adj.now.graph step.now.adj.now.levels step.now.level v own counted.old.watched.counts.items counted.new.watched.counts.items) }
-    ensures noting { OnOk result (IsNoting step.now.adj.now.graph.vertices step.now.adj.now.levels (step.now.level + 1) step.now.most counted.new.watched.counts.items counted.old.queue counted.new.queue) }
+    requires places { (u : ℕ) → u < step.now.placed.now.graph.vertices → slice_index step.now.placed.now.levels u < length meetings.old }
+    requires noting { IsNoting step.now.placed.now.graph.vertices step.now.placed.now.levels (step.now.level + 1) step.now.most counted.old.watched.counts.items counted.old.queue counted.old.queue }
+    ensures begun { OnOk result (HasBegun step.now.placed.now.graph step.now.placed.now.levels step.now.level v own counted.old.watched.counts.items counted.new.watched.counts.items) }
+    ensures noting { OnOk result (IsNoting step.now.placed.now.graph.vertices step.now.placed.now.levels (step.now.level + 1) step.now.most counted.new.watched.counts.items counted.old.queue counted.new.queue) }
     ensures places { OnOk result (length meetings.new ≡ length meetings.old) }
-    ensures meetings { OnOk result ((k : ℕ) → slice_index_or meetings.new k [] ≡ slice_index_or meetings.old k [] ++ meetings_on step.now.adj.now.graph step.now.adj.now.levels step.now.level v k (neighbours_of v step.now.adj.now.graph.edges)) }
+    ensures meetings { OnOk result ((k : ℕ) → slice_index_or meetings.new k [] ≡ slice_index_or meetings.old k [] ++ meetings_on step.now.placed.now.graph step.now.placed.now.levels step.now.level v k (neighbours_of v step.now.placed.now.graph.edges)) }
     ensures watched { OnOk result (StayWatched counted.old.watched counted.new.watched) }
 {
-    let adj = step.adj;
+    let placed = step.placed;
     let next = step.level + 1;
     let most = step.most;
-    let _n = adj.graph().vertices();
+    let _n = placed.graph().vertices();
     for w in above {
-        let other = adj.level(*w);
+        let other = placed.level(*w);
         if other == next {
             meet(counted, next, most, *w)?;
         }
@@ -284,8 +213,8 @@ fn begin_one(
     Ok(())
 }
 
-// `count` of the vertices, from the place `start` on.
-fn run_of(vertices: &[u32], start: usize, count: usize) -> &[u32]
+/// `count` of the vertices, from the place `start` on.
+pub fn run_of(vertices: &[u32], start: usize, count: usize) -> &[u32]
     requires { start + count ≤ length vertices.now }
     ensures { result.now ≡ take count (drop start vertices.now) }
 {
@@ -307,21 +236,21 @@ pub fn begin<R: Threads + Sync, G: Gate + Sync, L: Ledger>(
 ) -> Result<(), AllocError>
     requires small { step.now.level < 65535 }
     requires at { step.now.level < step.now.levels.now.level }
-    requires sized { length (seen step.now.levels.now) ≡ step.now.adj.now.graph.vertices }
-    requires risers { AreBeginners step.now.adj.now.graph.vertices step.now.adj.now.levels (seen step.now.levels.now) step.now.level risers.now }
+    requires sized { length (seen step.now.levels.now) ≡ step.now.placed.now.graph.vertices }
+    requires risers { AreBeginners step.now.placed.now.graph.vertices step.now.placed.now.levels (seen step.now.levels.now) step.now.level risers.now }
     requires room { step.now.level + 1 < length counted.old.queue }
-    requires places { (u : ℕ) → u < step.now.adj.now.graph.vertices → slice_index step.now.adj.now.levels u < length meetings.old }
-    requires unlisted { AreSeen step.now.adj.now.graph (is_next step.now.adj.now.levels step.now.level) (sees_unlisted (seen step.now.levels.now) step.now.level risers.now) counted.old.watched.counts.items counted.old.watched.counts.items }
-    requires noting { IsNoting step.now.adj.now.graph.vertices step.now.adj.now.levels (step.now.level + 1) step.now.most counted.old.watched.counts.items counted.old.queue counted.old.queue }
-    ensures begun { OnOk result (HaveBegun step.now.adj.now.graph step.now.adj.now.levels (seen step.now.levels.now) step.now.level risers.now counted.old.watched.counts.items counted.new.watched.counts.items) }
-    ensures noting { OnOk result (IsNoting step.now.adj.now.graph.vertices step.now.adj.now.levels (step.now.level + 1) step.now.most counted.new.watched.counts.items counted.old.queue counted.new.queue) }
+    requires places { (u : ℕ) → u < step.now.placed.now.graph.vertices → slice_index step.now.placed.now.levels u < length meetings.old }
+    requires unlisted { AreSeen step.now.placed.now.graph (is_next step.now.placed.now.levels step.now.level) (sees_unlisted (seen step.now.levels.now) step.now.level risers.now) counted.old.watched.counts.items counted.old.watched.counts.items }
+    requires noting { IsNoting step.now.placed.now.graph.vertices step.now.placed.now.levels (step.now.level + 1) step.now.most counted.old.watched.counts.items counted.old.queue counted.old.queue }
+    ensures begun { OnOk result (HaveBegun step.now.placed.now.graph step.now.placed.now.levels (seen step.now.levels.now) step.now.level risers.now counted.old.watched.counts.items counted.new.watched.counts.items) }
+    ensures noting { OnOk result (IsNoting step.now.placed.now.graph.vertices step.now.placed.now.levels (step.now.level + 1) step.now.most counted.new.watched.counts.items counted.old.queue counted.new.queue) }
     ensures places { OnOk result (length meetings.new ≡ length meetings.old) }
-    ensures meetings { OnOk result ((rises : ℕ → Bool) → AreMeetings step.now.adj.now.graph step.now.adj.now.levels (step.now.level + 1) rises meetings.old → ((v : ℕ) → has_number v risers.now ≡ true → rises v ≡ false) → AreMeetings step.now.adj.now.graph step.now.adj.now.levels (step.now.level + 1) (λ v. rises v || has_number v risers.now) meetings.new) }
-    ensures cost { OnOk result (steps.new ≡ steps.old + degrees step.now.adj.now.graph risers.now) }
+    ensures meetings { OnOk result ((rises : ℕ → Bool) → AreMeetings step.now.placed.now.graph step.now.placed.now.levels (step.now.level + 1) rises meetings.old → ((v : ℕ) → has_number v risers.now ≡ true → rises v ≡ false) → AreMeetings step.now.placed.now.graph step.now.placed.now.levels (step.now.level + 1) (λ v. rises v || has_number v risers.now) meetings.new) }
+    ensures cost { OnOk result (steps.new ≡ steps.old + degrees step.now.placed.now.graph risers.now) }
     ensures watched { OnOk result (StayWatched counted.old.watched counted.new.watched) }
 {
-    let adj = step.adj;
-    let _n = adj.graph().vertices();
+    let placed = step.placed;
+    let _n = placed.graph().vertices();
     let gathered = rounds.gather(risers, step)?;
     let mut start = 0;
     for i in 0..risers.len() {
@@ -331,7 +260,7 @@ pub fn begin<R: Threads + Sync, G: Gate + Sync, L: Ledger>(
         let above = run_of(&gathered.found, start, count);
         begin_one(step, counted, meetings, v, own, above)?;
         start += count;
-        steps.add(adj.graph().neighbours(v).len());
+        steps.add(placed.graph().neighbours(v).len());
     }
     Ok(())
 }

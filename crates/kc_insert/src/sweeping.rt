@@ -12,18 +12,20 @@ ghost use Rattle.kc_levels.specs.Moved.{is_moved};
 ghost use Rattle.kc_adj.specs.LeveledGraph.{IsCounted};
 ghost use Rattle.kc_insert.specs.private.BucketQueue.{IsQueued};
 ghost use Rattle.kc_levels.specs.Following.{AreDistinct};
-ghost use Rattle.kc_insert.specs.private.Counting.{degrees};
+ghost use Rattle.kc_adj.specs.Degrees.{degrees};
 ghost use Rattle.kc_insert.specs.Effort.{effort};
 ghost use Rattle.kc_insert.specs.private.Rising.{rises, seen};
 ghost use Rattle.kc_insert.specs.private.Round.{is_over};
 ghost use Rattle.kc_insert.specs.private.Sweeping.{all_at, AreKept, HaveCome, IsSweeping, LetStay, sweeping_of};
 ghost use Rattle.kc_insert.specs.private.Together.{IsFree};
 
-use crate::counting::{Counted, Step, begin, come_up, leave_behind, part};
+use crate::counting::{Counted, Step, begin, come_up, leave_behind};
 use crate::meetings::Meeting;
+use crate::partings::{Parting, part};
+use crate::placed::Placed;
 use crate::rising::RisingLevels;
 use crate::watched::WatchedCounts;
-use kc_adj::{LevelAdj, LevelLists, Steps};
+use kc_adj::{LevelLists, Steps};
 use kc_levels::Thresholds;
 use kc_rounds::{FirstRound, Gate, RoundTest, Rounds};
 use std::alloc::{AllocError, Global};
@@ -33,7 +35,7 @@ use std::thread::Threads;
 /// How far a sweep has come. Contracts see it as a `Sweeping` (`sweeping_of`).
 #[derive(Drop)]
 pub struct Sweep {
-    /// The level that it is at, the levels by now, and who rises. In the graph a vertex is put on its new level when it stays on it.
+    /// The level that it is at, the levels by now, and who rises.
     pub levels: RisingLevels,
     /// What each vertex counts, and who waits.
     pub counted: Counted,
@@ -60,8 +62,6 @@ struct Over<'a> {
 
 impl RoundTest for Over<'_> {
     ghost use Rattle.std.specs.Prelude.{◌<◌, length};
-    ghost use Rattle.kc_insert.specs.private.Counting.{degrees};
-    ghost use Rattle.kc_insert.specs.Effort.{effort};
     ghost use Rattle.kc_insert.specs.private.Round.{is_over};
 
     ghost keeps = { λ test v. is_over test.counts.now.items test.most v };
@@ -233,18 +233,18 @@ fn look_anew(th: &Thresholds, sweep: &mut Sweep) -> Result<(), AllocError>
 //
 // They count each other on each of the levels, and all others whom they count are above: so no count changes, and in a group each
 // of them goes on where all went on before.
-fn rise_together(th: &Thresholds, adj: &LevelAdj, sweep: &mut Sweep) -> bool
-    requires scale { th.now.vertices ≡ adj.now.graph.vertices }
-    requires graph { IsGraph adj.now.graph }
+fn rise_together(th: &Thresholds, placed: &Placed<'_>, sweep: &mut Sweep) -> bool
+    requires scale { th.now.vertices ≡ placed.now.graph.vertices }
+    requires graph { IsGraph placed.now.graph }
     requires room { sweep.old.levels.level < top_level th.now.profile th.now.vertices }
-    requires sweeping { IsSweeping th.now.profile adj.now.graph adj.now.levels (sweeping_of sweep.old) }
+    requires sweeping { IsSweeping th.now.profile placed.now.graph placed.now.levels (sweeping_of sweep.old) }
     requires kept { AreKept sweep.old }
     requires most { sweep.old.counted.watched.most ≡ high th.now.profile (group_of th.now.profile th.now.vertices sweep.old.levels.level) }
     ensures stays { result ≡ false → sweep.new ≡ sweep.old }
     ensures goes { OnTrue result (sweep.old.levels.level < sweep.new.levels.level) }
     ensures inside { sweep.new.levels.level < top_level th.now.profile th.now.vertices }
-    ensures sweeping { IsSweeping th.now.profile adj.now.graph adj.now.levels (sweeping_of sweep.new) }
-    ensures come { (x : _) → (s t : ℕ) → HaveCome th.now.profile adj.now.graph x adj.now.levels (sweeping_of sweep.old) s t → HaveCome th.now.profile adj.now.graph x adj.now.levels (sweeping_of sweep.new) s t }
+    ensures sweeping { IsSweeping th.now.profile placed.now.graph placed.now.levels (sweeping_of sweep.new) }
+    ensures come { (x : _) → (s t : ℕ) → HaveCome th.now.profile placed.now.graph x placed.now.levels (sweeping_of sweep.old) s t → HaveCome th.now.profile placed.now.graph x placed.now.levels (sweeping_of sweep.new) s t }
     ensures kept { AreKept sweep.new }
 {
     let limit = free_level(th, sweep);
@@ -260,26 +260,26 @@ fn rise_together(th: &Thresholds, adj: &LevelAdj, sweep: &mut Sweep) -> bool
 // is at afterwards.
 //
 // One round is enough, since a rise changes no count of a vertex on this level or below. Those who had come to the level and
-// stay on it are put there in the graph. Of the steps that a riser may cost, two passes over its neighbours and one step more
-// are kept for the time when it stays (`HaveCome`).
+// stay on it are put there. Of the steps that a riser may cost, a pass over its neighbours is kept for the time when it stays, and
+// another and one step more for the time when it is lifted in the graph (`HaveCome`).
 fn raise_level<R: Threads + Sync, G: Gate + Sync, L: Ledger>(
     rounds: &Rounds<R, G>,
     alloc: Global,
     th: &Thresholds,
-    adj: &mut LevelAdj,
+    placed: &mut Placed<'_>,
     sweep: &mut Sweep,
     steps: &mut Steps<L>,
 ) -> Result<(), AllocError>
-    requires scale { th.now.vertices ≡ adj.old.graph.vertices }
-    requires graph { IsGraph adj.old.graph }
+    requires scale { th.now.vertices ≡ placed.old.graph.vertices }
+    requires graph { IsGraph placed.old.graph }
     requires room { sweep.old.levels.level < top_level th.now.profile th.now.vertices }
-    requires sweeping { IsSweeping th.now.profile adj.old.graph adj.old.levels (sweeping_of sweep.old) }
+    requires sweeping { IsSweeping th.now.profile placed.old.graph placed.old.levels (sweeping_of sweep.old) }
     requires kept { AreKept sweep.old }
     requires most { sweep.old.counted.watched.most ≡ high th.now.profile (group_of th.now.profile th.now.vertices sweep.old.levels.level) }
-    ensures graph { OnOk result (adj.new.graph ≡ adj.old.graph) }
+    ensures graph { OnOk result (placed.new.graph ≡ placed.old.graph) }
     ensures level { OnOk result (sweep.new.levels.level ≡ sweep.old.levels.level + 1) }
-    ensures sweeping { OnOk result (IsSweeping th.now.profile adj.old.graph adj.new.levels (sweeping_of sweep.new)) }
-    ensures come { OnOk result ((x : _) → (s : ℕ) → HaveCome th.now.profile adj.old.graph x adj.old.levels (sweeping_of sweep.old) s steps.old → HaveCome th.now.profile adj.old.graph x adj.new.levels (sweeping_of sweep.new) s steps.new) }
+    ensures sweeping { OnOk result (IsSweeping th.now.profile placed.old.graph placed.new.levels (sweeping_of sweep.new)) }
+    ensures come { OnOk result ((x : _) → (s : ℕ) → HaveCome th.now.profile placed.old.graph x placed.old.levels (sweeping_of sweep.old) s steps.old → HaveCome th.now.profile placed.old.graph x placed.new.levels (sweeping_of sweep.new) s steps.new) }
     ensures kept { OnOk result (AreKept sweep.new) }
 {
     let _top = th.top();
@@ -300,17 +300,16 @@ fn raise_level<R: Threads + Sync, G: Gate + Sync, L: Ledger>(
     // Who waits may do so twice, and begins once.
     let mut begun = lift_off(alloc, &mut sweep.levels, level, &starting)?;
     let met = sweep.meetings.take_all(alloc, level);
-    leave_behind(adj, &sweep.levels, &mut counted.watched, level, &met)?;
-    part(
-        adj,
-        &sweep.levels,
-        &mut counted.watched,
+    leave_behind(placed, &sweep.levels, &mut counted.watched, level, &met)?;
+    let parting = Parting {
+        placed,
+        levels: &sweep.levels,
         level,
-        &sweep.stay,
-        steps,
-    )?;
+    };
+    part(rounds, &parting, &mut counted.watched, &sweep.stay, steps)?;
+    placed.put_on(level, &sweep.stay);
     let step = Step {
-        adj,
+        placed,
         levels: &sweep.levels,
         level,
         most: above,
@@ -327,48 +326,42 @@ fn rise_on<R: Threads + Sync, G: Gate + Sync, L: Ledger>(
     rounds: &Rounds<R, G>,
     alloc: Global,
     th: &Thresholds,
-    adj: &mut LevelAdj,
+    placed: &mut Placed<'_>,
     sweep: &mut Sweep,
     steps: &mut Steps<L>,
 ) -> Result<(), AllocError>
-    requires scale { th.now.vertices ≡ adj.old.graph.vertices }
-    requires graph { IsGraph adj.old.graph }
+    requires scale { th.now.vertices ≡ placed.old.graph.vertices }
+    requires graph { IsGraph placed.old.graph }
     requires room { sweep.old.levels.level < top_level th.now.profile th.now.vertices }
-    requires sweeping { IsSweeping th.now.profile adj.old.graph adj.old.levels (sweeping_of sweep.old) }
+    requires sweeping { IsSweeping th.now.profile placed.old.graph placed.old.levels (sweeping_of sweep.old) }
     requires kept { AreKept sweep.old }
-    ensures graph { OnOk result (adj.new.graph ≡ adj.old.graph) }
+    ensures graph { OnOk result (placed.new.graph ≡ placed.old.graph) }
     ensures level { OnOk result (sweep.old.levels.level < sweep.new.levels.level) }
     ensures within { OnOk result (sweep.new.levels.level ≤ top_level th.now.profile th.now.vertices) }
-    ensures sweeping { OnOk result (IsSweeping th.now.profile adj.old.graph adj.new.levels (sweeping_of sweep.new)) }
-    ensures come { OnOk result ((x : _) → (s : ℕ) → HaveCome th.now.profile adj.old.graph x adj.old.levels (sweeping_of sweep.old) s steps.old → HaveCome th.now.profile adj.old.graph x adj.new.levels (sweeping_of sweep.new) s steps.new) }
+    ensures sweeping { OnOk result (IsSweeping th.now.profile placed.old.graph placed.new.levels (sweeping_of sweep.new)) }
+    ensures come { OnOk result ((x : _) → (s : ℕ) → HaveCome th.now.profile placed.old.graph x placed.old.levels (sweeping_of sweep.old) s steps.old → HaveCome th.now.profile placed.old.graph x placed.new.levels (sweeping_of sweep.new) s steps.new) }
     ensures kept { OnOk result (AreKept sweep.new) }
 {
     look_anew(th, sweep)?;
-    if rise_together(th, adj, sweep) {
+    if rise_together(th, placed, sweep) {
         return Ok(());
     }
-    raise_level(rounds, alloc, th, adj, sweep, steps)?;
+    raise_level(rounds, alloc, th, placed, sweep, steps)?;
     Ok(())
 }
 
-// Puts those who are still rising on their levels in the graph.
-fn lift_all<L: Ledger>(
-    adj: &mut LevelAdj,
-    levels: &RisingLevels,
-    risen: &[u32],
-    steps: &mut Steps<L>,
-)
-    requires sized { length (seen levels.now) ≡ adj.old.graph.vertices }
-    requires vertices { (v : ℕ) → has_number v risen.now ≡ true → v < adj.old.graph.vertices }
-    requires above { IsBelow adj.old.graph.vertices adj.old.levels (seen levels.now) }
-    requires all { (v : ℕ) → slice_index adj.old.levels v < slice_index (seen levels.now) v → has_number v risen.now ≡ true }
-    ensures value { adj.new ≡ record adj.old { levels = seen levels.now } }
-    ensures cost { steps.new ≡ steps.old + (degrees adj.old.graph risen.now + length risen.now) }
+// Puts those who are still rising on their levels.
+fn put_all(placed: &mut Placed<'_>, levels: &RisingLevels, rising: &[u32])
+    requires sized { length (seen levels.now) ≡ placed.old.graph.vertices }
+    requires vertices { (v : ℕ) → has_number v rising.now ≡ true → v < placed.old.graph.vertices }
+    requires above { IsBelow placed.old.graph.vertices placed.old.levels (seen levels.now) }
+    requires all { (v : ℕ) → slice_index placed.old.levels v < slice_index (seen levels.now) v → has_number v rising.now ≡ true }
+    ensures { placed.new ≡ record placed.old { levels = seen levels.now } }
 {
-    let _levels = adj.levels();
-    for i in 0..risen.len() {
-        let v = adj.graph().in_turn(risen, i);
-        adj.lift(v, levels.get(v), steps);
+    let _levels = placed.levels();
+    for i in 0..rising.len() {
+        let v = rising[i];
+        placed.put(v, levels.get(v));
     }
 }
 
@@ -400,49 +393,51 @@ fn go_on(sweep: &mut Sweep)
     }
 }
 
-/// Raises the levels to the raised list, where every vertex that breaks the upper invariant is in the queue, each in the bucket
-/// of its level. The sweep has the levels and the counts of the graph, before and after, and all who rose.
+/// Raises the levels in `placed` to the raised list, where every vertex that breaks the upper invariant is in the queue, each in the
+/// bucket of its level. The sweep has the levels of `placed` and their counts, before and after, and afterwards all who rose.
 ///
 /// Goes through the levels once, from the lowest up, where somebody waits, is met or stays; each is a round. A vertex that rises costs
-/// three passes over its neighbours, however far it rises, and a few looks for each group of levels on its way. Fails only if memory
-/// runs out; the levels of the graph are then unspecified.
+/// at most two passes over its neighbours, however far it rises, and a few looks for each group of levels on its way; the steps of
+/// another pass and one more are left over, for the time when it is lifted in the graph. Fails only if memory runs out; the levels in
+/// `placed` are then unspecified.
 pub fn raise_queued<R: Threads + Sync, G: Gate + Sync, L: Ledger>(
     rounds: &Rounds<R, G>,
     alloc: Global,
     th: &Thresholds,
-    adj: &mut LevelAdj,
+    placed: &mut Placed<'_>,
     sweep: &mut Sweep,
     steps: &mut Steps<L>,
 ) -> Result<(), AllocError>
-    requires scale { th.now.vertices ≡ adj.old.graph.vertices }
-    requires capped { IsCapped th.now.profile adj.old.graph.vertices adj.old.levels }
-    requires queued { IsQueued th.now.profile adj.old.graph adj.old.levels sweep.old.counted.queue }
-    requires levels { sweep.old.levels.stored ≡ adj.old.levels }
-    requires counted { IsCounted adj.old.graph adj.old.levels 0 sweep.old.counted.watched.counts.items }
+    requires scale { th.now.vertices ≡ placed.old.graph.vertices }
+    requires capped { IsCapped th.now.profile placed.old.graph.vertices placed.old.levels }
+    requires queued { IsQueued th.now.profile placed.old.graph placed.old.levels sweep.old.counted.queue }
+    requires levels { sweep.old.levels.stored ≡ placed.old.levels }
+    requires counted { IsCounted placed.old.graph placed.old.levels 0 sweep.old.counted.watched.counts.items }
     requires nobody { (sweep.old.began.items ≡ []) × (sweep.old.risen.items ≡ []) }
     requires meetings { sweep.old.meetings ≡ replicate (top_level th.now.profile th.now.vertices + 1) [] }
-    ensures graph { OnOk result (adj.new.graph ≡ adj.old.graph) }
-    ensures raised { OnOk result (IsRaised th.now.profile adj.old.graph adj.old.levels adj.new.levels) }
-    ensures levels { OnOk result (sweep.new.levels.stored ≡ adj.new.levels) }
-    ensures counted { OnOk result (IsCounted adj.old.graph adj.new.levels 0 sweep.new.counted.watched.counts.items) }
-    ensures risen { OnOk result ((v : ℕ) → has_number v sweep.new.risen.items ≡ is_moved adj.old.levels adj.new.levels v) }
+    ensures graph { OnOk result (placed.new.graph ≡ placed.old.graph) }
+    ensures raised { OnOk result (IsRaised th.now.profile placed.old.graph placed.old.levels placed.new.levels) }
+    ensures levels { OnOk result (sweep.new.levels.stored ≡ placed.new.levels) }
+    ensures counted { OnOk result (IsCounted placed.old.graph placed.new.levels 0 sweep.new.counted.watched.counts.items) }
+    ensures risen { OnOk result ((v : ℕ) → has_number v sweep.new.risen.items ≡ is_moved placed.old.levels placed.new.levels v) }
     ensures once { OnOk result (AreDistinct sweep.new.risen.items) }
     ensures buckets { OnOk result (length sweep.new.counted.queue ≡ top_level th.now.profile th.now.vertices + 1) }
     ensures places { OnOk result (length sweep.new.meetings ≡ top_level th.now.profile th.now.vertices + 1) }
-    ensures cost { OnOk result (steps.new ≤ steps.old + effort adj.old.graph adj.old.levels adj.new.levels adj.old.graph.vertices) }
+    ensures cost { let later = degrees placed.old.graph sweep.new.risen.items + length sweep.new.risen.items in
+        OnOk result (steps.new + later ≤ steps.old + effort placed.old.graph placed.old.levels placed.new.levels placed.old.graph.vertices) }
 {
-    let _n = adj.graph().vertices();
-    let _levels = adj.levels();
+    let _n = placed.graph().vertices();
+    let _levels = placed.levels();
     let top = th.top();
     sweep.levels.go_to(0);
     sweep.counted.watched.doubtful.clear();
     go_on(sweep);
     while sweep.levels.level < top {
-        rise_on(rounds, alloc, th, adj, sweep, steps)?;
+        rise_on(rounds, alloc, th, placed, sweep, steps)?;
         go_on(sweep);
     }
     who_rises(&sweep.levels, &sweep.began, &mut sweep.stay)?;
-    lift_all(adj, &sweep.levels, &sweep.stay, steps);
+    put_all(placed, &sweep.levels, &sweep.stay);
     settle_all(&mut sweep.levels, &sweep.stay);
     Ok(())
 }

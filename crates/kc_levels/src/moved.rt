@@ -69,7 +69,9 @@ pub fn moves_of(
     requires sized { length after.now ≡ length before.now }
     requires moved { (v : ℕ) → has_number v vertices.old.items ≡ is_moved before.now after.now v }
     requires once { AreDistinct vertices.old.items }
-    ensures { IfOk result (λ moves. moves ≡ moves_between (length before.now) before.now after.now) }
+    ensures moves { IfOk result (λ moves. moves ≡ moves_between (length before.now) before.now after.now) }
+    ensures ascending { RisesFrom 0 vertices.new.items }
+    ensures same { (v : ℕ) → has_number v vertices.new.items ≡ has_number v vertices.old.items }
 {
     sort(vertices);
     moves_in_order(alloc, before, after, vertices)

@@ -2,7 +2,6 @@
 ghost use Rattle.std.specs.Prelude.{◌≡◌, [], ◌∷◌, ◌++◌, OnOk};
 ghost use Rattle.std.specs.List.{flat_map};
 ghost use Rattle.kc_text.specs.Writing.{Appends, WriteCause};
-ghost use Rattle.kc_report.specs.Buffer.{IsCleared};
 ghost use Rattle.kc_report.specs.Lines.{line_of};
 ghost use Rattle.kserve.specs.Lines.{magic_line, head_text, refused_line, batch_line, item_words, take_line, batch_text};
 
@@ -15,7 +14,6 @@ use std::alloc::{AllocError, Global};
 // Writes the first line.
 fn write_magic<K: Sink>(alloc: Global, buf: &mut LineBuf, sink: &mut K) -> Result<(), SendFault>
     ensures text { Appends (K.taken sink.old) (K.taken sink.new) magic_line result }
-    ensures buffer { IsCleared buf.new result }
     ensures cause { WriteCause (K.faults sink.old) (K.faults sink.new) result }
 {
     buf.clear();
@@ -31,7 +29,6 @@ pub fn write_head<K: Sink>(
     n: u32,
 ) -> Result<(), SendFault>
     ensures text { Appends (K.taken sink.old) (K.taken sink.new) (head_text n) result }
-    ensures buffer { IsCleared buf.new result }
     ensures cause { WriteCause (K.faults sink.old) (K.faults sink.new) result }
 {
     write_magic(alloc, buf, sink)?;

@@ -1,4 +1,4 @@
-//! Edges are put into a list, taken out as a `Vec`, and made a list again.
+//! Edges are put into a list, taken out as a `Vec`, made a list again, and put behind another list.
 
 use super::*;
 use std::test::Fail;
@@ -19,5 +19,10 @@ fn edges_are_kept_in_order(rt: HostRuntime) -> Result<(), Fail> {
         Some(Edge { a: 2, b: 3 })
     );
     assert!(rt; !again.is_empty());
+    let mut all = Edges::new(rt.alloc());
+    all.push(Edge { a: 4, b: 5 })?;
+    all.append(again)?;
+    assert_eq!(rt; all.len(), 3);
+    assert_eq!(rt; all.last(), Some(Edge { a: 0, b: 1 }));
     Ok(())
 }

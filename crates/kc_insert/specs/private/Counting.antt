@@ -5,7 +5,7 @@
 -- - who goes on, from l, where it was not by x, to l + 1: it counts those no more that stay on l;
 -- - who begins, on l by x: it counts afresh;
 -- - who is on l + 1 by x: it counts those besides who came up to it.
-use Rattle.std.specs.Prelude.{ℕ, ◌+◌, ◌-◌, ◌*◌, ◌≤◌, ◌<◌, ◌≡◌, ◌≢◌, ◌==◌, ◌&&◌, ◌||◌, not, nat_lt, nat_le, cond, Bool, true, false, List, [], ◌∷◌, length, get_or, set, filter, count_by}
+use Rattle.std.specs.Prelude.{ℕ, ◌+◌, ◌-◌, ◌≤◌, ◌<◌, ◌≡◌, ◌≢◌, ◌==◌, ◌&&◌, ◌||◌, not, nat_lt, nat_le, cond, Bool, true, false, List, [], ◌∷◌, length, get_or, set, filter, count_by}
 use Rattle.kc_graph.specs.Numbers.{has_number}
 use Rattle.kc_graph.specs.Shape.{GraphShape, Pair, neighbours_of, has_edge}
 use Rattle.kc_levels.specs.LevelList.{at_least}
@@ -75,20 +75,15 @@ pub record HaveBegun (g : GraphShape) (x z : List ℕ) (l : ℕ) (begin : List �
   pub seen : (w : ℕ) → w < g.vertices → get_or x w 0 ≡ l + 1 → get_or counts w 0 ≡ at_least g z w (l + 1)
   pub others : (u : ℕ) → get_or x u 0 ≢ l + 1 → has_number u begin ≡ false → get_or counts u 0 ≡ get_or before u 0
 
--- the steps of those in the list that are on level l: two passes over the neighbours and one more
+-- the steps of those in the list that are on level l: a pass over the neighbours
 abbrev pub steps_on : GraphShape → List ℕ → ℕ → List ℕ → ℕ
 steps_on g z l [] = 0
-steps_on g z l (v ∷ vs) = cond (get_or z v 0 == l) (2 * length (neighbours_of v g.edges) + 1) 0 + steps_on g z l vs
+steps_on g z l (v ∷ vs) = cond (get_or z v 0 == l) (length (neighbours_of v g.edges)) 0 + steps_on g z l vs
 
 -- the levels x, with those in the list that are on level l by z put there
 abbrev pub settled_at : List ℕ → List ℕ → ℕ → List ℕ → List ℕ
 settled_at x z l [] = x
 settled_at x z l (v ∷ vs) = settled_at (cond (get_or z v 0 == l) (set x v l) x) z l vs
-
--- the numbers of neighbours of those in the list together
-abbrev pub degrees : GraphShape → List ℕ → ℕ
-degrees g [] = 0
-degrees g (v ∷ vs) = length (neighbours_of v g.edges) + degrees g vs
 
 -- meetings on the level k of vertices of the graph
 abbrev pub MeetOn : GraphShape → List ℕ → ℕ → List Pair → Type 0

@@ -1,5 +1,5 @@
 -- How far a sweep has come, level by level.
-use Rattle.std.specs.Prelude.{ℕ, ◌+◌, ◌*◌, ◌≤◌, ◌<◌, ◌≡◌, ◌⊎◌, ◌&&◌, not, true, List, [], ◌∷◌, length, get_or, set, filter}
+use Rattle.std.specs.Prelude.{ℕ, ◌+◌, ◌≤◌, ◌<◌, ◌≡◌, ◌⊎◌, ◌&&◌, not, true, List, [], ◌∷◌, length, get_or, set, filter}
 use Rattle.kc_graph.specs.Numbers.{has_number}
 use Rattle.kc_graph.specs.Shape.{GraphShape, Pair}
 use Rattle.kc_levels.specs.declared.profile.Profile.{Profile}
@@ -11,7 +11,8 @@ use Rattle.kc_adj.specs.LeveledGraph.{IsCounted}
 use Rattle.kc_insert.specs.Effort.{effort}
 use Rattle.kc_levels.specs.Following.{AreDistinct}
 use Rattle.kc_insert.specs.private.Meetings.{AreMeetings}
-use Rattle.kc_insert.specs.private.Counting.{degrees, AreWaiting}
+use Rattle.kc_adj.specs.Degrees.{degrees}
+use Rattle.kc_insert.specs.private.Counting.{AreWaiting}
 use Rattle.kc_insert.specs.private.Rising.{rises, seen}
 use Rattle.kc_insert.specs.declared.rising.RisingLevels.{RisingLevels}
 use Rattle.kc_insert.specs.declared.sweeping.Sweep.{Sweep}
@@ -52,11 +53,11 @@ pub record LetStay (old : RisingLevels) (watched : WatchedCounts) (new : RisingL
   pub distinct : AreDistinct stay
 
 -- v waits on its level, which is that of the sweep or above, or came to the sweep's level, or meets the upper invariant; x are the
--- levels in the graph
+-- levels on which the vertices are put
 abbrev pub IsFound : Profile → GraphShape → List ℕ → Sweeping → ℕ → Type 0
 IsFound p g x sweep v = MeetsUpper p g sweep.levels v ⊎ ((get_or sweep.levels v 0 ≡ sweep.level) × (has_number v sweep.rising ≡ true)) ⊎ ((sweep.level ≤ get_or sweep.levels v 0) × (get_or sweep.levels v 0 ≡ get_or x v 0) × (has_number v (get_or sweep.queue (get_or sweep.levels v 0) []) ≡ true))
 
--- a sweep on its way; x are the levels in the graph, where those who are still rising stand on their old levels
+-- a sweep on its way; x are the levels on which the vertices are put, where those who are still rising stand on their old ones
 pub record IsSweeping (p : Profile) (g : GraphShape) (x : List ℕ) (sweep : Sweeping) : Type 0 where
   pub start : length x ≡ g.vertices
   pub sized : length sweep.levels ≡ g.vertices
@@ -77,10 +78,10 @@ pub record IsSweeping (p : Profile) (g : GraphShape) (x : List ℕ) (sweep : Swe
   pub places : length sweep.meetings ≡ top_level p g.vertices + 1
   pub meet : AreMeetings g x sweep.level (λ v. has_number v sweep.risen) sweep.meetings
 
--- what a sweep that began with the list x0 has come to, where the levels in the graph are x: each vertex is in the graph on its old
+-- what a sweep that began with the list x0 has come to, where the vertices are put on the levels x: each vertex is put on its old
 -- level, or on its new one below that of the sweep; s steps were counted before the sweep and t by now
 pub record HaveCome (p : Profile) (g : GraphShape) (x0 x : List ℕ) (sweep : Sweeping) (s t : ℕ) : Type 0 where
   pub raising : IsRaising p g x0 sweep.levels
   pub either : (v : ℕ) → (get_or x v 0 ≡ get_or x0 v 0) ⊎ ((get_or x0 v 0 < get_or x v 0) × (get_or x v 0 ≡ get_or sweep.levels v 0) × (get_or sweep.levels v 0 < sweep.level))
   pub moved : (v : ℕ) → has_number v sweep.risen ≡ is_moved x0 sweep.levels v
-  pub cost : t + (2 * degrees g sweep.rising + length sweep.rising) ≤ s + effort g x0 sweep.levels g.vertices
+  pub cost : t + (degrees g sweep.rising + (degrees g sweep.risen + length sweep.risen)) ≤ s + effort g x0 sweep.levels g.vertices

@@ -16,10 +16,10 @@ use Rattle.kc_engine.proofs.phases.deletion_phase.Goals as goal
 pub returns-then-is_empty-clause-moves : goal.returns-then-is_empty-clause-moves
 returns-then-is_empty-clause-moves g c = ap (λ (p : BatchPlan). p.moves) c.empty.ensures ∙ sym (moved_same c.args.adj.now.graph.vertices c.args.adj.now.levels)
 
-pub follow-requires-clause-before : goal.follow-requires-clause-before
-follow-requires-clause-before g c =
+pub follow-requires-clause-placed : goal.follow-requires-clause-placed
+follow-requires-clause-placed g c =
     let same : c.delete_phase.new.adj.graph.vertices ≡ c.args.adj.now.graph.vertices = ap (λ (h : GraphShape). h.vertices) c.in_ok-moves.ensures.graph ∙ vertices-without_edges c.args.adj.now.graph c.as_slice-edges.result.now in
-    ap (λ (x : List ℕ). length x) c.requires.ready.insertion.before ∙ c.levels-levels.ensures.sized ∙ sym same
+    ap (λ (x : List ℕ). length x) c.requires.ready.insertion.placed ∙ c.levels-levels.ensures.sized ∙ sym same
 
 pub follow-requires-clause-levels : goal.follow-requires-clause-levels
 follow-requires-clause-levels g c =

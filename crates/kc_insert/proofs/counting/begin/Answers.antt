@@ -16,9 +16,9 @@ gather-requires-after_bounds g c κs within k d at = rw (get_or_default_zero c.a
 
 pub run_of-above-requires : goal.run_of-above-requires
 run_of-above-requires g c =
-    let all : length c.deref.result.now ≡ length (flat_map (stood_above c.args.step.now.adj.now.graph c.args.step.now.adj.now.levels c.args.step.now.level) c.args.risers.now) = ap length (c.deref.ensures.value ∙ c.in_ok-gathered.ensures.found) in
-    let count : c.index-count.result.now ≡ length (stood_above c.args.step.now.adj.now.graph c.args.step.now.adj.now.levels c.args.step.now.level (get_or c.args.risers.now c.loop-i.i 0)) = mapped_at _ _ _ _ _ c.in_ok-gathered.ensures.lengths c.loop-i-test.true c.index-count.ensures in
-    omega (arith, all, count, c.loop-i.invariant.1, piece_within (stood_above c.args.step.now.adj.now.graph c.args.step.now.adj.now.levels c.args.step.now.level) c.args.risers.now c.loop-i.i c.loop-i-test.true)
+    let all : length c.deref.result.now ≡ length (flat_map (stood_above c.args.step.now.placed.now.graph c.args.step.now.placed.now.levels c.args.step.now.level) c.args.risers.now) = ap length (c.deref.ensures.value ∙ c.in_ok-gathered.ensures.found) in
+    let count : c.index-count.result.now ≡ length (stood_above c.args.step.now.placed.now.graph c.args.step.now.placed.now.levels c.args.step.now.level (get_or c.args.risers.now c.loop-i.i 0)) = mapped_at _ _ _ _ _ c.in_ok-gathered.ensures.lengths c.loop-i-test.true c.index-count.ensures in
+    omega (arith, all, count, c.loop-i.invariant.1, piece_within (stood_above c.args.step.now.placed.now.graph c.args.step.now.placed.now.levels c.args.step.now.level) c.args.risers.now c.loop-i.i c.loop-i-test.true)
 
 pub begin_one-requires-clause-few : goal.begin_one-requires-clause-few
 begin_one-requires-clause-few g c =
@@ -37,7 +37,7 @@ begin_one-requires-clause-noting g c =
 
 pub begin_one-requires-clause-above : goal.begin_one-requires-clause-above
 begin_one-requires-clause-above g c =
-    let f = stood_above c.args.step.now.adj.now.graph c.args.step.now.adj.now.levels c.args.step.now.level in
+    let f = stood_above c.args.step.now.placed.now.graph c.args.step.now.placed.now.levels c.args.step.now.level in
     let count : c.index-count.result.now ≡ length (f (get_or c.args.risers.now c.loop-i.i 0)) = mapped_at _ _ _ _ _ c.in_ok-gathered.ensures.lengths c.loop-i-test.true c.index-count.ensures in
     let found : c.deref.result.now ≡ flat_map f c.args.risers.now = c.deref.ensures.value ∙ c.in_ok-gathered.ensures.found in
     c.run_of-above.ensures
@@ -48,9 +48,9 @@ begin_one-requires-clause-above g c =
 
 pub overflow_add-start : goal.overflow_add-start
 overflow_add-start g c =
-    let all : length c.deref.result.now ≡ length (flat_map (stood_above c.args.step.now.adj.now.graph c.args.step.now.adj.now.levels c.args.step.now.level) c.args.risers.now) = ap length (c.deref.ensures.value ∙ c.in_ok-gathered.ensures.found) in
-    let count : c.index-count.result.now ≡ length (stood_above c.args.step.now.adj.now.graph c.args.step.now.adj.now.levels c.args.step.now.level (get_or c.args.risers.now c.loop-i.i 0)) = mapped_at _ _ _ _ _ c.in_ok-gathered.ensures.lengths c.loop-i-test.true c.index-count.ensures in
-    omega (arith, all, count, c.loop-i.invariant.1, c.deref.type_inv.0, piece_within (stood_above c.args.step.now.adj.now.graph c.args.step.now.adj.now.levels c.args.step.now.level) c.args.risers.now c.loop-i.i c.loop-i-test.true)
+    let all : length c.deref.result.now ≡ length (flat_map (stood_above c.args.step.now.placed.now.graph c.args.step.now.placed.now.levels c.args.step.now.level) c.args.risers.now) = ap length (c.deref.ensures.value ∙ c.in_ok-gathered.ensures.found) in
+    let count : c.index-count.result.now ≡ length (stood_above c.args.step.now.placed.now.graph c.args.step.now.placed.now.levels c.args.step.now.level (get_or c.args.risers.now c.loop-i.i 0)) = mapped_at _ _ _ _ _ c.in_ok-gathered.ensures.lengths c.loop-i-test.true c.index-count.ensures in
+    omega (arith, all, count, c.loop-i.invariant.1, c.deref.type_inv.0, piece_within (stood_above c.args.step.now.placed.now.graph c.args.step.now.placed.now.levels c.args.step.now.level) c.args.risers.now c.loop-i.i c.loop-i-test.true)
 
 pub neighbours-requires : goal.neighbours-requires
 neighbours-requires g c = rw c.graph-in-loop-i.ensures (c.requires.risers.vertex _ (has_number_at _ c.args.risers.now c.loop-i.i c.loop-i-test.true refl))
@@ -58,15 +58,15 @@ neighbours-requires g c = rw c.graph-in-loop-i.ensures (c.requires.risers.vertex
 pub loop-i-preserved : goal.loop-i-preserved
 loop-i-preserved g c =
     let graph = rw c.graph.ensures at c.vertices-n.ensures.graph in
-    let f = stood_above c.args.step.now.adj.now.graph c.args.step.now.adj.now.levels c.args.step.now.level in
+    let f = stood_above c.args.step.now.placed.now.graph c.args.step.now.placed.now.levels c.args.step.now.level in
     let count : c.index-count.result.now ≡ length (f (get_or c.args.risers.now c.loop-i.i 0)) = mapped_at _ _ _ _ _ c.in_ok-gathered.ensures.lengths c.loop-i-test.true c.index-count.ensures in
-    let own : c.index-own.result.now ≡ at_least c.args.step.now.adj.now.graph (seen c.args.step.now.levels.now) (get_or c.args.risers.now c.loop-i.i 0) (c.args.step.now.level + 1) = mapped_at _ _ _ _ _ c.in_ok-gathered.ensures.numbers c.loop-i-test.true c.index-own.ensures in
-    let begun : HasBegun c.args.step.now.adj.now.graph c.args.step.now.adj.now.levels c.args.step.now.level (get_or c.args.risers.now c.loop-i.i 0) (at_least c.args.step.now.adj.now.graph (seen c.args.step.now.levels.now) (get_or c.args.risers.now c.loop-i.i 0) (c.args.step.now.level + 1)) c.loop-i.counted.watched.counts.items c.begin_one.new.counted.watched.counts.items = rw (← own) c.in_ok-begin_one.ensures.begun in
-    let near : length c.neighbours.result.now ≡ length (neighbours_of (get_or c.args.risers.now c.loop-i.i 0) c.args.step.now.adj.now.graph.edges) = ap length (rw c.graph-in-loop-i.ensures at c.neighbours.ensures.value) in (
+    let own : c.index-own.result.now ≡ at_least c.args.step.now.placed.now.graph (seen c.args.step.now.levels.now) (get_or c.args.risers.now c.loop-i.i 0) (c.args.step.now.level + 1) = mapped_at _ _ _ _ _ c.in_ok-gathered.ensures.numbers c.loop-i-test.true c.index-own.ensures in
+    let begun : HasBegun c.args.step.now.placed.now.graph c.args.step.now.placed.now.levels c.args.step.now.level (get_or c.args.risers.now c.loop-i.i 0) (at_least c.args.step.now.placed.now.graph (seen c.args.step.now.levels.now) (get_or c.args.risers.now c.loop-i.i 0) (c.args.step.now.level + 1)) c.loop-i.counted.watched.counts.items c.begin_one.new.counted.watched.counts.items = rw (← own) c.in_ok-begin_one.ensures.begun in
+    let near : length c.neighbours.result.now ≡ length (neighbours_of (get_or c.args.risers.now c.loop-i.i 0) c.args.step.now.placed.now.graph.edges) = ap length (rw c.graph-in-loop-i.ensures at c.neighbours.ensures.value) in (
       are_beginning_next _ _ _ _ _ c.loop-i.i c.args.risers.now _ _ _ _ _ _ graph c.requires.risers c.loop-i-test.true c.loop-i.invariant.0 _ _ _
           begun c.in_ok-begin_one.ensures.noting c.in_ok-begin_one.ensures.places c.in_ok-begin_one.ensures.meetings,
       omega (arith, count, c.loop-i.invariant.1, piece_next f c.args.risers.now c.loop-i.i c.loop-i-test.true),
-      omega (arith, c.loop-i.invariant.2, near, c.add.ensures, degrees_next c.args.step.now.adj.now.graph _ _ _ _ c.loop-i.i c.args.risers.now _ _ _ _ _ _ graph c.requires.risers c.loop-i-test.true c.loop-i.invariant.0),
+      omega (arith, c.loop-i.invariant.2, near, c.add.ensures, degrees_next c.args.step.now.placed.now.graph _ _ _ _ c.loop-i.i c.args.risers.now _ _ _ _ _ _ graph c.requires.risers c.loop-i-test.true c.loop-i.invariant.0),
       watched_on _ _ _ c.loop-i.invariant.3 c.in_ok-begin_one.ensures.watched,
     )
 

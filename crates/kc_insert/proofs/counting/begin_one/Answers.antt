@@ -38,9 +38,9 @@ pub loop-w-preserved : goal.loop-w-preserved
 loop-w-preserved c =
     let graph = rw c.graph.ensures at c.vertices-n.ensures.graph in
     let there = stood_at _ _ _ _ _ _ graph c.requires.above c.loop-w-test.true in
-    let inside : get_or c.args.step.now.adj.now.levels (get_or c.args.above.now c.loop-w.w-index 0) 0 < length c.args.meetings.now = c.requires.places _ there.0 in
-    let on : c.level-other.result ≡ c.args.step.now.level + 1 → get_or c.args.step.now.adj.now.levels (get_or c.args.above.now c.loop-w.w-index 0) 0 ≡ c.args.step.now.level + 1 = λ e. rw c.level-other.ensures at e in
-    let back : get_or c.args.step.now.adj.now.levels (get_or c.args.above.now c.loop-w.w-index 0) 0 ≡ c.args.step.now.level + 1 → c.level-other.result ≡ c.args.step.now.level + 1 = λ e. rw c.level-other.ensures e in
+    let inside : get_or c.args.step.now.placed.now.levels (get_or c.args.above.now c.loop-w.w-index 0) 0 < length c.args.meetings.now = c.requires.places _ there.0 in
+    let on : c.level-other.result ≡ c.args.step.now.level + 1 → get_or c.args.step.now.placed.now.levels (get_or c.args.above.now c.loop-w.w-index 0) 0 ≡ c.args.step.now.level + 1 = λ e. rw c.level-other.ensures at e in
+    let back : get_or c.args.step.now.placed.now.levels (get_or c.args.above.now c.loop-w.w-index 0) 0 ≡ c.args.step.now.level + 1 → c.level-other.result ≡ c.args.step.now.level + 1 = λ e. rw c.level-other.ensures e in
     elim c.if-other-next.branch [
       | then-other-next+in_ok-meet w ↦ rw w.counted-is (
         rw (c.in_ok-file.ensures.ok, w.in_ok-meet.ensures.counts, w.in_ok-meet.ensures.queue, c.level-other.ensures)

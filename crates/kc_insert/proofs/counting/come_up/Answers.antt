@@ -19,7 +19,7 @@ meet-requires-clause-vertex c =
 pub meet-requires-clause-small : goal.meet-requires-clause-small
 meet-requires-clause-small c =
     let graph = rw c.graph.ensures at c.vertices-n.ensures.graph in
-    let few : get_or c.loop-m.counted.watched.counts.items c.m.inside.other 0 < c.args.step.now.adj.now.graph.vertices = few_arriving _ _ _ _ _ c.m.inside.riser c.m.inside.other c.loop-m.m-index _ c.args.meetings.now _ _ _ _ graph (omega arith) (c.m.view_is ∙ c.m-item.is) c.loop-m.invariant.0 in
+    let few : get_or c.loop-m.counted.watched.counts.items c.m.inside.other 0 < c.args.step.now.placed.now.graph.vertices = few_arriving _ _ _ _ _ c.m.inside.riser c.m.inside.other c.loop-m.m-index _ c.args.meetings.now _ _ _ _ graph (omega arith) (c.m.view_is ∙ c.m-item.is) c.loop-m.invariant.0 in
     omega (arith, few, rw c.graph.ensures at c.vertices-n.ensures.small)
 
 pub loop-m-preserved : goal.loop-m-preserved

@@ -5,10 +5,10 @@ use Rattle.kc_insert.proofs.sweeping.raise_queued.Given as goal
 
 abbrev pub invariant-loop-sweep : goal.invariant-loop-sweep
 invariant-loop-sweep g l =
-    (l.adj.graph ≡ l.initial.adj.graph)
+    (l.placed.graph ≡ l.initial.placed.graph)
     × (l.sweep.levels.level ≤ length l.sweep.counted.queue)
-    × IsSweeping l.th.profile l.initial.adj.graph l.adj.levels (sweeping_of l.sweep)
-    × HaveCome l.th.profile l.initial.adj.graph l.initial.adj.levels l.adj.levels (sweeping_of l.sweep) l.initial.steps l.steps
+    × IsSweeping l.th.profile l.initial.placed.graph l.placed.levels (sweeping_of l.sweep)
+    × HaveCome l.th.profile l.initial.placed.graph l.initial.placed.levels l.placed.levels (sweeping_of l.sweep) l.initial.steps l.steps
     × AreKept l.sweep
 
 abbrev pub decreases-loop-sweep : goal.decreases-loop-sweep

@@ -11,8 +11,8 @@ rise_together-requires-clause-sweeping g c = rw c.in_ok-look_anew.ensures.same c
 
 pub returns-then-rise_together-clause-come : goal.returns-then-rise_together-clause-come
 returns-then-rise_together-clause-come g c = λ x0 s0 come.
-    c.rise_together.ensures.come x0 s0 c.args.steps.now (subst (λ w. HaveCome c.args.th.now.profile c.args.adj.now.graph x0 c.args.adj.now.levels w s0 c.args.steps.now) (sym c.in_ok-look_anew.ensures.same) come)
+    c.rise_together.ensures.come x0 s0 c.args.steps.now (subst (λ w. HaveCome c.args.th.now.profile c.args.placed.now.graph x0 c.args.placed.now.levels w s0 c.args.steps.now) (sym c.in_ok-look_anew.ensures.same) come)
 
 pub returns-clause-come : goal.returns-clause-come
 returns-clause-come g c = λ x0 s0 come.
-    c.in_ok-raise_level.ensures.come x0 s0 (c.rise_together.ensures.come x0 s0 c.args.steps.now (subst (λ w. HaveCome c.args.th.now.profile c.args.adj.now.graph x0 c.args.adj.now.levels w s0 c.args.steps.now) (sym c.in_ok-look_anew.ensures.same) come))
+    c.in_ok-raise_level.ensures.come x0 s0 (c.rise_together.ensures.come x0 s0 c.args.steps.now (subst (λ w. HaveCome c.args.th.now.profile c.args.placed.now.graph x0 c.args.placed.now.levels w s0 c.args.steps.now) (sym c.in_ok-look_anew.ensures.same) come))

@@ -5,4 +5,4 @@ use Rattle.kc_levels.proofs.lemmas.Moves.{moves_own}
 use Rattle.kc_delete.proofs.fallen.Fallen.take_moves.Goals as goal
 
 pub follow-requires : goal.follow-requires
-follow-requires c = subst (λ (ms : List Move). All (λ (m : Move). m.vertex < length c.args.self.now.before) ms) (sym c.in_ok-moves.ensures) (λ k d h. (moves_own (length c.args.self.now.before) c.args.self.now.before c.args.after.now k d h).0)
+follow-requires c = subst (λ (ms : List Move). All (λ (m : Move). m.vertex < length c.args.self.now.before) ms) (sym c.in_ok-moves.ensures.moves) (λ k d h. (moves_own (length c.args.self.now.before) c.args.self.now.before c.args.after.now k d h).0)

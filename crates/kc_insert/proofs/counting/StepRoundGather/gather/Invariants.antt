@@ -4,5 +4,5 @@ use Rattle.kc_insert.proofs.counting.StepRoundGather.gather.Given as goal
 
 abbrev pub invariant-loop-w : goal.invariant-loop-w
 invariant-loop-w l =
-    IsLooking (λ w. leb (l.self.level + 1) (get_or l.self.levels.now.stored w 0)) (λ w. ltb l.self.level (get_or l.self.adj.now.levels w 0)) l.row (drop l.w-index l.row) l.above l.fn.found.items (take l.end l.found.items)
+    IsLooking (λ w. leb (l.self.level + 1) (get_or l.self.levels.now.stored w 0)) (λ w. ltb l.self.level (get_or l.self.placed.now.levels w 0)) l.row (drop l.w-index l.row) l.above l.fn.found.items (take l.end l.found.items)
     × (l.end + (length l.row - l.w-index) ≤ length l.found.items)

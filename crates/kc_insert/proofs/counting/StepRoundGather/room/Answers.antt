@@ -5,5 +5,5 @@ use Rattle.kc_insert.proofs.counting.StepRoundGather.room.Goals as goal
 
 pub returns-then-is_at_hand : goal.returns-then-is_at_hand
 returns-then-is_at_hand c =
-    let test : ℕ → Bool = λ w. ltb c.args.self.now.level (get_or c.args.self.now.adj.now.levels w 0) in
-    omega (arith, length-filter test (neighbours_of c.args.v c.args.self.now.adj.now.graph.edges), count_by-le-length test (neighbours_of c.args.v c.args.self.now.adj.now.graph.edges), ap length (rw c.graph-graph.ensures at c.neighbours.ensures.value))
+    let test : ℕ → Bool = λ w. ltb c.args.self.now.level (get_or c.args.self.now.placed.now.levels w 0) in
+    omega (arith, length-filter test (neighbours_of c.args.v c.args.self.now.placed.now.graph.edges), count_by-le-length test (neighbours_of c.args.v c.args.self.now.placed.now.graph.edges), ap length (rw c.graph-graph.ensures at c.neighbours.ensures.value))

@@ -1,8 +1,16 @@
-use Rattle.std.proofs.Common.{◌<◌, List, length, sym, subst}
-use Rattle.std.specs.List.{All}
-use Rattle.kc_levels.specs.declared.moves.Move.{Move}
-use Rattle.kc_levels.proofs.lemmas.Moves.{moves_own}
+use Rattle.std.proofs.Common.{◌+◌, length, ap, sym, ◌∙◌, subst}
+use Rattle.kc_levels.specs.Following.{AreDistinct}
+use Rattle.kc_insert.specs.Working.{Working}
+use Rattle.kc_adj.specs.Degrees.{degrees}
+use Rattle.kc_insert.proofs.Members.{rising_once, same_fees}
 use Rattle.kc_insert.proofs.work.InsertionWork.take_moves.Goals as goal
 
-pub follow-requires : goal.follow-requires
-follow-requires c = subst (λ (ms : List Move). All (λ (m : Move). m.vertex < length c.self.inside.before) ms) (sym c.in_ok-moves.ensures) (λ k d h. (moves_own (length c.self.inside.before) c.self.inside.before c.self.inside.sweep.levels.stored k d h).0)
+pub par_lift_all-requires-clause-once : goal.par_lift_all-requires-clause-once
+par_lift_all-requires-clause-once g c κs within = rw c.deref.ensures.value (rising_once 0 _ c.moves_of.ensures.ascending)
+
+pub returns-clause-cost : goal.returns-clause-cost
+returns-clause-cost g c =
+    let once = subst (λ (w : Working). AreDistinct w.risen) (sym c.self.view_is) c.requires.once in
+    c.in_ok-par_lift_all.ensures.cost ∙ ap (λ vs. c.args.steps.now + (degrees c.args.adj.now.graph vs + length vs)) c.deref.ensures.value
+    ∙ ap (λ k. c.args.steps.now + k) (same_fees c.args.adj.now.graph c.moves_of.new.vertices.items c.self.inside.sweep.risen.items (rising_once 0 _ c.moves_of.ensures.ascending) once c.moves_of.ensures.same)
+    ∙ ap (λ (w : Working). c.args.steps.now + (degrees c.args.adj.now.graph w.risen + length w.risen)) c.self.view_is

@@ -1,0 +1,169 @@
+-- What is found at the vertices of a list as they go up, and what is written down of it.
+use Rattle.std.proofs.Common.{ℕ, suc, zero, ◌+◌, ◌-◌, ◌*◌, ◌/◌, ◌%◌, ◌≤◌, ◌<◌, ◌≡◌, inl, inr, Bool, true, false, cond, leb, eqb, ltb, ◌&&◌, min, List, [], ◌∷◌, ◌++◌, length, get_or, map, take, drop, refl, ap, sym, ◌∙◌, arith}
+use Rattle.std.specs.Prelude.{filter}
+use Rattle.std.specs.List.{flat_map}
+use Rattle.std.proofs.Math.Seq.{take-append_seam, drop-append-add}
+use Rattle.std.proofs.lemmas.Bool.{cases_Bool, cases_eq, cases_lt, true≢false}
+use Rattle.std.proofs.lemmas.Bool.Decides.{nat_tests}
+use Rattle.std.proofs.lemmas.Grind.{flat_map-append, get_or_default_zero}
+use Rattle.std.proofs.lemmas.List.{append-nil, append_assoc, get_or-map, get_or-take, length-append, drop-drop, drop_all, length-drop, length-map, length-take, take-append-drop, take_all, take_more}
+use Rattle.std.proofs.lemmas.List.Elements.{filter-append}
+use Rattle.std.proofs.lemmas.List.Folds.{length-flat_map-take}
+use Rattle.kc_graph.specs.Numbers.{has_number, RisesFrom}
+use Rattle.kc_graph.specs.Shape.{GraphShape, IsGraph, neighbours_of}
+use Rattle.kc_graph.proofs.lemmas.Numbers.{has_number-append, has_number_at, rises_filter}
+use Rattle.kc_graph.proofs.lemmas.Neighbours.{neighbour_below, neighbours_rise}
+use Rattle.kc_adj.specs.declared.passes.Turn.{Turn}
+use Rattle.kc_adj.specs.private.Lifting.{gains, AreGained}
+use Rattle.kc_adj.specs.private.Moving.{is_passed}
+use Rattle.kc_adj.specs.private.Passing.{is_touched, touched_by}
+
+-- one number more is looked at, and kept where it passes
+pub look_next : (q : ℕ → Bool) (row : List ℕ) (i : ℕ) (old found next : List ℕ) (holds : Bool) → i < length row → found ≡ old ++ filter q (take i row) → holds ≡ q (get_or row i 0) → next ≡ cond holds (found ++ get_or row i 0 ∷ []) found → next ≡ old ++ filter q (take (i + 1) row)
+look_next q row i old found next holds at is holds_is next_is = elim (cases_Bool (q (get_or row i 0))) [
+  | inl passes ↦
+      let one : filter q (get_or row i 0 ∷ []) ≡ get_or row i 0 ∷ [] = rw passes refl in
+      let yes : holds ≡ true = holds_is ∙ passes in
+      next_is ∙ rw (yes, is) (append_assoc old (filter q (take i row)) (get_or row i 0 ∷ []) ∙ ap (λ ws. old ++ ws) (sym (more ∙ ap (λ ws. filter q (take i row) ++ ws) one)))
+  | inr fails ↦
+      let none : filter q (get_or row i 0 ∷ []) ≡ [] = rw fails refl in
+      let no : holds ≡ false = holds_is ∙ fails in
+      next_is ∙ rw (no, is) (ap (λ ws. old ++ ws) (sym (more ∙ ap (λ ws. filter q (take i row) ++ ws) none ∙ append-nil (filter q (take i row)))))
+]
+  where
+    more : filter q (take (i + 1) row) ≡ filter q (take i row) ++ filter q (get_or row i 0 ∷ [])
+    more = ap (λ ws. filter q ws) (take_more row i 0 at) ∙ filter-append q (take i row) (get_or row i 0 ∷ [])
+
+has_number-filter : (u : ℕ) (p : ℕ → Bool) (xs : List ℕ) → has_number u (filter p xs) ≡ has_number u xs && p u
+has_number-filter u p [] = refl
+has_number-filter u p (x ∷ xs) = elim (cases_eq x u) [
+  | inl e ↦ rw e (grind (arith, nat_tests, has_number-filter u p xs))
+  | inr ne ↦ grind (arith, nat_tests, has_number-filter u p xs, ne)
+]
+
+both : (a b : Bool) → a && b ≡ true → (a ≡ true) × (b ≡ true)
+both a b e = (grind (arith, nat_tests, e), grind (arith, nat_tests, e))
+
+-- who isn't touched counts from no level that is passed
+untouched : (s : Bool) (k l r d : ℕ) → d ≤ 1 → s && (ltb k r && leb (r - 1) l) ≡ false → ◌≡◌ {A = ℕ} (cond (s && (ltb k (r - d) && leb (r - d) l)) 1 0) 0
+untouched s k l r d one off = elim (cases_Bool (s && (ltb k (r - d) && leb (r - d) l))) [
+  | inl passed ↦ absurd (true≢false (sym (reaches passed) ∙ off))
+  | inr none ↦ ap (λ t. cond t 1 0) none
+]
+  where
+    reaches : s && (ltb k (r - d) && leb (r - d) l) ≡ true → s && (ltb k r && leb (r - 1) l) ≡ true
+    reaches e = grind (arith, nat_tests, e, one)
+
+-- whom v touches
+module _ (g : GraphShape) (x z : List ℕ) (v : ℕ) (graph : IsGraph g) where
+  pub touched_rise : RisesFrom 0 (touched_by g x z v)
+  touched_rise = rises_filter 0 (is_touched x z (get_or x v 0) (get_or z v 0)) (neighbours_of v g.edges) (neighbours_rise g.vertices v g.edges graph)
+
+  at_place : (i : ℕ) → i < length (touched_by g x z v) → (has_number (get_or (touched_by g x z v) i 0) (neighbours_of v g.edges) ≡ true) × (is_touched x z (get_or x v 0) (get_or z v 0) (get_or (touched_by g x z v) i 0) ≡ true)
+  at_place i at = both _ _ (sym (has_number-filter (get_or (touched_by g x z v) i 0) (is_touched x z (get_or x v 0) (get_or z v 0)) (neighbours_of v g.edges)) ∙ has_number_at (get_or (touched_by g x z v) i 0) (touched_by g x z v) i at refl)
+
+  pub touched_below : (i : ℕ) → i < length (touched_by g x z v) → get_or (touched_by g x z v) i 0 < g.vertices
+  touched_below i at = neighbour_below g.vertices v (get_or (touched_by g x z v) i 0) g.edges graph ((at_place i at).0)
+
+  pub touched_stays : (i : ℕ) → i < length (touched_by g x z v) → get_or x (get_or (touched_by g x z v) i 0) 0 ≡ get_or z (get_or (touched_by g x z v) i 0) 0
+  touched_stays i at = same _ _ ((both _ _ ((at_place i at).1)).0)
+    where
+      same : (a b : ℕ) → eqb a b ≡ true → a ≡ b
+      same a b e = grind (arith, nat_tests, e)
+
+  -- who isn't touched gains nothing
+  pub gained_by_touched : (d : ℕ) (before counts : List ℕ) → d ≤ 1 → AreGained (gains x z (get_or x v 0) (get_or z v 0) d) (touched_by g x z v) before counts → AreGained (gains x z (get_or x v 0) (get_or z v 0) d) (neighbours_of v g.edges) before counts
+  gained_by_touched d before counts one s = record {
+    sized = s.sized;
+    values = λ u. s.values u ∙ ap (λ k. get_or before u 0 + k) (ap (λ t. cond t (gains x z (get_or x v 0) (get_or z v 0) d u) 0) (has_number-filter u (is_touched x z (get_or x v 0) (get_or z v 0)) (neighbours_of v g.edges)) ∙ same u (has_number u (neighbours_of v g.edges)));
+  }
+    where
+      none : (s : Bool) (k l r : ℕ) → s && (ltb k r && leb (r - 1) l) ≡ false → ◌≡◌ {A = ℕ} (cond (s && (ltb k (r - d) && leb (r - d) l)) 1 0) 0
+      none s k l r off = untouched s k l r d one off
+
+      same : (u : ℕ) (near : Bool) → cond (near && is_touched x z (get_or x v 0) (get_or z v 0) u) (gains x z (get_or x v 0) (get_or z v 0) d u) 0 ≡ cond near (gains x z (get_or x v 0) (get_or z v 0) d u) 0
+      same u false = refl
+      same u true = elim (cases_Bool (is_touched x z (get_or x v 0) (get_or z v 0) u)) [
+        | inl on ↦ rw on refl
+        | inr off ↦ rw off (sym (none (eqb (get_or x u 0) (get_or z u 0)) (get_or x v 0) (get_or z v 0) (get_or z u 0) off))
+      ]
+
+-- what one who stays gains
+pub gains_stays : (x z : List ℕ) (k l d u c reach : ℕ) → get_or x u 0 ≡ get_or z u 0 → reach ≡ get_or z u 0 - d → c + cond (is_passed k l reach) 1 0 ≡ c + gains x z k l d u
+gains_stays x z k l d u c reach stays is =
+    let on : eqb (get_or x u 0) (get_or z u 0) ≡ true = grind (arith, nat_tests, stays) in
+    ap (λ r. c + cond (is_passed k l r) 1 0) is ∙ ap (λ t. c + cond (t && is_passed k l (get_or z u 0 - d)) 1 0) (sym on)
+
+-- what a function gives at the place i of a list, in the list of all that it gives, and where the next begins
+module _ (f : ℕ → List ℕ) where
+  pub piece_next : (xs : List ℕ) (i : ℕ) → i < length xs → length (flat_map f (take i xs)) + length (f (get_or xs i 0)) ≡ length (flat_map f (take (i + 1) xs))
+  piece_next xs i at = sym (ap (λ ys. length (flat_map f ys)) (take_more xs i 0 at) ∙ ap length (flat_map-append f (take i xs) (get_or xs i 0 ∷ [])) ∙ length-append (flat_map f (take i xs)) (f (get_or xs i 0) ++ []) ∙ ap (λ ys. length (flat_map f (take i xs)) + length ys) (append-nil (f (get_or xs i 0))))
+
+  pub piece_within : (xs : List ℕ) (i : ℕ) → i < length xs → length (flat_map f (take i xs)) + length (f (get_or xs i 0)) ≤ length (flat_map f xs)
+  piece_within xs i at = length-flat_map-take f xs i 0 at
+
+  pub piece_at : (xs : List ℕ) (i : ℕ) → i < length xs → take (length (f (get_or xs i 0))) (drop (length (flat_map f (take i xs))) (flat_map f xs)) ≡ f (get_or xs i 0)
+  piece_at [] i at = absurd (omega arith)
+  piece_at (x ∷ xs) zero at = take-append_seam (f x) (flat_map f xs)
+  piece_at (x ∷ xs) (suc i) at =
+      ap (λ n. take (length (f (get_or xs i 0))) (drop n (f x ++ flat_map f xs))) (length-append (f x) (flat_map f (take i xs)))
+      ∙ ap (take (length (f (get_or xs i 0)))) (drop-append-add (f x) (flat_map f xs) (length (flat_map f (take i xs))))
+      ∙ piece_at xs i (omega arith)
+
+-- whom the one at a place touches, in the list of all who are touched
+pub touched_at : (f : ℕ → List ℕ) (xs : List ℕ) (i start count : ℕ) (all run : List ℕ) → i < length xs → all ≡ flat_map f xs → count ≡ length (f (get_or xs i 0)) → start ≡ length (flat_map f (take i xs)) → run ≡ take count (drop start all) → run ≡ f (get_or xs i 0)
+touched_at f xs i start count all run at all_is count_is start_is run_is = run_is ∙ rw (count_is, start_is, all_is) (piece_at f xs i at)
+
+-- the turn at a place of those at the first vertices of a list
+pub turn_at : (f : ℕ → Turn) (vs : List ℕ) (ts : List Turn) (i : ℕ) (r : Turn) → ts ≡ map f (take (length ts) vs) → i < length ts → r ≡ get_or ts i r → (i < length vs) × (i < length (take (length ts) vs)) × (get_or (take (length ts) vs) i 0 ≡ get_or vs i 0) × (r ≡ f (get_or vs i 0))
+turn_at f vs ts i r is at e = (omega (arith, inside, length-take (length ts) vs), inside, here, e ∙ ap (λ (ys : List Turn). get_or ys i r) is ∙ get_or-map f (take (length ts) vs) i 0 r inside ∙ ap f here)
+  where
+    inside : i < length (take (length ts) vs)
+    inside = omega (arith, at, ap (λ (ys : List Turn). length ys) is, length-map (take (length ts) vs) f)
+
+    here : get_or (take (length ts) vs) i 0 ≡ get_or vs i 0
+    here = get_or-take (length ts) vs i 0 at
+
+pub turn_is : (a b c k l m : ℕ) → a ≡ k → b ≡ l → c ≡ m → ◌≡◌ {A = Turn} (record { own = a; below = b; touched = c }) (record { own = k; below = l; touched = m })
+turn_is a b c k l m e f h = rw (e, f, h) refl
+
+-- at the end of a row the numbers kept are all that pass
+pub looked : (q : ℕ → Bool) (row old items : List ℕ) (i end : ℕ) → length row ≤ i → end ≤ length items → take end items ≡ old ++ filter q (take i row) → (take end items ≡ old ++ filter q row) × (end - length old ≡ length (filter q row)) × (length old ≤ end)
+looked q row old items i end all within is =
+    let whole : take end items ≡ old ++ filter q row = is ∙ ap (λ ws. old ++ filter q ws) (take_all i row all) in
+    let long : end ≡ length old + length (filter q row) = omega (arith, length-take end items, ap (λ ws. length ws) whole, length-append old (filter q row), within) in
+    (whole, omega (arith, long), omega (arith, long))
+
+-- a number of a part of a list is in the list
+in_take : (v i : ℕ) (xs : List ℕ) → has_number v (take i xs) ≡ true → has_number v xs ≡ true
+in_take v i xs there = ap (λ ys. has_number v ys) (sym (take-append-drop i xs)) ∙ has_number-append v (take i xs) (drop i xs) ∙ grind (arith, nat_tests, there)
+
+pub in_drop : (v i : ℕ) (xs : List ℕ) → has_number v (drop i xs) ≡ true → has_number v xs ≡ true
+in_drop v i xs there = ap (λ ys. has_number v ys) (sym (take-append-drop i xs)) ∙ has_number-append v (take i xs) (drop i xs) ∙ grind (arith, nat_tests, there)
+
+-- the numbers of a piece are below n
+pub piece_below : (n size start : ℕ) (xs ys : List ℕ) → ((v : ℕ) → has_number v xs ≡ true → v < n) → ys ≡ take size (drop start xs) → (k d : ℕ) → k < length ys → get_or ys k d < n
+piece_below n size start xs ys below is k d at = rw (get_or_default_zero ys k d at) (below (get_or ys k 0) (in_drop (get_or ys k 0) start xs (in_take (get_or ys k 0) size (drop start xs) (ap (λ zs. has_number (get_or ys k 0) zs) (sym is) ∙ has_number_at (get_or ys k 0) ys k at refl))))
+
+-- the vertices that follow a piece
+pub rest_next : (size k m : ℕ) (xs rest : List ℕ) → rest ≡ drop (k * size) xs → m ≡ length (take size rest) → drop m rest ≡ drop ((k + 1) * size) xs
+rest_next size k m xs rest is long = elim (cases_lt size (length rest)) [
+  | inl lt ↦
+      let whole : m ≡ size = omega (arith, long, length-take size rest, lt) in
+      rw (whole, is) (drop-drop size (k * size) xs ∙ ap (λ n. drop n xs) next)
+  | inr ge ↦
+      let all : length rest ≤ m = omega (arith, long, length-take size rest, ge) in
+      let end : length xs ≤ (k + 1) * size = omega (arith, ap (λ ys. length ys) is, length-drop (k * size) xs, ge, next) in
+      drop_all m rest all ∙ sym (drop_all ((k + 1) * size) xs end)
+]
+  where
+    next : k * size + size ≡ (k + 1) * size
+    next = omega arith
+
+-- the rest of a list from a place on, as a slice
+pub rest_is : (m n : ℕ) (xs : List ℕ) → m ≡ n → take (length xs - m) (drop m xs) ≡ drop n xs
+rest_is m n xs is = rw is (take_all (length xs - n) (drop n xs) (omega (arith, length-drop n xs)))
+
+-- the pieces cover the list
+pub pieces_cover : (n i size : ℕ) → 0 < size → i ≡ n / size + min 1 (n % size) → n ≤ i * size
+pieces_cover n i size some count = grind arith

@@ -1,0 +1,149 @@
+//! How the counts change when many vertices go up together, each to its level in a list: one pass over the neighbours of each.
+//!
+//! `Lifting` of the definitions says who gains at whose pass. What it calls x are the levels before, and z those afterwards.
+
+ghost use Rattle.std.specs.Prelude.{◌≡◌, ◌+◌, ◌-◌, ◌<◌, ◌≤◌, ◌==◌, ◌&&◌, ◌^◌, ℕ, cond, true, length, slice_index, slice_set};
+ghost use Rattle.kc_graph.specs.Numbers.{has_number};
+ghost use Rattle.kc_graph.specs.Shape.{neighbours_of};
+ghost use Rattle.kc_levels.specs.LevelList.{at_least, IsBelow};
+ghost use Rattle.kc_levels.specs.Following.{AreDistinct};
+ghost use Rattle.kc_adj.specs.Degrees.{degrees};
+ghost use Rattle.kc_adj.specs.LeveledGraph.{IsAdjacency};
+ghost use Rattle.kc_adj.specs.private.Lifting.{gains, AreGained};
+ghost use Rattle.kc_adj.specs.private.Moving.{is_passed};
+
+use crate::counts::{Counts, as_one, gain, is_reached};
+use crate::steps::Steps;
+use kc_graph::Graph;
+use kc_levels::Levels;
+use std::sync::ledger::Ledger;
+
+// As `gain`, but w gains nothing if `level`, its new one, isn't its old one.
+fn gain_unmoved(old: &[u16], counts: &mut Counts, w: u32, from: u16, to: u16, level: u16)
+    requires vertex { w < length old.now }
+    requires own { w < length counts.old.own.items }
+    requires below { w < length counts.old.below.items }
+    requires own_small { slice_index old.now w ≡ level → slice_index counts.old.own.items w < 2 ^ 31 }
+    requires below_small { slice_index old.now w ≡ level → slice_index counts.old.below.items w < 2 ^ 31 }
+    ensures own { counts.new.own.items ≡ slice_set counts.old.own.items w (slice_index counts.old.own.items w + cond ((slice_index old.now w == level) && is_passed from to level) 1 0) }
+    ensures below { counts.new.below.items ≡ slice_set counts.old.below.items w (slice_index counts.old.below.items w + cond ((slice_index old.now w == level) && is_passed from to (level - 1)) 1 0) }
+{
+    if is_reached(from, to, level) && old[w as usize] == level {
+        gain(counts, w, from, to, level);
+    }
+}
+
+// Brings the counts of those neighbours of v that stay to its new level, and counts for v itself.
+fn pass(graph: &Graph, old: &[u16], new: &[u16], counts: &mut Counts, v: u32) -> (u32, u32)
+    requires vertex { v < graph.now.vertices }
+    requires before { length old.now ≡ graph.now.vertices }
+    requires after { length new.now ≡ graph.now.vertices }
+    requires own { length counts.old.own.items ≡ graph.now.vertices }
+    requires below { length counts.old.below.items ≡ graph.now.vertices }
+    requires few_own { (u : ℕ) → u < graph.now.vertices → slice_index old.now u ≡ slice_index new.now u → slice_index counts.old.own.items u < graph.now.vertices }
+    requires few_below { (u : ℕ) → u < graph.now.vertices → slice_index old.now u ≡ slice_index new.now u → slice_index counts.old.below.items u < graph.now.vertices }
+    ensures own { AreGained (gains old.now new.now (slice_index old.now v) (slice_index new.now v) 0) (neighbours_of v graph.now.edges) counts.old.own.items counts.new.own.items }
+    ensures below { AreGained (gains old.now new.now (slice_index old.now v) (slice_index new.now v) 1) (neighbours_of v graph.now.edges) counts.old.below.items counts.new.below.items }
+    ensures first { result.0 ≡ at_least graph.now new.now v (slice_index new.now v) }
+    ensures second { result.1 ≡ at_least graph.now new.now v (slice_index new.now v - 1) }
+{
+    let _n = graph.vertices();
+    let from = old[v as usize];
+    let to = new[v as usize];
+    let under = to.saturating_sub(1);
+    let mut own = 0;
+    let mut below = 0;
+    for w in graph.neighbours(v) {
+        let level = new[*w as usize];
+        own += as_one(level >= to);
+        below += as_one(level >= under);
+        gain_unmoved(old, counts, *w, from, to, level);
+    }
+    (own, below)
+}
+
+/// Gives v its counts where it moves; who stays has them from its neighbours.
+pub fn renew(old: &[u16], new: &[u16], counts: &mut Counts, v: u32, own: u32, below: u32)
+    requires before { v < length old.now }
+    requires after { v < length new.now }
+    requires own { v < length counts.old.own.items }
+    requires below { v < length counts.old.below.items }
+    ensures own { counts.new.own.items ≡ cond (slice_index old.now v == slice_index new.now v) counts.old.own.items (slice_set counts.old.own.items v own) }
+    ensures below { counts.new.below.items ≡ cond (slice_index old.now v == slice_index new.now v) counts.old.below.items (slice_set counts.old.below.items v below) }
+{
+    if old[v as usize] != new[v as usize] {
+        counts.own[v as usize] = own;
+        counts.below[v as usize] = below;
+    }
+}
+
+// Brings all counts to the new levels, one vertex of the list after another.
+fn lift_counts<L: Ledger>(
+    graph: &Graph,
+    old: &[u16],
+    new: &[u16],
+    counts: &mut Counts,
+    vertices: &[u32],
+    steps: &mut Steps<L>,
+)
+    requires adjacency { IsAdjacency graph.now old.now counts.old.own.items counts.old.below.items }
+    requires sized { length new.now ≡ graph.now.vertices }
+    requires vertices { (v : ℕ) → has_number v vertices.now ≡ true → v < graph.now.vertices }
+    requires over { IsBelow graph.now.vertices old.now new.now }
+    requires moved { (v : ℕ) → slice_index old.now v < slice_index new.now v → has_number v vertices.now ≡ true }
+    requires once { AreDistinct vertices.now }
+    ensures adjacency { IsAdjacency graph.now new.now counts.new.own.items counts.new.below.items }
+    ensures cost { steps.new ≡ steps.old + (degrees graph.now vertices.now + length vertices.now) }
+{
+    let _n = graph.vertices();
+    for i in 0..vertices.len() {
+        let v = graph.in_turn(vertices, i);
+        let (own, below) = pass(graph, old, new, counts, v);
+        renew(old, new, counts, v, own, below);
+        steps.add(graph.neighbours(v).len());
+        steps.tick();
+    }
+}
+
+/// Puts each vertex of the list on its new level, where no other changes.
+pub fn take_up(levels: &mut Levels, vertices: &[u32], new: &Levels)
+    requires sized { length new.now ≡ length levels.old }
+    requires vertices { (v : ℕ) → has_number v vertices.now ≡ true → v < length levels.old }
+    requires over { IsBelow (length levels.old) levels.old new.now }
+    requires moved { (v : ℕ) → slice_index levels.old v < slice_index new.now v → has_number v vertices.now ≡ true }
+    ensures { levels.new ≡ new.now }
+{
+    for v in vertices {
+        levels.set(*v, new.get(*v));
+    }
+}
+
+/// Puts each vertex of the list up to its level in `new`, which has no other changes.
+pub fn lift_all<L: Ledger>(
+    graph: &Graph,
+    levels: &mut Levels,
+    counts: &mut Counts,
+    vertices: &[u32],
+    new: &Levels,
+    steps: &mut Steps<L>,
+)
+    requires adjacency { IsAdjacency graph.now levels.old counts.old.own.items counts.old.below.items }
+    requires sized { length new.now ≡ graph.now.vertices }
+    requires vertices { (v : ℕ) → has_number v vertices.now ≡ true → v < graph.now.vertices }
+    requires over { IsBelow graph.now.vertices levels.old new.now }
+    requires moved { (v : ℕ) → slice_index levels.old v < slice_index new.now v → has_number v vertices.now ≡ true }
+    requires once { AreDistinct vertices.now }
+    ensures levels { levels.new ≡ new.now }
+    ensures adjacency { IsAdjacency graph.now levels.new counts.new.own.items counts.new.below.items }
+    ensures cost { steps.new ≡ steps.old + (degrees graph.now vertices.now + length vertices.now) }
+{
+    lift_counts(
+        graph,
+        levels.as_slice(),
+        new.as_slice(),
+        counts,
+        vertices,
+        steps,
+    );
+    take_up(levels, vertices, new);
+}

@@ -1,0 +1,16 @@
+use Rattle.std.proofs.Common.{◌≡◌, ◌+◌, drop, take, length, filter}
+use Rattle.std.specs.List.{flat_map}
+use Rattle.kc_graph.specs.Shape.{neighbours_of}
+use Rattle.kc_levels.specs.Following.{AreDistinct}
+use Rattle.kc_insert.specs.private.Counting.{goes_on, AreSeen, sees_listed, steps_on}
+use Rattle.kc_insert.specs.private.Rising.{seen}
+use Rattle.kc_insert.specs.private.Watched.{StayWatched}
+use Rattle.kc_insert.proofs.partings.part_gathered.Given as goal
+
+abbrev pub invariant-loop-i : goal.invariant-loop-i
+invariant-loop-i g l =
+    AreSeen l.parting.placed.now.graph (goes_on l.parting.placed.now.levels (seen l.parting.levels.now) l.parting.level) (sees_listed (seen l.parting.levels.now) l.parting.level (drop l.i l.stay)) l.initial.watched.counts.items l.watched.counts.items
+    × AreDistinct (drop l.i l.stay)
+    × (l.steps + steps_on l.parting.placed.now.graph (seen l.parting.levels.now) l.parting.level (drop l.i l.stay) ≡ l.initial.steps + steps_on l.parting.placed.now.graph (seen l.parting.levels.now) l.parting.level l.stay)
+    × StayWatched l.initial.watched l.watched
+    × (l.start ≡ length (flat_map (λ v. filter (goes_on l.parting.placed.now.levels (seen l.parting.levels.now) l.parting.level) (neighbours_of v l.parting.placed.now.graph.edges)) (take l.i l.stay)))
