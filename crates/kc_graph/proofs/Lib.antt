@@ -16,6 +16,7 @@ mod LaterLemmas
 mod CountingLemmas
 mod CleaningLawLemmas
 mod MergeLemmas
+mod BucketLemmas
 mod HalfLemmas
 mod GivenLemmas
 mod SharingLemmas

@@ -4,6 +4,7 @@
 //! items comes to.
 #![tactic(auto)]
 
+mod buckets;
 mod cleaning;
 mod edge_lists;
 mod edges;
