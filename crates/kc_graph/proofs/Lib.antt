@@ -16,6 +16,8 @@ mod LaterLemmas
 mod CountingLemmas
 mod CleaningLawLemmas
 mod MergeLemmas
+mod BucketLemmas
 mod HalfLemmas
 mod GivenLemmas
 mod SharingLemmas
+mod DealtLemmas

@@ -1,4 +1,6 @@
 -- Words of private contracts and loop invariants: no public contract needs them.
+pub mod Buckets
+pub mod Digits
 pub mod EdgeLists
 pub mod Halves
 pub mod KeptRows

@@ -164,7 +164,7 @@ fn has_isolation(items: &[Item]) -> bool
 ///
 /// With 1 worker or 0 the calling thread sorts the lists, and no thread is started. With 2 or more a list
 /// of 65,536 keys or edges or more is sorted by as many threads as the runtime has. Else it costs what
-/// `clean` costs.
+/// `clean` costs, in memory too.
 pub fn clean_by<R: Threads + Sync>(
     rt: &R,
     alloc: Global,
@@ -194,6 +194,10 @@ pub fn clean_by<R: Threads + Sync>(
 /// once a vertex, and a sort of the two lists; it takes memory for the tree in place of the keys. A
 /// list of 65,536 keys or edges or more is sorted by as many threads as the runtime has, a shorter
 /// one by the calling thread alone.
+///
+/// The calling thread sorts 2,048 keys or more in four passes, and takes memory for the keys twice
+/// meanwhile, and for 4,096 counts; it sorts them in place where this memory isn't there. Keys that
+/// come in order cost one pass.
 pub fn clean<R: Threads + Sync>(
     rt: &R,
     alloc: Global,

@@ -4,6 +4,7 @@
 //! items comes to.
 #![tactic(auto)]
 
+mod buckets;
 mod cleaning;
 mod edge_lists;
 mod edges;
@@ -17,6 +18,7 @@ mod limits;
 mod links;
 mod lists;
 mod merging;
+mod numbers;
 mod rows;
 mod sharing;
 mod sorting;
@@ -29,3 +31,4 @@ pub use graphs::Graph;
 pub use items::Item;
 pub use limits::{MAX_EDGES, MAX_ITEMS, MAX_VERTICES};
 pub use lists::List;
+pub use numbers::sort_numbers;

@@ -5,7 +5,7 @@ ghost use Rattle.kc_levels.specs.Moved.{is_moved, moved_count, move_of, moves_be
 ghost use Rattle.kc_levels.specs.Following.{AreDistinct};
 
 use crate::{Levels, Move, Moves};
-use kc_graph::MAX_VERTICES;
+use kc_graph::{MAX_VERTICES, sort_numbers};
 use std::alloc::{AllocError, Global};
 
 /// How many vertices have another level in `after` than in `before`, as `moved_count` says. One pass over the levels.
@@ -26,12 +26,12 @@ pub fn moved_count(before: &Levels, after: &Levels) -> u32
 }
 
 // Puts the vertices in ascending order. Each is there once.
-fn sort(vertices: &mut Vec<u32>)
+fn sort(alloc: Global, vertices: &mut Vec<u32>)
     requires { AreDistinct vertices.old.items }
     ensures rises { RisesFrom 0 vertices.new.items }
     ensures same { (v : ℕ) → has_number v vertices.new.items ≡ has_number v vertices.old.items }
 {
-    vertices.sort_unstable();
+    sort_numbers(alloc, vertices);
 }
 
 // The moves of the vertices from one list of levels to another, in their order.
@@ -59,7 +59,8 @@ fn moves_in_order(
 /// The moves from one list of levels to another, ascending by vertex (`moves_between`). The vertices are those that have another
 /// level in the second list, each once; afterwards they are in ascending order.
 ///
-/// Costs a sort of the vertices, and no pass over the levels. Fails only if memory runs out.
+/// Costs a sort of the vertices (`sort_numbers`), and no pass over the levels. Takes memory for the moves, and before them for what the
+/// sort takes. Fails only if memory runs out.
 pub fn moves_of(
     alloc: Global,
     before: &Levels,
@@ -73,6 +74,6 @@ pub fn moves_of(
     ensures ascending { RisesFrom 0 vertices.new.items }
     ensures same { (v : ℕ) → has_number v vertices.new.items ≡ has_number v vertices.old.items }
 {
-    sort(vertices);
+    sort(alloc, vertices);
     moves_in_order(alloc, before, after, vertices)
 }

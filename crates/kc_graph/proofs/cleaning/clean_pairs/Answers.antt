@@ -1,10 +1,19 @@
 use Rattle.std.proofs.Common.{◌≡◌, ◌-◌, [], ◌∙◌, List, length, sym, ap, refl, arith}
 use Rattle.std.proofs.lemmas.List.{nil_from_length}
+use Rattle.std.proofs.lemmas.List.Elements.{All-weaker}
 use Rattle.kc_graph.specs.declared.keys.Key.{Key}
+use Rattle.kc_graph.specs.declared.limits.TheConstants.{MAX_VERTICES}
+use Rattle.kc_graph.specs.Cleaning.{IsInside}
+use Rattle.kc_graph.proofs.KeyLemmas.{inside_more}
 use Rattle.kc_graph.specs.declared.cleaning.Cleaned.{Cleaned}
 use Rattle.kc_graph.specs.Keys.{decided}
 use Rattle.kc_graph.proofs.CleaningLemmas.{walked, walked_decided, walked_repeated, first_inside, later_inside, decided_counts, length_sorted, sorted_inside, walked_is_cleaned}
 use Rattle.kc_graph.proofs.cleaning.clean_pairs.Goals as goal
+
+pub sorted_keys-requires-clause-inside : goal.sorted_keys-requires-clause-inside
+sorted_keys-requires-clause-inside g c κs within =
+    let n = c.args.graph.now.vertices in
+    All-weaker (IsInside n) (IsInside MAX_VERTICES) (inside_more n MAX_VERTICES (omega (arith, c.vertices.ensures.small))) c.args.items.now c.requires.inside
 
 pub overflow_sub-items : goal.overflow_sub-items
 overflow_sub-items g c = omega (arith, length_sorted c.args.items.now c.in_ok-keys.keys.items c.in_ok-keys.ensures.same)
