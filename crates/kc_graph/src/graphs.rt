@@ -164,8 +164,8 @@ impl Graph {
     /// Fails only if memory runs out, and the graph is then unchanged.
     ///
     /// Costs a sort of one pair an edge and a merge, for which it takes memory, and for each vertex that gets neighbours one pass over them
-    /// and over those that it had above the least of them. From 2,048 edges on the sort is two passes over the pairs and over 4,096 counters,
-    /// and takes memory for the pairs once more.
+    /// and over those that it had above the least of them. From 2,048 edges on the sort takes time as their number, and memory for the pairs
+    /// once more, which it gives back before the merge.
     pub fn insert_all(&mut self, alloc: Global, edges: &[Edge]) -> Result<(), AllocError>
         requires ascending { EdgesFrom self.old.vertices 0 0 edges.now }
         requires absent { AllAbsent self.old edges.now }
