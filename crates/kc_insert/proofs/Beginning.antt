@@ -427,19 +427,6 @@ pub record AreBeginning (g : GraphShape) (x z : List ℕ) (l most : ℕ) (risers
   pub places : length new ≡ length old
   pub filing : HaveFiledBut g x l risers rest old new
 
-pub are_beginning_first : (g : GraphShape) (x z : List ℕ) (l most : ℕ) (risers before : List ℕ) (first : List (List ℕ)) (old : List (List Pair)) → AreBeginners g.vertices x z l risers → AreSeen g (is_next x l) (sees_unlisted z l risers) before before → IsNoting g.vertices x (l + 1) most before first first → AreBeginning g x z l most risers risers before before first first old old
-are_beginning_first g x z l most risers before first old begin s noting = record {
-  distinct = begin.distinct;
-  listed = λ u there. there;
-  begun_but = begun_but_first g x z l risers before s;
-  noting = noting;
-  places = refl;
-  filing = λ rises meet none. meetings_agree g x (l + 1) rises (λ v. rises v || (has_number v risers && not (has_number v risers))) old (λ v. same (rises v) (has_number v risers)) meet;
-}
-  where
-    same : (a b : Bool) → a ≡ a || (b && not b)
-    same a b = grind (arith, nat_tests)
-
 -- the step of a loop at place i
 module _ (g : GraphShape) (x z : List ℕ) (l most i : ℕ) (risers before counts : List ℕ) (first queue : List (List ℕ)) (old new : List (List Pair)) (graph : IsGraph g) (begin : AreBeginners g.vertices x z l risers) (at : i < length risers) (s : AreBeginning g x z l most risers (drop i risers) before counts first queue old new) where
   pub riser_listed : has_number (get_or risers i 0) risers ≡ true
