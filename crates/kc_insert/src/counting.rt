@@ -4,7 +4,7 @@
 //! `Counting` of the definitions says who counts whom. What it calls x are the levels in `placed`, where a riser stands on its old
 //! level until it stays on a new one; what it calls z are those in `levels`, after the step.
 
-ghost use Rattle.std.specs.Prelude.{◌≡◌, ◌+◌, ◌<◌, ◌≤◌, ◌++◌, ◌∷◌, ◌==◌, ◌^◌, ◌||◌, Bool, ℕ, [], OnOk, cond, drop, false, true, length, slice_index, slice_index_or, slice_set, take};
+ghost use Rattle.std.specs.Prelude.{◌≡◌, ◌+◌, ◌<◌, ◌++◌, ◌∷◌, ◌==◌, ◌^◌, ◌||◌, Bool, ℕ, [], OnOk, cond, false, true, length, slice_index, slice_index_or, slice_set};
 ghost use Rattle.kc_graph.specs.Numbers.{has_number};
 ghost use Rattle.kc_graph.specs.Shape.{IsGraph, neighbours_of, has_edge};
 ghost use Rattle.kc_insert.specs.private.Meetings.{AreApart, AreMeetings};
@@ -19,7 +19,7 @@ use crate::rising::RisingLevels;
 use crate::watched::WatchedCounts;
 use kc_adj::{LevelLists, Steps, put_where, run_of};
 use kc_rounds::{Gate, RoundGather, Rounds};
-use std::alloc::{AllocError, Global};
+use std::alloc::AllocError;
 use std::sync::ledger::Ledger;
 use std::thread::Threads;
 
