@@ -2,7 +2,7 @@
 //!
 //! `Lifting` of the definitions says who gains at whose pass. What it calls x are the levels before, and z those afterwards.
 
-ghost use Rattle.std.specs.Prelude.{◌≡◌, ◌+◌, ◌-◌, ◌<◌, ◌≤◌, ◌==◌, ◌&&◌, ◌^◌, ℕ, cond, true, length, slice_index, slice_set};
+ghost use Rattle.std.specs.Prelude.{◌≡◌, ◌+◌, ◌-◌, ◌<◌, ◌==◌, ◌&&◌, ◌^◌, ℕ, cond, true, length, slice_index, slice_set};
 ghost use Rattle.kc_graph.specs.Numbers.{has_number};
 ghost use Rattle.kc_graph.specs.Shape.{neighbours_of};
 ghost use Rattle.kc_levels.specs.LevelList.{at_least, IsBelow};

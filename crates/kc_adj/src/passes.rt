@@ -3,7 +3,7 @@
 //!
 //! `Passing` of the definitions says what is found. What it calls x are the levels before, and z those afterwards.
 
-ghost use Rattle.std.specs.Prelude.{◌≡◌, ◌+◌, ◌-◌, ◌<◌, ◌≤◌, ◌==◌, ◌&&◌, ◌++◌, ◌∷◌, [], ℕ, All, IfOk, OnOk, OnErr, cond, true, drop, take, length, nat_le, nat_lt, slice_index};
+ghost use Rattle.std.specs.Prelude.{◌≡◌, ◌+◌, ◌-◌, ◌<◌, ◌≤◌, ◌==◌, ◌&&◌, ◌++◌, ℕ, All, IfOk, OnOk, OnErr, true, drop, take, length, nat_le, nat_lt, slice_index};
 ghost use Rattle.std.specs.Result.{is_ok};
 ghost use Rattle.kc_graph.specs.Numbers.{has_number};
 ghost use Rattle.kc_graph.specs.Shape.{neighbours_of};
