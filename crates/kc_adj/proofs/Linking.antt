@@ -3,11 +3,10 @@ use Rattle.std.proofs.Common.{ℕ, ◌+◌, ◌-◌, ◌≤◌, ◌<◌, ◌≡�
 use Rattle.std.specs.Prelude.{count_by}
 use Rattle.std.proofs.lemmas.Bool.{cases_eq}
 use Rattle.std.proofs.lemmas.List.{length-set, get_or-set_same, get_or-set_other, drop_more, drop_all}
-use Rattle.kc_graph.specs.declared.limits.TheConstants.{MAX_VERTICES, MAX_EDGES}
+use Rattle.kc_graph.specs.declared.limits.TheConstants.{MAX_VERTICES}
 use Rattle.kc_graph.specs.Numbers.{has_number}
-use Rattle.kc_graph.specs.Shape.{GraphShape, Pair, EdgesFrom, IsGraph, neighbours_of, has_edge, with_edge, without_edge, with_edges, without_edges}
-use Rattle.kc_graph.specs.Changes.{AllAbsent, AllPresent}
-use Rattle.kc_graph.proofs.lemmas.Changes.{can_add_ascending, can_remove_ascending, is_graph-with_edge, is_graph-without_edge, vertices-with_edges}
+use Rattle.kc_graph.specs.Shape.{GraphShape, Pair, IsGraph, neighbours_of, has_edge, with_edge, without_edge}
+use Rattle.kc_graph.proofs.lemmas.Changes.{is_graph-with_edge, is_graph-without_edge, vertices-with_edges}
 use Rattle.kc_graph.proofs.lemmas.Counts.{count_by-put, count_by-without}
 use Rattle.kc_graph.proofs.lemmas.Edges.{joined_comm, joined_in_order}
 use Rattle.kc_graph.proofs.lemmas.Neighbours.{has_number-neighbours_of, neighbours_rise, neighbours_of_insert_low, neighbours_of_insert_high, neighbours_of_insert_other, neighbours_of_remove_low, neighbours_of_remove_high, neighbours_of_remove_other}

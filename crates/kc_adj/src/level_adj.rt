@@ -11,8 +11,10 @@ ghost use Rattle.kc_adj.specs.Degrees.{degrees};
 ghost use Rattle.kc_adj.specs.LeveledGraph.{LeveledGraph, IsCounted};
 
 use crate::counts::Counts;
+use crate::lifting::{Lift, lift_counts, take_up};
+use crate::passes::{Lifters, par_lift_counts};
 use crate::steps::Steps;
-use crate::{desired, lifting, links, moves, passes};
+use crate::{desired, links, moves};
 use kc_graph::{Edge, Graph, MAX_EDGES, MAX_VERTICES};
 use kc_levels::{Levels, Thresholds};
 use std::alloc::{AllocError, Global};
@@ -326,14 +328,13 @@ impl LevelAdj {
         ensures value { self.new ≡ record self.old { levels = new.now } }
         ensures cost { steps.new ≡ steps.old + (degrees self.old.graph vertices.now + length vertices.now) }
     {
-        lifting::lift_all(
-            &self.graph,
-            &mut self.levels,
-            &mut self.counts,
-            vertices,
-            new,
-            steps,
-        );
+        let lift = Lift {
+            graph: &self.graph,
+            old: self.levels.as_slice(),
+            new: new.as_slice(),
+        };
+        lift_counts(&lift, &mut self.counts, vertices, steps);
+        take_up(&mut self.levels, vertices, new);
     }
 
     /// As `lift_all`, by threads where the list is long.
@@ -365,17 +366,15 @@ impl LevelAdj {
         ensures err { OnErr result (self.new ≡ self.old) }
         ensures steps_kept { OnErr result (steps.new ≡ steps.old) }
     {
-        passes::par_lift_all(
-            rt,
-            alloc,
-            workers,
-            &self.graph,
-            &mut self.levels,
-            &mut self.counts,
-            vertices,
-            new,
-            steps,
-        )
+        let lifters = Lifters { rt, alloc, workers };
+        let lift = Lift {
+            graph: &self.graph,
+            old: self.levels.as_slice(),
+            new: new.as_slice(),
+        };
+        par_lift_counts(&lifters, &lift, &mut self.counts, vertices, steps)?;
+        take_up(&mut self.levels, vertices, new);
+        Ok(())
     }
 
     /// Puts `v` down to the level `to`, which is at most its own. Takes no memory.

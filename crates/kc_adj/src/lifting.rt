@@ -2,7 +2,7 @@
 //!
 //! `Lifting` of the definitions says who gains at whose pass. What it calls x are the levels before, and z those afterwards.
 
-ghost use Rattle.std.specs.Prelude.{◌≡◌, ◌+◌, ◌-◌, ◌<◌, ◌≤◌, ◌==◌, ◌&&◌, ◌^◌, ℕ, cond, true, length, slice_index, slice_set};
+ghost use Rattle.std.specs.Prelude.{◌≡◌, ◌+◌, ◌-◌, ◌<◌, ◌==◌, ◌&&◌, ◌^◌, ℕ, cond, true, length, slice_index, slice_set};
 ghost use Rattle.kc_graph.specs.Numbers.{has_number};
 ghost use Rattle.kc_graph.specs.Shape.{neighbours_of};
 ghost use Rattle.kc_levels.specs.LevelList.{at_least, IsBelow};
@@ -17,6 +17,17 @@ use crate::steps::Steps;
 use kc_graph::Graph;
 use kc_levels::Levels;
 use std::sync::ledger::Ledger;
+
+/// Vertices of a graph are to go from their levels in one list up to those in another.
+#[derive(Drop)]
+pub struct Lift<'a> {
+    /// The graph.
+    pub graph: &'a Graph,
+    /// The levels before.
+    pub old: &'a [u16],
+    /// The levels afterwards.
+    pub new: &'a [u16],
+}
 
 // As `gain`, but w gains nothing if `level`, its new one, isn't its old one.
 fn gain_unmoved(old: &[u16], counts: &mut Counts, w: u32, from: u16, to: u16, level: u16)
@@ -34,73 +45,71 @@ fn gain_unmoved(old: &[u16], counts: &mut Counts, w: u32, from: u16, to: u16, le
 }
 
 // Brings the counts of those neighbours of v that stay to its new level, and counts for v itself.
-fn pass(graph: &Graph, old: &[u16], new: &[u16], counts: &mut Counts, v: u32) -> (u32, u32)
-    requires vertex { v < graph.now.vertices }
-    requires before { length old.now ≡ graph.now.vertices }
-    requires after { length new.now ≡ graph.now.vertices }
-    requires own { length counts.old.own.items ≡ graph.now.vertices }
-    requires below { length counts.old.below.items ≡ graph.now.vertices }
-    requires few_own { (u : ℕ) → u < graph.now.vertices → slice_index old.now u ≡ slice_index new.now u → slice_index counts.old.own.items u < graph.now.vertices }
-    requires few_below { (u : ℕ) → u < graph.now.vertices → slice_index old.now u ≡ slice_index new.now u → slice_index counts.old.below.items u < graph.now.vertices }
-    ensures own { AreGained (gains old.now new.now (slice_index old.now v) (slice_index new.now v) 0) (neighbours_of v graph.now.edges) counts.old.own.items counts.new.own.items }
-    ensures below { AreGained (gains old.now new.now (slice_index old.now v) (slice_index new.now v) 1) (neighbours_of v graph.now.edges) counts.old.below.items counts.new.below.items }
-    ensures first { result.0 ≡ at_least graph.now new.now v (slice_index new.now v) }
-    ensures second { result.1 ≡ at_least graph.now new.now v (slice_index new.now v - 1) }
+fn pass(lift: &Lift, counts: &mut Counts, v: u32) -> (u32, u32)
+    requires vertex { v < lift.now.graph.now.vertices }
+    requires before { length lift.now.old.now ≡ lift.now.graph.now.vertices }
+    requires after { length lift.now.new.now ≡ lift.now.graph.now.vertices }
+    requires own { length counts.old.own.items ≡ lift.now.graph.now.vertices }
+    requires below { length counts.old.below.items ≡ lift.now.graph.now.vertices }
+    requires few_own { (u : ℕ) → u < lift.now.graph.now.vertices → slice_index lift.now.old.now u ≡ slice_index lift.now.new.now u → slice_index counts.old.own.items u < lift.now.graph.now.vertices }
+    requires few_below { (u : ℕ) → u < lift.now.graph.now.vertices → slice_index lift.now.old.now u ≡ slice_index lift.now.new.now u → slice_index counts.old.below.items u < lift.now.graph.now.vertices }
+    ensures own { AreGained (gains lift.now.old.now lift.now.new.now (slice_index lift.now.old.now v) (slice_index lift.now.new.now v) 0) (neighbours_of v lift.now.graph.now.edges) counts.old.own.items counts.new.own.items }
+    ensures below { AreGained (gains lift.now.old.now lift.now.new.now (slice_index lift.now.old.now v) (slice_index lift.now.new.now v) 1) (neighbours_of v lift.now.graph.now.edges) counts.old.below.items counts.new.below.items }
+    ensures first { result.0 ≡ at_least lift.now.graph.now lift.now.new.now v (slice_index lift.now.new.now v) }
+    ensures second { result.1 ≡ at_least lift.now.graph.now lift.now.new.now v (slice_index lift.now.new.now v - 1) }
 {
-    let _n = graph.vertices();
-    let from = old[v as usize];
-    let to = new[v as usize];
+    let _n = lift.graph.vertices();
+    let from = lift.old[v as usize];
+    let to = lift.new[v as usize];
     let under = to.saturating_sub(1);
     let mut own = 0;
     let mut below = 0;
-    for w in graph.neighbours(v) {
-        let level = new[*w as usize];
+    for w in lift.graph.neighbours(v) {
+        let level = lift.new[*w as usize];
         own += as_one(level >= to);
         below += as_one(level >= under);
-        gain_unmoved(old, counts, *w, from, to, level);
+        gain_unmoved(lift.old, counts, *w, from, to, level);
     }
     (own, below)
 }
 
 /// Gives v its counts where it moves; who stays has them from its neighbours.
-pub fn renew(old: &[u16], new: &[u16], counts: &mut Counts, v: u32, own: u32, below: u32)
-    requires before { v < length old.now }
-    requires after { v < length new.now }
+pub fn renew(lift: &Lift, counts: &mut Counts, v: u32, own: u32, below: u32)
+    requires before { v < length lift.now.old.now }
+    requires after { v < length lift.now.new.now }
     requires own { v < length counts.old.own.items }
     requires below { v < length counts.old.below.items }
-    ensures own { counts.new.own.items ≡ cond (slice_index old.now v == slice_index new.now v) counts.old.own.items (slice_set counts.old.own.items v own) }
-    ensures below { counts.new.below.items ≡ cond (slice_index old.now v == slice_index new.now v) counts.old.below.items (slice_set counts.old.below.items v below) }
+    ensures own { counts.new.own.items ≡ cond (slice_index lift.now.old.now v == slice_index lift.now.new.now v) counts.old.own.items (slice_set counts.old.own.items v own) }
+    ensures below { counts.new.below.items ≡ cond (slice_index lift.now.old.now v == slice_index lift.now.new.now v) counts.old.below.items (slice_set counts.old.below.items v below) }
 {
-    if old[v as usize] != new[v as usize] {
+    if lift.old[v as usize] != lift.new[v as usize] {
         counts.own[v as usize] = own;
         counts.below[v as usize] = below;
     }
 }
 
-// Brings all counts to the new levels, one vertex of the list after another.
-fn lift_counts<L: Ledger>(
-    graph: &Graph,
-    old: &[u16],
-    new: &[u16],
+/// Brings all counts to the new levels, one vertex of the list after another.
+pub fn lift_counts<L: Ledger>(
+    lift: &Lift,
     counts: &mut Counts,
     vertices: &[u32],
     steps: &mut Steps<L>,
 )
-    requires adjacency { IsAdjacency graph.now old.now counts.old.own.items counts.old.below.items }
-    requires sized { length new.now ≡ graph.now.vertices }
-    requires vertices { (v : ℕ) → has_number v vertices.now ≡ true → v < graph.now.vertices }
-    requires over { IsBelow graph.now.vertices old.now new.now }
-    requires moved { (v : ℕ) → slice_index old.now v < slice_index new.now v → has_number v vertices.now ≡ true }
+    requires adjacency { IsAdjacency lift.now.graph.now lift.now.old.now counts.old.own.items counts.old.below.items }
+    requires sized { length lift.now.new.now ≡ lift.now.graph.now.vertices }
+    requires vertices { (v : ℕ) → has_number v vertices.now ≡ true → v < lift.now.graph.now.vertices }
+    requires over { IsBelow lift.now.graph.now.vertices lift.now.old.now lift.now.new.now }
+    requires moved { (v : ℕ) → slice_index lift.now.old.now v < slice_index lift.now.new.now v → has_number v vertices.now ≡ true }
     requires once { AreDistinct vertices.now }
-    ensures adjacency { IsAdjacency graph.now new.now counts.new.own.items counts.new.below.items }
-    ensures cost { steps.new ≡ steps.old + (degrees graph.now vertices.now + length vertices.now) }
+    ensures adjacency { IsAdjacency lift.now.graph.now lift.now.new.now counts.new.own.items counts.new.below.items }
+    ensures cost { steps.new ≡ steps.old + (degrees lift.now.graph.now vertices.now + length vertices.now) }
 {
-    let _n = graph.vertices();
+    let _n = lift.graph.vertices();
     for i in 0..vertices.len() {
-        let v = graph.in_turn(vertices, i);
-        let (own, below) = pass(graph, old, new, counts, v);
-        renew(old, new, counts, v, own, below);
-        steps.add(graph.neighbours(v).len());
+        let v = lift.graph.in_turn(vertices, i);
+        let (own, below) = pass(lift, counts, v);
+        renew(lift, counts, v, own, below);
+        steps.add(lift.graph.neighbours(v).len());
         steps.tick();
     }
 }
@@ -116,34 +125,4 @@ pub fn take_up(levels: &mut Levels, vertices: &[u32], new: &Levels)
     for v in vertices {
         levels.set(*v, new.get(*v));
     }
-}
-
-/// Puts each vertex of the list up to its level in `new`, which has no other changes.
-pub fn lift_all<L: Ledger>(
-    graph: &Graph,
-    levels: &mut Levels,
-    counts: &mut Counts,
-    vertices: &[u32],
-    new: &Levels,
-    steps: &mut Steps<L>,
-)
-    requires adjacency { IsAdjacency graph.now levels.old counts.old.own.items counts.old.below.items }
-    requires sized { length new.now ≡ graph.now.vertices }
-    requires vertices { (v : ℕ) → has_number v vertices.now ≡ true → v < graph.now.vertices }
-    requires over { IsBelow graph.now.vertices levels.old new.now }
-    requires moved { (v : ℕ) → slice_index levels.old v < slice_index new.now v → has_number v vertices.now ≡ true }
-    requires once { AreDistinct vertices.now }
-    ensures levels { levels.new ≡ new.now }
-    ensures adjacency { IsAdjacency graph.now levels.new counts.new.own.items counts.new.below.items }
-    ensures cost { steps.new ≡ steps.old + (degrees graph.now vertices.now + length vertices.now) }
-{
-    lift_counts(
-        graph,
-        levels.as_slice(),
-        new.as_slice(),
-        counts,
-        vertices,
-        steps,
-    );
-    take_up(levels, vertices, new);
 }

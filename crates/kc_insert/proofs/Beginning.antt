@@ -14,7 +14,7 @@ use Rattle.kc_levels.specs.LevelList.{at_least}
 use Rattle.kc_levels.specs.Following.{AreDistinct}
 use Rattle.kc_insert.specs.private.Meetings.{AreApart, IsMeeting, AreMeetings}
 use Rattle.kc_adj.specs.Degrees.{degrees}
-use Rattle.kc_insert.specs.private.Counting.{is_next, sees_unlisted, stood_above, AreSeen, IsNoting, AreBeginners, HasBegun, HaveBegun, meetings_on}
+use Rattle.kc_insert.specs.private.Counting.{is_next, sees_unlisted, stood_above, IsNoting, AreBeginners, HasBegun, HaveBegun, meetings_on}
 use Rattle.kc_insert.proofs.Flips.{count_agree, count_less}
 use Rattle.kc_insert.proofs.Buckets.{has_number-filter}
 use Rattle.kc_insert.proofs.Starting.{rises_filter, passes_at}
@@ -342,14 +342,6 @@ not_next_of x l w off = at (get_or x w 0) off
     at : (a : ℕ) → a ≢ l + 1 → eqb a (l + 1) ≡ false
     at a e = grind (arith, nat_tests, e)
 
-begun_but_first : (g : GraphShape) (x z : List ℕ) (l : ℕ) (risers before : List ℕ) → AreSeen g (is_next x l) (sees_unlisted z l risers) before before → HaveBegunBut g x z l risers risers before before
-begun_but_first g x z l risers before s = record {
-  sized = s.sized;
-  own = λ v h there none. absurd (true≢false (sym there ∙ none));
-  seen = λ w h on. s.seen w h (is_next_of x l w on);
-  others = λ u off out. refl;
-}
-
 -- v begins
 begun_but_next : (g : GraphShape) (x z : List ℕ) (l v : ℕ) (risers rest before counts after : List ℕ) → IsGraph g → has_number v risers ≡ true → ((u : ℕ) → has_number u risers ≡ true → get_or x u 0 ≡ l) → get_or z v 0 ≡ l + 1 → has_number v rest ≡ false → HasBegun g x l v (at_least g z v (l + 1)) counts after → HaveBegunBut g x z l risers (v ∷ rest) before counts → HaveBegunBut g x z l risers rest before after
 begun_but_next g x z l v risers rest before counts after graph listed begins up fresh one s = record {
@@ -426,19 +418,6 @@ pub record AreBeginning (g : GraphShape) (x z : List ℕ) (l most : ℕ) (risers
   pub noting : IsNoting g.vertices x (l + 1) most counts first queue
   pub places : length new ≡ length old
   pub filing : HaveFiledBut g x l risers rest old new
-
-pub are_beginning_first : (g : GraphShape) (x z : List ℕ) (l most : ℕ) (risers before : List ℕ) (first : List (List ℕ)) (old : List (List Pair)) → AreBeginners g.vertices x z l risers → AreSeen g (is_next x l) (sees_unlisted z l risers) before before → IsNoting g.vertices x (l + 1) most before first first → AreBeginning g x z l most risers risers before before first first old old
-are_beginning_first g x z l most risers before first old begin s noting = record {
-  distinct = begin.distinct;
-  listed = λ u there. there;
-  begun_but = begun_but_first g x z l risers before s;
-  noting = noting;
-  places = refl;
-  filing = λ rises meet none. meetings_agree g x (l + 1) rises (λ v. rises v || (has_number v risers && not (has_number v risers))) old (λ v. same (rises v) (has_number v risers)) meet;
-}
-  where
-    same : (a b : Bool) → a ≡ a || (b && not b)
-    same a b = grind (arith, nat_tests)
 
 -- the step of a loop at place i
 module _ (g : GraphShape) (x z : List ℕ) (l most i : ℕ) (risers before counts : List ℕ) (first queue : List (List ℕ)) (old new : List (List Pair)) (graph : IsGraph g) (begin : AreBeginners g.vertices x z l risers) (at : i < length risers) (s : AreBeginning g x z l most risers (drop i risers) before counts first queue old new) where

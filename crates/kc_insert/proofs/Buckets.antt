@@ -19,15 +19,6 @@ placed queue a k new inside P here there = elim (cases_eq k a) [
 pub has_last : (v : ℕ) (xs : List ℕ) → has_number v (xs ++ v ∷ []) ≡ true
 has_last v xs = has_number-push v v xs ∙ grind (arith, nat_tests)
 
-has_first : (v : ℕ) (xs : List ℕ) → has_number v (v ∷ xs) ≡ true
-has_first v xs = grind (arith, nat_tests)
-
-pub has_more : (u v : ℕ) (xs : List ℕ) → has_number u xs ≡ true → has_number u (v ∷ xs) ≡ true
-has_more u v xs there = grind (arith, nat_tests, there)
-
-has_rest : (u v : ℕ) (xs : List ℕ) → u ≢ v → has_number u (v ∷ xs) ≡ true → has_number u xs ≡ true
-has_rest u v xs ne there = grind (arith, nat_tests, ne, there)
-
 pub pushed_is : (u v : ℕ) (xs : List ℕ) → has_number u (xs ++ v ∷ []) ≡ true → (u ≡ v) ⊎ (has_number u xs ≡ true)
 pushed_is u v xs there = elim (cases_eq u v) [
   | inl e ↦ inl e

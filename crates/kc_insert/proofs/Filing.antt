@@ -22,23 +22,6 @@ filing_first p n y fresh before queue empty = rw empty (record {
   found = λ u h. inr (inr refl);
 })
 
--- the fresh count of v is copied, and it isn't more than the group of v allows
-pub filing_within : (p : Profile) (n : ℕ) (y fresh before counts : List ℕ) (queue : List (List ℕ)) (v : ℕ) → get_or fresh v 0 ≤ high p (group_of p n (get_or y v 0)) → IsFiling p n y fresh before counts queue → IsFiling p n y fresh before (set counts v (get_or fresh v 0)) queue
-filing_within p n y fresh before counts queue v few s = record {
-  sized = s.sized;
-  waiting = s.waiting;
-  found = λ u h. elim (cases_eq u v) [
-    | inl is ↦ inr (inl (rw is few))
-    | inr ne ↦ elim (s.found u h) [
-      | inl at ↦ inl at
-      | inr rest ↦ elim rest [
-        | inl fine ↦ inr (inl fine)
-        | inr left ↦ inr (inr (get_or-set_other counts v u (get_or fresh v 0) 0 ne ∙ left))
-      ]
-    ]
-  ];
-}
-
 -- the fresh count of v is copied, and v is filed
 pub filing_filed : (p : Profile) (n : ℕ) (y fresh before counts : List ℕ) (queue : List (List ℕ)) (v : ℕ) → v < n → get_or y v 0 ≤ top_level p n → IsFiling p n y fresh before counts queue → IsFiling p n y fresh before (set counts v (get_or fresh v 0)) (set queue (get_or y v 0) (get_or queue (get_or y v 0) [] ++ v ∷ []))
 filing_filed p n y fresh before counts queue v h low s = record {

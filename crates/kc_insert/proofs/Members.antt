@@ -9,11 +9,11 @@ use Rattle.kc_graph.proofs.lemmas.Numbers.{has_number_below}
 use Rattle.kc_levels.specs.Following.{AreDistinct}
 use Rattle.kc_adj.specs.LeveledGraph.{LeveledGraph}
 use Rattle.kc_adj.specs.Degrees.{degrees}
-use Rattle.kc_insert.specs.private.Counting.{steps_on, settled_at}
+use Rattle.kc_insert.specs.private.Counting.{steps_on}
 use Rattle.kc_insert.specs.private.Sweeping.{all_at}
 use Rattle.kc_insert.proofs.Buckets.{has_number-filter}
 use Rattle.kc_insert.proofs.Efforts.{distinct_filter}
-use Rattle.kc_insert.proofs.Parting.{length-settled_at, settled_at-get, settled_at-there}
+use Rattle.kc_insert.proofs.Parting.{settled_at, length-settled_at, settled_at-get, settled_at-there}
 
 pub filter_yes : (p : ℕ → Bool) (v : ℕ) (vs : List ℕ) → p v ≡ true → filter p (v ∷ vs) ≡ v ∷ filter p vs
 filter_yes p v vs e = grind (arith, nat_tests, e)

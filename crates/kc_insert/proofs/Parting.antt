@@ -11,7 +11,7 @@ use Rattle.kc_graph.proofs.lemmas.Numbers.{has_number_below}
 use Rattle.kc_graph.proofs.lemmas.Neighbours.{neighbours_rise, neighbours_both, neighbour_below}
 use Rattle.kc_levels.proofs.lemmas.Writes.{changed}
 use Rattle.kc_levels.specs.Following.{AreDistinct}
-use Rattle.kc_insert.specs.private.Counting.{AreSeen, AreLess, stays_on, sees_listed, steps_on, settled_at}
+use Rattle.kc_insert.specs.private.Counting.{AreSeen, AreLess, sees_listed, steps_on}
 use Rattle.kc_insert.proofs.Buckets.{has_number-filter}
 use Rattle.kc_insert.proofs.Flips.{count_agree, count_less}
 use Rattle.kc_insert.proofs.Starting.{rises_filter}
@@ -195,6 +195,11 @@ parted_last g z l items i asked before counts s end = rw (drop_all i items end) 
 pub steps_last : (g : GraphShape) (z : List ℕ) (l : ℕ) (items : List ℕ) (i s t : ℕ) → s + steps_on g z l (drop i items) ≡ t → length items ≤ i → s ≡ t
 steps_last g z l items i s t is end = omega (arith, rw (drop_all i items end) at is)
 
+-- the levels x, with those in the list that are on level l by z put there
+abbrev pub settled_at : List ℕ → List ℕ → ℕ → List ℕ → List ℕ
+settled_at x z l [] = x
+settled_at x z l (v ∷ vs) = settled_at (cond (eqb (get_or z v 0) l) (set x v l) x) z l vs
+
 pub length-settled_at : (x z : List ℕ) (l : ℕ) (vs : List ℕ) → length (settled_at x z l vs) ≡ length x
 length-settled_at x z l [] = refl
 length-settled_at x z l (v ∷ vs) = elim (cases_Bool (eqb (get_or z v 0) l)) [
@@ -236,6 +241,10 @@ settled_at-there x z l (v ∷ vs) u inside there stays = elim (cases_Bool (has_n
         | inl same ↦ same ∙ ap (λ t. get_or (set x v l) t 0) e ∙ get_or-set_same x v l 0 (inside v (grind (arith, nat_tests)))
       ])
 ]
+
+-- v is on level l
+abbrev pub stays_on : List ℕ → ℕ → ℕ → Bool
+stays_on z l v = eqb (get_or z v 0) l
 
 -- of a list those alone take steps who stay on the level l
 module _ (z : List ℕ) (l : ℕ) where

@@ -20,12 +20,12 @@ use Rattle.kc_insert.specs.private.Round.{is_over}
 use Rattle.kc_levels.specs.Following.{AreDistinct}
 use Rattle.kc_insert.specs.private.Meetings.{IsMeeting, AreApart, AreMeetings}
 use Rattle.kc_adj.specs.Degrees.{degrees}
-use Rattle.kc_insert.specs.private.Counting.{goes_on, is_next, stays_on, AreSeen, sees_met, sees_listed, sees_arrived, sees_unlisted, HaveBegun, MeetOn, AreWaiting, StillWait, AreNoted, IsNoting, AreBeginners, steps_on, settled_at}
+use Rattle.kc_insert.specs.private.Counting.{goes_on, is_next, AreSeen, sees_met, sees_listed, sees_arrived, sees_unlisted, HaveBegun, MeetOn, AreWaiting, StillWait, AreNoted, IsNoting, AreBeginners, steps_on}
 use Rattle.kc_insert.specs.private.Sweeping.{all_at, Sweeping, IsFound, IsSweeping, HaveCome}
 use Rattle.kc_insert.proofs.Flips.{count_agree}
 use Rattle.kc_insert.proofs.Buckets.{has_number-filter}
 use Rattle.kc_insert.proofs.Efforts.{effort_up, degrees-append, distinct_append, distinct_filter, fee_parts}
-use Rattle.kc_insert.proofs.Parting.{length-settled_at, settled_at-get, settled_at-there, steps_stay}
+use Rattle.kc_insert.proofs.Parting.{stays_on, settled_at, length-settled_at, settled_at-get, settled_at-there, steps_stay}
 use Rattle.kc_insert.proofs.Members.{same_settled, same_steps}
 use Rattle.kc_insert.proofs.Lifting.{length-all_at, all_at_here, all_at_other}
 

@@ -120,16 +120,6 @@ come_on p g x0 x sweep new s t le same r = subst (λ w. HaveCome p g x0 x w s t)
   cost = r.cost;
 })
 
--- whoever is not yet put on its new level came to the last level
-pub rising_last : (p : Profile) (g : GraphShape) (x : List ℕ) (sweep : Sweeping) → IsSweeping p g x sweep → (v : ℕ) → get_or x v 0 < get_or sweep.levels v 0 → has_number v sweep.rising ≡ true
-rising_last p g x sweep s v rose = elim (cases_lt (get_or sweep.levels v 0) sweep.level) [
-  | inl lt ↦ absurd (omega (arith, rose, s.settled v lt))
-  | inr ge ↦ elim (cases_eq (get_or sweep.levels v 0) sweep.level) [
-    | inl on ↦ s.all v on (omega (arith, rose, on))
-    | inr ne ↦ absurd (omega (arith, rose, s.still v (omega (arith, ge, ne))))
-  ]
-]
-
 -- at the top nobody breaks the upper invariant
 pub sweeping_last : (p : Profile) (n : ℕ) (g : GraphShape) (x0 x : List ℕ) (sweep : Sweeping) (s0 t : ℕ) → IsGraph g → n ≡ g.vertices → top_level p n ≤ sweep.level → IsSweeping p g x sweep → HaveCome p g x0 x sweep s0 t → IsRaised p g x0 sweep.levels
 sweeping_last p n g x0 x sweep s0 t graph scale end s r =

@@ -4,7 +4,7 @@
 //! `Counting` of the definitions says who counts whom. What it calls x are the levels in `placed`, where a riser stands on its old
 //! level until it stays on a new one; what it calls z are those in `levels`, after the step.
 
-ghost use Rattle.std.specs.Prelude.{◌≡◌, ◌+◌, ◌<◌, ◌≤◌, ◌++◌, ◌∷◌, ◌==◌, ◌^◌, ◌||◌, Bool, ℕ, [], OnOk, cond, drop, false, true, length, slice_index, slice_index_or, slice_set, take};
+ghost use Rattle.std.specs.Prelude.{◌≡◌, ◌+◌, ◌<◌, ◌++◌, ◌∷◌, ◌==◌, ◌^◌, ◌||◌, Bool, ℕ, [], OnOk, cond, false, true, length, slice_index, slice_index_or, slice_set};
 ghost use Rattle.kc_graph.specs.Numbers.{has_number};
 ghost use Rattle.kc_graph.specs.Shape.{IsGraph, neighbours_of, has_edge};
 ghost use Rattle.kc_insert.specs.private.Meetings.{AreApart, AreMeetings};
@@ -17,9 +17,9 @@ use crate::meetings::Meeting;
 use crate::placed::Placed;
 use crate::rising::RisingLevels;
 use crate::watched::WatchedCounts;
-use kc_adj::{LevelLists, Steps};
+use kc_adj::{LevelLists, Steps, put_where, run_of};
 use kc_rounds::{Gate, RoundGather, Rounds};
-use std::alloc::{AllocError, Global};
+use std::alloc::AllocError;
 use std::sync::ledger::Ledger;
 use std::thread::Threads;
 
@@ -115,18 +115,6 @@ pub fn come_up(step: &Step, counted: &mut Counted, meetings: &[Meeting]) -> Resu
     Ok(())
 }
 
-/// Puts w behind the first `end` items, and gives where they end then: behind w if `holds`, else before it. There is no branch,
-/// since a processor couldn't predict it.
-pub fn put_where(items: &mut Vec<u32>, end: usize, w: u32, holds: bool) -> usize
-    requires { end < length items.old.items }
-    ensures items { take result items.new.items ≡ cond holds (take end items.old.items ++ w ∷ []) (take end items.old.items) }
-    ensures length { length items.new.items ≡ length items.old.items }
-    ensures end { result ≤ end + 1 }
-{
-    items[end] = w;
-    end + usize::from(holds)
-}
-
 // What is gathered at a vertex that begins to rise from the level: how many of its neighbours are above the level, and which of
 // them stood there before the sweep.
 impl RoundGather for Step<'_> {
@@ -211,14 +199,6 @@ fn begin_one(
     }
     counted.watched.put(v, own)?;
     Ok(())
-}
-
-/// `count` of the vertices, from the place `start` on.
-pub fn run_of(vertices: &[u32], start: usize, count: usize) -> &[u32]
-    requires { start + count ≤ length vertices.now }
-    ensures { result.now ≡ take count (drop start vertices.now) }
-{
-    &vertices[start..start + count]
 }
 
 /// Those in the list begin to rise from the level: each counts its neighbours above the level afresh, those of them that stood on

@@ -8,11 +8,10 @@ ghost use Rattle.kc_insert.specs.private.Counting.{goes_on, AreSeen, AreLess, se
 ghost use Rattle.kc_insert.specs.private.Rising.{seen};
 ghost use Rattle.kc_insert.specs.private.Watched.{StayWatched};
 
-use crate::counting::{put_where, run_of};
 use crate::placed::Placed;
 use crate::rising::RisingLevels;
 use crate::watched::WatchedCounts;
-use kc_adj::Steps;
+use kc_adj::{Steps, put_where, run_of};
 use kc_rounds::{Gate, RoundGather, Rounds};
 use std::alloc::AllocError;
 use std::sync::ledger::Ledger;

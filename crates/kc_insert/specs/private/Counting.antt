@@ -5,7 +5,7 @@
 -- - who goes on, from l, where it was not by x, to l + 1: it counts those no more that stay on l;
 -- - who begins, on l by x: it counts afresh;
 -- - who is on l + 1 by x: it counts those besides who came up to it.
-use Rattle.std.specs.Prelude.{ℕ, ◌+◌, ◌-◌, ◌≤◌, ◌<◌, ◌≡◌, ◌≢◌, ◌==◌, ◌&&◌, ◌||◌, not, nat_lt, nat_le, cond, Bool, true, false, List, [], ◌∷◌, length, get_or, set, filter, count_by}
+use Rattle.std.specs.Prelude.{ℕ, ◌+◌, ◌-◌, ◌≤◌, ◌<◌, ◌≡◌, ◌≢◌, ◌==◌, ◌&&◌, ◌||◌, not, nat_lt, nat_le, cond, Bool, true, false, List, [], ◌∷◌, length, get_or, filter, count_by}
 use Rattle.kc_graph.specs.Numbers.{has_number}
 use Rattle.kc_graph.specs.Shape.{GraphShape, Pair, neighbours_of, has_edge}
 use Rattle.kc_levels.specs.LevelList.{at_least}
@@ -19,10 +19,6 @@ goes_on x z l v = (get_or z v 0 == l + 1) && nat_lt (get_or x v 0) l
 -- v was on level l + 1 before the sweep
 abbrev pub is_next : List ℕ → ℕ → ℕ → Bool
 is_next x l v = get_or x v 0 == l + 1
-
--- v is on level l
-abbrev pub stays_on : List ℕ → ℕ → ℕ → Bool
-stays_on z l v = get_or z v 0 == l
 
 -- the counts of those in question are the numbers of their neighbours that they see; all others are as they were
 pub record AreSeen (g : GraphShape) (asked : ℕ → Bool) (sees : ℕ → ℕ → Bool) (before counts : List ℕ) : Type 0 where
@@ -79,11 +75,6 @@ pub record HaveBegun (g : GraphShape) (x z : List ℕ) (l : ℕ) (begin : List �
 abbrev pub steps_on : GraphShape → List ℕ → ℕ → List ℕ → ℕ
 steps_on g z l [] = 0
 steps_on g z l (v ∷ vs) = cond (get_or z v 0 == l) (length (neighbours_of v g.edges)) 0 + steps_on g z l vs
-
--- the levels x, with those in the list that are on level l by z put there
-abbrev pub settled_at : List ℕ → List ℕ → ℕ → List ℕ → List ℕ
-settled_at x z l [] = x
-settled_at x z l (v ∷ vs) = settled_at (cond (get_or z v 0 == l) (set x v l) x) z l vs
 
 -- meetings on the level k of vertices of the graph
 abbrev pub MeetOn : GraphShape → List ℕ → ℕ → List Pair → Type 0

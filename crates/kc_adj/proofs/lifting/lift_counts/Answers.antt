@@ -24,22 +24,22 @@ pass-own-requires-clause-few_below g c = λ u h e. lifting_few _ _ _ 1 _ _ c.ver
 
 pub renew-requires-clause-before : goal.renew-requires-clause-before
 renew-requires-clause-before g c =
-    let low : get_or c.args.vertices.now c.loop-i.i 0 < c.args.graph.now.vertices = c.requires.vertices _ (has_number_at _ c.args.vertices.now c.loop-i.i c.loop-i-test.true refl) in
+    let low : get_or c.args.vertices.now c.loop-i.i 0 < c.args.lift.now.graph.now.vertices = c.requires.vertices _ (has_number_at _ c.args.vertices.now c.loop-i.i c.loop-i-test.true refl) in
     omega (arith, low, c.in_turn-v.ensures, c.requires.adjacency.sized)
 
 pub renew-requires-clause-after : goal.renew-requires-clause-after
 renew-requires-clause-after g c =
-    let low : get_or c.args.vertices.now c.loop-i.i 0 < c.args.graph.now.vertices = c.requires.vertices _ (has_number_at _ c.args.vertices.now c.loop-i.i c.loop-i-test.true refl) in
+    let low : get_or c.args.vertices.now c.loop-i.i 0 < c.args.lift.now.graph.now.vertices = c.requires.vertices _ (has_number_at _ c.args.vertices.now c.loop-i.i c.loop-i-test.true refl) in
     omega (arith, low, c.in_turn-v.ensures, c.requires.sized)
 
 pub renew-requires-clause-own : goal.renew-requires-clause-own
 renew-requires-clause-own g c =
-    let low : get_or c.args.vertices.now c.loop-i.i 0 < c.args.graph.now.vertices = c.requires.vertices _ (has_number_at _ c.args.vertices.now c.loop-i.i c.loop-i-test.true refl) in
+    let low : get_or c.args.vertices.now c.loop-i.i 0 < c.args.lift.now.graph.now.vertices = c.requires.vertices _ (has_number_at _ c.args.vertices.now c.loop-i.i c.loop-i-test.true refl) in
     omega (arith, low, c.in_turn-v.ensures, c.loop-i.invariant.0.sized, c.pass-own.ensures.own.sized)
 
 pub renew-requires-clause-below : goal.renew-requires-clause-below
 renew-requires-clause-below g c =
-    let low : get_or c.args.vertices.now c.loop-i.i 0 < c.args.graph.now.vertices = c.requires.vertices _ (has_number_at _ c.args.vertices.now c.loop-i.i c.loop-i-test.true refl) in
+    let low : get_or c.args.vertices.now c.loop-i.i 0 < c.args.lift.now.graph.now.vertices = c.requires.vertices _ (has_number_at _ c.args.vertices.now c.loop-i.i c.loop-i-test.true refl) in
     omega (arith, low, c.in_turn-v.ensures, c.loop-i.invariant.1.sized, c.pass-own.ensures.below.sized)
 
 pub neighbours-requires : goal.neighbours-requires
@@ -49,7 +49,7 @@ pub loop-i-preserved : goal.loop-i-preserved
 loop-i-preserved g c = (
   lifting_next _ _ _ 0 c.loop-i.i _ _ _ _ _ _ c.vertices-n.ensures.graph c.loop-i-test.true c.requires.vertices c.requires.over c.loop-i.invariant.0 (rw c.in_turn-v.ensures at c.pass-own.ensures.own) (omega arith) (rw c.in_turn-v.ensures at c.pass-own.ensures.first) (rw c.in_turn-v.ensures at c.renew.ensures.own),
   lifting_next _ _ _ 1 c.loop-i.i _ _ _ _ _ _ c.vertices-n.ensures.graph c.loop-i-test.true c.requires.vertices c.requires.over c.loop-i.invariant.1 (rw c.in_turn-v.ensures at c.pass-own.ensures.below) refl (rw c.in_turn-v.ensures at c.pass-own.ensures.second) (rw c.in_turn-v.ensures at c.renew.ensures.below),
-  omega (arith, c.loop-i.invariant.2, degrees_next c.args.graph.now c.args.vertices.now c.loop-i.i c.loop-i-test.true, ap (λ v. length (neighbours_of v c.args.graph.now.edges)) c.in_turn-v.ensures, ap length c.neighbours.ensures.value, c.add.ensures, c.tick.ensures),
+  omega (arith, c.loop-i.invariant.2, degrees_next c.args.lift.now.graph.now c.args.vertices.now c.loop-i.i c.loop-i-test.true, ap (λ v. length (neighbours_of v c.args.lift.now.graph.now.edges)) c.in_turn-v.ensures, ap length c.neighbours.ensures.value, c.add.ensures, c.tick.ensures),
 )
 
 pub returns-clause-adjacency : goal.returns-clause-adjacency
@@ -60,4 +60,4 @@ returns-clause-adjacency g c = record {
 }
 
 pub returns-clause-cost : goal.returns-clause-cost
-returns-clause-cost g c = omega (arith, c.loop-i.invariant.2, ap (λ vs. degrees c.args.graph.now vs) (drop_all c.loop-i.i c.args.vertices.now (omega arith)))
+returns-clause-cost g c = omega (arith, c.loop-i.invariant.2, ap (λ vs. degrees c.args.lift.now.graph.now vs) (drop_all c.loop-i.i c.args.vertices.now (omega arith)))

@@ -5,6 +5,6 @@ use Rattle.kc_adj.proofs.lifting.lift_counts.Given as goal
 
 abbrev pub invariant-loop-i : goal.invariant-loop-i
 invariant-loop-i g l =
-    IsLifting l.graph l.old l.new 0 (drop l.i l.vertices) l.counts.own.items
-    × IsLifting l.graph l.old l.new 1 (drop l.i l.vertices) l.counts.below.items
-    × (l.steps + degrees l.graph (drop l.i l.vertices) ≡ l.initial.steps + (degrees l.graph l.vertices + l.i))
+    IsLifting l.lift.graph.now l.lift.old.now l.lift.new.now 0 (drop l.i l.vertices) l.counts.own.items
+    × IsLifting l.lift.graph.now l.lift.old.now l.lift.new.now 1 (drop l.i l.vertices) l.counts.below.items
+    × (l.steps + degrees l.lift.graph.now (drop l.i l.vertices) ≡ l.initial.steps + (degrees l.lift.graph.now l.vertices + l.i))

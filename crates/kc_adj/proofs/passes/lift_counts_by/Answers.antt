@@ -10,7 +10,7 @@ use Rattle.kc_adj.proofs.PassLemmas.{in_drop, piece_below, pieces_cover, rest_is
 use Rattle.kc_adj.proofs.passes.lift_counts_by.Goals as goal
 
 pub map_chunks-requires-clause-accepts : goal.map_chunks-requires-clause-accepts
-map_chunks-requires-clause-accepts g c κs within = λ start p chunk. (piece_below c.args.graph.now.vertices c.div_ceil-size.result start c.args.vertices.now p.now c.requires.vertices chunk.value, c.requires.adjacency.sized, c.requires.sized)
+map_chunks-requires-clause-accepts g c κs within = λ start p chunk. (piece_below c.args.lift.now.graph.now.vertices c.div_ceil-size.result start c.args.vertices.now p.now c.requires.vertices chunk.value, c.requires.adjacency.sized, c.requires.sized)
 
 pub loop-piece-init : goal.loop-piece-init
 loop-piece-init g c =
@@ -36,11 +36,11 @@ loop-piece-preserved g c =
     let is : get_or c.in_ok-found.found.items c.loop-piece.piece-index c.piece-item.result ≡ Ok c.in-Ok.passed = search rules in
     let all = IfOk-at_ok _ is given.call in
     let here : given.argument.now ≡ take c.div_ceil-size.result c.loop-piece.rest.now = given.argument_is.value ∙ ap (λ (ys : List ℕ). take size ys) (sym c.loop-piece.invariant.0) in
-    let long : length c.in-Ok.passed.turns.items ≡ length (take c.div_ceil-size.result c.loop-piece.rest.now) = ap (λ (ts : List Turn). length ts) all.turns ∙ length-map given.argument.now (turn_of c.args.graph.now c.args.old.now c.args.new.now) ∙ ap (λ (ys : List ℕ). length ys) here in
+    let long : length c.in-Ok.passed.turns.items ≡ length (take c.div_ceil-size.result c.loop-piece.rest.now) = ap (λ (ts : List Turn). length ts) all.turns ∙ length-map given.argument.now (turn_of c.args.lift.now.graph.now c.args.lift.now.old.now c.args.lift.now.new.now) ∙ ap (λ (ys : List ℕ). length ys) here in
     let next : drop (length c.in-Ok.passed.turns.items) c.loop-piece.rest.now ≡ drop ((c.loop-piece.piece-index + 1) * c.div_ceil-size.result) c.args.vertices.now = rest_next size i (length c.in-Ok.passed.turns.items) vertices rest c.loop-piece.invariant.0 long in
     let count : c.len.result ≡ length c.in-Ok.passed.turns.items = search rules in
-    let before : degrees c.args.graph.now c.loop-piece.rest.now + length c.loop-piece.rest.now ≡ degrees c.args.graph.now (drop (c.loop-piece.piece-index * c.div_ceil-size.result) c.args.vertices.now) + length (drop (c.loop-piece.piece-index * c.div_ceil-size.result) c.args.vertices.now) = ap (λ (ys : List ℕ). degrees c.args.graph.now ys + length ys) c.loop-piece.invariant.0 in
-    let after : degrees c.args.graph.now (drop (length c.in-Ok.passed.turns.items) c.loop-piece.rest.now) + length (drop (length c.in-Ok.passed.turns.items) c.loop-piece.rest.now) ≡ degrees c.args.graph.now (drop ((c.loop-piece.piece-index + 1) * c.div_ceil-size.result) c.args.vertices.now) + length (drop ((c.loop-piece.piece-index + 1) * c.div_ceil-size.result) c.args.vertices.now) = ap (λ (ys : List ℕ). degrees c.args.graph.now ys + length ys) next in (
+    let before : degrees c.args.lift.now.graph.now c.loop-piece.rest.now + length c.loop-piece.rest.now ≡ degrees c.args.lift.now.graph.now (drop (c.loop-piece.piece-index * c.div_ceil-size.result) c.args.vertices.now) + length (drop (c.loop-piece.piece-index * c.div_ceil-size.result) c.args.vertices.now) = ap (λ (ys : List ℕ). degrees c.args.lift.now.graph.now ys + length ys) c.loop-piece.invariant.0 in
+    let after : degrees c.args.lift.now.graph.now (drop (length c.in-Ok.passed.turns.items) c.loop-piece.rest.now) + length (drop (length c.in-Ok.passed.turns.items) c.loop-piece.rest.now) ≡ degrees c.args.lift.now.graph.now (drop ((c.loop-piece.piece-index + 1) * c.div_ceil-size.result) c.args.vertices.now) + length (drop ((c.loop-piece.piece-index + 1) * c.div_ceil-size.result) c.args.vertices.now) = ap (λ (ys : List ℕ). degrees c.args.lift.now.graph.now ys + length ys) next in (
       rest_is c.len.result (length c.in-Ok.passed.turns.items) rest count ∙ next,
       rw next at c.write_down.ensures.own,
       rw next at c.write_down.ensures.below,
@@ -59,5 +59,5 @@ returns-clause-adjacency g c =
 pub returns-clause-cost : goal.returns-clause-cost
 returns-clause-cost g c =
     let end : length c.args.vertices.now ≤ c.loop-piece.piece-index * c.div_ceil-size.result = pieces_cover (length c.args.vertices.now) c.loop-piece.piece-index c.div_ceil-size.result (search rules) (search rules) in
-    let none : degrees c.args.graph.now (drop (c.loop-piece.piece-index * c.div_ceil-size.result) c.args.vertices.now) + length (drop (c.loop-piece.piece-index * c.div_ceil-size.result) c.args.vertices.now) ≡ 0 = ap (λ (ys : List ℕ). degrees c.args.graph.now ys + length ys) (drop_all (c.loop-piece.piece-index * c.div_ceil-size.result) c.args.vertices.now end) in
+    let none : degrees c.args.lift.now.graph.now (drop (c.loop-piece.piece-index * c.div_ceil-size.result) c.args.vertices.now) + length (drop (c.loop-piece.piece-index * c.div_ceil-size.result) c.args.vertices.now) ≡ 0 = ap (λ (ys : List ℕ). degrees c.args.lift.now.graph.now ys + length ys) (drop_all (c.loop-piece.piece-index * c.div_ceil-size.result) c.args.vertices.now end) in
     omega (arith, none, c.loop-piece.invariant.3)

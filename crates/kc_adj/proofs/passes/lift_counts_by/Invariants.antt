@@ -6,6 +6,6 @@ use Rattle.kc_adj.proofs.passes.lift_counts_by.Given as goal
 abbrev pub invariant-loop-piece : goal.invariant-loop-piece
 invariant-loop-piece g l =
     (l.rest ≡ drop (l.piece-index * l.size) l.vertices)
-    × IsLifting l.graph l.old l.new 0 (drop (l.piece-index * l.size) l.vertices) l.counts.own.items
-    × IsLifting l.graph l.old l.new 1 (drop (l.piece-index * l.size) l.vertices) l.counts.below.items
-    × (l.steps + (degrees l.graph (drop (l.piece-index * l.size) l.vertices) + length (drop (l.piece-index * l.size) l.vertices)) ≡ l.initial.steps + (degrees l.graph l.vertices + length l.vertices))
+    × IsLifting l.lift.graph.now l.lift.old.now l.lift.new.now 0 (drop (l.piece-index * l.size) l.vertices) l.counts.own.items
+    × IsLifting l.lift.graph.now l.lift.old.now l.lift.new.now 1 (drop (l.piece-index * l.size) l.vertices) l.counts.below.items
+    × (l.steps + (degrees l.lift.graph.now (drop (l.piece-index * l.size) l.vertices) + length (drop (l.piece-index * l.size) l.vertices)) ≡ l.initial.steps + (degrees l.lift.graph.now l.vertices + length l.vertices))

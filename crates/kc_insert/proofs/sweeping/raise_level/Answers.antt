@@ -4,7 +4,6 @@ use Rattle.kc_graph.specs.Numbers.{has_number}
 use Rattle.kc_graph.specs.Shape.{Pair, has_edge}
 use Rattle.kc_levels.specs.Following.{AreDistinct}
 use Rattle.kc_levels.specs.Thresholds.{high, group_of, top_level}
-use Rattle.kc_insert.specs.private.Counting.{settled_at}
 use Rattle.kc_insert.specs.private.Rising.{rises, seen}
 use Rattle.kc_insert.specs.private.Round.{is_over}
 use Rattle.kc_insert.specs.private.Sweeping.{all_at, IsSweeping, HaveCome}
@@ -12,6 +11,7 @@ use Rattle.kc_insert.proofs.Climbing.{half_is, kept_on, stay_is, stepped_is}
 use Rattle.kc_insert.proofs.Efforts.{distinct_filter}
 use Rattle.kc_insert.proofs.Lifting.{length-all_at}
 use Rattle.kc_insert.proofs.Members.{placed_at, settled_all_at}
+use Rattle.kc_insert.proofs.Parting.{settled_at}
 use Rattle.kc_insert.proofs.Stepping.{step_from, long, waiting_inside, met_seen, arrived_seen, unlisted_seen, meet_here, meet_next, met_before, next_noting, next_meetings, left_meetings, begun_fresh, are_beginners, places_on, stay_inside, stay_here, stay_seen, stay_settled, stay_steps, stepped, have_come, starting_waits, still_here}
 use Rattle.kc_insert.proofs.Watching.{watched_on}
 use Rattle.kc_insert.proofs.sweeping.raise_level.Goals as goal
