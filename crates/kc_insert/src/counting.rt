@@ -13,6 +13,7 @@ ghost use Rattle.kc_insert.specs.private.Watched.{StayWatched};
 ghost use Rattle.kc_adj.specs.Degrees.{degrees};
 ghost use Rattle.kc_insert.specs.private.Counting.{goes_on, is_next, AreSeen, sees_met, sees_arrived, sees_unlisted, stood_above, MeetOn, IsNoting, AreBeginners, HasBegun, HaveBegun, meetings_on};
 
+use crate::ahead::look_at_levels;
 use crate::meetings::Meeting;
 use crate::placed::Placed;
 use crate::rising::RisingLevels;
@@ -233,7 +234,11 @@ pub fn begin<R: Threads + Sync, G: Gate + Sync, L: Ledger>(
     let _n = placed.graph().vertices();
     let gathered = rounds.gather(risers, step)?;
     let mut start = 0;
+    let mut looked = 0;
     for i in 0..risers.len() {
+        if looked <= start {
+            looked = look_at_levels(placed.levels(), step.level, &gathered.found, start);
+        }
         let v = risers[i];
         let own = gathered.numbers[i];
         let count = gathered.lengths[i];

@@ -8,6 +8,7 @@ ghost use Rattle.kc_levels.specs.LevelList.{IsCapped};
 ghost use Rattle.kc_levels.specs.private.Following.{IsCopied};
 ghost use Rattle.kc_insert.specs.private.BucketQueue.{IsFiling};
 
+use crate::ahead::look_at_counts;
 use kc_adj::{LevelAdj, LevelLists, Steps};
 use kc_graph::{Edge, MAX_EDGES};
 use kc_levels::{Levels, Thresholds};
@@ -135,8 +136,14 @@ fn file_greater_ends(
     ensures room { OnOk result (length queue.new ≡ length queue.old) }
     ensures filing { OnOk result ((before : List ℕ) → IsFiling th.now.profile th.now.vertices levels.now fresh.now before counts.old.items queue.old → IsFiling th.now.profile th.now.vertices levels.now fresh.now before counts.new.items queue.new) }
 {
+    let mut place: usize = 0;
+    let mut looked = 0;
     for e in edges {
+        if looked <= place {
+            looked = look_at_counts(counts, fresh, edges, place);
+        }
         file_end(th, levels, fresh, queue, counts, e.b)?;
+        place = place.saturating_add(1);
     }
     Ok(())
 }

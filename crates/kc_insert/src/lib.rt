@@ -13,6 +13,7 @@
 //! `Working`.
 #![tactic(auto)]
 
+mod ahead;
 mod copying;
 mod counting;
 mod filling;
