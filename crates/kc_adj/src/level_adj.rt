@@ -343,7 +343,7 @@ impl LevelAdj {
     /// have full ones of 4,096; so with one worker, or fewer than 8,192 vertices, it is `lift_all`, and takes no memory. Else each piece
     /// goes to a thread of its own where one can be made, which passes over the neighbours and writes nothing, and then one thread writes
     /// down what they found. Takes memory for that: 12 bytes a vertex, and 4, or up to twice that, for each neighbour that stays and may
-    /// gain.
+    /// gain, and in each piece for each neighbour of one vertex more.
     ///
     /// Fails only if memory runs out, and all is then unchanged, the steps too. Counts what `lift_all` counts.
     pub fn par_lift_all<R: Threads + Sync, L: Ledger>(

@@ -103,7 +103,8 @@ fn add_short_ends(
 /// at, once or more often. So a phase has no pass over the vertices.
 ///
 /// Memory is taken for the vertices that wait, in a list for each level up to the greatest one that a vertex waited under, for
-/// those of a round that fall, and for who fell and the moves.
+/// those of a round that fall, and for who fell and the moves. While 8,192 edges or more are unlinked, 16 bytes for each of them,
+/// and 8 more until their halves are merged.
 pub fn delete_phase<R: Threads + Sync, G: Gate + Sync, L: Ledger>(
     rounds: &Rounds<R, G>,
     alloc: Global,

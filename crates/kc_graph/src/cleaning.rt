@@ -195,8 +195,8 @@ pub fn clean_by<R: Threads + Sync>(
 /// list of 65,536 keys or edges or more is sorted by as many threads as the runtime has, a shorter
 /// one by the calling thread alone.
 ///
-/// The calling thread sorts 2,048 keys or more in four passes, and takes memory for the keys twice
-/// meanwhile, and for 4,096 counts; it sorts them in place where this memory isn't there. Keys that
+/// The calling thread deals 2,048 keys or more to buckets four times, with two passes over them each
+/// time, and takes memory for the keys twice meanwhile, and for 4,096 counts; it sorts them in place where this memory isn't there. Keys that
 /// come in order cost one pass.
 pub fn clean<R: Threads + Sync>(
     rt: &R,

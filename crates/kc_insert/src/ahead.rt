@@ -31,8 +31,8 @@ fn is_above(levels: &[u16], w: u32, level: u16) -> bool {
     }
 }
 
-/// Looks at the levels of the next of these vertices, all of which are above the level, from a place on. Gives the place behind those
-/// that were looked at.
+/// Looks at the levels of the next of these vertices, all of which are above the level, from a place on. Gives the place at which to look
+/// again: behind those that were looked at, or the end of the list where no more looks are to be made.
 pub fn look_at_levels(levels: &Levels, level: u16, vertices: &Vec<u32>, from: usize) -> usize {
     let levels = levels.as_slice();
     if levels.len() < LEAST_FAR {
@@ -55,7 +55,7 @@ fn is_no_less(counts: &[u32], fresh: &[u32], v: u32) -> bool {
 }
 
 /// Looks at the counts of the greater ends of the next of these edges, none of which are less now than before, from a place on. Gives
-/// the place behind those that were looked at.
+/// the place at which to look again, as `look_at_levels` does.
 pub fn look_at_counts(counts: &Vec<u32>, fresh: &[u32], edges: &[Edge], from: usize) -> usize {
     if fresh.len() < LEAST_FAR {
         return edges.len();

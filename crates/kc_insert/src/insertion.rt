@@ -53,7 +53,7 @@ pub struct Tally {
 /// that begins there and 4 for each neighbour above it, or twice as much with several workers, room for growth aside. With several
 /// workers 4,096 vertices or more that stay on one level take as much: 12 bytes each and 4 for each neighbour that goes on, twice; and
 /// where 8,192 vertices or more rose, what `LevelAdj::par_lift_all` takes. While 8,192 edges or more are linked, 16 bytes for each of
-/// them.
+/// them, and 8 more until their halves are merged.
 pub fn insert_phase<R: Threads + Sync, G: Gate + Sync, L: Ledger>(
     rounds: &Rounds<R, G>,
     alloc: Global,
