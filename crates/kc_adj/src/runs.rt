@@ -1,11 +1,12 @@
 //! Lists of numbers that are written in runs, one behind another, and read again run by run.
 
-ghost use Rattle.std.specs.Prelude.{◌≡◌, ◌+◌, ◌<◌, ◌≤◌, ◌++◌, ◌∷◌, [], cond, drop, length, take};
+ghost use Rattle.std.specs.Prelude.{◌≡◌, ◌+◌, ◌<◌, ◌≤◌, ◌++◌, ◌∷◌, [], cond, drop, length, slice_set, take};
 
-/// Puts w behind the first `end` items, and gives where they end then: behind w if `holds`, else before it. There is no branch,
-/// since a processor couldn't predict it.
+/// Puts w behind the first `end` items, in place of what stood there, and gives where they end then: behind w if `holds`, else before
+/// it. All other items stay. There is no branch, since a processor couldn't predict it.
 pub fn put_where(items: &mut Vec<u32>, end: usize, w: u32, holds: bool) -> usize
     requires { end < length items.old.items }
+    ensures written { items.new.items ≡ slice_set items.old.items end w }
     ensures items { take result items.new.items ≡ cond holds (take end items.old.items ++ w ∷ []) (take end items.old.items) }
     ensures length { length items.new.items ≡ length items.old.items }
     ensures end { result ≤ end + 1 }

@@ -74,9 +74,10 @@ impl<T: Drop> List<T> {
         Ok(())
     }
 
-    /// Puts the items of another list at the end, in its order. After a refusal the list is unspecified.
+    /// Puts the items of another list at the end, in its order. After a refusal the list is unchanged, and those items are dropped.
     pub fn append(&mut self, later: List<T>) -> Result<(), AllocError>
-        ensures { OnOk result (self.new ≡ self.old ++ later) }
+        ensures ok { OnOk result (self.new ≡ self.old ++ later) }
+        ensures err { OnErr result (self.new ≡ self.old) }
     {
         let mut items = later.into_vec();
         self.items.append(&mut items)?;

@@ -1,5 +1,5 @@
 -- Forests over the places of a list: a place that points further up, and trees that come together.
-use Rattle.std.proofs.Common.{ℕ, ◌≤◌, ◌<◌, ◌≡◌, ◌≢◌, ◌⊎◌, inl, inr, Bool, true, false, cond, eqb, max, min, List, length, get_or, set, map, refl, ap, sym, ◌∙◌, arith}
+use Rattle.std.proofs.Common.{ℕ, ◌≤◌, ◌<◌, ◌≡◌, ◌≢◌, ◌⊎◌, inl, inr, Bool, true, false, cond, eqb, max, min, List, [], ◌∷◌, length, get_or, set, map, refl, ap, sym, subst, ◌∙◌, arith}
 use Rattle.std.proofs.lemmas.Bool.{cases_eq, cases_lt, true≢false}
 use Rattle.std.proofs.lemmas.Bool.Decides.{nat_tests}
 use Rattle.std.proofs.lemmas.List.{length-set, length-map, get_or-map, get_or-set_same, get_or-set_other}
@@ -134,6 +134,20 @@ forest_merged parents roots i j f hi hj = elim (cases_lt (get_or roots i 0) (get
       let small : min (get_or roots i 0) (get_or roots j 0) ≡ get_or roots j 0 = omega (arith, ge) in
       rw (big, small) (forest_under parents roots (get_or roots i 0) (get_or roots j 0) f (omega (arith, f.low i hi, hi)) ge (f.root i hi) (f.root j hj))
 ]
+
+-- two places that have one root are in one tree already
+pub forest_same : (parents roots : List ℕ) (i j : ℕ) → IsForest parents roots → get_or roots i 0 ≡ get_or roots j 0 → IsForest parents (merged i j roots)
+forest_same parents roots i j f e = subst (IsForest parents) (sym (unmoved roots)) f
+  where
+    stays : (r : ℕ) → cond (eqb r (max (get_or roots i 0) (get_or roots j 0))) (min (get_or roots i 0) (get_or roots j 0)) r ≡ r
+    stays r = elim (cases_eq r (max (get_or roots i 0) (get_or roots j 0))) [
+      | inl is ↦ let low : min (get_or roots i 0) (get_or roots j 0) ≡ r = omega (arith, is, e) in grind (arith, nat_tests, low)
+      | inr ne ↦ grind (arith, nat_tests, ne)
+    ]
+
+    unmoved : (rs : List ℕ) → map (λ r. cond (eqb r (max (get_or roots i 0) (get_or roots j 0))) (min (get_or roots i 0) (get_or roots j 0)) r) rs ≡ rs
+    unmoved [] = refl
+    unmoved (r ∷ rs) = ap (λ k. k ∷ map (λ r. cond (eqb r (max (get_or roots i 0) (get_or roots j 0))) (min (get_or roots i 0) (get_or roots j 0)) r) rs) (stays r) ∙ ap (λ l. r ∷ l) (unmoved rs)
 
 -- the forest in which each place is a tree of its own
 pub lone_forest : (parents : List ℕ) → ((i : ℕ) → i < length parents → get_or parents i 0 ≡ i) → IsForest parents parents

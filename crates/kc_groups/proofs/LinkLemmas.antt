@@ -9,7 +9,7 @@ use Rattle.kc_graph.proofs.lemmas.Numbers.{has_number-push, has_number_index}
 use Rattle.kc_groups.specs.private.Forest.{IsForest, merged, AreGathered}
 use Rattle.kc_groups.specs.private.Gathering.{AreNumbered, is_near, in_row, in_edges}
 use Rattle.kc_groups.proofs.ForestLemmas.{gathered_same, gathered_more}
-use Rattle.kc_groups.proofs.ListLemmas.{rises_apart}
+use Rattle.kc_groups.proofs.ListLemmas.{rises_apart, rises_order}
 
 has_number-take : (x : ℕ) (xs : List ℕ) (p : ℕ) → p < length xs → has_number x (take (p + 1) xs) ≡ has_number x (take p xs) || eqb (get_or xs p 0) x
 has_number-take x xs p h = ap (λ k. has_number x (take k xs)) (add-one p) ∙ ap (has_number x) (take-suc xs p 0 h) ∙ has_number-push x (get_or xs p 0) (take p xs)
@@ -78,6 +78,17 @@ module _ (before : ℕ → ℕ → Bool) (vs : List ℕ) (place : ℕ) (items : 
             no b c d e (inl f) = grind (arith, nat_tests, f)
             no b c d e (inr (inl f)) = grind (arith, nat_tests, f)
             no b c d e (inr (inr f)) = grind (arith, nat_tests, f)
+
+    -- a neighbour that isn't less than the mover has no lesser place
+    pub place_past : get_or vs place 0 ≤ get_or items p 0 → place ≤ get_or places (get_or items p 0) 0
+    place_past up = elim (cases_Bool (has_number (get_or items p 0) vs)) [
+      | inl there ↦
+          let at = has_number_index (get_or items p 0) vs there in
+          let is : get_or places (get_or items p 0) 0 ≡ at.0 = ap (λ u. get_or places u 0) (sym at.2) ∙ num.at at.0 at.1 in
+          let order : place ≤ at.0 = rises_order vs 0 place at.0 num.rises h at.1 (omega (arith, at.2, up)) in
+          omega (arith, is, order)
+      | inr out ↦ omega (arith, num.none (get_or items p 0) below out, h, few)
+    ]
 
     -- the neighbour moves and has a lesser place
     pub row_link : (a : AreGathered (length vs) (so_far before vs place items p) parents) (new : List ℕ) (other : ℕ) → other ≡ get_or places (get_or items p 0) 0 → other < place → length new ≡ length parents → IsForest new (merged place other a.roots) → AreGathered (length vs) (so_far before vs place items (p + 1)) new

@@ -82,3 +82,12 @@ rises_apart (x ∷ xs) low zero zero up h k e = refl
 rises_apart (x ∷ xs) low zero (suc j) up h k e = absurd (omega (arith, rises_at_least (suc x) xs j up.1 (omega arith)))
 rises_apart (x ∷ xs) low (suc i) zero up h k e = absurd (omega (arith, rises_at_least (suc x) xs i up.1 (omega arith)))
 rises_apart (x ∷ xs) low (suc i) (suc j) up h k e = ap suc (rises_apart xs (suc x) i j up.1 (omega arith) (omega arith) e)
+
+-- a place that has no greater number isn't later
+pub rises_order : (xs : List ℕ) (low i j : ℕ) → RisesFrom low xs → i < length xs → j < length xs → get_or xs i 0 ≤ get_or xs j 0 → i ≤ j
+rises_order [] low i j up h k le = absurd (omega arith)
+rises_order (x ∷ xs) low zero j up h k le = omega arith
+rises_order (x ∷ xs) low (suc i) zero up h k le = absurd (omega (arith, rises_at_least (suc x) xs i up.1 (omega arith), le))
+rises_order (x ∷ xs) low (suc i) (suc j) up h k le =
+    let later : i ≤ j = rises_order xs (suc x) i j up.1 (omega arith) (omega arith) le in
+    omega (arith, later)

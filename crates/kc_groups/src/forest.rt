@@ -29,6 +29,10 @@ pub(crate) fn join(parents: &mut Vec<u32>, first: u32, second: u32)
     ensures forest { (roots : List ℕ) → IsForest parents.old.items roots → IsForest parents.new.items (merged first second roots) }
     ensures sized { length parents.new.items ≡ length parents.old.items }
 {
+    // Two that point to the same are in one tree already. Most are, and then nothing is written.
+    if parents[first as usize] == parents[second as usize] {
+        return;
+    }
     let first = find(parents, first);
     let second = find(parents, second);
     parents[first.max(second) as usize] = first.min(second);

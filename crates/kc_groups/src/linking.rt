@@ -49,7 +49,8 @@ fn vertex_in_turn(graph: &Graph, moves: &[Move], place: u32) -> u32
     moves[place as usize].vertex
 }
 
-// Joins the move at `place` with those of its neighbours at lesser places.
+// Joins the move at `place` with those of its neighbours at lesser places. Only lesser neighbours can have them, since the vertices of
+// the moves ascend.
 fn link_row(graph: &Graph, moves: &[Move], places: &[u32], parents: &mut Vec<u32>, place: u32)
     requires inside { place < length moves.now }
     requires numbered { AreNumbered graph.now.vertices (vertices moves.now) places.now }
@@ -57,10 +58,13 @@ fn link_row(graph: &Graph, moves: &[Move], places: &[u32], parents: &mut Vec<u32
     requires forest { (roots : List ℕ) × IsForest parents.old.items roots }
     ensures { (before : ℕ → ℕ → Bool) → AreGathered (length moves.now) before parents.old.items → AreGathered (length moves.now) (λ i j. before i j || in_row graph.now (vertices moves.now) place i j) parents.new.items }
 {
-    for w in graph.neighbours(vertex_in_turn(graph, moves, place)) {
-        let other = places[*w as usize];
-        if other < place {
-            join(parents, place, other);
+    let v = vertex_in_turn(graph, moves, place);
+    for w in graph.neighbours(v) {
+        if *w < v {
+            let other = places[*w as usize];
+            if other < place {
+                join(parents, place, other);
+            }
         }
     }
 }

@@ -1,5 +1,6 @@
-use Rattle.std.proofs.Common.{◌≡◌, get_or, max, min, ap, ◌∙◌, arith}
-use Rattle.kc_groups.proofs.ForestLemmas.{forest_merged}
+use Rattle.std.proofs.Common.{◌≡◌, get_or, max, min, ap, sym, ◌∙◌, arith}
+use Rattle.std.proofs.lemmas.List.{get_or_read}
+use Rattle.kc_groups.proofs.ForestLemmas.{forest_merged, forest_same}
 use Rattle.kc_groups.proofs.forest.join.Goals as goal
 
 pub index_mut-requires : goal.index_mut-requires
@@ -20,3 +21,11 @@ returns-clause-forest c roots f =
     let low : c.min.result ≡ min (get_or roots c.args.first 0) (get_or roots c.args.second 0) = c.min.ensures ∙ ap (λ u. min u c.find-second.result) first ∙ ap (λ u. min (get_or roots c.args.first 0) u) second in
     rw (high, low)
     (forest_merged c.find-second.new.parents.items roots c.args.first c.args.second last (omega (arith, c.find-first.ensures.sized, c.find-second.ensures.sized, c.requires.first)) (omega (arith, c.find-first.ensures.sized, c.find-second.ensures.sized, c.requires.second)))
+
+pub returns-then-index-clause-forest : goal.returns-then-index-clause-forest
+returns-then-index-clause-forest c roots f =
+    let first : c.index.result.now ≡ get_or c.args.parents.now.items c.args.first 0 = get_or_read c.args.parents.now.items c.args.first c.index.result.now c.requires.first c.index.ensures 0 in
+    let second : c.index-2.result.now ≡ get_or c.args.parents.now.items c.args.second 0 = get_or_read c.args.parents.now.items c.args.second c.index-2.result.now c.requires.second c.index-2.ensures 0 in
+    let up : get_or c.args.parents.now.items c.args.first 0 ≡ get_or c.args.parents.now.items c.args.second 0 = sym first ∙ c.if-index.true ∙ second in
+    let same : get_or roots c.args.first 0 ≡ get_or roots c.args.second 0 = sym (f.same c.args.first c.requires.first) ∙ ap (λ u. get_or roots u 0) up ∙ f.same c.args.second c.requires.second in
+    forest_same c.args.parents.now.items roots c.args.first c.args.second f same

@@ -4,12 +4,12 @@ use Rattle.kc_graph.proofs.lemmas.Numbers.{length-rising}
 use Rattle.kc_groups.specs.private.Forest.{merged}
 use Rattle.kc_groups.specs.Gathering.{vertices}
 use Rattle.kc_groups.proofs.WorkLemmas.{vertex_at, vertex_inside, many}
-use Rattle.kc_groups.proofs.LinkLemmas.{row_first, row_last, row_past, row_link}
+use Rattle.kc_groups.proofs.LinkLemmas.{row_first, row_last, row_past, row_link, place_past}
 use Rattle.kc_groups.proofs.linking.link_row.Goals as goal
-use Rattle.kc_groups.proofs.linking.link_row.Goals.{then-other-place, else-other-place}
+use Rattle.kc_groups.proofs.linking.link_row.Goals.{then-w-v+then-other-place, then-w-v+else-other-place, else-w-v}
 
 pub neighbours-w-items-requires : goal.neighbours-w-items-requires
-neighbours-w-items-requires c = omega (arith, c.vertex_in_turn.ensures, vertex_at c.args.moves.now c.args.place c.requires.inside, vertex_inside c.args.graph.now.vertices c.args.moves.now c.args.place c.requires.numbered.below c.requires.inside)
+neighbours-w-items-requires c = omega (arith, c.vertex_in_turn-v.ensures, vertex_at c.args.moves.now c.args.place c.requires.inside, vertex_inside c.args.graph.now.vertices c.args.moves.now c.args.place c.requires.numbered.below c.requires.inside)
 
 pub loop-w-init : goal.loop-w-init
 loop-w-init c = (
@@ -38,8 +38,8 @@ loop-w-preserved c =
     let inside : c.loop-w.w-index < length c.neighbours-w-items.result.now = omega arith in
     let below : get_or c.neighbours-w-items.result.now c.loop-w.w-index 0 < c.args.graph.now.vertices = c.neighbours-w-items.ensures.below c.loop-w.w-index 0 inside in
     let other = get_or c.args.places.now (get_or c.neighbours-w-items.result.now c.loop-w.w-index 0) 0 in
-    elim c.if-other-place.branch [
-      | then-other-place w ↦
+    elim c.if-w-v.branch [
+      | then-w-v+then-other-place w ↦
           rw (w.parents-is) (
             w.join.ensures.sized ∙ old.0,
             (merged place other old.1.0, w.join.ensures.forest old.1.0 old.1.1),
@@ -47,11 +47,19 @@ loop-w-preserved c =
                 let so_far = old.2 before g in
                 row_link before vs place items now n places c.requires.numbered few h c.loop-w.w-index inside below so_far _ _ refl w.if-other-place.true w.join.ensures.sized (w.join.ensures.forest so_far.roots so_far.forest),
           )
-      | else-other-place w ↦
+      | then-w-v+else-other-place w ↦
           rw (w.parents-is) (
             old.0,
             old.1,
             λ before g. row_past before vs place items now n places c.requires.numbered few h c.loop-w.w-index inside below (old.2 before g) (omega arith),
+          )
+      | else-w-v w ↦
+          rw (w.parents-is) (
+            old.0,
+            old.1,
+            λ before g.
+                let up : get_or (vertices c.args.moves.now) c.args.place 0 ≤ get_or c.neighbours-w-items.result.now c.loop-w.w-index 0 = omega (arith, w.if-w-v.false, c.vertex_in_turn-v.ensures) in
+                row_past before vs place items now n places c.requires.numbered few h c.loop-w.w-index inside below (old.2 before g) (place_past before vs place items now n places c.requires.numbered few h c.loop-w.w-index inside below up),
           )
     ]
 
@@ -59,5 +67,5 @@ pub returns : goal.returns
 returns c before g =
     let ms = c.args.moves.now in
     let vs = vertices c.args.moves.now in
-    let is : c.neighbours-w-items.result.now ≡ neighbours_of (get_or (vertices c.args.moves.now) c.args.place 0) c.args.graph.now.edges = c.neighbours-w-items.ensures.value ∙ ap (λ v. neighbours_of v c.args.graph.now.edges) c.vertex_in_turn.ensures in
+    let is : c.neighbours-w-items.result.now ≡ neighbours_of (get_or (vertices c.args.moves.now) c.args.place 0) c.args.graph.now.edges = c.neighbours-w-items.ensures.value ∙ ap (λ v. neighbours_of v c.args.graph.now.edges) c.vertex_in_turn-v.ensures in
     rw (many ms) at (row_last before vs c.args.place c.neighbours-w-items.result.now c.loop-w.parents.items c.args.graph.now c.loop-w.w-index (omega arith) is (c.loop-w.invariant.2 before (rw (many ms) g)))
