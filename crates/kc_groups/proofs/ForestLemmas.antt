@@ -1,6 +1,6 @@
 -- Forests over the places of a list: a place that points further up, and trees that come together.
-use Rattle.std.proofs.Common.{ℕ, ◌≤◌, ◌<◌, ◌≡◌, ◌≢◌, ◌⊎◌, inl, inr, Bool, true, false, cond, eqb, max, min, List, [], ◌∷◌, length, get_or, set, map, refl, ap, sym, subst, ◌∙◌, arith}
-use Rattle.std.proofs.lemmas.Bool.{cases_eq, cases_lt, true≢false}
+use Rattle.std.proofs.Common.{ℕ, ◌≤◌, ◌<◌, ◌≡◌, ◌≢◌, ◌⊎◌, inl, inr, Bool, true, false, ◌&&◌, ◌||◌, cond, eqb, max, min, List, [], ◌∷◌, length, get_or, set, map, refl, ap, sym, subst, ◌∙◌, arith}
+use Rattle.std.proofs.lemmas.Bool.{cases_eq, cases_lt, cases_Bool, true≢false}
 use Rattle.std.proofs.lemmas.Bool.Decides.{nat_tests}
 use Rattle.std.proofs.lemmas.List.{length-set, length-map, get_or-map, get_or-set_same, get_or-set_other}
 use Rattle.kc_groups.specs.private.Forest.{IsForest, merged, AreGathered}
@@ -229,3 +229,31 @@ module _ (m : ℕ) (before after : ℕ → ℕ → Bool) (parents : List ℕ) (g
             | inr ne ↦ ap label (under_other s r (get_or g.roots i 0) ne) ∙ old i h
           ];
     }
+
+    -- the same, where all links but the new one are as before
+    pub gathered_one : (new : List ℕ) → a < m → b < m → ((i j : ℕ) → i < m → j < m → after i j ≡ before i j || (eqb i a && eqb j b)) → length new ≡ length parents → IsForest new (merged a b g.roots) → AreGathered m after new
+    gathered_one new ha hb one long f =
+        gathered_more new ha hb
+        (one a b ha hb ∙ yes (before a b) (eqb a a) (eqb b b) (grind (arith, nat_tests)) (grind (arith, nat_tests)))
+        (λ i j hi hj e. one i j hi hj ∙ still (before i j) (eqb i a && eqb j b) e)
+        (λ i j hi hj e. only i j (sym (one i j hi hj) ∙ e))
+        long f
+      where
+        yes : (x y z : Bool) → y ≡ true → z ≡ true → (x || (y && z)) ≡ true
+        yes x y z e f = grind (arith, nat_tests, e, f)
+
+        still : (x y : Bool) → x ≡ true → (x || y) ≡ true
+        still x y e = grind (arith, nat_tests, e)
+
+        later : (x y : Bool) → x ≡ false → (x || y) ≡ true → y ≡ true
+        later x y e f = grind (arith, nat_tests, e, f)
+
+        only : (i j : ℕ) → (before i j || (eqb i a && eqb j b)) ≡ true → (before i j ≡ true) ⊎ ((i ≡ a) × (j ≡ b))
+        only i j e = elim (cases_Bool (before i j)) [
+          | inl old ↦ inl old
+          | inr none ↦
+              let new_one : (eqb i a && eqb j b) ≡ true = later (before i j) (eqb i a && eqb j b) none e in
+              let first : i ≡ a = grind (arith, nat_tests, new_one) in
+              let second : j ≡ b = grind (arith, nat_tests, new_one) in
+              inr (first, second)
+        ]

@@ -1,11 +1,11 @@
 pub mod lemmas
 mod ForestLemmas
-mod UniteLemmas
 mod MovedLemmas
 mod EndLemmas
 mod DealingLemmas
 mod WorkLemmas
 mod LinkLemmas
+mod FoundLemmas
 mod PieceLemmas
 mod GroupLemmas
 mod LabelLaw

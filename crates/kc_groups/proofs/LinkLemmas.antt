@@ -1,24 +1,24 @@
 -- What each link that is followed adds to the forest.
-use Rattle.std.proofs.Common.{ℕ, ◌+◌, ◌≤◌, ◌<◌, ◌≡◌, ◌≢◌, ◌⊎◌, inl, inr, Bool, true, false, ◌&&◌, ◌||◌, eqb, ltb, List, [], ◌∷◌, ◌++◌, length, get_or, take, refl, ap, sym, ◌∙◌, arith, add-one}
+use Rattle.std.proofs.Common.{ℕ, ◌+◌, ◌≤◌, ◌<◌, ◌≡◌, ◌≢◌, ◌⊎◌, inl, inr, Bool, true, false, cond, ◌&&◌, ◌||◌, eqb, ltb, List, [], ◌∷◌, ◌++◌, length, get_or, take, refl, ap, sym, ◌∙◌, arith, add-one}
 use Rattle.std.proofs.Math.Seq.{take-suc, take-length}
-use Rattle.std.proofs.lemmas.Bool.{cases_eq, cases_Bool}
+use Rattle.std.proofs.lemmas.Bool.{cases_eq, cases_lt, cases_Bool}
 use Rattle.std.proofs.lemmas.Bool.Decides.{nat_tests}
 use Rattle.kc_graph.specs.Numbers.{has_number}
 use Rattle.kc_graph.specs.Shape.{GraphShape, Pair, neighbours_of, has_edge, same_edge}
 use Rattle.kc_graph.proofs.lemmas.Numbers.{has_number-push, has_number_index}
 use Rattle.kc_groups.specs.private.Forest.{IsForest, merged, AreGathered}
 use Rattle.kc_groups.specs.private.Gathering.{AreNumbered, is_near, in_row, in_edges}
-use Rattle.kc_groups.proofs.ForestLemmas.{gathered_same, gathered_more}
+use Rattle.kc_groups.proofs.ForestLemmas.{gathered_same, gathered_more, gathered_one}
 use Rattle.kc_groups.proofs.ListLemmas.{rises_apart, rises_order}
 
 has_number-take : (x : ℕ) (xs : List ℕ) (p : ℕ) → p < length xs → has_number x (take (p + 1) xs) ≡ has_number x (take p xs) || eqb (get_or xs p 0) x
 has_number-take x xs p h = ap (λ k. has_number x (take k xs)) (add-one p) ∙ ap (has_number x) (take-suc xs p 0 h) ∙ has_number-push x (get_or xs p 0) (take p xs)
 
-has_edge-push : (e d : Pair) (es : List Pair) → has_edge e (es ++ d ∷ []) ≡ has_edge e es || same_edge e d
+pub has_edge-push : (e d : Pair) (es : List Pair) → has_edge e (es ++ d ∷ []) ≡ has_edge e es || same_edge e d
 has_edge-push e d [] = grind (arith, nat_tests)
 has_edge-push e d (f ∷ fs) = let rest = has_edge-push e d fs in grind (arith, nat_tests, rest)
 
-has_edge-take : (e d : Pair) (es : List Pair) (p : ℕ) → p < length es → has_edge e (take (p + 1) es) ≡ has_edge e (take p es) || same_edge e (get_or es p d)
+pub has_edge-take : (e d : Pair) (es : List Pair) (p : ℕ) → p < length es → has_edge e (take (p + 1) es) ≡ has_edge e (take p es) || same_edge e (get_or es p d)
 has_edge-take e d es p h = ap (λ k. has_edge e (take k es)) (add-one p) ∙ ap (has_edge e) (take-suc es p d h) ∙ has_edge-push e (get_or es p d) (take p es)
 
 -- a place below that of each mover is that of a mover
@@ -35,15 +35,21 @@ place_of n vs places v num h low few = elim (cases_Bool (has_number v vs)) [
 abbrev pub so_far : (ℕ → ℕ → Bool) → List ℕ → ℕ → List ℕ → ℕ → ℕ → ℕ → Bool
 so_far before vs place items p i j = before i j || (eqb i place && is_near vs (take p items) i j)
 
-module _ (before : ℕ → ℕ → Bool) (vs : List ℕ) (place : ℕ) (items : List ℕ) (parents : List ℕ) where
-  pub row_first : AreGathered (length vs) before parents → AreGathered (length vs) (so_far before vs place items 0) parents
-  row_first a = gathered_same (length vs) before (so_far before vs place items 0) parents a (λ i j hi hj. none (before i j) (eqb i place) (ltb j i))
+-- the place of w, if w is less than the mover at `place`, and else this place
+abbrev pub place_below : List ℕ → List ℕ → ℕ → ℕ → ℕ
+place_below vs places place w = cond (ltb w (get_or vs place 0)) (get_or places w 0) place
+
+module _ (before : ℕ → ℕ → Bool) (vs : List ℕ) (place : ℕ) (items : List ℕ) where
+  -- no neighbour is looked at
+  pub none_so_far : (i j : ℕ) → so_far before vs place items 0 i j ≡ before i j
+  none_so_far i j = none (before i j) (eqb i place) (ltb j i)
     where
       none : (a b c : Bool) → (a || (b && (c && false))) ≡ a
       none a b c = grind (arith, nat_tests)
 
-  pub row_last : (g : GraphShape) (p : ℕ) → p ≡ length items → items ≡ neighbours_of (get_or vs place 0) g.edges → AreGathered (length vs) (so_far before vs place items p) parents → AreGathered (length vs) (λ i j. before i j || in_row g vs place i j) parents
-  row_last g p whole is a = gathered_same (length vs) (so_far before vs place items p) (λ i j. before i j || in_row g vs place i j) parents a (λ i j hi hj. ap (λ ws. before i j || (eqb i place && is_near vs ws i j)) (sym all))
+  -- all are
+  pub all_so_far : (g : GraphShape) (p : ℕ) → p ≡ length items → items ≡ neighbours_of (get_or vs place 0) g.edges → (i j : ℕ) → (before i j || in_row g vs place i j) ≡ so_far before vs place items p i j
+  all_so_far g p whole is i j = ap (λ ws. before i j || (eqb i place && is_near vs ws i j)) (sym all)
     where
       all : take p items ≡ neighbours_of (get_or vs place 0) g.edges
       all = ap (λ k. take k items) whole ∙ take-length items ∙ is
@@ -59,11 +65,16 @@ module _ (before : ℕ → ℕ → Bool) (vs : List ℕ) (place : ℕ) (items : 
         spread false false c d e = refl
 
     -- the neighbour doesn't move, or has a place that isn't less
-    pub row_past : AreGathered (length vs) (so_far before vs place items p) parents → place ≤ get_or places (get_or items p 0) 0 → AreGathered (length vs) (so_far before vs place items (p + 1)) parents
-    row_past a high = gathered_same (length vs) (so_far before vs place items p) (so_far before vs place items (p + 1)) parents a (λ i j hi hj. grown i j ∙ nothing i j hj (so_far before vs place items p i j))
+    pub past_so_far : place ≤ get_or places (get_or items p 0) 0 → (i j : ℕ) → j < length vs → so_far before vs place items (p + 1) i j ≡ so_far before vs place items p i j
+    past_so_far high i j hj = grown i j ∙ nothing (so_far before vs place items p i j)
       where
-        nothing : (i j : ℕ) → j < length vs → (b : Bool) → (b || (eqb i place && (ltb j i && eqb (get_or items p 0) (get_or vs j 0)))) ≡ b
-        nothing i j hj b = elim (cases_eq (get_or items p 0) (get_or vs j 0)) [
+        no : (b c d e : Bool) → (c ≡ false) ⊎ ((d ≡ false) ⊎ (e ≡ false)) → (b || (c && (d && e))) ≡ b
+        no b c d e (inl f) = grind (arith, nat_tests, f)
+        no b c d e (inr (inl f)) = grind (arith, nat_tests, f)
+        no b c d e (inr (inr f)) = grind (arith, nat_tests, f)
+
+        nothing : (b : Bool) → (b || (eqb i place && (ltb j i && eqb (get_or items p 0) (get_or vs j 0)))) ≡ b
+        nothing b = elim (cases_eq (get_or items p 0) (get_or vs j 0)) [
           | inl e ↦
               let is : get_or places (get_or items p 0) 0 ≡ j = ap (λ w. get_or places w 0) e ∙ num.at j hj in
               let far : place ≤ j = omega (arith, is, high) in
@@ -73,14 +84,9 @@ module _ (before : ℕ → ℕ → Bool) (vs : List ℕ) (place : ℕ) (items : 
               ]
           | inr ne ↦ no b (eqb i place) (ltb j i) (eqb (get_or items p 0) (get_or vs j 0)) (inr (inr (grind (arith, nat_tests, ne))))
         ]
-          where
-            no : (b c d e : Bool) → (c ≡ false) ⊎ ((d ≡ false) ⊎ (e ≡ false)) → (b || (c && (d && e))) ≡ b
-            no b c d e (inl f) = grind (arith, nat_tests, f)
-            no b c d e (inr (inl f)) = grind (arith, nat_tests, f)
-            no b c d e (inr (inr f)) = grind (arith, nat_tests, f)
 
     -- a neighbour that isn't less than the mover has no lesser place
-    pub place_past : get_or vs place 0 ≤ get_or items p 0 → place ≤ get_or places (get_or items p 0) 0
+    place_past : get_or vs place 0 ≤ get_or items p 0 → place ≤ get_or places (get_or items p 0) 0
     place_past up = elim (cases_Bool (has_number (get_or items p 0) vs)) [
       | inl there ↦
           let at = has_number_index (get_or items p 0) vs there in
@@ -90,36 +96,67 @@ module _ (before : ℕ → ℕ → Bool) (vs : List ℕ) (place : ℕ) (items : 
       | inr out ↦ omega (arith, num.none (get_or items p 0) below out, h, few)
     ]
 
+    -- what isn't less than the mover's place stands for no lesser place
+    pub not_below : place ≤ place_below vs places place (get_or items p 0) → place ≤ get_or places (get_or items p 0) 0
+    not_below high = elim (cases_lt (get_or items p 0) (get_or vs place 0)) [
+      | inl lt ↦ let is : place_below vs places place (get_or items p 0) ≡ get_or places (get_or items p 0) 0 = grind (arith, nat_tests, lt) in omega (arith, is, high)
+      | inr ge ↦ place_past ge
+    ]
+
+    -- what is less is the neighbour's place
+    pub is_below : place_below vs places place (get_or items p 0) < place → place_below vs places place (get_or items p 0) ≡ get_or places (get_or items p 0) 0
+    is_below low = elim (cases_lt (get_or items p 0) (get_or vs place 0)) [
+      | inl lt ↦ grind (arith, nat_tests, lt)
+      | inr ge ↦ let is : place_below vs places place (get_or items p 0) ≡ place = grind (arith, nat_tests, ge) in absurd (omega (arith, is, low))
+    ]
+
     -- the neighbour moves and has a lesser place
-    pub row_link : (a : AreGathered (length vs) (so_far before vs place items p) parents) (new : List ℕ) (other : ℕ) → other ≡ get_or places (get_or items p 0) 0 → other < place → length new ≡ length parents → IsForest new (merged place other a.roots) → AreGathered (length vs) (so_far before vs place items (p + 1)) new
-    row_link a new other is less long f =
-        gathered_more (length vs) (so_far before vs place items p) (so_far before vs place items (p + 1)) parents a place other new h (omega (arith, less, h))
-        (grown place other ∙ yes (so_far before vs place items p place other) (eqb place place) (ltb other place) (eqb (get_or items p 0) (get_or vs other 0)) (grind (arith, nat_tests)) (grind (arith, nat_tests, less)) (grind (arith, nat_tests, vertex)))
-        (λ i j hi hj e. grown i j ∙ more (so_far before vs place items p i j) (eqb i place && (ltb j i && eqb (get_or items p 0) (get_or vs j 0))) e)
-        (λ i j hi hj e. only i j hj (sym (grown i j) ∙ e))
-        long f
+    pub link_so_far : (other : ℕ) → other ≡ get_or places (get_or items p 0) 0 → other < place → (i j : ℕ) → j < length vs → so_far before vs place items (p + 1) i j ≡ so_far before vs place items p i j || (eqb i place && eqb j other)
+    link_so_far other is less i j hj = grown i j ∙ ap (λ b. so_far before vs place items p i j || b) one
       where
         vertex : get_or vs other 0 ≡ get_or items p 0
         vertex = ap (λ k. get_or vs k 0) is ∙ place_of n vs places (get_or items p 0) num below (omega (arith, is, less, h)) few
 
-        yes : (a b c d : Bool) → b ≡ true → c ≡ true → d ≡ true → (a || (b && (c && d))) ≡ true
-        yes a b c d e f g = grind (arith, nat_tests, e, f, g)
+        both : (a b c d : Bool) → b ≡ true → c ≡ true → d ≡ true → (a && (b && c)) ≡ (a && d)
+        both a b c d e f g = grind (arith, nat_tests, e, f, g)
 
-        more : (a b : Bool) → a ≡ true → (a || b) ≡ true
-        more a b e = grind (arith, nat_tests, e)
+        neither : (a b c d : Bool) → c ≡ false → d ≡ false → (a && (b && c)) ≡ (a && d)
+        neither a b c d e f = grind (arith, nat_tests, e, f)
 
-        only : (i j : ℕ) → j < length vs → (so_far before vs place items p i j || (eqb i place && (ltb j i && eqb (get_or items p 0) (get_or vs j 0)))) ≡ true → (so_far before vs place items p i j ≡ true) ⊎ ((i ≡ place) × (j ≡ other))
-        only i j hj e = elim (cases_Bool (so_far before vs place items p i j)) [
-          | inl old ↦ inl old
-          | inr none ↦
-              let new : (eqb i place && (ltb j i && eqb (get_or items p 0) (get_or vs j 0))) ≡ true = later (so_far before vs place items p i j) (eqb i place && (ltb j i && eqb (get_or items p 0) (get_or vs j 0))) none e in
-              let i_is : i ≡ place = grind (arith, nat_tests, new) in
-              let v_is : get_or items p 0 ≡ get_or vs j 0 = grind (arith, nat_tests, new) in
-              inr (i_is, rises_apart vs 0 j other num.rises hj (omega (arith, less, h)) (sym v_is ∙ sym vertex))
+        out : (a b c d : Bool) → a ≡ false → (a && (b && c)) ≡ (a && d)
+        out a b c d e = grind (arith, nat_tests, e)
+
+        one : (eqb i place && (ltb j i && eqb (get_or items p 0) (get_or vs j 0))) ≡ (eqb i place && eqb j other)
+        one = elim (cases_eq i place) [
+          | inl at ↦ elim (cases_eq j other) [
+            | inl e ↦
+                let low : j < i = omega (arith, e, at, less) in
+                let same : get_or items p 0 ≡ get_or vs j 0 = sym vertex ∙ ap (λ k. get_or vs k 0) (sym e) in
+                both (eqb i place) (ltb j i) (eqb (get_or items p 0) (get_or vs j 0)) (eqb j other) (grind (arith, nat_tests, low)) (grind (arith, nat_tests, same)) (grind (arith, nat_tests, e))
+            | inr ne ↦
+                let apart : get_or items p 0 ≢ get_or vs j 0 = λ e. ne (rises_apart vs 0 j other num.rises hj (omega (arith, less, h)) (sym e ∙ sym vertex)) in
+                neither (eqb i place) (ltb j i) (eqb (get_or items p 0) (get_or vs j 0)) (eqb j other) (grind (arith, nat_tests, apart)) (grind (arith, nat_tests, ne))
+          ]
+          | inr ne ↦ out (eqb i place) (ltb j i) (eqb (get_or items p 0) (get_or vs j 0)) (eqb j other) (grind (arith, nat_tests, ne))
         ]
-          where
-            later : (a b : Bool) → a ≡ false → (a || b) ≡ true → b ≡ true
-            later a b f t = grind (arith, nat_tests, f, t)
+
+module _ (before : ℕ → ℕ → Bool) (vs : List ℕ) (place : ℕ) (items : List ℕ) (parents : List ℕ) where
+  pub row_first : AreGathered (length vs) before parents → AreGathered (length vs) (so_far before vs place items 0) parents
+  row_first a = gathered_same (length vs) before (so_far before vs place items 0) parents a (λ i j hi hj. none_so_far before vs place items i j)
+
+  pub row_last : (g : GraphShape) (p : ℕ) → p ≡ length items → items ≡ neighbours_of (get_or vs place 0) g.edges → AreGathered (length vs) (so_far before vs place items p) parents → AreGathered (length vs) (λ i j. before i j || in_row g vs place i j) parents
+  row_last g p whole is a = gathered_same (length vs) (so_far before vs place items p) (λ i j. before i j || in_row g vs place i j) parents a (λ i j hi hj. all_so_far before vs place items g p whole is i j)
+
+  module _ (n : ℕ) (places : List ℕ) (num : AreNumbered n vs places) (few : length vs ≤ n) (h : place < length vs) (p : ℕ) (inside : p < length items) (below : get_or items p 0 < n) where
+    pub row_past : AreGathered (length vs) (so_far before vs place items p) parents → place ≤ get_or places (get_or items p 0) 0 → AreGathered (length vs) (so_far before vs place items (p + 1)) parents
+    row_past a high = gathered_same (length vs) (so_far before vs place items p) (so_far before vs place items (p + 1)) parents a (λ i j hi hj. past_so_far before vs place items n places num few h p inside below high i j hj)
+
+    pub row_link : (a : AreGathered (length vs) (so_far before vs place items p) parents) (new : List ℕ) (other : ℕ) → other ≡ get_or places (get_or items p 0) 0 → other < place → length new ≡ length parents → IsForest new (merged place other a.roots) → AreGathered (length vs) (so_far before vs place items (p + 1)) new
+    row_link a new other is less long f =
+        let low : other < length vs = omega (arith, less, h) in
+        gathered_one (length vs) (so_far before vs place items p) (so_far before vs place items (p + 1)) parents a place other new h low
+        (λ i j hi hj. link_so_far before vs place items n places num few h p inside below other is less i j hj)
+        long f
 
 -- the links of before, and those of the first k edges
 abbrev pub with_first : (ℕ → ℕ → Bool) → List ℕ → List Pair → ℕ → ℕ → ℕ → Bool

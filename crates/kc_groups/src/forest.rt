@@ -1,8 +1,9 @@
 //! A forest over the places of a list: each place points to one that is no greater, and a root to itself.
-ghost use Rattle.std.specs.Prelude.{◌≡◌, ℕ, Bool, List, ◌<◌, ◌≤◌, ◌||◌, length, slice_index};
+ghost use Rattle.std.specs.Prelude.{◌≡◌, ℕ, Bool, List, ◌<◌, ◌||◌, length, slice_index};
 ghost use Rattle.kc_groups.specs.private.Forest.{IsForest, AreGathered, merged};
+ghost use Rattle.kc_groups.specs.private.Gathering.{AreLinks};
 
-use kc_graph::MAX_VERTICES;
+use kc_graph::Edge;
 
 // The root of a place. What is passed on the way points further up afterwards.
 fn find(parents: &mut Vec<u32>, place: u32) -> u32
@@ -38,18 +39,13 @@ pub(crate) fn join(parents: &mut Vec<u32>, first: u32, second: u32)
     parents[first.max(second) as usize] = first.min(second);
 }
 
-// Makes one tree of those of each two places that are in one tree of `other`, a forest over the same places.
-pub(crate) fn unite(parents: &mut Vec<u32>, other: &[u32])
-    requires small { length other.now ≤ MAX_VERTICES }
-    requires same { length parents.old.items ≡ length other.now }
+// Joins the places that each of the links leads between.
+pub(crate) fn join_links(links: &[Edge], parents: &mut Vec<u32>)
     requires forest { (roots : List ℕ) × IsForest parents.old.items roots }
-    requires other { (roots : List ℕ) × IsForest other.now roots }
-    ensures { (m : ℕ) (before more : ℕ → ℕ → Bool) → AreGathered m before parents.old.items → AreGathered m more other.now → AreGathered m (λ i j. before i j || more i j) parents.new.items }
+    requires links { (linked : ℕ → ℕ → Bool) × AreLinks (length parents.old.items) linked links.now }
+    ensures { (before linked : ℕ → ℕ → Bool) → AreGathered (length parents.old.items) before parents.old.items → AreLinks (length parents.old.items) linked links.now → AreGathered (length parents.old.items) (λ i j. before i j || linked i j) parents.new.items }
 {
-    for place in 0..other.len() as u32 {
-        let up = other[place as usize];
-        if up < place {
-            join(parents, place, up);
-        }
+    for link in links {
+        join(parents, link.b, link.a);
     }
 }

@@ -1,9 +1,9 @@
-//! The moves of a phase, gathered into a tree for each group.
-ghost use Rattle.std.specs.Prelude.{◌≡◌, ℕ, List, Bool, ◌<◌, ◌≤◌, ◌||◌, IfOk, false, true, length, slice_index};
+//! The moves of a phase, gathered into a tree for each group, and the links that lead between them.
+ghost use Rattle.std.specs.Prelude.{◌≡◌, ℕ, List, Bool, ◌<◌, ◌≤◌, ◌||◌, IfOk, OnOk, cond, false, true, length, nat_lt, slice_index};
 ghost use Rattle.kc_graph.specs.Shape.{EdgesFrom};
 ghost use Rattle.kc_groups.specs.private.Forest.{AreGathered, IsForest};
 ghost use Rattle.kc_groups.specs.Gathering.{vertices};
-ghost use Rattle.kc_groups.specs.private.Gathering.{AreNumbered, in_row, in_piece, in_edges};
+ghost use Rattle.kc_groups.specs.private.Gathering.{AreLinks, AreNumbered, in_row, in_rows, in_piece, in_edges};
 
 use crate::forest::join;
 use kc_graph::{Edge, Graph, MAX_VERTICES};
@@ -11,7 +11,7 @@ use kc_history::Move;
 use std::alloc::{AllocError, Global};
 
 // Each of m places as a tree of its own.
-fn lone_places(alloc: Global, m: u32) -> Result<Vec<u32>, AllocError>
+pub(crate) fn lone_places(alloc: Global, m: u32) -> Result<Vec<u32>, AllocError>
     ensures { IfOk result (λ parents. AreGathered m (λ i j. false) parents.items) }
 {
     let mut parents = Vec::with_capacity(alloc, m as usize)?;
@@ -49,8 +49,16 @@ fn vertex_in_turn(graph: &Graph, moves: &[Move], place: u32) -> u32
     moves[place as usize].vertex
 }
 
-// Joins the move at `place` with those of its neighbours at lesser places. Only lesser neighbours can have them, since the vertices of
-// the moves ascend.
+// The place of w, a neighbour of the vertex v of the move at `place`, if w is less than v, and else `place`. So it is less than that
+// only where w moves and has a lesser place: greater vertices have none, since the vertices of the moves ascend.
+fn place_below(places: &[u32], v: u32, w: u32, place: u32) -> u32
+    requires { w < length places.now }
+    ensures { result ≡ cond (nat_lt w v) (slice_index places.now w) place }
+{
+    if w < v { places[w as usize] } else { place }
+}
+
+// Joins the move at `place` with those of its neighbours at lesser places.
 fn link_row(graph: &Graph, moves: &[Move], places: &[u32], parents: &mut Vec<u32>, place: u32)
     requires inside { place < length moves.now }
     requires numbered { AreNumbered graph.now.vertices (vertices moves.now) places.now }
@@ -60,35 +68,73 @@ fn link_row(graph: &Graph, moves: &[Move], places: &[u32], parents: &mut Vec<u32
 {
     let v = vertex_in_turn(graph, moves, place);
     for w in graph.neighbours(v) {
-        if *w < v {
-            let other = places[*w as usize];
-            if other < place {
-                join(parents, place, other);
-            }
+        let other = place_below(places, v, *w, place);
+        if other < place {
+            join(parents, place, other);
         }
     }
 }
 
-// A forest over all moves, in which each from place `from` to place `to` is joined with those of its neighbours at lesser places.
+// A forest over the moves, in which each is joined with those of its neighbours at lesser places.
 pub(crate) fn link_rows(
+    alloc: Global,
+    graph: &Graph,
+    moves: &[Move],
+    places: &[u32],
+) -> Result<Vec<u32>, AllocError>
+    requires small { length moves.now ≤ MAX_VERTICES }
+    requires numbered { AreNumbered graph.now.vertices (vertices moves.now) places.now }
+    ensures { IfOk result (λ parents. AreGathered (length moves.now) (in_rows graph.now (vertices moves.now) (length moves.now)) parents.items) }
+{
+    let mut parents = lone_places(alloc, moves.len() as u32)?;
+    for place in 0..moves.len() as u32 {
+        link_row(graph, moves, places, &mut parents, place);
+    }
+    Ok(parents)
+}
+
+// Puts the links of the move at `place` to those of its neighbours at lesser places behind those that there are (as `link_row` joins
+// them).
+fn find_links(
+    graph: &Graph,
+    moves: &[Move],
+    places: &[u32],
+    place: u32,
+    links: &mut Vec<Edge>,
+) -> Result<(), AllocError>
+    requires inside { place < length moves.now }
+    requires numbered { AreNumbered graph.now.vertices (vertices moves.now) places.now }
+    ensures { OnOk result ((before : ℕ → ℕ → Bool) → AreLinks (length moves.now) before links.old.items → AreLinks (length moves.now) (λ i j. before i j || in_row graph.now (vertices moves.now) place i j) links.new.items) }
+{
+    let v = vertex_in_turn(graph, moves, place);
+    for w in graph.neighbours(v) {
+        let other = place_below(places, v, *w, place);
+        if other < place {
+            links.push(Edge { a: other, b: place })?;
+        }
+    }
+    Ok(())
+}
+
+// The links of the moves from place `from` to place `to` to those of their neighbours at lesser places.
+pub(crate) fn links_between(
     alloc: Global,
     graph: &Graph,
     moves: &[Move],
     places: &[u32],
     from: u32,
     to: u32,
-) -> Result<Vec<u32>, AllocError>
-    requires small { length moves.now ≤ MAX_VERTICES }
+) -> Result<Vec<Edge>, AllocError>
     requires numbered { AreNumbered graph.now.vertices (vertices moves.now) places.now }
     requires order { from ≤ to }
     requires inside { to ≤ length moves.now }
-    ensures { IfOk result (λ parents. AreGathered (length moves.now) (in_piece graph.now (vertices moves.now) from to) parents.items) }
+    ensures { IfOk result (λ links. AreLinks (length moves.now) (in_piece graph.now (vertices moves.now) from to) links.items) }
 {
-    let mut parents = lone_places(alloc, moves.len() as u32)?;
+    let mut links = Vec::new(alloc);
     for place in from..to {
-        link_row(graph, moves, places, &mut parents, place);
+        find_links(graph, moves, places, place, &mut links)?;
     }
-    Ok(parents)
+    Ok(links)
 }
 
 // Joins the moves that one of the edges leads between.

@@ -90,9 +90,9 @@ pub(crate) fn plan_in_pieces<R: Threads + Sync>(
 /// after an insertion none, and for the one after a deletion all. They ascend, and so do the vertices of the moves.
 ///
 /// Looks only at the vertices that move, their neighbours and the edges of the phase, whatever the number of vertices. To the
-/// neighbours go threads: the moves are cut into as many pieces as there are workers, but no more than 8 and than the moves have
-/// full 8,192s; the rest is one thread's. Takes 4 bytes a move for each piece, besides the plan. The plan doesn't depend on the
-/// workers.
+/// neighbours go threads: the moves are cut into as many pieces as there are workers, but no more than they have full 8,192s; the rest
+/// is one thread's. Takes 4 bytes a move besides the plan, and where there are pieces 8 bytes for each link between two moves. The
+/// plan doesn't depend on the workers.
 ///
 /// The workspace is clean before and afterwards. Fails only if memory runs out; the workspace is then of no further use.
 pub fn plan_moves<R: Threads + Sync>(
@@ -145,7 +145,7 @@ pub fn plan_phase(
     let places = &mut work.places;
     let list = moves.as_slice();
     number(list, places);
-    let parents = link_rows(alloc, graph, list, places, 0, list.len() as u32)?;
+    let parents = link_rows(alloc, graph, list, places)?;
     let phase = Phase {
         number: phase,
         add,

@@ -1,5 +1,5 @@
 -- A forest over the places of a list.
-use Rattle.std.specs.Prelude.{ℕ, ◌≤◌, ◌<◌, ◌≡◌, ◌==◌, ◌&&◌, nat_lt, Bool, true, cond, List, length, get_or, map, max, min}
+use Rattle.std.specs.Prelude.{ℕ, ◌≤◌, ◌<◌, ◌≡◌, ◌==◌, Bool, true, cond, List, length, get_or, map, max, min}
 
 -- each place points to one that is no greater, and ends at the root that `roots` has for it
 pub record IsForest (parents roots : List ℕ) : Type 0 where
@@ -22,7 +22,3 @@ pub record AreGathered (m : ℕ) (linked : ℕ → ℕ → Bool) (parents : List
   pub sized : length parents ≡ m
   pub joined : (i j : ℕ) → i < m → j < m → linked i j ≡ true → get_or roots i 0 ≡ get_or roots j 0
   pub sound : (label : ℕ → ℕ) → ((i j : ℕ) → i < m → j < m → linked i j ≡ true → label i ≡ label j) → (i : ℕ) → i < m → label (get_or roots i 0) ≡ label i
-
--- whether the place i, below k, isn't a root and points to j
-abbrev pub is_up : List ℕ → ℕ → ℕ → ℕ → Bool
-is_up parents k i j = nat_lt i k && (nat_lt j i && (get_or parents i 0 == j))

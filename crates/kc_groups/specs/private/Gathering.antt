@@ -1,5 +1,5 @@
 -- How vertices that move are numbered, joined and labelled.
-use Rattle.std.specs.Prelude.{ℕ, ◌<◌, ◌≡◌, ◌==◌, nat_le, nat_lt, Bool, false, ◌&&◌, List, length, get_or}
+use Rattle.std.specs.Prelude.{ℕ, ◌<◌, ◌≡◌, ◌==◌, nat_le, nat_lt, Bool, false, ◌&&◌, List, length, get_or, All}
 use Rattle.kc_graph.specs.Numbers.{RisesFrom, AllBelow, has_number}
 use Rattle.kc_graph.specs.Shape.{GraphShape, Pair, neighbours_of, has_edge}
 use Rattle.kc_levels.specs.declared.moves.Move.{Move}
@@ -36,6 +36,11 @@ in_row g movers k i j = (i == k) && is_near movers (neighbours_of (get_or movers
 -- the same of the movers from place `from` on
 abbrev pub in_piece : GraphShape → List ℕ → ℕ → ℕ → ℕ → ℕ → Bool
 in_piece g movers from k i j = nat_le from i && in_rows g movers k i j
+
+-- the list has those of m places that are linked, of each two the lesser place first
+pub record AreLinks (m : ℕ) (linked : ℕ → ℕ → Bool) (links : List Pair) : Type 0 where
+  pub inside : All (λ (e : Pair). (e.0 < m) × (e.1 < m)) links
+  pub same : (i j : ℕ) → i < m → j < m → has_edge (j, i) links ≡ linked i j
 
 -- whether an edge leads from the mover at place i to the one at place j
 abbrev pub in_edges : List Pair → List ℕ → ℕ → ℕ → Bool

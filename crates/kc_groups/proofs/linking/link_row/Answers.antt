@@ -1,12 +1,12 @@
-use Rattle.std.proofs.Common.{◌≡◌, ◌<◌, ◌≤◌, length, get_or, refl, ap, ◌∙◌, arith}
+use Rattle.std.proofs.Common.{◌≡◌, ◌<◌, ◌≤◌, false, cond, ltb, length, get_or, ap, sym, ◌∙◌, arith}
 use Rattle.kc_graph.specs.Shape.{neighbours_of}
 use Rattle.kc_graph.proofs.lemmas.Numbers.{length-rising}
 use Rattle.kc_groups.specs.private.Forest.{merged}
 use Rattle.kc_groups.specs.Gathering.{vertices}
 use Rattle.kc_groups.proofs.WorkLemmas.{vertex_at, vertex_inside, many}
-use Rattle.kc_groups.proofs.LinkLemmas.{row_first, row_last, row_past, row_link, place_past}
+use Rattle.kc_groups.proofs.LinkLemmas.{row_first, row_last, row_past, place_below, row_link, not_below, is_below}
 use Rattle.kc_groups.proofs.linking.link_row.Goals as goal
-use Rattle.kc_groups.proofs.linking.link_row.Goals.{then-w-v+then-other-place, then-w-v+else-other-place, else-w-v}
+use Rattle.kc_groups.proofs.linking.link_row.Goals.{then-other-place, else-other-place}
 
 pub neighbours-w-items-requires : goal.neighbours-w-items-requires
 neighbours-w-items-requires c = omega (arith, c.vertex_in_turn-v.ensures, vertex_at c.args.moves.now c.args.place c.requires.inside, vertex_inside c.args.graph.now.vertices c.args.moves.now c.args.place c.requires.numbered.below c.requires.inside)
@@ -37,29 +37,24 @@ loop-w-preserved c =
     let h : c.args.place < length (vertices c.args.moves.now) = omega (arith, many c.args.moves.now, c.requires.inside) in
     let inside : c.loop-w.w-index < length c.neighbours-w-items.result.now = omega arith in
     let below : get_or c.neighbours-w-items.result.now c.loop-w.w-index 0 < c.args.graph.now.vertices = c.neighbours-w-items.ensures.below c.loop-w.w-index 0 inside in
-    let other = get_or c.args.places.now (get_or c.neighbours-w-items.result.now c.loop-w.w-index 0) 0 in
-    elim c.if-w-v.branch [
-      | then-w-v+then-other-place w ↦
+    let other = c.place_below-other.result in
+    let is : c.place_below-other.result ≡ place_below (vertices c.args.moves.now) c.args.places.now c.args.place (get_or c.neighbours-w-items.result.now c.loop-w.w-index 0) = c.place_below-other.ensures ∙ ap (λ u. cond (ltb (get_or items c.loop-w.w-index 0) u) (get_or places (get_or items c.loop-w.w-index 0) 0) place) c.vertex_in_turn-v.ensures in
+    elim c.if-other-place.branch [
+      | then-other-place w ↦
+          let at = is_below (λ i j. false) vs place items n places c.requires.numbered few h c.loop-w.w-index inside below (rw (sym is) w.if-other-place.true) in
           rw (w.parents-is) (
             w.join.ensures.sized ∙ old.0,
             (merged place other old.1.0, w.join.ensures.forest old.1.0 old.1.1),
             λ before g.
                 let so_far = old.2 before g in
-                row_link before vs place items now n places c.requires.numbered few h c.loop-w.w-index inside below so_far _ _ refl w.if-other-place.true w.join.ensures.sized (w.join.ensures.forest so_far.roots so_far.forest),
+                row_link before vs place items now n places c.requires.numbered few h c.loop-w.w-index inside below so_far _ other (is ∙ at) w.if-other-place.true w.join.ensures.sized (w.join.ensures.forest so_far.roots so_far.forest),
           )
-      | then-w-v+else-other-place w ↦
+      | else-other-place w ↦
+          let high = not_below (λ i j. false) vs place items n places c.requires.numbered few h c.loop-w.w-index inside below (rw (sym is) (omega (arith, w.if-other-place.false))) in
           rw (w.parents-is) (
             old.0,
             old.1,
-            λ before g. row_past before vs place items now n places c.requires.numbered few h c.loop-w.w-index inside below (old.2 before g) (omega arith),
-          )
-      | else-w-v w ↦
-          rw (w.parents-is) (
-            old.0,
-            old.1,
-            λ before g.
-                let up : get_or (vertices c.args.moves.now) c.args.place 0 ≤ get_or c.neighbours-w-items.result.now c.loop-w.w-index 0 = omega (arith, w.if-w-v.false, c.vertex_in_turn-v.ensures) in
-                row_past before vs place items now n places c.requires.numbered few h c.loop-w.w-index inside below (old.2 before g) (place_past before vs place items now n places c.requires.numbered few h c.loop-w.w-index inside below up),
+            λ before g. row_past before vs place items now n places c.requires.numbered few h c.loop-w.w-index inside below (old.2 before g) high,
           )
     ]
 

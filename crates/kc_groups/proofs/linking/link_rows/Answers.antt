@@ -1,11 +1,11 @@
-use Rattle.std.proofs.Common.{◌≡◌, length, rules, arith}
-use Rattle.kc_groups.specs.private.Gathering.{in_piece}
+use Rattle.std.proofs.Common.{◌≡◌, length, arith}
+use Rattle.kc_groups.specs.private.Gathering.{in_rows}
 use Rattle.kc_groups.specs.Gathering.{vertices}
-use Rattle.kc_groups.proofs.PieceLemmas.{piece_first, piece_more}
+use Rattle.kc_groups.proofs.PieceLemmas.{rows_first, rows_more}
 use Rattle.kc_groups.proofs.linking.link_rows.Goals as goal
 
 pub loop-place-init : goal.loop-place-init
-loop-place-init c = piece_first (length c.args.moves.now) c.args.graph.now (vertices c.args.moves.now) c.in_ok-parents.parents.items c.args.from c.in_ok-parents.ensures
+loop-place-init c = rows_first (length c.args.moves.now) c.args.graph.now (vertices c.args.moves.now) c.in_ok-parents.parents.items 0 (omega arith) c.in_ok-parents.ensures
 
 pub link_row-requires-clause-forest : goal.link_row-requires-clause-forest
 link_row-requires-clause-forest c = (c.loop-place.invariant.roots, c.loop-place.invariant.forest)
@@ -15,9 +15,9 @@ loop-place-preserved c =
     let g = c.args.graph.now in
     let vs = vertices c.args.moves.now in
     let k = c.loop-place.place in
-    piece_more (length c.args.moves.now) g vs c.link_row.new.parents.items c.args.from k (search rules) (c.link_row.ensures (in_piece g vs c.args.from k) c.loop-place.invariant)
+    rows_more (length c.args.moves.now) g vs c.link_row.new.parents.items k (c.link_row.ensures (in_rows g vs k) c.loop-place.invariant)
 
 pub returns : goal.returns
 returns c =
-    let all : c.loop-place.place ≡ c.args.to = omega arith in
+    let all : c.loop-place.place ≡ length c.args.moves.now = omega arith in
     rw all at c.loop-place.invariant

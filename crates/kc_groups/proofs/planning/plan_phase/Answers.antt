@@ -3,7 +3,6 @@ use Rattle.kc_graph.specs.declared.limits.TheConstants.{MAX_VERTICES}
 use Rattle.kc_graph.proofs.lemmas.Numbers.{length-rising}
 use Rattle.kc_groups.specs.Gathering.{vertices, AreInOrder}
 use Rattle.kc_groups.proofs.WorkLemmas.{many}
-use Rattle.kc_groups.proofs.PieceLemmas.{piece_whole}
 use Rattle.std.proofs.lemmas.List.{length-replicate}
 use Rattle.std.proofs.lemmas.Result.{IfOk-weaker}
 use Rattle.kc_levels.specs.Moved.{moves_between}
@@ -24,19 +23,6 @@ number-requires-clause-order c =
     let order : AreInOrder c.args.graph.now.vertices c.in_ok-moves.moves = between_in_order c.args.graph.now.vertices c.args.before.now c.args.after.now c.in_ok-moves.moves moves in
     let long : length c.work.inside.places.items ≡ c.args.graph.now.vertices = ap (λ (xs : List ℕ). length xs) (c.work.view_is ∙ c.in_ok-work.ensures) ∙ length-replicate c.vertices-n.result c.vertices-n.result ∙ c.vertices-n.ensures.count in
     rw (long, c.as_slice-list.ensures) order
-
-pub overflow_cast-list : goal.overflow_cast-list
-overflow_cast-list c =
-    let n = c.args.graph.now.vertices in
-    let moves : c.in_ok-moves.moves ≡ moves_between c.args.graph.now.vertices c.args.before.now c.args.after.now =
-    c.in_ok-moves.ensures
-    ∙ ap (λ k. moves_between k c.as_slice.result.now c.as_slice-2.result.now) c.vertices-n.ensures.count
-    ∙ ap (λ x. moves_between n x c.as_slice-2.result.now) c.as_slice.ensures
-    ∙ ap (λ y. moves_between n c.args.before.now y) c.as_slice-2.ensures in
-    let order : AreInOrder c.args.graph.now.vertices c.in_ok-moves.moves = between_in_order c.args.graph.now.vertices c.args.before.now c.args.after.now c.in_ok-moves.moves moves in
-    let few = length-rising n 0 (vertices c.in_ok-moves.moves) order.rises order.below (omega arith) in
-    let small : length c.as_slice-list.result.now ≤ MAX_VERTICES = rw (c.as_slice-list.ensures) (omega (arith, few, many c.in_ok-moves.moves, c.vertices-n.ensures.small)) in
-    omega (arith, small)
 
 pub link_rows-requires-clause-small : goal.link_rows-requires-clause-small
 link_rows-requires-clause-small c =
@@ -61,10 +47,6 @@ plan_trees-requires-clause-order c =
     ∙ ap (λ y. moves_between n c.args.before.now y) c.as_slice-2.ensures in
     let order : AreInOrder c.args.graph.now.vertices c.in_ok-moves.moves = between_in_order c.args.graph.now.vertices c.args.before.now c.args.after.now c.in_ok-moves.moves moves in
     order
-
-pub plan_trees-requires-clause-gathered : goal.plan_trees-requires-clause-gathered
-plan_trees-requires-clause-gathered c =
-    piece_whole (length c.in_ok-moves.moves) c.args.graph.now (vertices c.in_ok-moves.moves) c.in_ok-parents.parents.items (rw (c.as_slice-list.ensures) at c.in_ok-parents.ensures)
 
 pub returns-clause-entries : goal.returns-clause-entries
 returns-clause-entries c =
