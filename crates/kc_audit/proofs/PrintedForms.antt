@@ -14,7 +14,7 @@ use Rattle.kc_text.specs.Reasons.{reason_word}
 use Rattle.kc_text.specs.Kept.{kept}
 use Rattle.kc_text.proofs.lemmas.Printing.{numbers_are_read_back, words_are_read_back, lines_are_read_back}
 use Rattle.kc_history.specs.declared.replies.Reply.{Reply}
-use Rattle.kc_audit.specs.Kinds.{Kind, InputEnd, is_version, is_refusal, direction_kind, kind_of_words, kind_of}
+use Rattle.kc_audit.specs.Kinds.{Kind, is_version, is_refusal, direction_kind, kind_of_words, kind_of}
 use Rattle.kc_audit.specs.Words.{first_number, has_fields}
 use Rattle.kc_audit.specs.ReadBack.{pair_word, pair_words, run_kinds}
 use Rattle.kc_audit.specs.Printed.{IsSmall, AreSmall, Says, IsRefusedReason, direction_word, LinesSayKinds, SayAll, PrintedRunIsReadBack}

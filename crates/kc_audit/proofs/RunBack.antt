@@ -15,7 +15,7 @@ use Rattle.kc_audit.specs.declared.stage.Place.{Place}
 use Rattle.kc_audit.specs.declared.stage.Stage.{Stage}
 use Rattle.kc_audit.specs.declared.stage.Stage.TheVariants.{Batches, Groups, Readers, VertexLines}
 use Rattle.kc_audit.specs.Kinds.{Kind, Head, Vertices, Accepted, Refused, Phase, Group, Reader, Vertex, Close, InputEnd, kind_of}
-use Rattle.kc_audit.specs.Documents.{Document, Step, Goes, Ends, Stops, step_of, group_step, members_step, reader_step, replies_step, vertex_step, batches_step, readers_step, left_after, is_group, with_group, with_reader, act, read_from, empty_run, first_place, vertices_of, head_of, onward, after_head, document_of}
+use Rattle.kc_audit.specs.Documents.{Step, Goes, Ends, Stops, step_of, reader_step, vertex_step, batches_step, left_after, act, read_from, empty_run, first_place, after_head, document_of}
 use Rattle.kc_audit.specs.Documents as document
 use Rattle.kc_audit.specs.ReadBack.{pair_words, PhaseText, BatchText, Took, Left, group_kinds, batch_kinds, reader_kinds, vertex_kinds, GroupFits, GroupsFit, BatchesFit, ReaderFits, ReadersFit, batch_groups, RunIsReadBack}
 use Rattle.kc_audit.proofs.PairsBack.{pairs_back}

@@ -1,5 +1,5 @@
 -- A well-formed plan has at most as many groups, and each group at most as many moves, as there are vertices.
-use Rattle.std.proofs.Common.{ℕ, ◌+◌, ◌≤◌, ◌<◌, ◌≡◌, ◌≢◌, Bool, true, false, ◌||◌, List, [], ◌∷◌, Some, length, get_or, map, All, suc, zero, refl, sym, ap, ◌∙◌, subst, arith, eqb, ne_eqb}
+use Rattle.std.proofs.Common.{ℕ, ◌≤◌, ◌<◌, ◌≡◌, ◌≢◌, Bool, true, false, ◌||◌, List, [], ◌∷◌, Some, length, get_or, map, All, suc, zero, refl, sym, ap, ◌∙◌, subst, arith, eqb, ne_eqb}
 use Rattle.std.specs.List.{IsDistinct, AllByRecursion, list_any}
 use Rattle.std.proofs.lemmas.Bool.Decides.{nat_tests}
 use Rattle.std.proofs.lemmas.Map.Steps.{length-le_from_distinct_below}

@@ -1,5 +1,5 @@
 -- The counts and the meetings while vertices of a level begin to rise.
-use Rattle.std.proofs.Common.{ℕ, suc, ◌+◌, ◌≤◌, ◌<◌, ◌≡◌, ◌≢◌, inl, inr, Bool, true, false, cond, leb, ltb, eqb, ◌||◌, ◌&&◌, List, [], ◌∷◌, ◌++◌, length, get_or, set, drop, add-one, refl, ap, sym, ◌∙◌, arith, subst, append_assoc}
+use Rattle.std.proofs.Common.{ℕ, suc, ◌+◌, ◌*◌, ◌/◌, ◌≤◌, ◌<◌, ◌≡◌, ◌≢◌, inl, inr, Bool, true, false, cond, leb, ltb, eqb, ◌||◌, ◌&&◌, List, [], ◌∷◌, ◌++◌, length, get_or, set, drop, add-one, refl, ap, sym, ◌∙◌, arith, subst, append_assoc}
 use Rattle.std.specs.Prelude.{count_by, filter, not}
 use Rattle.std.proofs.Math.Seq.{drop-cons}
 use Rattle.std.proofs.lemmas.Bool.{cases_eq, cases_Bool, true≢false}
@@ -14,10 +14,10 @@ use Rattle.kc_levels.specs.LevelList.{at_least}
 use Rattle.kc_levels.specs.Following.{AreDistinct}
 use Rattle.kc_insert.specs.private.Meetings.{AreApart, IsMeeting, AreMeetings}
 use Rattle.kc_adj.specs.Degrees.{degrees}
-use Rattle.kc_insert.specs.private.Counting.{is_next, sees_unlisted, stood_above, IsNoting, AreBeginners, HasBegun, HaveBegun, meetings_on}
+use Rattle.kc_insert.specs.private.Counting.{is_next, sees_unlisted, stood_above, found_above, IsNoting, AreBeginners, HasBegun, HaveBegun, meetings_on}
 use Rattle.kc_insert.proofs.Flips.{count_agree, count_less}
 use Rattle.kc_insert.proofs.Buckets.{has_number-filter}
-use Rattle.kc_insert.proofs.Starting.{rises_filter, passes_at}
+use Rattle.kc_insert.proofs.Starting.{rises_filter, passes_at, length-with_levels, vertex_at, level_at}
 use Rattle.kc_insert.proofs.Arriving.{noting_anew, noting_then, noting_met, noting_other}
 
 -- all of `items` that are on the level l + 1 count one more, but for those in `rest`
@@ -124,6 +124,27 @@ stood_at g x l v i items graph is inside = rw is (here (rw is at inside))
           neighbour_below g.vertices v (get_or (stood_above g x l v) i 0) g.edges graph both.0,
           grind (arith, nat_tests, both.1),
         )
+
+-- what is found at two places that follow each other: who stood above the level, and where
+pub record IsFound (g : GraphShape) (x : List ℕ) (l v i : ℕ) (found : List ℕ) : Type 0 where
+  pub at : i < length (stood_above g x l v)
+  pub vertex : get_or found (2 * i) 0 ≡ get_or (stood_above g x l v) i 0
+  pub level : get_or found (2 * i + 1) 0 ≡ get_or x (get_or (stood_above g x l v) i 0) 0
+  pub low : get_or (stood_above g x l v) i 0 < g.vertices
+  pub above : l < get_or x (get_or (stood_above g x l v) i 0) 0
+
+pub is_found : (g : GraphShape) (x : List ℕ) (l v i : ℕ) (found : List ℕ) → IsGraph g → found ≡ found_above g x l v → i < length found / 2 → IsFound g x l v i found
+is_found g x l v i found graph is inside =
+    let long : length found ≡ 2 * length (stood_above g x l v) = ap length is ∙ length-with_levels x (stood_above g x l v) in
+    let at : i < length (stood_above g x l v) = omega (arith, long, inside) in
+    let there = stood_at g x l v i (stood_above g x l v) graph refl at in
+    record {
+      at = at;
+      vertex = ap (λ ws. get_or ws (2 * i) 0) is ∙ vertex_at x (stood_above g x l v) i;
+      level = ap (λ ws. get_or ws (2 * i + 1) 0) is ∙ level_at x (stood_above g x l v) i at;
+      low = there.0;
+      above = there.1;
+    }
 
 -- the step of a loop at place i
 module _ (g : GraphShape) (x : List ℕ) (l v most i : ℕ) (items before counts : List ℕ) (first queue : List (List ℕ)) (old new : List (List Pair)) (at : i < length items) (low : get_or items i 0 < g.vertices) (above : l < get_or x (get_or items i 0) 0) (s : IsBeginning g x l v most items (drop i items) before counts first queue old new) where

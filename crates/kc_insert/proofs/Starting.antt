@@ -1,15 +1,17 @@
--- Those of a list that pass a test, and where the pieces of a list of lists stand.
-use Rattle.std.proofs.Common.{ℕ, suc, zero, ◌+◌, ◌≤◌, ◌<◌, ◌≡◌, inl, inr, Bool, true, ◌&&◌, List, [], ◌∷◌, ◌++◌, length, get_or, map, take, drop, refl, ap, sym, ◌∙◌, arith}
+-- Those of a list that pass a test, some with their levels, and where the pieces of a list of lists stand.
+use Rattle.std.proofs.Common.{ℕ, suc, zero, ◌+◌, ◌≤◌, ◌<◌, ◌≡◌, inl, inr, Bool, true, cond, ◌&&◌, ◌*◌, List, [], ◌∷◌, ◌++◌, length, get_or, map, take, drop, add-one, append_assoc, refl, ap, sym, ◌∙◌, arith}
 use Rattle.std.specs.Prelude.{count_by, filter}
 use Rattle.std.specs.List.{flat_map}
-use Rattle.std.proofs.Math.Seq.{take-append_seam, drop-append-add}
+use Rattle.std.proofs.Math.Seq.{take-append_seam, drop-append-add, drop-cons}
 use Rattle.std.proofs.lemmas.List.{append-nil, drop_all, get_or-map, length-append, take_more}
 use Rattle.std.proofs.lemmas.Grind.{flat_map-append}
 use Rattle.std.proofs.lemmas.List.Folds.{length-flat_map-take}
 use Rattle.std.proofs.lemmas.Bool.{cases_Bool}
 use Rattle.std.proofs.lemmas.Bool.Decides.{nat_tests}
 use Rattle.kc_graph.specs.Numbers.{has_number, RisesFrom}
+use Rattle.kc_graph.proofs.lemmas.Counts.{count_by-cons}
 use Rattle.kc_graph.proofs.lemmas.Numbers.{rises_weaker, has_number_at}
+use Rattle.kc_insert.specs.private.Counting.{with_levels}
 use Rattle.kc_insert.proofs.Buckets.{has_number-filter}
 
 pub rises_filter : (p : ℕ → Bool) (low : ℕ) (ws : List ℕ) → RisesFrom low ws → RisesFrom low (filter p ws)
@@ -31,11 +33,54 @@ pub record IsLooking (p q : ℕ → Bool) (items rest : List ℕ) (count : ℕ) 
   pub counted : count + count_by p rest ≡ count_by p items
   pub kept : found ++ filter q rest ≡ old ++ filter q items
 
-pub looking_counted : (p q : ℕ → Bool) (i : ℕ) (items : List ℕ) (count : ℕ) (old found : List ℕ) → length items ≤ i → IsLooking p q items (drop i items) count old found → count ≡ count_by p items
-looking_counted p q i items count old found end s = none _ _ (rw (drop_all i items end) at s).counted
-  where
-    none : (a b : ℕ) → a + 0 ≡ b → a ≡ b
-    none a b e = omega (arith, e)
+-- of `items` those in `rest` are still to be looked at: who passes the first test is counted, who passes the second is kept, with its
+-- level behind it
+pub record IsLookingUp (p q : ℕ → Bool) (x items rest : List ℕ) (count : ℕ) (old found : List ℕ) : Type 0 where
+  pub counted : count + count_by p rest ≡ count_by p items
+  pub kept : found ++ with_levels x (filter q rest) ≡ old ++ with_levels x (filter q items)
+
+-- the step of a loop at place i
+module _ (p q : ℕ → Bool) (x items : List ℕ) (i count : ℕ) (old found : List ℕ) (at : i < length items) (s : IsLookingUp p q x items (drop i items) count old found) where
+  here : IsLookingUp p q x items (get_or items i 0 ∷ drop (suc i) items) count old found
+  here = rw (← drop-cons items i 0 at) s
+
+  pub looking_up_next : IsLookingUp p q x items (drop (i + 1) items) (count + cond (p (get_or items i 0)) 1 0) old (cond (q (get_or items i 0)) (found ++ get_or items i 0 ∷ get_or x (get_or items i 0) 0 ∷ []) found)
+  looking_up_next = rw (add-one i) (record {
+    counted = omega (arith, here.counted, count_by-cons p (get_or items i 0) (drop (suc i) items));
+    kept = elim (cases_Bool (q (get_or items i 0))) [
+      | inl passes ↦ rw passes (
+          append_assoc found (get_or items i 0 ∷ get_or x (get_or items i 0) 0 ∷ []) (with_levels x (filter q (drop (suc i) items)))
+          ∙ sym (ap (λ b. found ++ with_levels x (cond b (get_or items i 0 ∷ filter q (drop (suc i) items)) (filter q (drop (suc i) items)))) passes)
+          ∙ here.kept)
+      | inr fails ↦ rw fails (
+          sym (ap (λ b. found ++ with_levels x (cond b (get_or items i 0 ∷ filter q (drop (suc i) items)) (filter q (drop (suc i) items)))) fails)
+          ∙ here.kept)
+    ];
+  })
+
+-- at the end
+module _ (p q : ℕ → Bool) (x items : List ℕ) (i count : ℕ) (old found : List ℕ) (end : length items ≤ i) (s : IsLookingUp p q x items (drop i items) count old found) where
+  pub looked_up_counted : count ≡ count_by p items
+  looked_up_counted = omega (arith, (rw (drop_all i items end) at s).counted)
+
+-- what is at the places of a list with levels
+pub length-with_levels : (x ws : List ℕ) → length (with_levels x ws) ≡ 2 * length ws
+length-with_levels x [] = refl
+length-with_levels x (w ∷ ws) = omega (arith, length-with_levels x ws)
+
+pub vertex_at : (x ws : List ℕ) (i : ℕ) → get_or (with_levels x ws) (2 * i) 0 ≡ get_or ws i 0
+vertex_at x [] i = refl
+vertex_at x (w ∷ ws) zero = refl
+vertex_at x (w ∷ ws) (suc i) =
+    let twice : 2 * suc i ≡ suc (suc (2 * i)) = omega arith in
+    ap (λ k. get_or (w ∷ get_or x w 0 ∷ with_levels x ws) k 0) twice ∙ vertex_at x ws i
+
+pub level_at : (x ws : List ℕ) (i : ℕ) → i < length ws → get_or (with_levels x ws) (2 * i + 1) 0 ≡ get_or x (get_or ws i 0) 0
+level_at x [] i at = absurd (omega arith)
+level_at x (w ∷ ws) zero at = refl
+level_at x (w ∷ ws) (suc i) at =
+    let twice : 2 * suc i + 1 ≡ suc (suc (2 * i + 1)) = omega arith in
+    ap (λ k. get_or (w ∷ get_or x w 0 ∷ with_levels x ws) k 0) twice ∙ level_at x ws i (omega arith)
 
 -- what a function gives at the place i of a list, in the list of all that it gives, and where the next begins
 module _ (f : ℕ → List ℕ) where

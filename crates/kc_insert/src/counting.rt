@@ -4,21 +4,20 @@
 //! `Counting` of the definitions says who counts whom. What it calls x are the levels in `placed`, where a riser stands on its old
 //! level until it stays on a new one; what it calls z are those in `levels`, after the step.
 
-ghost use Rattle.std.specs.Prelude.{◌≡◌, ◌+◌, ◌<◌, ◌++◌, ◌∷◌, ◌==◌, ◌^◌, ◌||◌, Bool, ℕ, [], OnOk, cond, false, true, length, slice_index, slice_index_or, slice_set};
+ghost use Rattle.std.specs.Prelude.{◌≡◌, ◌+◌, ◌<◌, ◌++◌, ◌∷◌, ◌==◌, ◌^◌, ◌||◌, ◌≤◌, Bool, ℕ, [], OnOk, cond, false, true, length, slice_index, slice_index_or, slice_set, take};
 ghost use Rattle.kc_graph.specs.Numbers.{has_number};
 ghost use Rattle.kc_graph.specs.Shape.{IsGraph, neighbours_of, has_edge};
 ghost use Rattle.kc_insert.specs.private.Meetings.{AreApart, AreMeetings};
 ghost use Rattle.kc_insert.specs.private.Rising.{seen};
 ghost use Rattle.kc_insert.specs.private.Watched.{StayWatched};
 ghost use Rattle.kc_adj.specs.Degrees.{degrees};
-ghost use Rattle.kc_insert.specs.private.Counting.{goes_on, is_next, AreSeen, sees_met, sees_arrived, sees_unlisted, stood_above, MeetOn, IsNoting, AreBeginners, HasBegun, HaveBegun, meetings_on};
+ghost use Rattle.kc_insert.specs.private.Counting.{goes_on, is_next, AreSeen, sees_met, sees_arrived, sees_unlisted, found_above, MeetOn, IsNoting, AreBeginners, HasBegun, HaveBegun, meetings_on};
 
-use crate::ahead::look_at_levels;
 use crate::meetings::Meeting;
 use crate::placed::Placed;
 use crate::rising::RisingLevels;
 use crate::watched::WatchedCounts;
-use kc_adj::{LevelLists, Steps, put_where, run_of};
+use kc_adj::{LevelLists, Steps, run_of};
 use kc_rounds::{Gate, RoundGather, Rounds};
 use std::alloc::AllocError;
 use std::sync::ledger::Ledger;
@@ -116,24 +115,37 @@ pub fn come_up(step: &Step, counted: &mut Counted, meetings: &[Meeting]) -> Resu
     Ok(())
 }
 
+// Puts w and x behind the first `end` items, in place of what stood there, and gives where they end then: behind both if `holds`, else
+// before them. There is no branch (as in `put_where`, which puts one).
+fn put_both_where(items: &mut Vec<u32>, end: usize, w: u32, x: u32, holds: bool) -> usize
+    requires { end + 1 < length items.old.items }
+    ensures items { take result items.new.items ≡ cond holds (take end items.old.items ++ w ∷ x ∷ []) (take end items.old.items) }
+    ensures length { length items.new.items ≡ length items.old.items }
+    ensures end { result ≤ end + 2 }
+{
+    items[end] = w;
+    items[end + 1] = x;
+    end + 2 * usize::from(holds)
+}
+
 // What is gathered at a vertex that begins to rise from the level: how many of its neighbours are above the level, and which of
-// them stood there before the sweep.
+// them stood there before the sweep, each with the level where it stood.
 impl RoundGather for Step<'_> {
     ghost use Rattle.std.specs.Prelude.{◌≡◌, ◌+◌, ◌<◌, length};
     ghost use Rattle.kc_levels.specs.LevelList.{at_least};
-    ghost use Rattle.kc_insert.specs.private.Counting.{stood_above};
+    ghost use Rattle.kc_insert.specs.private.Counting.{found_above};
     ghost use Rattle.kc_insert.specs.private.Rising.{seen};
 
     ghost number = { λ step v. at_least step.placed.now.graph (seen step.levels.now) v (step.level + 1) };
 
-    ghost finds = { λ step v. stood_above step.placed.now.graph step.placed.now.levels step.level v };
+    ghost finds = { λ step v. found_above step.placed.now.graph step.placed.now.levels step.level v };
 
     ghost may_gather = { λ step v. (v < step.placed.now.graph.vertices) × (length (seen step.levels.now) ≡ step.placed.now.graph.vertices) × (step.level < step.levels.now.level) × (step.level < 65535) };
 
     fn room(&self, v: u32) -> usize {
         let graph = self.placed.graph();
         if graph.is_at_hand(v) {
-            graph.neighbours(v).len()
+            2 * graph.neighbours(v).len()
         } else {
             usize::MAX
         }
@@ -147,18 +159,20 @@ impl RoundGather for Step<'_> {
         let row = self.placed.graph().neighbours(v);
         let mut above = 0;
         let mut end = found.len();
-        found.resize(end + row.len(), 0)?;
+        found.resize(end + 2 * row.len(), 0)?;
         for w in row {
+            let stood = before[*w as usize];
             above += u32::from(now[*w as usize] > level);
-            end = put_where(found, end, *w, before[*w as usize] > level);
+            end = put_both_where(found, end, *w, u32::from(stood), stood > level);
         }
         found.truncate(end);
         Ok(above)
     }
 }
 
-// v begins to rise from the level: `own` of its neighbours are above the level now, and those in `above` stood there before. Of
-// these, who is on the next level counts one more, v's meetings with all of them are filed, and v counts afresh.
+// v begins to rise from the level: `own` of its neighbours are above the level now, and those in `above`, each with its level behind
+// it, stood there before. Of these, who is on the next level counts one more, v's meetings with all of them are filed, and v counts
+// afresh.
 fn begin_one(
     step: &Step,
     counted: &mut Counted,
@@ -171,7 +185,7 @@ fn begin_one(
     requires counts { length counted.old.watched.counts.items ≡ step.now.placed.now.graph.vertices }
     requires few { (u : ℕ) → u < step.now.placed.now.graph.vertices → slice_index step.now.placed.now.levels u ≡ step.now.level + 1 → slice_index counted.old.watched.counts.items u < step.now.placed.now.graph.vertices }
     requires begins { (v < step.now.placed.now.graph.vertices) × (slice_index step.now.placed.now.levels v ≡ step.now.level) }
-    requires above { above.now ≡ stood_above step.now.placed.now.graph step.now.placed.now.levels step.now.level v }
+    requires above { above.now ≡ found_above step.now.placed.now.graph step.now.placed.now.levels step.now.level v }
     requires room { step.now.level + 1 < length counted.old.queue }
     requires places { (u : ℕ) → u < step.now.placed.now.graph.vertices → slice_index step.now.placed.now.levels u < length meetings.old }
     requires noting { IsNoting step.now.placed.now.graph.vertices step.now.placed.now.levels (step.now.level + 1) step.now.most counted.old.watched.counts.items counted.old.queue counted.old.queue }
@@ -181,22 +195,17 @@ fn begin_one(
     ensures meetings { OnOk result ((k : ℕ) → slice_index_or meetings.new k [] ≡ slice_index_or meetings.old k [] ++ meetings_on step.now.placed.now.graph step.now.placed.now.levels step.now.level v k (neighbours_of v step.now.placed.now.graph.edges)) }
     ensures watched { OnOk result (StayWatched counted.old.watched counted.new.watched) }
 {
-    let placed = step.placed;
     let next = step.level + 1;
     let most = step.most;
-    let _n = placed.graph().vertices();
-    for w in above {
-        let other = placed.level(*w);
-        if other == next {
-            meet(counted, next, most, *w)?;
+    let _n = step.placed.graph().vertices();
+    let _places = meetings.count();
+    for i in 0..above.len() / 2 {
+        let w = above[2 * i];
+        let stood = above[2 * i + 1] as u16;
+        if stood == next {
+            meet(counted, next, most, w)?;
         }
-        meetings.file(
-            other,
-            Meeting {
-                riser: v,
-                other: *w,
-            },
-        )?;
+        meetings.file(stood, Meeting { riser: v, other: w })?;
     }
     counted.watched.put(v, own)?;
     Ok(())
@@ -234,11 +243,7 @@ pub fn begin<R: Threads + Sync, G: Gate + Sync, L: Ledger>(
     let _n = placed.graph().vertices();
     let gathered = rounds.gather(risers, step)?;
     let mut start = 0;
-    let mut looked = 0;
     for i in 0..risers.len() {
-        if looked <= start {
-            looked = look_at_levels(placed.levels(), step.level, &gathered.found, start);
-        }
         let v = risers[i];
         let own = gathered.numbers[i];
         let count = gathered.lengths[i];

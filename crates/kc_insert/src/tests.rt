@@ -116,7 +116,7 @@ fn levels_among_many(rt: HostRuntime) -> Result<(), Fail> {
 }
 
 #[test]
-fn levels_are_the_least(rt: HostRuntime) -> Result<(), Fail> {
+fn paths_and_stars(rt: HostRuntime) -> Result<(), Fail> {
     let path = [Edge { a: 0, b: 1 }, Edge { a: 1, b: 2 }];
     check(&rt, rt.alloc(), &path, &[1, 1, 1, 0, 0], 3)?;
     let star = [
@@ -126,6 +126,17 @@ fn levels_are_the_least(rt: HostRuntime) -> Result<(), Fail> {
         Edge { a: 0, b: 4 },
     ];
     check(&rt, rt.alloc(), &star, &[2, 1, 1, 1, 1], 5)?;
+    Ok(())
+}
+
+#[test]
+fn few_joined_each_with_each(rt: HostRuntime) -> Result<(), Fail> {
+    let three = [
+        Edge { a: 0, b: 1 },
+        Edge { a: 0, b: 2 },
+        Edge { a: 1, b: 2 },
+    ];
+    check(&rt, rt.alloc(), &three, &[1, 1, 1], 3)?;
     let four = [
         Edge { a: 0, b: 1 },
         Edge { a: 0, b: 2 },
@@ -135,6 +146,11 @@ fn levels_are_the_least(rt: HostRuntime) -> Result<(), Fail> {
         Edge { a: 2, b: 3 },
     ];
     check(&rt, rt.alloc(), &four, &[6, 6, 6, 6, 0], 4)?;
+    Ok(())
+}
+
+#[test]
+fn eight_joined_each_with_each(rt: HostRuntime) -> Result<(), Fail> {
     let eight = [
         Edge { a: 0, b: 1 },
         Edge { a: 0, b: 2 },
@@ -172,7 +188,12 @@ fn levels_are_the_least(rt: HostRuntime) -> Result<(), Fail> {
         &[19, 19, 19, 19, 19, 19, 19, 19],
         8,
     )?;
-    // A complete graph on four vertices, an edge beside it, and two vertices without neighbours.
+    Ok(())
+}
+
+// A complete graph on four vertices, an edge beside it, and two vertices without neighbours.
+#[test]
+fn what_lies_apart(rt: HostRuntime) -> Result<(), Fail> {
     let apart = [
         Edge { a: 0, b: 1 },
         Edge { a: 0, b: 2 },
@@ -183,15 +204,14 @@ fn levels_are_the_least(rt: HostRuntime) -> Result<(), Fail> {
         Edge { a: 5, b: 6 },
     ];
     check(&rt, rt.alloc(), &apart, &[7, 7, 7, 7, 0, 1, 1, 0], 6)?;
+    Ok(())
+}
+
+#[test]
+fn one_edge_and_none(rt: HostRuntime) -> Result<(), Fail> {
     check(&rt, rt.alloc(), &[], &[0], 0)?;
     check(&rt, rt.alloc(), &[], &[0, 0], 0)?;
     check(&rt, rt.alloc(), &[Edge { a: 0, b: 1 }], &[1, 1], 2)?;
-    let three = [
-        Edge { a: 0, b: 1 },
-        Edge { a: 0, b: 2 },
-        Edge { a: 1, b: 2 },
-    ];
-    check(&rt, rt.alloc(), &three, &[1, 1, 1], 3)?;
     Ok(())
 }
 

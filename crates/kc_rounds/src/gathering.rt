@@ -10,25 +10,25 @@ use std::thread::Threads;
 // The number of vertices for which room is made at once.
 const TOGETHER: usize = 16;
 
-/// What is gathered at a vertex, by several threads at once at several: a number and some vertices.
+/// What is gathered at a vertex, by several threads at once at several: a number, and a list of what is found there, such as vertices.
 pub trait RoundGather {
     /// The number at a vertex.
     ghost number: { Self → ℕ → ℕ };
 
-    /// The vertices that are found at a vertex.
+    /// What is found at a vertex.
     ghost finds: { Self → ℕ → List ℕ };
 
     /// At which vertices may be gathered.
     ghost may_gather: { Self → ℕ → Type 0 };
 
-    /// As many vertices as are found at `v`, or more. Is asked for 16 vertices together, before the first of them has its turn, so
+    /// The length of what is found at `v`, or more. Is asked for 16 vertices together, before the first of them has its turn, so
     /// that what it reads of them is at hand then.
     fn room(&self, v: u32) -> usize
         requires { may_gather self.now v }
         ensures { length (finds self.now v) ≤ result };
 
-    /// Puts the vertices that are found at `v` last in `found`, and gives the number. Fails only if memory runs out; what `found`
-    /// holds is then unspecified.
+    /// Puts what is found at `v` last in `found`, and gives the number. Fails only if memory runs out; what `found` holds is then
+    /// unspecified.
     fn gather(&self, v: u32, found: &mut Vec<u32>) -> Result<u32, AllocError>
         requires { may_gather self.now v }
         ensures number { IfOk result (λ k. k ≡ number self.now v) }
@@ -40,9 +40,9 @@ pub trait RoundGather {
 pub struct Gathered {
     /// The number at each.
     pub numbers: Vec<u32>,
-    /// How many vertices were found at each.
+    /// The length of what was found at each.
     pub lengths: Vec<usize>,
-    /// The vertices that were found, those at the first one first.
+    /// What was found, that at the first one first.
     pub found: Vec<u32>,
 }
 

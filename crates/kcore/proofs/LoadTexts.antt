@@ -2,14 +2,12 @@
 use Rattle.std.proofs.Common.{ℕ, ◌≡◌, ◌+◌, nat_lt, Bool, List, [], ◌∷◌, ◌++◌, length, refl, sym, ap, ◌∙◌, subst, append_assoc}
 use Rattle.std.proofs.lemmas.List.{length-map}
 use Rattle.std.proofs.lemmas.List.Sums.{sum_by-cons}
-use Rattle.std.specs.Prelude.{Option, Some, None, Result, Ok, Err, decimal, codes}
-use Rattle.std.specs.Option.{option_map}
+use Rattle.std.specs.Prelude.{Option, Some, None, Ok, Err, decimal, codes}
 use Rattle.kc_text.specs.Lines.{lines}
 use Rattle.kc_text.specs.Writing.{IsPrefix}
 use Rattle.kc_text.specs.Kept.{kept}
 use Rattle.kc_graph.specs.declared.limits.TheConstants.{MAX_ITEMS}
 use Rattle.kc_history.specs.declared.replies.Reply.{Reply}
-use Rattle.kc_history.specs.Replies.{vertices_of}
 use Rattle.kc_batch.specs.declared.ask.Ask.{Ask}
 use Rattle.kc_batch.specs.declared.token.Token.{Token}
 use Rattle.kc_batch.specs.declared.batch.Next.{Next}
@@ -21,7 +19,7 @@ use Rattle.kc_batch.specs.BatchInputs.{rules_of, behind_header}
 use Rattle.kc_batch.proofs.lemmas.Inputs.{batches_keep_ranges}
 use Rattle.kc_session.specs.declared.ended.Ended.{Ended}
 use Rattle.kc_session.specs.declared.fault.SessionFault.{SessionFault}
-use Rattle.kc_session.specs.States.{Step, start, AreSteps, last_state}
+use Rattle.kc_session.specs.States.{Step, start, last_state}
 use Rattle.kc_session.specs.Agents.{questions}
 use Rattle.kc_session.specs.Asking.{Fit}
 use Rattle.kc_session.specs.Counts.{capped, refused_in, all_groups, all_moves}
@@ -29,7 +27,6 @@ use Rattle.kc_session.specs.Ended.{IsEnded, replies_in, greatest}
 use Rattle.kc_session.specs.SessionText.{session_text, WroteSession, WritesSession}
 use Rattle.kc_session.proofs.lemmas.Runs.{sound_start, one_run}
 use Rattle.kcore.specs.declared.limits.TheConstants.{LINE_LIMIT, INPUT_LIMIT}
-use Rattle.kcore.specs.InputTexts.{IsTextOf}
 use Rattle.kcore.specs.private.InputTexts.{HasTexts}
 use Rattle.kcore.specs.LoadText.{load_line, IsLoadOf, IsLoadText}
 use Rattle.kcore.specs.private.Writing.{WritesAfter}

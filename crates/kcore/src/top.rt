@@ -52,8 +52,10 @@ fn status_of(ended: Result<bool, SessionFault>) -> Status
 /// its coreness likewise; on each line of a vertex it bounds the coreness that stands there.
 ///
 /// There is one text of `final`, the same for every number of workers. Where the header isn't refused it ends in the certificate of the
-/// last state, in which both invariants hold, and within the limit of an input `check` certifies it ([`laws`](crate::laws)). The text of `check` is one line: the verdict of the certificate that the bytes are (`IsVerdict` of `kc_cert`), or the first
-/// line that doesn't fit and why; it is refused where it isn't `certified`.
+/// last state, in which both invariants hold, and within the limit of an input `check` certifies it ([`laws`](crate::laws)).
+///
+/// The text of `check` is one line: the verdict of the certificate that the bytes are (`IsVerdict` of `kc_cert`), or the first line
+/// that doesn't fit and why; it is refused where it isn't `certified`.
 ///
 /// The text of `audit` is one line too: whether the group lines of the run that the bytes are explain its readers (`IsVerdict` of
 /// `kc_audit`), or the first line that doesn't fit and why; it is refused where it isn't `explained`. What `run` writes is

@@ -46,6 +46,15 @@ sees_unlisted z l rest w u = nat_le (l + 1) (get_or z u 0) && not (has_number u 
 abbrev pub stood_above : GraphShape → List ℕ → ℕ → ℕ → List ℕ
 stood_above g x l v = filter (λ w. nat_lt l (get_or x w 0)) (neighbours_of v g.edges)
 
+-- each of the vertices, and behind it its level
+abbrev pub with_levels : List ℕ → List ℕ → List ℕ
+with_levels x [] = []
+with_levels x (w ∷ ws) = w ∷ get_or x w 0 ∷ with_levels x ws
+
+-- those neighbours, each with its level behind it
+abbrev pub found_above : GraphShape → List ℕ → ℕ → ℕ → List ℕ
+found_above g x l v = with_levels x (stood_above g x l v)
+
 -- one less for each neighbour of v in question
 pub record AreLess (g : GraphShape) (asked : ℕ → Bool) (v : ℕ) (before counts : List ℕ) : Type 0 where
   pub sized : length counts ≡ g.vertices

@@ -4,7 +4,7 @@ use Rattle.std.proofs.lemmas.Grind.{get_or_default_zero}
 use Rattle.kc_graph.specs.Shape.{neighbours_of}
 use Rattle.kc_graph.proofs.lemmas.Numbers.{has_number_at}
 use Rattle.kc_levels.specs.LevelList.{at_least}
-use Rattle.kc_insert.specs.private.Counting.{stood_above, HasBegun}
+use Rattle.kc_insert.specs.private.Counting.{found_above, HasBegun}
 use Rattle.kc_insert.specs.private.Rising.{seen}
 use Rattle.kc_insert.proofs.Starting.{piece_next, piece_within, piece_at, mapped_at}
 use Rattle.kc_insert.proofs.Beginning.{few_unlisted, riser_at, noting_at, degrees_next, are_beginning_next, have_begun, have_filed}
@@ -16,9 +16,9 @@ gather-requires-after_bounds g c κs within k d at = rw (get_or_default_zero c.a
 
 pub run_of-above-requires : goal.run_of-above-requires
 run_of-above-requires g c =
-    let all : length c.deref.result.now ≡ length (flat_map (stood_above c.args.step.now.placed.now.graph c.args.step.now.placed.now.levels c.args.step.now.level) c.args.risers.now) = ap length (c.deref.ensures.value ∙ c.in_ok-gathered.ensures.found) in
-    let count : c.index-count.result.now ≡ length (stood_above c.args.step.now.placed.now.graph c.args.step.now.placed.now.levels c.args.step.now.level (get_or c.args.risers.now c.loop-i.i 0)) = mapped_at _ _ _ _ _ c.in_ok-gathered.ensures.lengths c.loop-i-test.true c.index-count.ensures in
-    omega (arith, all, count, c.loop-i.invariant.1, piece_within (stood_above c.args.step.now.placed.now.graph c.args.step.now.placed.now.levels c.args.step.now.level) c.args.risers.now c.loop-i.i c.loop-i-test.true)
+    let all : length c.deref.result.now ≡ length (flat_map (found_above c.args.step.now.placed.now.graph c.args.step.now.placed.now.levels c.args.step.now.level) c.args.risers.now) = ap length (c.deref.ensures.value ∙ c.in_ok-gathered.ensures.found) in
+    let count : c.index-count.result.now ≡ length (found_above c.args.step.now.placed.now.graph c.args.step.now.placed.now.levels c.args.step.now.level (get_or c.args.risers.now c.loop-i.i 0)) = mapped_at _ _ _ _ _ c.in_ok-gathered.ensures.lengths c.loop-i-test.true c.index-count.ensures in
+    omega (arith, all, count, c.loop-i.invariant.1, piece_within (found_above c.args.step.now.placed.now.graph c.args.step.now.placed.now.levels c.args.step.now.level) c.args.risers.now c.loop-i.i c.loop-i-test.true)
 
 pub begin_one-requires-clause-few : goal.begin_one-requires-clause-few
 begin_one-requires-clause-few g c =
@@ -37,7 +37,7 @@ begin_one-requires-clause-noting g c =
 
 pub begin_one-requires-clause-above : goal.begin_one-requires-clause-above
 begin_one-requires-clause-above g c =
-    let f = stood_above c.args.step.now.placed.now.graph c.args.step.now.placed.now.levels c.args.step.now.level in
+    let f = found_above c.args.step.now.placed.now.graph c.args.step.now.placed.now.levels c.args.step.now.level in
     let count : c.index-count.result.now ≡ length (f (get_or c.args.risers.now c.loop-i.i 0)) = mapped_at _ _ _ _ _ c.in_ok-gathered.ensures.lengths c.loop-i-test.true c.index-count.ensures in
     let found : c.deref.result.now ≡ flat_map f c.args.risers.now = c.deref.ensures.value ∙ c.in_ok-gathered.ensures.found in
     c.run_of-above.ensures
@@ -48,9 +48,9 @@ begin_one-requires-clause-above g c =
 
 pub overflow_add-start : goal.overflow_add-start
 overflow_add-start g c =
-    let all : length c.deref.result.now ≡ length (flat_map (stood_above c.args.step.now.placed.now.graph c.args.step.now.placed.now.levels c.args.step.now.level) c.args.risers.now) = ap length (c.deref.ensures.value ∙ c.in_ok-gathered.ensures.found) in
-    let count : c.index-count.result.now ≡ length (stood_above c.args.step.now.placed.now.graph c.args.step.now.placed.now.levels c.args.step.now.level (get_or c.args.risers.now c.loop-i.i 0)) = mapped_at _ _ _ _ _ c.in_ok-gathered.ensures.lengths c.loop-i-test.true c.index-count.ensures in
-    omega (arith, all, count, c.loop-i.invariant.1, c.deref.type_inv.0, piece_within (stood_above c.args.step.now.placed.now.graph c.args.step.now.placed.now.levels c.args.step.now.level) c.args.risers.now c.loop-i.i c.loop-i-test.true)
+    let all : length c.deref.result.now ≡ length (flat_map (found_above c.args.step.now.placed.now.graph c.args.step.now.placed.now.levels c.args.step.now.level) c.args.risers.now) = ap length (c.deref.ensures.value ∙ c.in_ok-gathered.ensures.found) in
+    let count : c.index-count.result.now ≡ length (found_above c.args.step.now.placed.now.graph c.args.step.now.placed.now.levels c.args.step.now.level (get_or c.args.risers.now c.loop-i.i 0)) = mapped_at _ _ _ _ _ c.in_ok-gathered.ensures.lengths c.loop-i-test.true c.index-count.ensures in
+    omega (arith, all, count, c.loop-i.invariant.1, c.deref.type_inv.0, piece_within (found_above c.args.step.now.placed.now.graph c.args.step.now.placed.now.levels c.args.step.now.level) c.args.risers.now c.loop-i.i c.loop-i-test.true)
 
 pub neighbours-requires : goal.neighbours-requires
 neighbours-requires g c = rw c.graph-in-loop-i.ensures (c.requires.risers.vertex _ (has_number_at _ c.args.risers.now c.loop-i.i c.loop-i-test.true refl))
@@ -58,7 +58,7 @@ neighbours-requires g c = rw c.graph-in-loop-i.ensures (c.requires.risers.vertex
 pub loop-i-preserved : goal.loop-i-preserved
 loop-i-preserved g c =
     let graph = rw c.graph.ensures at c.vertices-n.ensures.graph in
-    let f = stood_above c.args.step.now.placed.now.graph c.args.step.now.placed.now.levels c.args.step.now.level in
+    let f = found_above c.args.step.now.placed.now.graph c.args.step.now.placed.now.levels c.args.step.now.level in
     let count : c.index-count.result.now ≡ length (f (get_or c.args.risers.now c.loop-i.i 0)) = mapped_at _ _ _ _ _ c.in_ok-gathered.ensures.lengths c.loop-i-test.true c.index-count.ensures in
     let own : c.index-own.result.now ≡ at_least c.args.step.now.placed.now.graph (seen c.args.step.now.levels.now) (get_or c.args.risers.now c.loop-i.i 0) (c.args.step.now.level + 1) = mapped_at _ _ _ _ _ c.in_ok-gathered.ensures.numbers c.loop-i-test.true c.index-own.ensures in
     let begun : HasBegun c.args.step.now.placed.now.graph c.args.step.now.placed.now.levels c.args.step.now.level (get_or c.args.risers.now c.loop-i.i 0) (at_least c.args.step.now.placed.now.graph (seen c.args.step.now.levels.now) (get_or c.args.risers.now c.loop-i.i 0) (c.args.step.now.level + 1)) c.loop-i.counted.watched.counts.items c.begin_one.new.counted.watched.counts.items = rw (← own) c.in_ok-begin_one.ensures.begun in

@@ -2,7 +2,6 @@ use Rattle.std.proofs.Common.{ℕ, suc, ◌≡◌, ◌-◌, ◌<◌, length, get
 use Rattle.std.proofs.lemmas.List.{get_or_read}
 use Rattle.kc_orient.proofs.Coloured.{IsColouringLevel, stamp_is_fresh, level_more}
 use Rattle.kc_orient.proofs.colouring.colour_level.Goals as goal
-use Rattle.kc_orient.proofs.colouring.colour_level.Goals.{After-least_free-arg-1}
 
 pub least_free-requires-clause-below : goal.least_free-requires-clause-below
 least_free-requires-clause-below c = rw c.deref.ensures.value (λ k d h.

@@ -4,7 +4,7 @@ use Rattle.kc_orient.specs.Shape.{out_neighbours}
 use Rattle.kc_orient.proofs.Arcs.{arcs-below}
 use Rattle.kc_orient.proofs.Filling.{IsFilling, filling_first, filling_more, filled_shape, filled_kept}
 use Rattle.kc_orient.proofs.orienting.orient.Goals as goal
-use Rattle.kc_orient.proofs.orienting.orient.Goals.{After-len, In_ok-push-2, In_ok-copy}
+use Rattle.kc_orient.proofs.orienting.orient.Goals.{In_ok-copy}
 
 pub loop-v-init : goal.loop-v-init
 loop-v-init c = rw (c.in_ok-push.ensures.items, c.in_ok-starts.ensures.items, c.in_ok-heads.ensures.items) (filling_first c.args.graph.now c.args.levels.now)

@@ -1,4 +1,4 @@
-use Rattle.std.proofs.Common.{◌≡◌, ◌∙◌, false, get_or, ap, arith}
+use Rattle.std.proofs.Common.{◌≡◌, false, get_or, ap, arith}
 use Rattle.std.proofs.lemmas.List.{get_or_read}
 use Rattle.std.proofs.lemmas.List.Elements.{All-from_get_or}
 use Rattle.kc_graph.specs.Shape.{Pair, has_edge}
