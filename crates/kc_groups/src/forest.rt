@@ -5,7 +5,7 @@ ghost use Rattle.kc_groups.specs.private.Gathering.{AreLinks};
 
 use kc_graph::Edge;
 
-// The root of a place. What is passed on the way points further up afterwards.
+// The root of a place. Every second place on the way points to where its parent points, afterwards.
 fn find(parents: &mut Vec<u32>, place: u32) -> u32
     requires inside { place < length parents.old.items }
     requires forest { (roots : List ℕ) × IsForest parents.old.items roots }

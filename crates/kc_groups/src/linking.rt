@@ -24,7 +24,7 @@ pub(crate) fn lone_places(alloc: Global, m: u32) -> Result<Vec<u32>, AllocError>
 // The number of moves whose rows are looked at together.
 const TOGETHER: u32 = 16;
 
-// Whether the rows of the vertices of the moves from this place on are at hand, which they are after a look at each.
+// Whether the rows of the vertices of the 16 moves from this place on are at hand, which they are after a look at each.
 fn are_at_hand(graph: &Graph, moves: &[Move], place: u32) -> bool
     requires { place ≤ length moves.now }
     ensures { result ≡ true }
@@ -38,7 +38,7 @@ fn are_at_hand(graph: &Graph, moves: &[Move], place: u32) -> bool
     true
 }
 
-// The vertex of the move at `place`. Before the first of 16 has its turn, the rows of the 16 are looked at together.
+// The vertex of the move at `place`. Before a place that 16 divides has its turn, its row and the next 15 are looked at together.
 fn vertex_in_turn(graph: &Graph, moves: &[Move], place: u32) -> u32
     requires { place < length moves.now }
     ensures { result ≡ slice_index (vertices moves.now) place }
@@ -49,8 +49,8 @@ fn vertex_in_turn(graph: &Graph, moves: &[Move], place: u32) -> u32
     moves[place as usize].vertex
 }
 
-// The place of w, a neighbour of the vertex v of the move at `place`, if w is less than v, and else `place`. So it is less than that
-// only where w moves and has a lesser place: greater vertices have none, since the vertices of the moves ascend.
+// The place of w, a neighbour of the vertex v of the move at `place`, if w is less than v, and else `place`. So it is less than
+// `place` only where w moves and has a lesser place: no greater vertex has one, since the vertices of the moves ascend.
 fn place_below(places: &[u32], v: u32, w: u32, place: u32) -> u32
     requires { w < length places.now }
     ensures { result ≡ cond (nat_lt w v) (slice_index places.now w) place }
@@ -93,8 +93,7 @@ pub(crate) fn link_rows(
     Ok(parents)
 }
 
-// Puts the links of the move at `place` to those of its neighbours at lesser places behind those that there are (as `link_row` joins
-// them).
+// Adds to the links those of the move at `place` to its neighbours at lesser places, which `link_row` joins.
 fn find_links(
     graph: &Graph,
     moves: &[Move],
@@ -116,7 +115,7 @@ fn find_links(
     Ok(())
 }
 
-// The links of the moves from place `from` to place `to` to those of their neighbours at lesser places.
+// The links to lesser places of the moves from place `from` on, before place `to`.
 pub(crate) fn links_between(
     alloc: Global,
     graph: &Graph,

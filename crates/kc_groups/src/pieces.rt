@@ -36,7 +36,7 @@ pub(crate) fn piece_count(workers: u32, moves: usize) -> u32
     long.max(1)
 }
 
-// The links of the moves at this place and, to the length of the piece, the next ones.
+// The links to lesser places of as many moves as the piece has, from place `start` on.
 fn links_of(
     alloc: Global,
     graph: &Graph,

@@ -91,8 +91,8 @@ pub(crate) fn plan_in_pieces<R: Threads + Sync>(
 ///
 /// Looks only at the vertices that move, their neighbours and the edges of the phase, whatever the number of vertices. To the
 /// neighbours go threads: the moves are cut into as many pieces as there are workers, but no more than they have full 8,192s; the rest
-/// is one thread's. Takes 4 bytes a move besides the plan, and where there are pieces 8 bytes for each link between two moves. The
-/// plan doesn't depend on the workers.
+/// is one thread's. Takes 4 bytes a move besides the plan, and where there are pieces 8 bytes, or up to twice that, for each link between
+/// two moves. The plan doesn't depend on the workers.
 ///
 /// The workspace is clean before and afterwards. Fails only if memory runs out; the workspace is then of no further use.
 pub fn plan_moves<R: Threads + Sync>(

@@ -67,7 +67,7 @@ pub(crate) fn label(moves: &[Move], parents: &[u32], places: &mut Vec<u32>)
     }
 }
 
-// Takes the numbers of the vertices that move away.
+// Gives each vertex that moves the number of vertices again, as where nothing moves.
 pub(crate) fn clear(moves: &[Move], places: &mut Vec<u32>)
     requires few { length places.old.items ≤ MAX_VERTICES }
     requires order { AreInOrder (length places.old.items) moves.now }

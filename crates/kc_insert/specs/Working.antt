@@ -5,8 +5,8 @@ use Rattle.kc_levels.specs.declared.profile.Profile.{Profile}
 use Rattle.kc_levels.specs.Thresholds.{top_level}
 use Rattle.kc_adj.specs.LeveledGraph.{LeveledGraph, IsCounted}
 
--- what contracts see of an `InsertionWork`: the levels on which the vertices are put; the levels and the counts of a sweep, who came to
--- its level and who rose; those who wait, and the meetings, by level
+-- what contracts see of an `InsertionWork`: the levels on which the vertices are put; the levels and the counts of a sweep, who began
+-- to rise and who rose; those who wait, and the meetings, by level
 pub record Working : Type 0 where
   pub placed : List ℕ
   pub levels : List ℕ

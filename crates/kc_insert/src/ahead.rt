@@ -1,8 +1,8 @@
 //! Looks ahead: at what a loop comes to next, many at a time, where it lies anywhere in memory. So a processor fetches several at once,
 //! and takes little longer than for one.
 //!
-//! What is looked for holds each time, which no contract says and the compiler doesn't know, so that it leaves no look out. Where it
-//! doesn't hold, no more looks are made; no other answer depends on them.
+//! Each look tests what holds each time, which no contract says and the compiler doesn't know, so that it leaves no look out. Where it
+//! didn't hold, no more looks would be made; no other answer depends on them.
 
 ghost use Rattle.std.specs.Prelude.{◌≤◌};
 
@@ -30,8 +30,9 @@ fn is_no_less(counts: &[u32], fresh: &[u32], v: u32) -> bool {
     }
 }
 
-/// Looks at the counts of the greater ends of the next of these edges, none of which are less now than before, from a place on. Gives
-/// the place at which to look again: behind those that were looked at, or the end of the list where no more looks are to be made.
+/// Looks at the counts of the greater ends of the next 256 of these edges, from a place on; none is less in `fresh` than in `counts`,
+/// since edges only came in. Gives the place at which to look again: behind those that were looked at, or the end of the list where no
+/// more looks are to be made.
 pub fn look_at_counts(counts: &Vec<u32>, fresh: &[u32], edges: &[Edge], from: usize) -> usize {
     if fresh.len() < LEAST_FAR {
         return edges.len();

@@ -89,7 +89,7 @@ fn meet(counted: &mut Counted, level: u16, most: u32, w: u32) -> Result<(), Allo
 }
 
 /// For each meeting on the next level: where the riser came up to it, the other counts one more, and waits where it has more than
-/// it may.
+/// it may. Fails only if memory runs out.
 pub fn come_up(step: &Step, counted: &mut Counted, meetings: &[Meeting]) -> Result<(), AllocError>
     requires small { step.now.level < 65535 }
     requires sized { length (seen step.now.levels.now) ≡ step.now.placed.now.graph.vertices }
@@ -116,9 +116,10 @@ pub fn come_up(step: &Step, counted: &mut Counted, meetings: &[Meeting]) -> Resu
 }
 
 // Puts w and x behind the first `end` items, in place of what stood there, and gives where they end then: behind both if `holds`, else
-// before them. There is no branch (as in `put_where`, which puts one).
+// before them. All other items stay. There is no branch (as in `put_where`, which puts one).
 fn put_both_where(items: &mut Vec<u32>, end: usize, w: u32, x: u32, holds: bool) -> usize
     requires { end + 1 < length items.old.items }
+    ensures written { items.new.items ≡ slice_set (slice_set items.old.items end w) (end + 1) x }
     ensures items { take result items.new.items ≡ cond holds (take end items.old.items ++ w ∷ x ∷ []) (take end items.old.items) }
     ensures length { length items.new.items ≡ length items.old.items }
     ensures end { result ≤ end + 2 }
@@ -171,8 +172,8 @@ impl RoundGather for Step<'_> {
 }
 
 // v begins to rise from the level: `own` of its neighbours are above the level now, and those in `above`, each with its level behind
-// it, stood there before. Of these, who is on the next level counts one more, v's meetings with all of them are filed, and v counts
-// afresh.
+// it, stood there before. Of these, who is on the next level counts one more, and waits where that is too many, v's meetings with all
+// of them are filed, and v counts afresh. Fails only if memory runs out.
 fn begin_one(
     step: &Step,
     counted: &mut Counted,
@@ -215,7 +216,7 @@ fn begin_one(
 /// the next level count one more each and wait where they have more than they may, and the meetings to come are filed.
 ///
 /// First their neighbours are passed over, by threads where the list is long (`Rounds::gather`); then what was found is written
-/// down.
+/// down. Fails only if memory runs out.
 pub fn begin<R: Threads + Sync, G: Gate + Sync, L: Ledger>(
     rounds: &Rounds<R, G>,
     step: &Step,

@@ -377,7 +377,7 @@ fn settle_all(levels: &mut RisingLevels, risers: &[u32])
     }
 }
 
-// Goes on to the first level where somebody may have to rise: stays where somebody rises.
+// Goes on to the first level where somebody may have to rise: stays where the list of those who began isn't empty.
 fn go_on(sweep: &mut Sweep)
     requires kept { AreKept sweep.old }
     requires within { sweep.old.levels.level ≤ length sweep.old.counted.queue }

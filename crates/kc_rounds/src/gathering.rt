@@ -10,7 +10,8 @@ use std::thread::Threads;
 // The number of vertices for which room is made at once.
 const TOGETHER: usize = 16;
 
-/// What is gathered at a vertex, by several threads at once at several: a number, and a list of what is found there, such as vertices.
+/// What is gathered at a vertex, by several threads, each at other vertices: a number, and a list of what is found there, such as
+/// vertices.
 pub trait RoundGather {
     /// The number at a vertex.
     ghost number: { Self → ℕ → ℕ };
@@ -18,11 +19,11 @@ pub trait RoundGather {
     /// What is found at a vertex.
     ghost finds: { Self → ℕ → List ℕ };
 
-    /// At which vertices may be gathered.
+    /// Which vertices may be gathered at.
     ghost may_gather: { Self → ℕ → Type 0 };
 
-    /// The length of what is found at `v`, or more. Is asked for 16 vertices together, before the first of them has its turn, so
-    /// that what it reads of them is at hand then.
+    /// The length of what is found at `v`, or more; all of it is reserved, so it isn't to be far more. It is asked for 16 vertices
+    /// together, before the first of them has its turn, so that what it reads of them is at hand then.
     fn room(&self, v: u32) -> usize
         requires { may_gather self.now v }
         ensures { length (finds self.now v) ≤ result };
@@ -46,7 +47,7 @@ pub struct Gathered {
     pub found: Vec<u32>,
 }
 
-// Room for what is found at the first vertices.
+// Room for what is found at the first 16 vertices.
 fn room_for<F: RoundGather>(vertices: &[u32], what: &F) -> usize
     requires { All (F.may_gather what.now) vertices.now }
 {
@@ -86,12 +87,12 @@ fn gather_piece<F: RoundGather>(
 
 /// What is gathered at each of the vertices, in order, whatever the number of workers.
 ///
-/// `workers` is 1 to 64, and at each vertex may be gathered. They are cut into pieces of their number divided by `workers`,
+/// `workers` is 1 to 64, and each vertex may be gathered at. They are cut into pieces of their number divided by `workers`,
 /// rounded up, and each piece goes to a thread of its own where one can be made; with one worker no thread is started. No gate
 /// is told.
 ///
-/// Gathers once at each vertex. Takes memory for the answer, and with more than one worker for one answer of each piece besides.
-/// Fails only if memory runs out.
+/// Gathers once at each vertex. Takes memory for the answer and, in each piece, for the room of 16 vertices, and with more than one
+/// worker for one answer of each piece besides. Fails only if memory runs out.
 pub fn gather_round<R: Threads + Sync, F: RoundGather + Sync>(
     rt: &R,
     alloc: Global,

@@ -11,7 +11,7 @@ use std::thread::Threads;
 // to join it costs as much as some tens of thousands of tests.
 const LEAST_TESTS: usize = 131_072;
 
-// The like for a list at whose vertices is gathered: that is a pass over neighbours, and costs far more than a test.
+// The like for a list whose vertices are gathered at: that is a pass over neighbours, and costs far more than a test.
 const LEAST_GATHERED: usize = 2_048;
 
 /// Whether a first round is still to come.
@@ -112,7 +112,8 @@ impl<'a, R: Threads + Sync, G: Gate + Sync> Rounds<'a, R, G> {
     }
 
     /// What is gathered at each of the vertices, in order (`AreGathered`). The list is cut into no more pieces than there are
-    /// workers, and no more than it has full 2,048s; a shorter list goes to one. No gate is told. Fails only if memory runs out.
+    /// workers, and no more than it has full 2,048s, so one of fewer than 4,096 goes to one worker. No gate is told. Fails only if
+    /// memory runs out.
     pub fn gather<F: RoundGather + Sync>(
         &self,
         vertices: &[u32],

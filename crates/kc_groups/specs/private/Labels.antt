@@ -1,4 +1,4 @@
--- What flooding from the least vertex of each group keeps.
+-- What the labels of vertices that move keep.
 use Rattle.std.specs.Prelude.{ℕ, ◌≤◌, ◌<◌, ◌≡◌, Bool, true, false, List, length, get_or}
 use Rattle.kc_graph.specs.Shape.{GraphShape}
 use Rattle.kc_groups.specs.Links.{AreLinked, Path}

@@ -51,7 +51,7 @@ abbrev pub with_levels : List ℕ → List ℕ → List ℕ
 with_levels x [] = []
 with_levels x (w ∷ ws) = w ∷ get_or x w 0 ∷ with_levels x ws
 
--- those neighbours, each with its level behind it
+-- the neighbours of v that stood above level l before the sweep, each with its level behind it
 abbrev pub found_above : GraphShape → List ℕ → ℕ → ℕ → List ℕ
 found_above g x l v = with_levels x (stood_above g x l v)
 
