@@ -11,6 +11,7 @@ mod RaisedLaw
 mod Lowering
 mod LoweredLaw
 mod BothKept
+mod InsertionLaw
 mod BetweenLaw
 mod FitLaws
 mod SweepLaw

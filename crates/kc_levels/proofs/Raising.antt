@@ -1,19 +1,18 @@
 -- Raising: what a rise keeps, whatever the order of the rises, and that it leads to the one raised list.
-use Rattle.std.proofs.Common.{ℕ, ◌+◌, ◌-◌, ◌*◌, ◌≤◌, ◌<◌, ◌≡◌, ◌≢◌, ◌⊎◌, inl, inr, true, List, [], length, get_or, set, ap, sym, ◌∙◌, arith, sum}
+use Rattle.std.proofs.Common.{ℕ, ◌+◌, ◌-◌, ◌*◌, ◌≤◌, ◌<◌, ◌≡◌, ◌⊎◌, inl, inr, List, length, get_or, set, ap, sym, ◌∙◌, arith, sum}
 use Rattle.std.proofs.lemmas.Bool.{cases_lt}
 use Rattle.std.proofs.lemmas.List.{length-set}
 use Rattle.std.proofs.lemmas.List.Elements.{All-set, All-from_get_or}
 use Rattle.std.proofs.lemmas.List.Sums.{sum_by-set, sum_by-le}
 use Rattle.std.proofs.lemmas.Grind.{same_number_lists}
-use Rattle.kc_graph.specs.Numbers.{has_number}
-use Rattle.kc_graph.specs.Shape.{GraphShape, IsGraph, neighbours_of}
+use Rattle.kc_graph.specs.Shape.{GraphShape, IsGraph}
 use Rattle.kc_levels.specs.declared.profile.Profile.{Profile}
 use Rattle.kc_levels.specs.Thresholds.{high, top_level, group_of, last_group}
 use Rattle.kc_levels.specs.LevelList.{at_least, MeetsUpper, IsCapped, IsRaisable, IsRaised}
 use Rattle.kc_levels.specs.private.LevelList.{IsRaising}
 use Rattle.kc_levels.proofs.Groups.{group_of-top, high-last_group}
 use Rattle.kc_levels.proofs.Places.{changed}
-use Rattle.kc_levels.proofs.AtLeast.{at_least-mono, at_least-few, at_least-kept}
+use Rattle.kc_levels.proofs.AtLeast.{at_least-mono, at_least-few}
 
 -- the last group allows every number of neighbours that there may be
 pub top_allows : (p : Profile) (n l count : ℕ) → l ≡ top_level p n → count < n → count ≤ high p (group_of p n l)
@@ -37,11 +36,6 @@ breach_below_top p g x v graph h capped breach = elim (cases_lt (get_or x v 0) (
   | inl lt ↦ lt
   | inr ge ↦ absurd (breach (top_meets_upper p g x v graph h (omega arith)))
 ]
-
--- in a graph without edges no vertex breaks Upper
-pub no_edges_meets_upper : (p : Profile) (g : GraphShape) (x : List ℕ) (v : ℕ) → g.edges ≡ [] → MeetsUpper p g x v
-unfolding at_least
-no_edges_meets_upper p g x v none = rw none (omega arith)
 
 -- the list that raising begins with
 pub raising_first : (p : Profile) (g : GraphShape) (x : List ℕ) → length x ≡ g.vertices → IsCapped p g.vertices x → IsRaising p g x x
@@ -119,9 +113,3 @@ pub room_falls : (p : Profile) (g : GraphShape) (x y : List ℕ) (v : ℕ) → I
 room_falls p g x y v graph r h breach =
     let left = rises_left g.vertices (top_level p g.vertices) y v r.sized r.capped h (breach_below_top p g y v graph h (r.capped v h) breach) in
     omega arith
-
--- where v rises by one level, a neighbour that is not on the new level breaks nothing by it
-pub upper_kept : (p : Profile) (g : GraphShape) (y : List ℕ) (u v : ℕ) → IsGraph g → v < length y → has_number u (neighbours_of v g.edges) ≡ true → get_or y u 0 ≢ get_or y v 0 + 1 → MeetsUpper p g y u → at_least g (set y v (get_or y v 0 + 1)) u (get_or y u 0) ≤ high p (group_of p g.vertices (get_or y u 0))
-upper_kept p g y u v graph inside near ne meets =
-    let side : (get_or y u 0 ≤ get_or y v 0) × (get_or y u 0 ≤ get_or y v 0 + 1) ⊎ (get_or y v 0 < get_or y u 0) × (get_or y v 0 + 1 < get_or y u 0) = elim (cases_lt (get_or y v 0) (get_or y u 0)) [ inl lt ↦ inr (lt, omega arith) | inr ge ↦ inl (ge, omega arith) ] in
-    omega (arith, meets, at_least-kept g y u v (get_or y v 0 + 1) (get_or y u 0) graph inside near side)

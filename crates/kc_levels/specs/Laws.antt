@@ -1,7 +1,7 @@
 -- Laws of the thresholds and of raised and lowered lists, each the contract of a function of `laws`.
-use Rattle.std.specs.Prelude.{ℕ, ◌+◌, ◌-◌, ◌*◌, ◌≤◌, ◌<◌, ◌≡◌, List, [], ◌∷◌, length, min, max, map, replicate, All}
+use Rattle.std.specs.Prelude.{ℕ, ◌+◌, ◌-◌, ◌*◌, ◌≤◌, ◌<◌, ◌≡◌, true, List, [], ◌∷◌, length, min, max, map, replicate, All}
 use Rattle.kc_graph.specs.declared.limits.TheConstants.{MAX_VERTICES}
-use Rattle.kc_graph.specs.Shape.{GraphShape, Pair, IsGraph, with_edges, without_edges}
+use Rattle.kc_graph.specs.Shape.{GraphShape, Pair, IsGraph, has_edge, with_edges, without_edges}
 use Rattle.kc_levels.specs.declared.profile.Profile.{Profile}
 use Rattle.kc_levels.specs.declared.profile.Profile.TheVariants.{One, Two}
 use Rattle.kc_levels.specs.Thresholds.{low, high, grow, lo, est, height, last_group, top_level}
@@ -62,6 +62,14 @@ abbrev pub LesserIsRaisable : Type 0
 LesserIsRaisable =
     (p : Profile) (g : GraphShape) (x y z : List ℕ) → IsRaisable p g x y → IsRaisable p g x z →
     IsRaisable p g x (lesser y z)
+
+-- insertions in two steps raise the same list as in one: what is raised in a graph, and from there in one with more
+-- edges, is raised in that one from the first
+abbrev pub InsertionsAloneGiveOneList : Type 0
+InsertionsAloneGiveOneList =
+    (p : Profile) (g h : GraphShape) (x y z : List ℕ) →
+    IsGraph g → IsGraph h → g.vertices ≡ h.vertices → ((e : Pair) → has_edge e g.edges ≡ true → has_edge e h.edges ≡ true) →
+    IsRaised p g x y → IsRaised p h y z → IsRaised p h x z
 
 -- from each level list exactly one list is lowered
 abbrev pub LoweredIsOneList : Type 0

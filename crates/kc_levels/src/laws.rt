@@ -1,7 +1,7 @@
 //! What thresholds, raised and lowered levels and both invariants come to. The functions do nothing: each has laws as its
 //! contract.
 
-ghost use Rattle.kc_levels.specs.Laws.{FirstProfileBegins, SecondProfileBegins, EstimateIsNear, RaisedIsOneList, TopIsRaisable, LesserIsRaisable, LoweredIsOneList, ZerosAreLowerable, GreaterIsLowerable, InsertionKeepsBoth, DeletionKeepsBoth, SequencesRise, HeightIsLeast, LastGroupIsLeast, TopIsLow, NoneBreaksBoth};
+ghost use Rattle.kc_levels.specs.Laws.{FirstProfileBegins, SecondProfileBegins, EstimateIsNear, RaisedIsOneList, TopIsRaisable, LesserIsRaisable, InsertionsAloneGiveOneList, LoweredIsOneList, ZerosAreLowerable, GreaterIsLowerable, InsertionKeepsBoth, DeletionKeepsBoth, SequencesRise, HeightIsLeast, LastGroupIsLeast, TopIsLow, NoneBreaksBoth};
 ghost use Rattle.kc_levels.specs.Between.{BetweenMeetsBoth};
 ghost use Rattle.kc_levels.specs.Sweep.{SweptIsRaised};
 
@@ -27,6 +27,12 @@ pub fn raised_is_one_list()
     ensures one { RaisedIsOneList }
     ensures top { TopIsRaisable }
     ensures lesser { LesserIsRaisable }
+{}
+
+/// Levels after insertions alone depend on the graph, and not on how its edges were cut into batches: the list raised in a graph, raised
+/// again in a graph with more edges, is the list raised there at once.
+pub fn insertions_alone_give_one_list()
+    ensures { InsertionsAloneGiveOneList }
 {}
 
 /// From each level list exactly one list is lowered. Level 0 everywhere is lowerable from it, and so is the greater of

@@ -22,6 +22,3 @@ pub use moved::{moved_count, moves_of};
 pub use moves::Move;
 pub use profile::Profile;
 pub use thresholds::{Estimate, Thresholds};
-
-#[cfg(test)]
-mod tests;
