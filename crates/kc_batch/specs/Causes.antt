@@ -1,10 +1,12 @@
--- When a fault may be answered: causes, on the source's count of faults before a call and after it.
+-- When a fault may be answered: causes, on the counts of faults of the source and of a sink before a call and after it.
 use Rattle.std.specs.Prelude.{ℕ, ◌≡◌, Result, Ok, Err}
 use Rattle.kc_text.specs.Causes.{Rose}
 use Rattle.kc_text.specs.declared.line.LineFault.{LineFault}
 use Rattle.kc_text.specs.declared.line.LineFault.TheVariants as line
 use Rattle.kc_batch.specs.declared.header.HeaderFault.{HeaderFault}
 use Rattle.kc_batch.specs.declared.header.HeaderFault.TheVariants as header
+use Rattle.kc_batch.specs.declared.await_fault.AwaitFault.{AwaitFault}
+use Rattle.kc_batch.specs.declared.await_fault.AwaitFault.TheVariants as await
 use Rattle.kc_batch.specs.declared.batch.BatchFault.{BatchFault}
 use Rattle.kc_batch.specs.declared.batch.BatchFault.TheVariants as batch
 
@@ -13,10 +15,10 @@ abbrev pub header_fault_of : LineFault → HeaderFault
 header_fault_of line.ReadFault = header.ReadFault
 header_fault_of (line.Memory e) = header.Memory e
 
--- the same, as the fault of a batch
-abbrev pub batch_fault_of : LineFault → BatchFault
-batch_fault_of line.ReadFault = batch.ReadFault
-batch_fault_of (line.Memory e) = batch.Memory e
+-- the same, as why no batch came that was waited for
+abbrev pub await_fault_of : LineFault → AwaitFault
+await_fault_of line.ReadFault = await.ReadFault
+await_fault_of (line.Memory e) = await.Memory e
 
 -- a read fault comes only where the count rose, and else the count stays
 abbrev pub HeaderCause : {T : Type 0} → ℕ → ℕ → Result T HeaderFault → Type 0
@@ -30,3 +32,11 @@ abbrev pub BatchCause : {T : Type 0} → ℕ → ℕ → Result T BatchFault →
 BatchCause before now (Err batch.ReadFault) = Rose before now
 BatchCause before now (Err (batch.Memory _)) = now ≡ before
 BatchCause before now (Ok _) = now ≡ before
+
+-- the counts of faults of the source, r, and of the sink, w: a fault is answered only where the count of its object rose, and every
+-- other count is as it was
+abbrev pub AwaitCause : {T : Type 0} → ℕ → ℕ → ℕ → ℕ → Result T AwaitFault → Type 0
+AwaitCause r0 r1 w0 w1 (Err await.ReadFault) = Rose r0 r1 × (w1 ≡ w0)
+AwaitCause r0 r1 w0 w1 (Err await.WriteFault) = (r1 ≡ r0) × Rose w0 w1
+AwaitCause r0 r1 w0 w1 (Err (await.Memory _)) = (r1 ≡ r0) × (w1 ≡ w0)
+AwaitCause r0 r1 w0 w1 (Ok _) = (r1 ≡ r0) × (w1 ≡ w0)

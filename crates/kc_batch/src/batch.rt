@@ -1,16 +1,16 @@
 //! The next batch of an input: its items, or the line and kind of its first fault.
 ghost use Rattle.std.specs.Prelude.{◌≡◌, ◌≤◌, [], IfOk, OnOk};
 ghost use Rattle.std.specs.Option.{option_map};
-ghost use Rattle.kc_text.specs.Causes.{ReadCause};
 ghost use Rattle.kc_text.specs.Reading.{budget};
 ghost use Rattle.kc_batch.specs.Tokens.{tokens_left};
 
 use crate::Items;
+use crate::await_fault::AwaitFault;
 use crate::rules::Rules;
 use crate::token::{Kind, next_token};
 use crate::turn::{Turn, turn_at};
 use kc_levels::Profile;
-use kc_text::{LineFault, LineReader, Reason, Source};
+use kc_text::{LineReader, NullSink, Reason, Sink, Source};
 use std::alloc::{AllocError, Global};
 use thiserror::Error;
 
@@ -46,34 +46,23 @@ pub enum BatchFault {
     Memory(AllocError),
 }
 
-impl From<LineFault> for BatchFault {
-    ghost use Rattle.kc_batch.specs.Causes.{batch_fault_of};
-
-    ghost from_gives = { λ f s. s ≡ batch_fault_of f };
-
-    fn from(fault: LineFault) -> BatchFault {
-        match fault {
-            LineFault::ReadFault => BatchFault::ReadFault,
-            LineFault::Memory(e) => BatchFault::Memory(e),
-        }
-    }
-}
-
 ghost use Rattle.kc_batch.specs.Batches.{after_end, items_from, batch_of, with_next, batches_left, behind_batch, IsEnd, IsNext, TakesBatch};
-ghost use Rattle.kc_batch.specs.Causes.{BatchCause};
+ghost use Rattle.kc_batch.specs.Causes.{AwaitCause, BatchCause};
 
 // Passes over the lines up to the next `end`, or up to the end of the input or its limit.
-fn pass_to_end<S: Source>(
+fn pass_to_end<S: Source, K: Sink>(
     alloc: Global,
     reader: &mut LineReader,
     src: &mut S,
-) -> Result<(), LineFault>
+    sink: &mut K,
+) -> Result<(), AwaitFault>
     ensures passed { OnOk result (option_map after_end (tokens_left reader.old (S.left src.old)) ≡ tokens_left reader.new (S.left src.new)) }
     ensures budget { OnOk result (budget reader.new ≤ budget reader.old) }
-    ensures cause { ReadCause (S.faults src.old) (S.faults src.new) result }
+    ensures taken { K.taken sink.new ≡ K.taken sink.old }
+    ensures cause { AwaitCause (S.faults src.old) (S.faults src.new) (K.faults sink.old) (K.faults sink.new) result }
 {
     loop {
-        let token = next_token(alloc, reader, src)?;
+        let token = next_token(alloc, reader, src, sink)?;
         match token.kind {
             Kind::BatchEnd | Kind::Limit | Kind::InputEnd => return Ok(()),
             _ => {}
@@ -82,31 +71,33 @@ fn pass_to_end<S: Source>(
 }
 
 // Reads the rest of a batch whose `batch` was read.
-fn read_items<S: Source>(
+fn read_items<S: Source, K: Sink>(
     alloc: Global,
     reader: &mut LineReader,
     src: &mut S,
+    sink: &mut K,
     rules: Rules,
-) -> Result<Next, LineFault>
+) -> Result<Next, AwaitFault>
     ensures batch { IfOk result (λ next. option_map (items_from rules []) (tokens_left reader.old (S.left src.old)) ≡ option_map (with_next next) (tokens_left reader.new (S.left src.new))) }
     ensures sound { IfOk result (IsNext rules) }
     ensures more { IfOk result (λ next. IsEnd next → ⊥) }
     ensures budget { OnOk result (budget reader.new ≤ budget reader.old) }
-    ensures cause { ReadCause (S.faults src.old) (S.faults src.new) result }
+    ensures taken { K.taken sink.new ≡ K.taken sink.old }
+    ensures cause { AwaitCause (S.faults src.old) (S.faults src.new) (K.faults sink.old) (K.faults sink.new) result }
 {
     let mut items = Items::new(alloc);
     loop {
-        let token = next_token(alloc, reader, src)?;
+        let token = next_token(alloc, reader, src, sink)?;
         let line = token.number;
         match turn_at(rules, items.len() >= rules.item_limit as usize, token.kind) {
             Turn::Add(item) => match items.push(item) {
                 Ok(()) => {}
-                Err(e) => return Err(LineFault::Memory(e)),
+                Err(e) => return Err(AwaitFault::Memory(e)),
             },
             Turn::Close => return Ok(Next::Items(Batch { items, line })),
             Turn::Stop(reason) => return Ok(Next::Refused { line, reason }),
             Turn::Pass(reason) => {
-                pass_to_end(alloc, reader, src)?;
+                pass_to_end(alloc, reader, src, sink)?;
                 return Ok(Next::Refused { line, reason });
             }
         }
@@ -114,23 +105,25 @@ fn read_items<S: Source>(
 }
 
 // Reads the next batch, and what is passed over after a fault of it.
-fn find_batch<S: Source>(
+fn find_batch<S: Source, K: Sink>(
     alloc: Global,
     reader: &mut LineReader,
     src: &mut S,
+    sink: &mut K,
     rules: Rules,
-) -> Result<Next, LineFault>
+) -> Result<Next, AwaitFault>
     ensures batch { IfOk result (λ next. option_map (batch_of rules) (tokens_left reader.old (S.left src.old)) ≡ option_map (with_next next) (tokens_left reader.new (S.left src.new))) }
     ensures sound { IfOk result (IsNext rules) }
     ensures takes { IfOk result (λ next. TakesBatch next (budget reader.old) (budget reader.new)) }
     ensures again { IfOk result (λ next. IsEnd next → tokens_left reader.new (S.left src.new) ≡ tokens_left reader.old (S.left src.old)) }
-    ensures cause { ReadCause (S.faults src.old) (S.faults src.new) result }
+    ensures taken { K.taken sink.new ≡ K.taken sink.old }
+    ensures cause { AwaitCause (S.faults src.old) (S.faults src.new) (K.faults sink.old) (K.faults sink.new) result }
 {
-    let token = next_token(alloc, reader, src)?;
+    let token = next_token(alloc, reader, src, sink)?;
     let line = token.number;
     match token.kind {
         Kind::BatchStart => {
-            let next = read_items(alloc, reader, src, rules)?;
+            let next = read_items(alloc, reader, src, sink, rules)?;
             Ok(next)
         }
         Kind::BatchEnd => Ok(Next::Refused {
@@ -138,14 +131,14 @@ fn find_batch<S: Source>(
             reason: Reason::BadLine,
         }),
         Kind::Item(_) | Kind::Other => {
-            pass_to_end(alloc, reader, src)?;
+            pass_to_end(alloc, reader, src, sink)?;
             Ok(Next::Refused {
                 line,
                 reason: Reason::BadLine,
             })
         }
         Kind::TooLong => {
-            pass_to_end(alloc, reader, src)?;
+            pass_to_end(alloc, reader, src, sink)?;
             Ok(Next::Refused {
                 line,
                 reason: Reason::LineLong,
@@ -157,6 +150,45 @@ fn find_batch<S: Source>(
         }),
         Kind::InputEnd => Ok(Next::End),
     }
+}
+
+/// Reads the next batch as [`next_batch`] does, and flushes the sink before each read of the source: a read may wait for
+/// bytes, and what was written before is handed on first.
+///
+/// `WriteFault` comes only where a flush failed, and then the reader isn't used again either. No read is made, and nothing
+/// flushed, as long as each next line of the batch lies whole in the reader's memory.
+pub fn await_batch<S: Source, K: Sink>(
+    alloc: Global,
+    reader: &mut LineReader,
+    src: &mut S,
+    sink: &mut K,
+    n: u32,
+    profile: Profile,
+    item_limit: u32,
+) -> Result<Next, AwaitFault>
+    ensures batch { IfOk result (λ next. option_map (batch_of (record { n = n; profile = profile; item_limit = item_limit })) (tokens_left reader.old (S.left src.old)) ≡ option_map (with_next next) (tokens_left reader.new (S.left src.new))) }
+    ensures batches { IfOk result (λ next. batches_left (record { n = n; profile = profile; item_limit = item_limit }) reader.old (S.left src.old) ≡ option_map (behind_batch next) (batches_left (record { n = n; profile = profile; item_limit = item_limit }) reader.new (S.left src.new))) }
+
+    // Whatever the source tells.
+    ensures sound { IfOk result (IsNext (record { n = n; profile = profile; item_limit = item_limit })) }
+
+    // After the end comes the end again.
+    ensures again { IfOk result (λ next. IsEnd next → tokens_left reader.new (S.left src.new) ≡ tokens_left reader.old (S.left src.old)) }
+
+    // A caller's loop over the batches ends, since each batch takes some of the budget.
+    ensures takes { IfOk result (λ next. TakesBatch next (budget reader.old) (budget reader.new)) }
+
+    // The sink takes nothing.
+    ensures taken { K.taken sink.new ≡ K.taken sink.old }
+    ensures cause { AwaitCause (S.faults src.old) (S.faults src.new) (K.faults sink.old) (K.faults sink.new) result }
+{
+    let rules = Rules {
+        n,
+        profile,
+        item_limit,
+    };
+    let next = find_batch(alloc, reader, src, sink, rules)?;
+    Ok(next)
 }
 
 /// Reads the next batch of a graph of n vertices, as `batch_of` of `specs/Batches` says: its items, at most
@@ -188,11 +220,11 @@ pub fn next_batch<S: Source>(
     ensures takes { IfOk result (λ next. TakesBatch next (budget reader.old) (budget reader.new)) }
     ensures cause { BatchCause (S.faults src.old) (S.faults src.new) result }
 {
-    let rules = Rules {
-        n,
-        profile,
-        item_limit,
-    };
-    let next = find_batch(alloc, reader, src, rules)?;
-    Ok(next)
+    let mut sink = NullSink::new();
+    match await_batch(alloc, reader, src, &mut sink, n, profile, item_limit) {
+        Ok(next) => Ok(next),
+        Err(AwaitFault::ReadFault) => Err(BatchFault::ReadFault),
+        Err(AwaitFault::WriteFault) => unreachable!(),
+        Err(AwaitFault::Memory(e)) => Err(BatchFault::Memory(e)),
+    }
 }

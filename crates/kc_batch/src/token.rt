@@ -1,16 +1,15 @@
 //! What the lines of batches say.
 ghost use Rattle.std.specs.Prelude.{◌≡◌, ℕ, ◌<◌, ◌≤◌, [], ◌∷◌, length, drop, Option, IfOk, IfSome};
 ghost use Rattle.std.specs.Option.{option_map};
-ghost use Rattle.kc_text.specs.Causes.{ReadCause};
 ghost use Rattle.kc_text.specs.Reading.{budget};
 ghost use Rattle.kc_text.specs.Words.{words, WordAt};
+ghost use Rattle.kc_batch.specs.Causes.{AwaitCause};
 ghost use Rattle.kc_batch.specs.Tokens.{insertion, deletion, isolation, unsigned, signed, kind_of_words, tokens_left};
 ghost use Rattle.kc_batch.specs.private.Tokens.{kind_of_text, item_of, onto_token, TakesToken, IsLastKind};
 
+use crate::await_fault::AwaitFault;
 use kc_graph::Item;
-use kc_text::{
-    Body, LineFault, LineReader, NumberLine, Sign, Source, is_named, next_word, read_number,
-};
+use kc_text::{Body, LineReader, NumberLine, Sign, Sink, Source, is_named, next_word, read_number};
 use std::alloc::Global;
 
 /// What a line of batches says by itself, wherever it stands.
@@ -162,19 +161,22 @@ fn item_of(line: NumberLine) -> Item
     }
 }
 
-/// The next line that isn't skipped. After a fault skipped lines may be gone. Cost: one pass over the bytes of a line that
-/// lies whole in the reader's memory and is two numbers with one blank between them, or a sign, a blank and such numbers;
-/// a few passes over the bytes of each other line.
+/// The next line that isn't skipped. After a fault skipped lines may be gone. The sink is flushed before each read, since
+/// a read may wait for bytes. Cost: one pass over the bytes of a line that lies whole in the reader's memory and is two
+/// numbers with one blank between them, or a sign, a blank and such numbers; a few passes over the bytes of each other
+/// line.
 #[inline(always)]
-pub fn next_token<S: Source>(
+pub fn next_token<S: Source, K: Sink>(
     alloc: Global,
     reader: &mut LineReader,
     src: &mut S,
-) -> Result<Token, LineFault>
+    sink: &mut K,
+) -> Result<Token, AwaitFault>
     ensures token { IfOk result (λ t. tokens_left reader.old (S.left src.old) ≡ option_map (onto_token t) (tokens_left reader.new (S.left src.new))) }
     ensures last { IfOk result (λ t. IsLastKind t.kind → tokens_left reader.new (S.left src.new) ≡ tokens_left reader.old (S.left src.old)) }
     ensures takes { IfOk result (λ t. TakesToken t.kind (budget reader.old) (budget reader.new)) }
-    ensures cause { ReadCause (S.faults src.old) (S.faults src.new) result }
+    ensures taken { K.taken sink.new ≡ K.taken sink.old }
+    ensures cause { AwaitCause (S.faults src.old) (S.faults src.new) (K.faults sink.old) (K.faults sink.new) result }
 {
     loop {
         if let Some(numbers) = reader.number_line() {
@@ -190,6 +192,10 @@ pub fn next_token<S: Source>(
             };
             return Ok(Token { number, kind });
         }
+        // Only from here is a read made, if at all.
+        let Ok(()) = sink.flush() else {
+            return Err(AwaitFault::WriteFault);
+        };
         let line = reader.next_line(alloc, src)?;
         let number = line.number;
         let kind = match line.body {

@@ -3,14 +3,15 @@ use Rattle.std.specs.Prelude.{ℕ, ◌≡◌, Result, Ok, Err}
 use Rattle.kc_text.specs.declared.buf.SendFault.{SendFault}
 use Rattle.kc_text.specs.declared.buf.SendFault.TheVariants as send
 use Rattle.kc_text.specs.Causes.{Rose}
-use Rattle.kc_batch.specs.declared.batch.BatchFault.{BatchFault}
-use Rattle.kc_batch.specs.declared.batch.BatchFault.TheVariants as batch
+use Rattle.kc_batch.specs.declared.await_fault.AwaitFault.{AwaitFault}
+use Rattle.kc_batch.specs.declared.await_fault.AwaitFault.TheVariants as await
 use Rattle.kc_session.specs.declared.fault.SessionFault.{SessionFault}
 use Rattle.kc_session.specs.declared.fault.SessionFault.TheVariants.{ReadFault, WriteFault, Memory}
 
-abbrev pub fault_of_batch : BatchFault → SessionFault
-fault_of_batch batch.ReadFault = ReadFault
-fault_of_batch (batch.Memory e) = Memory e
+abbrev pub fault_of_await : AwaitFault → SessionFault
+fault_of_await await.ReadFault = ReadFault
+fault_of_await await.WriteFault = WriteFault
+fault_of_await (await.Memory e) = Memory e
 
 abbrev pub fault_of_send : SendFault → SessionFault
 fault_of_send send.WriteFault = WriteFault

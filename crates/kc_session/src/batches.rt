@@ -14,7 +14,7 @@ use crate::counts::Counts;
 use crate::fault::SessionFault;
 use crate::report::{Report, Reporter};
 use crate::watched::Watched;
-use kc_batch::{Next, next_batch};
+use kc_batch::{Next, await_batch};
 use kc_graph::MAX_ITEMS;
 use kc_rounds::Gate;
 use kc_text::{LineReader, Reason, Sink, Source};
@@ -92,7 +92,7 @@ fn is_last(next: &Next) -> bool
 }
 
 /// Runs the batches of an input: each is read, applied, shown to the audience, and told, before the next one. Leaves the engine after
-/// them, and the audience abreast of it.
+/// them, and the audience abreast of it. What was written is flushed before bytes of the next one are waited for.
 pub fn run_batches<R: Threads + Sync, S: Source, K: Sink, G: Gate + Sync>(
     context: &SessionContext<'_, R, G>,
     watched: &mut Watched<'_>,
@@ -119,7 +119,7 @@ pub fn run_batches<R: Threads + Sync, S: Source, K: Sink, G: Gate + Sync>(
     let mut reporter = Reporter::new(alloc, report);
     let mut counts = Counts::none();
     loop {
-        let next = next_batch(alloc, reader, src, n, profile, MAX_ITEMS)?;
+        let next = await_batch(alloc, reader, src, sink, n, profile, MAX_ITEMS)?;
         if let Next::End = next {
             return Ok(counts);
         }

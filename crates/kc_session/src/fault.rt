@@ -1,7 +1,7 @@
 //! What stops a session: the source, the sink, or memory.
 ghost use Rattle.std.specs.Prelude.{◌≡◌};
 
-use kc_batch::BatchFault;
+use kc_batch::AwaitFault;
 use kc_text::SendFault;
 use std::alloc::AllocError;
 use thiserror::Error;
@@ -30,15 +30,16 @@ impl From<AllocError> for SessionFault {
     }
 }
 
-impl From<BatchFault> for SessionFault {
-    ghost use Rattle.kc_session.specs.Faults.{fault_of_batch};
+impl From<AwaitFault> for SessionFault {
+    ghost use Rattle.kc_session.specs.Faults.{fault_of_await};
 
-    ghost from_gives = { λ f s. s ≡ fault_of_batch f };
+    ghost from_gives = { λ f s. s ≡ fault_of_await f };
 
-    fn from(fault: BatchFault) -> SessionFault {
+    fn from(fault: AwaitFault) -> SessionFault {
         match fault {
-            BatchFault::ReadFault => SessionFault::ReadFault,
-            BatchFault::Memory(e) => SessionFault::Memory(e),
+            AwaitFault::ReadFault => SessionFault::ReadFault,
+            AwaitFault::WriteFault => SessionFault::WriteFault,
+            AwaitFault::Memory(e) => SessionFault::Memory(e),
         }
     }
 }

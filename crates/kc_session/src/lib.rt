@@ -39,6 +39,3 @@ pub use readers::write_readers;
 pub use session::run_session;
 pub use settling::{Settled, settle};
 pub use vertices::write_tail;
-
-#[cfg(test)]
-mod tests;

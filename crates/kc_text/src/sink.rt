@@ -26,6 +26,17 @@ pub trait Sink {
         // It fails only where the count rose.
         ensures cause { OnErr result (Rose (faults self.old) (faults self.new)) }
         ensures quiet { OnOk result (faults self.new ≡ faults self.old) };
+
+    /// Hands on the bytes taken so far, as far as the sink holds any back. A sink that holds none back does nothing.
+    fn flush(&mut self) -> Result<(), Failed>
+        ensures taken { taken self.new ≡ taken self.old }
+
+        // It fails only where the count rose.
+        ensures cause { OnErr result (Rose (faults self.old) (faults self.new)) }
+        ensures quiet { OnOk result (faults self.new ≡ faults self.old) }
+    {
+        Ok(())
+    }
 }
 
 /// Writes all the bytes, in as many calls as the sink needs. After `Failed` the sink took a

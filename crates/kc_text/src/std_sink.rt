@@ -39,24 +39,6 @@ impl<W: Write + Drop> StdSink<W> {
             is_flushed: true,
         }
     }
-
-    /// Hands on what the writer holds back.
-    ///
-    /// Over a buffered writer, bytes that the sink has taken may not have left the program yet.
-    /// A program calls this after its last write, and reads `Failed` as a write that failed:
-    /// bytes may be lost.
-    pub fn flush(&mut self) -> Result<(), Failed>
-        ensures cause { OnErr result (Rose self.old.faults self.new.faults) }
-        ensures flushed { OnOk result (self.new ≡ record self.old { is_flushed = true }) }
-        ensures kept { OnErr result (self.new.is_flushed ≡ self.old.is_flushed) }
-    {
-        if self.writer.flush().is_err() {
-            self.faults = self.faults.saturating_add(1);
-            return Err(Failed);
-        }
-        self.is_flushed = true;
-        Ok(())
-    }
 }
 
 impl<W: Write + Drop> Sink for StdSink<W> {
@@ -87,5 +69,26 @@ impl<W: Write + Drop> Sink for StdSink<W> {
         }
         self.faults = self.faults.saturating_add(1);
         Err(Failed)
+    }
+
+    /// Hands on what the writer holds back.
+    ///
+    /// Over a buffered writer, bytes that the sink has taken may not have left the program yet.
+    /// A program calls this before it waits and after its last write, and reads `Failed` as a
+    /// write that failed: bytes may be lost.
+    fn flush(&mut self) -> Result<(), Failed>
+        // As the trait has it.
+        ensures cause { OnErr result (Rose self.old.faults self.new.faults) }
+
+        // And whether it is flushed afterwards.
+        ensures flushed { OnOk result (self.new ≡ record self.old { is_flushed = true }) }
+        ensures kept { OnErr result (self.new.is_flushed ≡ self.old.is_flushed) }
+    {
+        if self.writer.flush().is_err() {
+            self.faults = self.faults.saturating_add(1);
+            return Err(Failed);
+        }
+        self.is_flushed = true;
+        Ok(())
     }
 }

@@ -34,7 +34,7 @@ mod tests;
 pub mod top;
 
 use kc_rounds::OpenGate;
-use kc_text::{StdSink, StdSource, Words};
+use kc_text::{Sink, StdSink, StdSource, Words};
 use status::Status;
 use std::alloc::{AllocError, Global};
 use std::env::{self, Args};

@@ -28,7 +28,7 @@ mod tests;
 mod vertices;
 
 use kc_rounds::OpenGate;
-use kc_text::{StdSink, StdSource, Words};
+use kc_text::{Sink, StdSink, StdSource, Words};
 use serve::serve;
 use status::ServeStatus;
 use std::alloc::{AllocError, Global};

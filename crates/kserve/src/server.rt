@@ -5,7 +5,7 @@ ghost use Rattle.kserve.specs.Batches.{start};
 ghost use Rattle.kserve.specs.private.Engines.{IsOpen, IsReady};
 ghost use Rattle.kserve.specs.private.Faults.{StopCause, GoesOnCause};
 ghost use Rattle.kserve.specs.private.Clients.{AreDrained};
-ghost use Rattle.kserve.specs.private.Serving.{TakesBatch, Serves, GoesOn};
+ghost use Rattle.kserve.specs.private.Serving.{TakesBatch, Serves, GoesOn, IsHeld};
 
 use crate::applying::{apply, items_of};
 use crate::context::ServeContext;
@@ -16,7 +16,7 @@ use kc_engine::Engine;
 use kc_graph::MAX_ITEMS;
 use kc_intake::{Drainer, Intake, Update};
 use kc_rounds::Gate;
-use kc_text::{LineBuf, Sink};
+use kc_text::{Failed, LineBuf, Sink};
 use std::alloc::Global;
 use std::sync::Wait;
 use std::thread;
@@ -29,6 +29,21 @@ pub struct Server {
     pub engine: Engine,
     // Keeps its memory from one line to the next.
     buf: LineBuf,
+}
+
+// Hands on what was printed, unless the server has stopped.
+fn hand_on<K: Sink>(sink: &mut K, course: Result<(), Stop>) -> Result<(), Stop>
+    ensures taken { K.taken sink.new ≡ K.taken sink.old }
+    ensures held { IsHeld course result }
+    ensures cause { GoesOnCause (K.faults sink.old) (K.faults sink.new) course result }
+{
+    match course {
+        Ok(()) => match sink.flush() {
+            Ok(()) => Ok(()),
+            Err(Failed) => Err(Stop::WriteFault),
+        },
+        Err(stop) => Err(stop),
+    }
 }
 
 impl Server {
@@ -95,8 +110,9 @@ impl Server {
         }
     }
 
-    /// Drains an intake until at least as many updates were drained as the scripts have items, and tries again while it is empty. Each
-    /// batch is applied to the graph of the scripts and printed before the next one is drained (`Serves`). Once one of them can't be,
+    /// Drains an intake until at least as many updates were drained as the scripts have items, and tries again while it is empty: then
+    /// what was printed is flushed first. Each batch is applied to the graph of the scripts and printed before the next one is drained
+    /// (`Serves`). Once one of them can't be,
     /// whose fault is answered at the end, the rest are only drained, so that no client waits for room.
     ///
     /// The engine and the drainer were just opened. `WriteFault` comes only where a write to the sink failed in this call; after it, and
@@ -127,6 +143,7 @@ impl Server {
                 return course;
             }
             let Ok(()) = intake.drain(context.rt, drainer) else {
+                course = hand_on(sink, course);
                 thread::yield_now();
                 continue;
             };

@@ -33,6 +33,14 @@ abbrev pub GoesOn : {T : Type 0} → ℕ → ℕ → List Update → State → S
 GoesOn n number batch s t before now (Ok _) result = TakesBatch n number batch s t before now result
 GoesOn n number batch s t before now (Err stop) result = (result ≡ Err stop) × (now ≡ before)
 
+-- where nothing is applied or printed: the server goes on or stops for want of a write; once it has stopped, it has stopped so
+abbrev pub IsHeld : {T : Type 0} → Result T Stop → Result T Stop → Type 0
+IsHeld (Ok _) (Ok _) = Unit {0}
+IsHeld (Ok _) (Err WriteFault) = Unit {0}
+IsHeld (Ok _) (Err (Memory _)) = ⊥
+IsHeld (Ok _) (Err Stray) = ⊥
+IsHeld (Err stop) result = result ≡ Err stop
+
 -- batches were applied to the state s, which became t, and printed
 pub record HaveServed (n : ℕ) (s : State) (batches : List (List Update)) (t : State) (before now : Option (List ℕ)) : Type 0 where
   pub due : are_due n (all_updates batches) ≡ true

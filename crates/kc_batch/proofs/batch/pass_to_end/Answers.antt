@@ -23,5 +23,7 @@ loop-token-preserved g c =
     record {
       same = c.loop-token.invariant.same ∙ step_on after_end after_end (onto_token c.in_ok-token.token) _ _ c.in_ok-token.ensures.token (after_on c.in_ok-token.token h);
       budget = omega (arith, takes_le _ _ _ c.in_ok-token.ensures.takes, c.loop-token.invariant.budget);
-      faults = c.in_ok-token.ensures.cause ∙ c.loop-token.invariant.faults;
+      taken = c.in_ok-token.ensures.taken ∙ c.loop-token.invariant.taken;
+      read_faults = c.in_ok-token.ensures.cause.0 ∙ c.loop-token.invariant.read_faults;
+      write_faults = c.in_ok-token.ensures.cause.1 ∙ c.loop-token.invariant.write_faults;
     }

@@ -9,7 +9,9 @@ abbrev pub invariant-loop-token : goal.invariant-loop-token
 invariant-loop-token g l = record {
   same : option_map after_end (tokens_left l.fn.reader (g.S.Source.left l.fn.src)) ≡ option_map after_end (tokens_left l.reader (g.S.Source.left l.src));
   budget : budget l.reader ≤ budget l.fn.reader;
-  faults : g.S.Source.faults l.src ≡ g.S.Source.faults l.fn.src;
+  taken : g.K.Sink.taken l.sink ≡ g.K.Sink.taken l.fn.sink;
+  read_faults : g.S.Source.faults l.src ≡ g.S.Source.faults l.fn.src;
+  write_faults : g.K.Sink.faults l.sink ≡ g.K.Sink.faults l.fn.sink;
 }
 
 abbrev pub decreases-loop-token : goal.decreases-loop-token

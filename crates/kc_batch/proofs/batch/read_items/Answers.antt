@@ -22,7 +22,9 @@ loop-items-preserved g c =
       inside = rw now (All-push (IsInside c.args.rules.n) c.loop-items.items c.in-Add.item c.loop-items.invariant.inside k.0.inside);
       allowed = rw now (All-push (λ item. is_allowed c.args.rules.profile item ≡ true) c.loop-items.items c.in-Add.item c.loop-items.invariant.allowed k.0.allowed);
       budget = omega (arith, takes_le _ _ _ s.takes, c.loop-items.invariant.budget);
-      faults = s.cause ∙ c.loop-items.invariant.faults;
+      taken = s.taken ∙ c.loop-items.invariant.taken;
+      read_faults = s.cause.0 ∙ c.loop-items.invariant.read_faults;
+      write_faults = s.cause.1 ∙ c.loop-items.invariant.write_faults;
     }
 
 pub returns-in-Close-clause-batch : goal.returns-in-Close-clause-batch

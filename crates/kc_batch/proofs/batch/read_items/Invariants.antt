@@ -15,7 +15,9 @@ invariant-loop-items g l = record {
   inside : All (IsInside l.rules.n) l.items;
   allowed : All (λ item. is_allowed l.rules.profile item ≡ true) l.items;
   budget : budget l.reader ≤ budget l.fn.reader;
-  faults : g.S.Source.faults l.src ≡ g.S.Source.faults l.fn.src;
+  taken : g.K.Sink.taken l.sink ≡ g.K.Sink.taken l.fn.sink;
+  read_faults : g.S.Source.faults l.src ≡ g.S.Source.faults l.fn.src;
+  write_faults : g.K.Sink.faults l.sink ≡ g.K.Sink.faults l.fn.sink;
 }
 
 abbrev pub decreases-loop-items : goal.decreases-loop-items

@@ -12,7 +12,9 @@ loop-numbers-preserved g c =
     record {
       tokens = rw c.reuse.ensures (sym (told_no_token c.in_ok-line.line _ _ (rw c.in-Text.is s) c.in_ok-line.ensures.line) ∙ c.loop-numbers.invariant.tokens);
       budget = rw c.reuse.ensures (omega (arith, t, c.loop-numbers.invariant.budget));
-      faults = c.in_ok-line.ensures.cause ∙ c.loop-numbers.invariant.faults;
+      taken = c.in-Ok.ensures.taken ∙ c.loop-numbers.invariant.taken;
+      read_faults = c.in_ok-line.ensures.cause ∙ c.loop-numbers.invariant.read_faults;
+      write_faults = c.in-Ok.ensures.quiet ∙ c.loop-numbers.invariant.write_faults;
     }
 
 pub returns-in-Some-said-clause-token : goal.returns-in-Some-said-clause-token
@@ -36,7 +38,9 @@ loop-numbers-preserved-in_default-told g c =
     record {
       tokens = sym (told_no_token line _ _ t (c.pass_line-number-in-Some-whole_line.ensures.line _)) ∙ c.loop-numbers.invariant.tokens;
       budget = omega (arith, c.pass_line-number-in-Some-whole_line.ensures.takes, c.loop-numbers.invariant.budget);
-      faults = c.loop-numbers.invariant.faults;
+      taken = c.loop-numbers.invariant.taken;
+      read_faults = c.loop-numbers.invariant.read_faults;
+      write_faults = c.loop-numbers.invariant.write_faults;
     }
 
 pub returns-in-Some-whole_line-clause-token : goal.returns-in-Some-whole_line-clause-token

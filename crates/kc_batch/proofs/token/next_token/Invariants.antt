@@ -7,7 +7,9 @@ abbrev pub invariant-loop-numbers : goal.invariant-loop-numbers
 invariant-loop-numbers g l = record {
   tokens : tokens_left l.reader (g.S.Source.left l.src) ≡ tokens_left l.fn.reader (g.S.Source.left l.fn.src);
   budget : budget l.reader ≤ budget l.fn.reader;
-  faults : g.S.Source.faults l.src ≡ g.S.Source.faults l.fn.src;
+  taken : g.K.Sink.taken l.sink ≡ g.K.Sink.taken l.fn.sink;
+  read_faults : g.S.Source.faults l.src ≡ g.S.Source.faults l.fn.src;
+  write_faults : g.K.Sink.faults l.sink ≡ g.K.Sink.faults l.fn.sink;
 }
 
 abbrev pub decreases-loop-numbers : goal.decreases-loop-numbers
