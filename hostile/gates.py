@@ -16,25 +16,28 @@ import subprocess
 import sys
 import time
 
-# The tests of each crate in which a thread waits for another, or whose answer another thread could spoil.
+# The tests in which a thread waits for another, or whose answer another thread could spoil: the crate that they stand
+# in, and the last part of the name of each.
 TESTS = {
-    "kc_rounds": ["pieces_run_at_the_same_time", "pieces_are_told_before_they_are_tested", "pieces_are_gathered_at_the_same_time",
-                  "each_candidate_is_tested_once"],
-    "kc_store": ["threads::readers_see_points_of_the_history"],
-    "kc_engine": ["showing::ranges_of_a_first_group_run_at_the_same_time", "showing::ranges_of_a_long_group_run_at_the_same_time",
-                  "showing::each_range_and_each_publication_is_told"],
-    "kc_session": ["sessions::a_group_takes_effect_at_once", "sessions::a_reply_is_from_before_what_waits_for_it",
-                   "sessions::a_reader_looks_while_batches_are_shown", "sessions::a_reader_looks_anew_at_the_same_vertex",
-                   "sessions::a_batch_is_shown_before_it_is_told",
-                   "readers::readers_run_at_once", "workers::a_first_round_has_a_piece_for_each_worker"],
-    "kcore": ["pieces::a_first_round_has_two_pieces_at_once", "pieces::a_first_round_has_a_piece_for_each_worker",
-              "hostile::both_branches_have_ended_after_a_fault"],
-    "kc_intake": ["threads::a_queue_of_one", "threads::eight_clients", "threads::clients_of_very_different_lengths"],
-    "kserve": ["gates::clients_run_at_once", "gates::updates_go_through_the_intake", "gates::a_long_script_of_one_client",
-               "gates::updates_are_printed_while_no_others_come", "gates::updates_are_told_before_and_after_they_are_submitted",
-               "pieces::a_first_round_has_a_piece_for_each_worker",
-               "failing::clients_wait_for_room_while_a_write_fails", "outputs::eight_clients",
-               "outputs::clients_of_very_different_lengths", "outputs::sixty_four_clients"],
+    # Of kc_rounds.
+    "graph_tests": ["pieces_run_at_the_same_time", "pieces_are_told_before_they_are_tested", "pieces_are_gathered_at_the_same_time",
+                    "each_candidate_is_tested_once"],
+    # Of kc_store, kc_engine, kc_session and kc_intake.
+    "store_tests": ["readers_see_points_of_the_history",
+                    "ranges_of_a_first_group_run_at_the_same_time", "ranges_of_a_long_group_run_at_the_same_time",
+                    "each_range_and_each_publication_is_told",
+                    "a_group_takes_effect_at_once", "a_reply_is_from_before_what_waits_for_it",
+                    "a_reader_looks_while_batches_are_shown", "a_reader_looks_anew_at_the_same_vertex",
+                    "a_batch_is_shown_before_it_is_told",
+                    "readers_run_at_once", "a_first_round_has_a_piece_for_each_worker",
+                    "a_queue_of_one", "eight_clients", "clients_of_very_different_lengths"],
+    "kcore": ["a_first_round_has_two_pieces_at_once", "a_first_round_has_a_piece_for_each_worker",
+              "both_branches_have_ended_after_a_fault"],
+    "kserve": ["clients_run_at_once", "updates_go_through_the_intake", "a_long_script_of_one_client",
+               "updates_are_printed_while_no_others_come", "updates_are_told_before_and_after_they_are_submitted",
+               "a_first_round_has_a_piece_for_each_worker",
+               "clients_wait_for_room_while_a_write_fails", "eight_clients",
+               "clients_of_very_different_lengths", "sixty_four_clients"],
 }
 
 
@@ -64,8 +67,10 @@ def tests_of(options):
         program = os.path.abspath(os.path.join(folder, f"{crate}_tests"))
         found = made(program)
         for name in names:
-            if options.only in f"{crate} {name}":
-                yield crate, name, [program, f"tests::{name}"] if f"tests::{name}" in found else None
+            whole = sorted(test for test in found if test.split("::")[-1] == name)
+            for test in whole or [None]:
+                if options.only in f"{crate} {test or name}":
+                    yield crate, test or name, test and [program, test]
 
 
 def main():

@@ -21,6 +21,3 @@ pub use level_adj::LevelAdj;
 pub use level_lists::LevelLists;
 pub use runs::{put_where, run_of};
 pub use steps::Steps;
-
-#[cfg(test)]
-mod tests;

@@ -24,8 +24,3 @@ pub use readers::Readers;
 pub use run_text::RunText;
 pub use verdict::AuditVerdict;
 pub use walk::audit;
-
-#[cfg(test)]
-mod audit_tests;
-#[cfg(test)]
-mod read_tests;

@@ -9,6 +9,3 @@ mod exact;
 pub mod laws;
 
 pub use exact::exact_coreness;
-
-#[cfg(test)]
-mod tests;

@@ -19,6 +19,3 @@ pub use certificate::Certificate;
 pub use read::{CertFault, read_certificate};
 pub use verdict::{Verdict, verify};
 pub use write::write_certificate;
-
-#[cfg(test)]
-mod tests;

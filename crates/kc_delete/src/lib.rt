@@ -16,6 +16,3 @@ mod work;
 
 pub use rounds::{Tally, delete_phase, delete_rounds};
 pub use work::DeletionWork;
-
-#[cfg(test)]
-mod tests;

@@ -13,6 +13,3 @@ mod remaining;
 mod tournament;
 
 pub use dense_part::{Dense, densest};
-
-#[cfg(test)]
-mod tests;

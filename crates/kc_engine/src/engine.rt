@@ -229,17 +229,6 @@ impl Engine {
         self.waits = false;
     }
 
-    // Makes the workspace anew, so that nothing of it is left over from earlier phases.
-    #[cfg(test)]
-    pub(crate) fn renew(&mut self, alloc: Global) -> Result<(), AllocError>
-        ensures { self.new ≡ self.old }
-    {
-        if !self.halted {
-            self.work = PhaseWork::new(alloc, &self.thresholds, &self.adj)?;
-        }
-        Ok(())
-    }
-
     /// The graph, of which nothing is specified once the engine has halted.
     pub fn graph(&self) -> &Graph
         ensures value { result.now ≡ self.now.state.graph }

@@ -22,6 +22,3 @@ pub use kc_history::MAX_PHASE;
 pub use plan_lists::PhasePlans;
 pub use plans::BatchPlan;
 pub use shape::Shape;
-
-#[cfg(test)]
-mod tests;

@@ -210,6 +210,3 @@ pub fn clean<R: Threads + Sync>(
 {
     clean_by(rt, alloc, MAX_WORKERS, graph, items)
 }
-
-#[cfg(test)]
-mod tests;

@@ -34,6 +34,3 @@ impl List<Edge> {
         }
     }
 }
-
-#[cfg(test)]
-mod tests;

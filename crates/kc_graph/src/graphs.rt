@@ -241,6 +241,3 @@ impl Graph {
         Ok(())
     }
 }
-
-#[cfg(test)]
-mod tests;

@@ -253,6 +253,3 @@ pub fn take_by<R: Threads + Sync>(rt: &R, threads: u32, halves: &[Half], rows: &
         rows.as_mut_slice(),
     );
 }
-
-#[cfg(test)]
-mod tests;

@@ -22,6 +22,3 @@ pub use pieces::Planners;
 pub use planning::{plan_moves, plan_phase};
 pub use plans::{Phase, PhasePlan};
 pub use work::GroupWork;
-
-#[cfg(test)]
-mod tests;

@@ -19,6 +19,3 @@ pub use kc_graph::MAX_VERTICES;
 pub use kc_levels::{Move, Moves};
 pub use limits::MAX_PHASE;
 pub use replies::{Replies, Reply};
-
-#[cfg(test)]
-mod tests;

@@ -23,8 +23,6 @@ mod partings;
 mod placed;
 mod rising;
 mod sweeping;
-#[cfg(test)]
-mod tests;
 mod watched;
 mod work;
 

@@ -22,6 +22,3 @@ pub use intake::Intake;
 pub use limits::{MAX_CAPACITY, MAX_CLIENTS, MAX_SENT};
 pub use roles::{Drained, Role, Submitted};
 pub use updates::{Empty, Full, Update};
-
-#[cfg(test)]
-mod tests;

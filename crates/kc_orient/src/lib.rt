@@ -15,6 +15,3 @@ mod orienting;
 pub use colouring::colour;
 pub use orientation::Orientation;
 pub use orienting::orient;
-
-#[cfg(test)]
-mod tests;

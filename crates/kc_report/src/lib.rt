@@ -16,8 +16,6 @@ mod notes;
 mod phases;
 mod readers;
 mod tail;
-#[cfg(test)]
-mod tests;
 mod vertices;
 
 pub use batches::{write_batch, write_refused};

@@ -17,6 +17,3 @@ pub use gate::{Gate, OpenGate};
 pub use gathering::{Gathered, RoundGather};
 pub use rounds::{FirstRound, Rounds};
 pub use spot::Spot;
-
-#[cfg(test)]
-mod tests;

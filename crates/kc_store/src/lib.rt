@@ -19,6 +19,3 @@ pub use marker::Marker;
 pub use roles::{Loan, MarkerState, Pending, Role, WriterState};
 pub use store::{Pass, Store};
 pub use writer::Writer;
-
-#[cfg(test)]
-mod tests;

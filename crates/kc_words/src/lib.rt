@@ -10,6 +10,3 @@ mod packing;
 
 pub use marks::Mark;
 pub use packing::{pack, unpack};
-
-#[cfg(test)]
-mod tests;

@@ -11,8 +11,6 @@ mod DenseLineLemmas
 mod DenseTexts
 mod LoadTexts
 mod WordLists
-mod WaitingLemmas
-mod RisingLemmas
 mod OrientLineLemmas
 mod OrientTexts
 mod FinalTexts

@@ -5,6 +5,4 @@ pub mod Commands
 pub mod Documents
 pub mod InputTexts
 pub mod Opening
-pub mod Rising
-pub mod Waiting
 pub mod Writing

@@ -2,12 +2,12 @@
 // turn is one look and one yield.
 ghost use Rattle.std.specs.Prelude.{None};
 
-use super::{Call, answer, words};
-use crate::serve::serve;
+use super::outputs::are_served;
+use super::support::{at_once, equal_scripts, serve_into};
 use crate::status::ServeStatus;
-use kc_rounds::{Gate, OpenGate, Spot};
-use kc_text::{Failed, MemSource, Sink};
-use std::alloc::Global;
+use kc_rounds::{Gate, Spot};
+use kc_text::{Failed, NullSink, Sink};
+use std::process::Abort;
 use std::sync::Wait;
 use std::sync::atomic::AtomicU64;
 use std::sync::atomic::Ordering::SeqCst;
@@ -60,62 +60,28 @@ fn clients_run_at_once(rt: HostRuntime) -> Result<(), Fail> {
         second: AtomicU64::new(0),
         missed: AtomicU64::new(0),
     };
-    let input = b"kserve 1\nvertices 4\nbatch\n0 1\nend\nbatch\n2 3\nend\n".as_slice();
-    let (status, _written) = answer(&rt, rt.alloc(), &gate, &Call::whole("2", input))?;
+    let input = b"kserve 1\nvertices 4\nbatch\n0 1\nend\nbatch\n2 3\nend\n";
+    let status = serve_into(&rt, &gate, at_once("2", input), &mut NullSink::new());
     assert!(rt; status == ServeStatus::Done);
-    assert_eq!(rt; gate.missed.load(SeqCst), 0);
+    assert!(rt; gate.missed.load(SeqCst) == 0);
     Ok(())
 }
 
-// An input with one script of so many equal items.
-fn one_script(alloc: Global, items: u32) -> Result<Vec<u8>, Fail> {
-    let mut input = Vec::from_slice(alloc, b"kserve 1\nvertices 2\nbatch\n".as_slice())?;
-    for _item in 0..items {
-        input.extend_from_slice(b"+ 0 1\n".as_slice())?;
-    }
-    input.extend_from_slice(b"end\n".as_slice())?;
-    Ok(input)
-}
-
-// What the lines of a text begin with, counted.
-fn count_lines(text: &[u8], name: &[u8]) -> usize {
-    text.split(|b| *b == 10)
-        .filter(|line| line.starts_with(name))
-        .count()
-}
-
+// The intake holds 1,024 updates, so this client waits for the server.
 #[test]
 fn a_long_script_of_one_client(rt: HostRuntime) -> Result<(), Fail> {
-    let alloc = rt.alloc();
-    let input = one_script(alloc, 3000)?;
-    let (status, written) = answer(
-        &rt,
-        alloc,
-        &OpenGate::new(),
-        &Call::whole("1", input.as_slice()),
-    )?;
-    assert!(rt; status == ServeStatus::Done);
-    assert_eq!(rt;
-        count_lines(written.as_slice(), b"take 0 + 0 1".as_slice()),
-        3000
-    );
-    assert_eq!(rt;
-        count_lines(written.as_slice(), b"vertex 0 level 1 ".as_slice()),
-        1
-    );
-    assert_eq!(rt;
-        count_lines(written.as_slice(), b"vertex 1 level 1 ".as_slice()),
-        1
-    );
+    assert!(rt; are_served(&rt, &[3000]));
     Ok(())
 }
 
-// What clients told of their updates and how many were printed, and whether a thread waited in vain or found something out of turn.
+// How many updates clients have begun and ended to submit, how many were printed, and how many pieces of rounds were told; and whether a
+// thread waited in vain or found something out of turn.
 #[derive(Drop)]
 pub struct Counts {
     pub asking: AtomicU64,
     pub replied: AtomicU64,
     pub printed: AtomicU64,
+    pub pieces: AtomicU64,
     pub missed: AtomicU64,
 }
 
@@ -125,6 +91,7 @@ impl Counts {
             asking: AtomicU64::new(0),
             replied: AtomicU64::new(0),
             printed: AtomicU64::new(0),
+            pieces: AtomicU64::new(0),
             missed: AtomicU64::new(0),
         }
     }
@@ -144,9 +111,9 @@ impl Counts {
 // Takes every piece whole and counts the lines of updates in it. The first of them is held until so many updates were begun to be
 // submitted. It doesn't tell what it took.
 #[derive(Drop)]
-pub struct Counting<'a> {
-    pub counts: &'a Counts,
-    pub wanted: u64,
+struct Counting<'a> {
+    counts: &'a Counts,
+    wanted: u64,
 }
 
 impl Sink for Counting<'_> {
@@ -167,17 +134,22 @@ impl Sink for Counting<'_> {
     }
 }
 
-// How a call of the program ended whose lines are counted.
-pub fn serve_counted<R: Threads + Wait + Sync, G: Gate + Sync>(
+// Whether this many updates, all there are, are submitted and printed, the first of them once `wanted` were begun to be submitted, and no thread
+// waits in vain.
+pub fn all_pass<R: Threads + Wait + Sync + AllocGlobal + Abort, G: Gate + Sync>(
     rt: &R,
-    alloc: Global,
     gate: &G,
-    call: &Call<'_, '_>,
-    sink: &mut Counting<'_>,
-) -> Result<ServeStatus, Fail> {
-    let words = words(alloc, call.line)?;
-    let mut source = MemSource::new(alloc, call.input, call.piece, &[])?;
-    Ok(serve(rt, alloc, &words, &mut source, sink, gate))
+    counts: &Counts,
+    workers: &str,
+    input: &[u8],
+    updates: u64,
+    wanted: u64,
+) -> bool {
+    let mut sink = Counting { counts, wanted };
+    serve_into(rt, gate, at_once(workers, input), &mut sink) == ServeStatus::Done
+        && counts.missed.load(SeqCst) == 0
+        && counts.asking.load(SeqCst) == updates
+        && counts.printed.load(SeqCst) == updates
 }
 
 // Holds one update until some update was printed.
@@ -201,27 +173,17 @@ impl Gate for Holding<'_> {
 
 #[test]
 fn updates_go_through_the_intake(rt: HostRuntime) -> Result<(), Fail> {
-    let alloc = rt.alloc();
     let counts = Counts::new();
     let gate = Holding {
         counts: &counts,
         held: 1030,
     };
-    let mut sink = Counting {
-        counts: &counts,
-        wanted: 1,
-    };
-    let input = one_script(alloc, 1100)?;
-    let call = Call::whole("1", input.as_slice());
-    let status = serve_counted(&rt, alloc, &gate, &call, &mut sink)?;
-    assert!(rt; status == ServeStatus::Done);
-    assert_eq!(rt; counts.missed.load(SeqCst), 0);
-    assert_eq!(rt; counts.asking.load(SeqCst), 1100);
-    assert_eq!(rt; counts.printed.load(SeqCst), 1100);
+    let input = equal_scripts(&rt, 1, 1100);
+    assert!(rt; all_pass(&rt, &gate, &counts, "1", input.as_slice(), 1100, 1));
     Ok(())
 }
 
-// Holds each update of one client until those before it were printed.
+// Holds each update of one client until those before it were printed, and so applied.
 #[derive(Drop)]
 struct InStep<'a> {
     counts: &'a Counts,
@@ -229,31 +191,28 @@ struct InStep<'a> {
 
 impl Gate for InStep<'_> {
     fn at(&self, spot: Spot) {
-        let Spot::Asking { ask, .. } = spot else {
-            return;
-        };
-        self.counts.asking.fetch_add(1, SeqCst);
-        self.counts.hold(&self.counts.printed, u64::from(ask));
+        let counts = self.counts;
+        match spot {
+            Spot::Asking { ask, .. } => {
+                counts.asking.fetch_add(1, SeqCst);
+                counts.hold(&counts.printed, u64::from(ask));
+                counts.expect(ask == 0 || counts.pieces.load(SeqCst) > 0);
+            }
+            Spot::Piece { .. } => {
+                counts.pieces.fetch_add(1, SeqCst);
+            }
+            _ => {}
+        }
     }
 }
 
-// The server waits neither for more updates of a batch nor for the next batch.
+// The server waits neither for more updates of a batch nor for the next batch, and applies a batch before it prints it.
 #[test]
 fn updates_are_printed_while_no_others_come(rt: HostRuntime) -> Result<(), Fail> {
-    let alloc = rt.alloc();
     let counts = Counts::new();
     let gate = InStep { counts: &counts };
-    let mut sink = Counting {
-        counts: &counts,
-        wanted: 1,
-    };
-    let input = one_script(alloc, 4)?;
-    let call = Call::whole("1", input.as_slice());
-    let status = serve_counted(&rt, alloc, &gate, &call, &mut sink)?;
-    assert!(rt; status == ServeStatus::Done);
-    assert_eq!(rt; counts.missed.load(SeqCst), 0);
-    assert_eq!(rt; counts.asking.load(SeqCst), 4);
-    assert_eq!(rt; counts.printed.load(SeqCst), 4);
+    let input = equal_scripts(&rt, 1, 4);
+    assert!(rt; all_pass(&rt, &gate, &counts, "1", input.as_slice(), 4, 1));
     Ok(())
 }
 
@@ -290,20 +249,10 @@ impl Gate for InTurn<'_> {
 // is told of before it is submitted.
 #[test]
 fn updates_are_told_before_and_after_they_are_submitted(rt: HostRuntime) -> Result<(), Fail> {
-    let alloc = rt.alloc();
     let counts = Counts::new();
     let gate = InTurn { counts: &counts };
-    let mut sink = Counting {
-        counts: &counts,
-        wanted: 1026,
-    };
-    let input = one_script(alloc, 1100)?;
-    let call = Call::whole("1", input.as_slice());
-    let status = serve_counted(&rt, alloc, &gate, &call, &mut sink)?;
-    assert!(rt; status == ServeStatus::Done);
-    assert_eq!(rt; counts.missed.load(SeqCst), 0);
-    assert_eq!(rt; counts.asking.load(SeqCst), 1100);
-    assert_eq!(rt; counts.replied.load(SeqCst), 1100);
-    assert_eq!(rt; counts.printed.load(SeqCst), 1100);
+    let input = equal_scripts(&rt, 1, 1100);
+    assert!(rt; all_pass(&rt, &gate, &counts, "1", input.as_slice(), 1100, 1026));
+    assert!(rt; counts.replied.load(SeqCst) == 1100);
     Ok(())
 }

@@ -1,100 +1,79 @@
-// Clients with scripts of their own. The updates that are printed are compared with the scripts by a plain walk.
-use super::{Call, answer};
+// Clients with scripts of their own: the updates that are printed of each are its script.
+use super::support::{answer, at_once, put};
 use crate::status::ServeStatus;
-use kc_rounds::OpenGate;
-use kc_text::{next_word, read_number};
-use std::alloc::Global;
+use std::process::Abort;
 use std::sync::Wait;
 use std::test::Fail;
 use std::thread::Threads;
 
-// The item of a client with this number of items before it, as a line.
-fn item_line(alloc: Global, client: usize, serial: usize) -> Result<String, Fail> {
-    let u = client % 8;
-    let v = 8 + serial % 32;
-    if serial % 5 == 4 {
-        Ok(format!(in alloc; "- {u} {v}")?)
-    } else {
-        Ok(format!(in alloc; "+ {u} {v}")?)
+// The lines of a client's script with so many items.
+fn script_of<R: AllocGlobal + Abort>(rt: &R, client: usize, items: usize) -> Vec<u8> {
+    let mut script = Vec::new(rt.alloc());
+    for serial in 0..items {
+        let (sign, u, v) = (
+            if serial % 5 == 4 { "-" } else { "+" },
+            client % 8,
+            8 + serial % 32,
+        );
+        let line = format!(in rt.alloc(); "{sign} {u} {v}\n").expect(rt, "memory for a line");
+        put(rt, &mut script, line.as_str().as_bytes());
     }
+    script
 }
 
-// An input with a script of each of these lengths.
-fn input_of(alloc: Global, lengths: &[usize]) -> Result<Vec<u8>, Fail> {
-    let mut input = Vec::from_slice(alloc, b"kserve 1\nvertices 40\n".as_slice())?;
-    for client in 0..lengths.len() {
-        input.extend_from_slice(b"batch\n".as_slice())?;
-        for serial in 0..lengths[client] {
-            let line = item_line(alloc, client, serial)?;
-            input.extend_from_slice(line.as_str().as_bytes())?;
-            input.extend_from_slice(b"\n".as_slice())?;
+// The items that a text says were taken of a client, a line each.
+fn taken_of<R: AllocGlobal + Abort>(rt: &R, client: usize, text: &[u8]) -> Vec<u8> {
+    let name = format!(in rt.alloc(); "take {client} ").expect(rt, "memory for a name");
+    let name = name.as_str().as_bytes();
+    let mut items = Vec::new(rt.alloc());
+    for line in text.split(|b| *b == 10) {
+        if line.starts_with(name) && name.len() <= line.len() {
+            put(rt, &mut items, &line[name.len()..]);
+            put(rt, &mut items, b"\n");
         }
-        input.extend_from_slice(b"end\n".as_slice())?;
     }
-    Ok(input)
+    items
 }
 
-// The client and the item of a line `take C ITEM`.
-fn taken(line: &[u8]) -> Option<(usize, &[u8])> {
-    let (start, end) = next_word(line, 0)?;
-    if &line[start..end] != b"take".as_slice() {
-        return None;
-    }
-    let (start, end) = next_word(line, end)?;
-    let client = read_number(&line[start..end])?;
-    let (start, _end) = next_word(line, end)?;
-    Some((client as usize, &line[start..]))
-}
-
-// Whether the updates that are printed are the scripts, each in its order, and each item once.
-fn are_served(alloc: Global, lengths: &[usize], written: &[u8]) -> Result<bool, Fail> {
-    let mut found = vec![in alloc; 0usize; lengths.len()]?;
-    for line in written.split(|b| *b == 10) {
-        let Some((client, item)) = taken(line) else {
-            continue;
-        };
-        if client >= found.len() || client >= lengths.len() || found[client] >= lengths[client] {
-            return Ok(false);
-        }
-        let wanted = item_line(alloc, client, found[client])?;
-        if item != wanted.as_str().as_bytes() {
-            return Ok(false);
-        }
-        found[client] += 1;
-    }
-    Ok(found.as_slice() == lengths)
-}
-
-fn serve_all<R: Threads + Wait + Sync>(
+// Whether scripts of these lengths are served.
+pub fn are_served<R: Threads + Wait + Sync + AllocGlobal + Abort>(
     rt: &R,
-    alloc: Global,
     lengths: &[usize],
-) -> Result<bool, Fail> {
-    let input = input_of(alloc, lengths)?;
-    let (status, written) = answer(
-        rt,
-        alloc,
-        &OpenGate::new(),
-        &Call::whole("4", input.as_slice()),
-    )?;
-    Ok(status == ServeStatus::Done && are_served(alloc, lengths, written.as_slice())?)
+) -> bool {
+    let mut input = Vec::new(rt.alloc());
+    put(rt, &mut input, b"kserve 1\nvertices 40\n");
+    for client in 0..lengths.len() {
+        put(rt, &mut input, b"batch\n");
+        put(
+            rt,
+            &mut input,
+            script_of(rt, client, lengths[client]).as_slice(),
+        );
+        put(rt, &mut input, b"end\n");
+    }
+    let (status, sink) = answer(rt, at_once("4", input.as_slice()));
+    let mut holds = status == ServeStatus::Done;
+    for client in 0..lengths.len() {
+        let script = script_of(rt, client, lengths[client]);
+        holds &= taken_of(rt, client, sink.bytes()).as_slice() == script.as_slice();
+    }
+    holds
 }
 
 #[test]
 fn eight_clients(rt: HostRuntime) -> Result<(), Fail> {
-    assert!(rt; serve_all(&rt, rt.alloc(), [2000; 8].as_slice())?);
+    assert!(rt; are_served(&rt, &[2000; 8]));
     Ok(())
 }
 
 #[test]
 fn clients_of_very_different_lengths(rt: HostRuntime) -> Result<(), Fail> {
-    let lengths = [0, 20_000, 1, 300, 2, 5000, 0, 40];
-    assert!(rt; serve_all(&rt, rt.alloc(), lengths.as_slice())?);
+    assert!(rt; are_served(&rt, &[0, 20_000, 1, 300, 2, 5000, 0, 40]));
     Ok(())
 }
 
 #[test]
 fn sixty_four_clients(rt: HostRuntime) -> Result<(), Fail> {
-    assert!(rt; serve_all(&rt, rt.alloc(), [50; 64].as_slice())?);
+    assert!(rt; are_served(&rt, &[50; 64]));
     Ok(())
 }

@@ -1,2 +1,0 @@
--- Words of private contracts: no public contract needs them.
-pub mod Senders

@@ -1,8 +1,0 @@
-use Rattle.std.proofs.Common.{ap}
-use Rattle.kc_adj.specs.LeveledGraph.{LeveledGraph}
-use Rattle.kc_levels.proofs.lemmas.Raising.{no_edges_meets_upper}
-use Rattle.kc_insert.proofs.tests.check_in_turn.Goals as goal
-
-pub insert_phase-requires-clause-upper : goal.insert_phase-requires-clause-upper
-insert_phase-requires-clause-upper g c κs within =
-    λ v h. no_edges_meets_upper _ _ _ v (ap (λ (a : LeveledGraph). a.graph.edges) c.in_ok-adj.ensures)

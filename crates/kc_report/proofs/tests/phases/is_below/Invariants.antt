@@ -1,5 +1,0 @@
-use Rattle.std.proofs.Common.{ℕ, ◌≤◌, ◌<◌, get_or}
-use Rattle.kc_report.proofs.tests.phases.is_below.Given as goal
-
-abbrev pub invariant-loop-v : goal.invariant-loop-v
-invariant-loop-v l = (u : ℕ) → u < l.v → get_or l.x u 0 ≤ get_or l.y u 0

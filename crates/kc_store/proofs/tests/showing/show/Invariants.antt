@@ -1,6 +1,0 @@
-use Rattle.std.proofs.Common.{◌≡◌}
-use Rattle.kc_store.specs.private.Showing.{HasShown}
-use Rattle.kc_store.proofs.tests.showing.show.Given as goal
-
-abbrev pub invariant-loop-g : goal.invariant-loop-g
-invariant-loop-g l = (l.writer.table ≡ l.fn.writer.table) × HasShown l.plan l.g l.fn.writer.state l.writer.state

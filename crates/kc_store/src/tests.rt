@@ -1,4 +1,0 @@
-mod plans;
-mod rows;
-mod showing;
-mod threads;

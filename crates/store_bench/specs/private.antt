@@ -1,2 +1,0 @@
--- Words of private contracts and loop invariants: no public contract needs them.
-pub mod Showing

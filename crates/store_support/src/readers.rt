@@ -1,0 +1,34 @@
+//! A reader of a store.
+ghost use Rattle.std.specs.Prelude.{◌≡◌};
+
+use kc_store::{Pass, Store, Writer};
+
+/// Reads levels, each from a point of the history that isn't before those read.
+#[derive(Drop)]
+pub struct Reader<'a> {
+    store: &'a Store,
+    pass: Pass,
+    ghost of: { pass.table ≡ store.now.table },
+}
+
+impl<'a> Reader<'a> {
+    /// A reader that has seen the whole history of the store's writer.
+    pub fn new(store: &'a Store, writer: &mut Writer) -> Reader<'a>
+        requires { writer.old.table ≡ store.now.table }
+        ensures { writer.new ≡ writer.old }
+    {
+        Reader {
+            store,
+            pass: writer.pass(store),
+        }
+    }
+
+    /// The level of v, or `None` if there is no such vertex.
+    pub fn read(&mut self, v: u32) -> Option<u16> {
+        if v < self.store.vertices() {
+            Some(self.store.read(&mut self.pass, v))
+        } else {
+            None
+        }
+    }
+}

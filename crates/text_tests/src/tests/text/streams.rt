@@ -1,0 +1,218 @@
+// Sources and sinks, in memory and of std, and lines that are sent. Expected values were worked out by hand.
+ghost use Rattle.std.specs.Prelude.{◌≤◌, IfOk};
+
+use crate::tests::support::{Bench, Lines, check, sink_of};
+use crate::tests::text::tell;
+use kc_text::{
+    Failed, LineBuf, LineReader, MemSink, NullSink, SendFault, Sink, Source, StdSink, StdSource,
+    fill_named, put_all,
+};
+use std::io;
+use std::io::{Read, Write};
+
+// The capacity, the most of a call, and the failing calls; what five writes of three bytes answer, and what was taken.
+const SINKS: &[((u32, u32), &[u32], &str, &str)] = &[
+    ((99, 99), &[], "33333", "abcabcabcabcabc"),
+    ((99, 2), &[5], "2222F", "abababab"),
+    ((20, 1), &[2], "1F111", "aaaa"),
+    ((5, 2), &[], "221FF", "ababa"),
+    ((2, 1), &[1, 3], "F1F1F", "aa"),
+    ((0, 1), &[], "FFFFF", ""),
+];
+
+#[test]
+fn sinks_in_memory(rt: HostRuntime) {
+    for ((capacity, piece), failing, answers, want) in SINKS {
+        assert!(rt; *piece > 0);
+        let mut sink = MemSink::new(rt.alloc(), *capacity, *piece, failing).expect(&rt, "memory");
+        let mut got = Vec::new(rt.alloc());
+        for _ in 0..5 {
+            let answer = match sink.write(b"abc") {
+                Ok(count) => b'0' + count as u8,
+                Err(Failed) => b'F',
+            };
+            got.push(answer).expect(&rt, "memory");
+        }
+        check(&rt, "five writes", &got, answers);
+        check(&rt, answers, sink.bytes(), want);
+    }
+}
+
+// What a call of a device does.
+#[derive(Clone, Copy)]
+enum Call {
+    // A signal interrupts it.
+    Interrupted,
+    // It fails.
+    Failed,
+    // It gives or takes at most as many bytes.
+    Most(usize),
+}
+
+// A device that gives `a`, and keeps what it takes.
+#[derive(Drop)]
+struct Device {
+    // What each call does; the later ones give or take all.
+    calls: &'static [Call],
+    // How many calls there were.
+    count: usize,
+    // What it took.
+    taken: Vec<u8>,
+}
+
+impl Device {
+    fn new(rt: &impl Bench, calls: &'static [Call]) -> Self {
+        Device {
+            calls,
+            count: 0,
+            taken: Vec::new(rt.alloc()),
+        }
+    }
+
+    // How many of so many bytes the next call gives or takes.
+    fn next(&mut self, len: usize) -> io::Result<usize>
+        ensures { IfOk result (λ k. k ≤ len) }
+    {
+        let call = self.calls.get(self.count).copied();
+        self.count = self.count.saturating_add(1);
+        match call {
+            Some(Call::Interrupted) => Err(io::Error::from(io::ErrorKind::Interrupted)),
+            Some(Call::Failed) => Err(io::Error::from(io::ErrorKind::TimedOut)),
+            Some(Call::Most(most)) => Ok(len.min(most)),
+            None => Ok(len),
+        }
+    }
+}
+
+impl Read for Device {
+    fn read(&mut self, buf: &mut [u8]) -> io::Result<usize> {
+        let count = self.next(buf.len())?;
+        buf[..count].fill(b'a');
+        Ok(count)
+    }
+}
+
+impl Write for Device {
+    fn write(&mut self, buf: &[u8]) -> io::Result<usize> {
+        let count = self.next(buf.len())?;
+        self.taken.extend_from_slice(&buf[..count])?;
+        Ok(count)
+    }
+
+    fn flush(&mut self) -> io::Result<()> {
+        self.next(0)?;
+        Ok(())
+    }
+}
+
+const GONE: &[Call] = &[Call::Failed; 2];
+
+const HINDERED: &[Call] = &[Call::Interrupted; 5];
+
+#[test]
+fn reads_no_more_at_the_end(rt: HostRuntime) {
+    // The device tells of an end, and gives more when it is read once more.
+    let resumed = Device::new(&rt, &[Call::Most(1), Call::Most(0), Call::Most(1)]);
+    let mut source = StdSource::new(resumed);
+    let mut reader = LineReader::new(rt.alloc(), 8, 20).expect(&rt, "memory");
+    let mut out = Lines::new(&rt);
+    for _ in 0..3 {
+        tell(&rt, &mut reader, &mut source, &mut out);
+    }
+    check(&rt, "a, an end and more", &out.done(&rt), "1:a\n2.\n2.\n");
+    let mut buf = [0u8; 1];
+    assert!(rt; source.read(&mut buf) == Ok(1) && buf[0] == b'a');
+}
+
+#[test]
+fn interrupted_calls_are_made_again(rt: HostRuntime) {
+    let mut buf = [0u8; 3];
+    assert!(rt; StdSource::new(Device::new(&rt, HINDERED)).read(&mut buf) == Ok(3));
+    assert!(rt; StdSink::new(Device::new(&rt, HINDERED)).write(b"ab") == Ok(2));
+}
+
+#[test]
+fn ends_of_std(rt: HostRuntime) {
+    let mut source = StdSource::new(b"abc".as_slice());
+    let mut buf = [0u8; 2];
+    for (count, want) in [(2, b"ab"), (1, b"cb"), (0, b"cb")] {
+        assert!(rt; source.read(&mut buf) == Ok(count) && buf == *want);
+    }
+    assert!(rt; StdSource::new(Device::new(&rt, GONE)).read(&mut buf) == Err(Failed));
+}
+
+#[test]
+fn writes_of_std(rt: HostRuntime) {
+    let mut written = Vec::new(rt.alloc());
+    let mut sink = StdSink::new(&mut written);
+    assert!(rt; put_all(&mut sink, b"abc").is_ok() && sink.flush().is_ok());
+    check(&rt, "writes of std", &written, "abc");
+    assert!(rt; NullSink::new().write(b"abc") == Ok(3));
+}
+
+#[test]
+fn refused_writes_of_std(rt: HostRuntime) {
+    let mut buf = [0u8; 2];
+    let mut full = StdSink::new(buf.as_mut_slice());
+    assert!(rt; full.write(b"xyz") == Ok(2) && full.write(b"z") == Err(Failed));
+    let mut gone = StdSink::new(Device::new(&rt, GONE));
+    assert!(rt; gone.write(b"z") == Err(Failed) && gone.flush() == Err(Failed));
+}
+
+// Bytes of which no two pieces that lie a multiple of 4,096 bytes apart are the same.
+fn many_bytes(rt: &impl Bench, count: u32) -> Vec<u8> {
+    let mut bytes = Vec::new(rt.alloc());
+    for i in 0..count {
+        bytes.push((i % 251) as u8).expect(rt, "memory");
+    }
+    bytes
+}
+
+// No byte of a large read or write is lost, whatever part of it std takes or gives.
+#[test]
+fn large_reads_and_writes(rt: HostRuntime) {
+    let bytes = many_bytes(&rt, 200 * 1024);
+    let mut source = StdSource::new(bytes.as_slice());
+    let mut buf = vec![in rt.alloc(); 0u8; 100_000].expect(&rt, "memory");
+    let mut got = Vec::new(rt.alloc());
+    for _ in 0..10 {
+        assert!(rt; buf.len() == 100_000);
+        let count = source.read(&mut buf).expect(&rt, "a read");
+        got.extend_from_slice(&buf[..count]).expect(&rt, "memory");
+    }
+    assert!(rt; got == bytes);
+
+    let bytes = many_bytes(&rt, 100 * 1024);
+    let mut narrow = Device::new(&rt, &[Call::Most(5000); 30]);
+    put_all(&mut StdSink::new(&mut narrow), &bytes).expect(&rt, "writes");
+    assert!(rt; narrow.taken == bytes);
+}
+
+// Pieces and failing calls; what two sends of `v 4294967295` and then `w` answer, and what was taken.
+const SENDS: &[(u32, &[u32], &str, &str)] = &[
+    (1000, &[], "oo", "v 4294967295\nw\n"),
+    (1, &[], "oo", "v 4294967295\nw\n"),
+    (5, &[3], "fo", "v 42949672w\n"),
+    (1000, &[2], "of", "v 4294967295\n"),
+];
+
+#[test]
+fn sends_lines(rt: HostRuntime) {
+    for (piece, failing, answers, want) in SENDS {
+        let mut sink = sink_of(&rt, *piece, failing);
+        let mut line = LineBuf::new(rt.alloc());
+        let mut got = Vec::new(rt.alloc());
+        fill_named(rt.alloc(), &mut line, b"v ", 4294967295).expect(&rt, "memory");
+        for word in [b"w", b"x"] {
+            let answer = match line.send(rt.alloc(), &mut sink) {
+                Ok(()) => b'o',
+                Err(SendFault::WriteFault) => b'f',
+                Err(SendFault::Memory(_)) => b'm',
+            };
+            got.push(answer).expect(&rt, "memory");
+            line.text(rt.alloc(), word).expect(&rt, "memory");
+        }
+        check(&rt, "two sends", &got, answers);
+        check(&rt, answers, sink.bytes(), want);
+    }
+}
