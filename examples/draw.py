@@ -1,11 +1,14 @@
 #!/usr/bin/env python3
-"""Pictures of what `kcore run` prints.
+"""Pictures of what `kcore` prints.
 
-    draw.py run TEXT PICTURE            levels and bounds by rank of vertex, and moves and groups by batch
-    draw.py graph INPUT TEXT PICTURE    the last graph of a small input, each vertex coloured by its level
+    draw.py run [--exact EXACT] TEXT PICTURE      bounds by rank of vertex, and moves and groups by batch
+    draw.py heat TEXT PICTURE                     how many vertices stand on each level after each batch
+    draw.py graph INPUT TEXT PICTURE              the last graph of an input, its vertices coloured by `high` or by coreness
 
-TEXT is what `kcore run` printed, INPUT what it read. PICTURE ends with .svg, .png or .pdf. Needs matplotlib and numpy
-(on Debian and Ubuntu: apt install python3-matplotlib).
+TEXT is what `kcore run` printed, INPUT what it read. For `graph` TEXT may be a text of `kcore exact`, and then colours are corenesses;
+--exact draws the corenesses of such a text over the band from `low` to `high`. Vertices without edges are left out of curves and of
+large graphs. A graph of up to 150 vertices has numbers on its vertices, one of up to 2,000 has dots, larger ones for higher degrees.
+PICTURE ends with .svg, .png or .pdf. Needs matplotlib and numpy (on Debian and Ubuntu: apt install python3-matplotlib).
 
 Exit number: 0 the picture is written, 1 a file can't be read, written or used, 2 the words of the command line are wrong,
 3 matplotlib isn't there.
@@ -22,42 +25,57 @@ except ImportError as missing:
     print(f"draw.py: {missing}; on Debian and Ubuntu: apt install python3-matplotlib", file=sys.stderr)
     sys.exit(3)
 
-# Above this a drawing of a graph shows nothing.
-MOST_VERTICES = 500
+# Up to this vertices have numbers, and up to the second a drawing of a graph shows something.
+MOST_NUMBERS = 150
+MOST_VERTICES = 2_000
 
 # Above this a bar for each batch is too thin to see.
 MOST_BARS = 60
 
-BLUE, ORANGE, GREY = "#2b6cb0", "#dd6b20", "#a0aec0"
+# An axis whose values span this factor is logarithmic.
+DECADES = 100
+
+BLUE, ORANGE, GREY, GREEN = "#2b6cb0", "#dd6b20", "#a0aec0", "#2f855a"
 
 
 class Unusable(Exception):
     """A file can't be used; the text says why."""
 
 
-class RunText:
-    """What a run text says: a row of numbers for each vertex, and for each batch its moves and groups."""
+def words_of(path, kind):
+    """The words of each line of a text of this kind, but for comments."""
+    with open(path, encoding="ascii") as file:
+        lines = [line.split() for line in file if line.strip() and not line.startswith("#")]
+    if not lines or lines[0] != [f"kcore-{kind}", "1"]:
+        raise Unusable(f"{path} isn't a text of `kcore {kind}`: its first line isn't `kcore-{kind} 1`")
+    if lines[-1] != ["end"]:
+        raise Unusable(f"{path} breaks off: its last line isn't `end`")
+    return lines
 
-    NAMES = ("level", "est", "low", "high", "up", "down")
+
+def columns_of(lines):
+    """The numbers of the vertex lines, by name."""
+    rows = [words for words in lines if words[0] == "vertex"]
+    names = rows[0][2::2] if rows else []
+    return dict(zip(names, np.array([[int(word) for word in words[3::2]] for words in rows], dtype=int).T))
+
+
+class RunText:
+    """What a run text says: a row of numbers for each vertex, and for each batch its moves and groups and the levels that changed."""
 
     def __init__(self, path):
-        with open(path, encoding="ascii") as file:
-            lines = [line.split() for line in file if line.strip() and not line.startswith("#")]
-        if not lines or lines[0] != ["kcore-run", "1"]:
-            raise Unusable(f"{path} isn't a text of `kcore run`: its first line isn't `kcore-run 1`")
-        if lines[-1] != ["end"]:
-            raise Unusable(f"{path} breaks off: its last line isn't `end`")
-        self.moves, self.groups, vertices = [], [], []
+        lines = words_of(path, "run")
+        self.moves, self.groups, self.changes = [], [], []
         for words in lines:
             if words[0] == "batch":
                 self.moves.append(0)
                 self.groups.append(0)
+                self.changes.append([])
             elif words[0] == "group":
                 self.moves[-1] += len(words) - 3
                 self.groups[-1] += 1
-            elif words[0] == "vertex":
-                vertices.append([int(word) for word in words[3::2]])
-        self.columns = dict(zip(self.NAMES, np.array(vertices, dtype=int).T))
+                self.changes[-1] += [[int(it) for it in word.split(":")] for word in words[3:]]
+        self.columns = columns_of(lines)
 
 
 def edges_of(path, refused):
@@ -103,78 +121,181 @@ def change(edges, words):
 def refused_batches(path):
     with open(path, encoding="ascii") as file:
         rows = (line.split() for line in file)
-        return {int(words[1]) for words in rows if words[:1] == ["batch"] and words[2] == "refused"}
+        # (`exact` has them as notes)
+        rows = (words[words[:1] == ["#"]:] for words in rows)
+        return {int(words[1]) for words in rows if words[:1] == ["batch"] and words[2:3] == ["refused"]}
 
 
-def draw_run(text, picture):
-    columns = text.columns
-    order = np.lexsort((-columns["level"], -columns["est"]))
-    # The bounds go by the level alone: a step begins where another level does.
-    levels = columns["level"][order]
-    first = np.flatnonzero(np.append(True, levels[1:] != levels[:-1]))
-    at = np.append(first, len(levels))
-    level, est, low, high = (np.append(column, column[-1]) for column in
-                             (columns[name][order][first] for name in ("level", "est", "low", "high")))
-    figure, (left, right) = plt.subplots(1, 2, figsize=(11, 4.2))
+def spans_decades(values):
+    """Whether the values above 0 span so much that an axis of them is better logarithmic."""
+    above = values[values > 0]
+    return len(above) > 0 and above.max() >= DECADES * above.min()
 
-    left.fill_between(at, low, high, step="post", color=BLUE, alpha=0.2, label="low to high: the coreness lies here")
-    left.step(at, est, where="post", color=BLUE, label="est")
-    left.set(xlabel="vertices, highest first", ylabel="coreness", ylim=(0, None))
-    scale = left.twinx()
-    scale.step(at, level, where="post", color=GREY, linewidth=1, label="level (right scale)")
-    scale.set(ylabel="level", ylim=(0, None))
-    handles, labels = (a + b for a, b in zip(left.get_legend_handles_labels(), scale.get_legend_handles_labels()))
-    left.legend(handles, labels, frameon=False, loc="lower center", bbox_to_anchor=(0.5, 1), ncol=3, fontsize="small")
 
+def steps(order, *columns):
+    """Where each run of equal rows begins, with its values, for a plot by steps."""
+    rows = np.stack([column[order] for column in columns])
+    first = np.flatnonzero(np.append(True, (rows[:, 1:] != rows[:, :-1]).any(axis=0)))
+    # (ranks count from 1, so that they have a place on a logarithmic axis)
+    return np.append(first, len(order)) + 1, *(np.append(row[first], row[first[-1]]) for row in rows)
+
+
+def draw_bounds(axes, columns, coreness):
+    """Bounds by rank of vertex, the highest first, and the corenesses where there are any."""
+    alive = np.flatnonzero(columns["level"] > 0)
+    if not len(alive):
+        axes.text(0.5, 0.5, "no vertex has an edge", ha="center", transform=axes.transAxes)
+        return
+    high, level = columns["high"], columns["level"]
+    order = alive[np.lexsort((-level[alive], -high[alive]))]
+    at, low, est, top = steps(order, columns["low"], columns["est"], high)
+    axes.fill_between(at, low, top, step="post", color=BLUE, alpha=0.2, label="low to high: the coreness lies here")
+    axes.step(at, est, where="post", color=BLUE, linewidth=1, label="est")
+    if coreness is not None:
+        axes.plot(np.arange(1, len(order) + 1), coreness[order], ".", color=ORANGE, markersize=1.5, rasterized=True, label="coreness")
+    axes.set(xlabel="vertices with edges, highest first", ylabel="coreness", ylim=(0, None))
+    if spans_decades(at):
+        axes.set_xscale("log")
+    if spans_decades(np.append(low, top)):
+        axes.set_yscale("log")
+        axes.set_ylim(0.8, None)
+    else:
+        axes.yaxis.get_major_locator().set_params(integer=True)
+    axes.legend(frameon=False, loc="lower center", bbox_to_anchor=(0.5, 1), ncol=3, fontsize="small")
+
+
+def draw_batches(axes, text):
+    """Moves and groups by batch."""
     batches = np.arange(1, len(text.moves) + 1)
     rows = (-0.2, text.moves, ORANGE, "vertices that moved"), (0.2, text.groups, GREY, "groups that moved together")
     for shift, numbers, colour, label in rows:
         if len(batches) <= MOST_BARS:
-            right.bar(batches + shift, numbers, width=0.4, color=colour, label=label)
+            axes.bar(batches + shift, numbers, width=0.4, color=colour, label=label)
         else:
-            right.plot(batches, numbers, color=colour, linewidth=1, label=label)
-    right.set(xlabel="batch", ylabel="number", ylim=(0, None))
-    right.legend(frameon=False, loc="lower center", bbox_to_anchor=(0.5, 1), ncol=2, fontsize="small")
-    for axes in (left, scale, right):
-        axes.spines["top"].set_visible(False)
+            axes.plot(batches, numbers, color=colour, linewidth=1, label=label)
+    axes.set(xlabel="batch", ylabel="number", ylim=(0, None))
+    if spans_decades(np.array(text.moves + text.groups)):
+        axes.set_yscale("symlog", linthresh=1)
+    else:
         axes.yaxis.get_major_locator().set_params(integer=True)
-    right.xaxis.get_major_locator().set_params(integer=True, min_n_ticks=1)
+    axes.xaxis.get_major_locator().set_params(integer=True, min_n_ticks=1)
+    axes.legend(frameon=False, loc="lower center", bbox_to_anchor=(0.5, 1), ncol=2, fontsize="small")
+
+
+def draw_run(text, coreness, picture):
+    if coreness is not None and len(coreness) != len(text.columns["level"]):
+        raise Unusable("the two texts have other numbers of vertices")
+    figure, (left, right) = plt.subplots(1, 2, figsize=(11, 4.2))
+    draw_bounds(left, text.columns, coreness)
+    draw_batches(right, text)
+    for axes in left, right:
+        axes.spines[["top", "right"]].set_visible(False)
     save(figure, picture)
 
 
-def places_of(count, edges):
+def draw_heat(text, picture):
+    """A column for each batch: how many vertices stand on each level after it. Level 0 is left out."""
+    if not text.changes:
+        raise Unusable("no batch, so there is nothing to draw")
+    levels, most = np.zeros(len(text.columns["level"]), dtype=int), 1
+    for changes in text.changes:
+        most = max([most, *(level for _, level in changes)])
+    counts = np.zeros((most + 1, len(text.changes)))
+    for batch, changes in enumerate(text.changes):
+        for vertex, level in changes:
+            levels[vertex] = level
+        counts[:, batch] = np.bincount(levels, minlength=most + 1)
+    shown = np.ma.masked_equal(counts[1:], 0)
+    figure, axes = plt.subplots(figsize=(9, 4.8))
+    mesh = axes.pcolormesh(np.arange(len(text.changes) + 1) + 0.5, np.arange(1, most + 2) - 0.5, shown, cmap="viridis", rasterized=True,
+                           norm=matplotlib.colors.LogNorm(1, max(shown.max() or 1, 2)) if shown.count() else None)
+    axes.set(xlabel="batch", ylabel="level")
+    axes.xaxis.get_major_locator().set_params(integer=True, min_n_ticks=1)
+    axes.yaxis.get_major_locator().set_params(integer=True)
+    figure.colorbar(mesh, ax=axes, label="vertices on this level after the batch")
+    save(figure, picture)
+
+
+def first_places(count, ends):
+    """Places from which springs soon rest: two slow waves over the graph, found by averaging over neighbours."""
+    places = np.random.default_rng(4).normal(size=(count, 2))
+    degrees = np.maximum(np.bincount(ends.ravel(), minlength=count), 1)[:, None]
+    for _ in range(60):
+        near = np.zeros_like(places)
+        np.add.at(near, ends[:, 0], places[ends[:, 1]])
+        np.add.at(near, ends[:, 1], places[ends[:, 0]])
+        places = (places + near / degrees) / 2
+        places, _ = np.linalg.qr(places - places.mean(axis=0))
+    return places * np.sqrt(count) + np.random.default_rng(5).normal(scale=0.05, size=(count, 2))
+
+
+def places_of(count, ends):
     """A place for each vertex, so that neighbours are near and others apart (springs, from a fixed start)."""
-    draw = np.random.default_rng(4)
-    places = draw.normal(size=(count, 2))
-    ends = np.array(sorted(edges), dtype=int).reshape(-1, 2)
-    near = np.zeros((count, count))
-    near[ends[:, 0], ends[:, 1]] = near[ends[:, 1], ends[:, 0]] = 1
-    length = 1 / np.sqrt(count)
-    for step in np.linspace(0.1, 0.002, 300):
-        apart = places[:, None, :] - places[None, :, :]
-        distance = np.maximum(np.linalg.norm(apart, axis=2), 1e-6)
-        force = length ** 2 / distance ** 2 - near * distance / length
-        shift = (apart * force[:, :, None]).sum(axis=1) - places * length
-        places += shift / np.maximum(np.linalg.norm(shift, axis=1, keepdims=True), 1e-6) * step
+    places, length = first_places(count, ends).astype(np.float32), np.float32(1 / np.sqrt(count))
+    places *= np.float32(0.5) / max(np.abs(places).max(), 1e-6)
+    for step in np.linspace(0.1, 0.002, 300 if count <= MOST_NUMBERS else 70, dtype=np.float32):
+        shift, norms = -places * length, (places * places).sum(axis=1)
+        for begin in range(0, count, 256):
+            here = slice(begin, min(begin + 256, count))
+            # (the square of the distance, by products; a vertex doesn't push itself)
+            square = norms[here, None] + norms[None, :] - 2 * places[here] @ places.T
+            push = length ** 2 / np.maximum(square, np.float32(1e-8))
+            push[np.arange(here.stop - begin), np.arange(begin, here.stop)] = 0
+            shift[here] += push.sum(axis=1, keepdims=True) * places[here] - push @ places
+        pull = places[ends[:, 0]] - places[ends[:, 1]]
+        pull *= np.sqrt((pull * pull).sum(axis=1, keepdims=True)) / length
+        np.add.at(shift, ends[:, 0], -pull)
+        np.add.at(shift, ends[:, 1], pull)
+        places += shift / np.maximum(np.sqrt((shift * shift).sum(axis=1, keepdims=True)), 1e-6) * step
     return places
 
 
-def draw_graph(edges, text, picture):
-    levels = text.columns["level"]
-    if len(levels) > MOST_VERTICES:
-        raise Unusable(f"{len(levels)} vertices; a drawing shows at most {MOST_VERTICES}")
-    places = places_of(len(levels), edges)
+def spread(places):
+    """The places in a disc of even density: each keeps its direction from the middle, and the order of distances stays."""
+    apart = places - np.median(places, axis=0)
+    distance = np.maximum(np.sqrt((apart * apart).sum(axis=1)), 1e-6)
+    rank = np.empty(len(places))
+    rank[np.argsort(distance, kind="stable")] = np.arange(len(places)) + 0.5
+    return apart / distance[:, None] * np.sqrt(rank / len(places))[:, None]
+
+
+def draw_graph(edges, colours, label, picture):
+    ends, shown = np.array(sorted(edges), dtype=int).reshape(-1, 2), np.arange(len(colours))
+    if len(colours) > MOST_NUMBERS:
+        shown = np.unique(ends)
+    if len(shown) > MOST_VERTICES:
+        raise Unusable(f"{len(shown)} vertices with edges; a drawing shows at most {MOST_VERTICES}: draw a core of them"
+                       " (docs/GUIDE.md, \"The subgraph of a core\"), or use `draw.py run` or `draw.py heat`")
+    if not len(shown):
+        raise Unusable("no vertex has an edge, so there is nothing to draw")
+    ends, colours = np.searchsorted(shown, ends), colours[shown]
+    places, has_numbers = places_of(len(shown), ends), len(shown) <= MOST_NUMBERS
+    if not has_numbers:
+        places = spread(places)
     figure, axes = plt.subplots(figsize=(7, 5.5))
-    for a, b in sorted(edges):
-        axes.plot(*places[[a, b]].T, color=GREY, linewidth=0.8, zorder=1)
-    dots = axes.scatter(*places.T, c=levels, s=230, cmap="viridis", edgecolors="white", zorder=2)
-    middle = (levels.min() + levels.max()) / 2
-    for v, place in enumerate(places):
-        axes.annotate(str(v), place, ha="center", va="center", fontsize=7, zorder=3,
-                      color="white" if levels[v] <= middle else "black")
-    figure.colorbar(dots, ax=axes, label="level", shrink=0.7).locator = matplotlib.ticker.MaxNLocator(integer=True)
+    lines = matplotlib.collections.LineCollection(places[ends], colors=GREY, linewidths=0.8 if has_numbers else 0.25, alpha=1 if has_numbers else 0.5,
+                                                  zorder=1, rasterized=not has_numbers)
+    axes.add_collection(lines)
+    degrees = np.bincount(ends.ravel(), minlength=len(shown))
+    # (the densest are drawn last, so that they lie on top)
+    order = np.argsort(colours, kind="stable")
+    dots = axes.scatter(*places[order].T, c=colours[order], s=230 if has_numbers else 3 + 4 * np.sqrt(degrees[order]), cmap="viridis",
+                        edgecolors="white" if has_numbers else "none", zorder=2, rasterized=not has_numbers)
+    middle = (colours.min() + colours.max()) / 2
+    for at, place in enumerate(places if has_numbers else ()):
+        axes.annotate(str(shown[at]), place, ha="center", va="center", fontsize=7, zorder=3,
+                      color="white" if colours[at] <= middle else "black")
+    figure.colorbar(dots, ax=axes, label=label, shrink=0.7).locator = matplotlib.ticker.MaxNLocator(integer=True)
     axes.set_axis_off()
     save(figure, picture)
+
+
+def colours_of(path):
+    """A number for each vertex and what it is: its coreness in a text of `exact`, `high` in one of `run`."""
+    with open(path, encoding="ascii") as file:
+        is_exact = any(line.startswith("kcore-exact ") for line in file)
+    columns = columns_of(words_of(path, "exact" if is_exact else "run"))
+    return (columns["coreness"], "coreness") if is_exact else (columns["high"], "high: the coreness is at most this")
 
 
 def save(figure, picture):
@@ -186,20 +307,25 @@ def save(figure, picture):
 
 
 def main():
-    parser = argparse.ArgumentParser(usage="draw.py run TEXT PICTURE | draw.py graph INPUT TEXT PICTURE",
+    parser = argparse.ArgumentParser(usage="draw.py run [--exact EXACT] TEXT PICTURE | draw.py heat TEXT PICTURE | draw.py graph INPUT TEXT PICTURE",
                                      description=__doc__, formatter_class=argparse.RawDescriptionHelpFormatter)
     kinds = parser.add_subparsers(dest="kind", required=True)
-    for kind, names in ("run", ("text", "picture")), ("graph", ("input", "text", "picture")):
+    for kind, names in ("run", ("text", "picture")), ("heat", ("text", "picture")), ("graph", ("input", "text", "picture")):
         words = kinds.add_parser(kind)
         for name in names:
             words.add_argument(name)
+        if kind == "run":
+            words.add_argument("--exact")
     chosen = parser.parse_args()
     try:
-        text = RunText(chosen.text)
         if chosen.kind == "run":
-            draw_run(text, chosen.picture)
+            coreness = columns_of(words_of(chosen.exact, "exact"))["coreness"] if chosen.exact else None
+            draw_run(RunText(chosen.text), coreness, chosen.picture)
+        elif chosen.kind == "heat":
+            draw_heat(RunText(chosen.text), chosen.picture)
         else:
-            draw_graph(edges_of(chosen.input, refused_batches(chosen.text)), text, chosen.picture)
+            colours = colours_of(chosen.text)
+            draw_graph(edges_of(chosen.input, refused_batches(chosen.text)), *colours, chosen.picture)
     except (Unusable, OSError, ValueError) as fault:
         sys.exit(f"draw.py: {fault}")
 
