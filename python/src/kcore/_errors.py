@@ -1,0 +1,123 @@
+"""The exceptions of the package, and the words for the ways in which a program ends."""
+from __future__ import annotations
+
+import signal
+from typing import Any, Optional
+
+__all__ = ["KcoreError", "ProgramNotFound", "ProgramEnded", "BatchRefused", "Mismatch", "StreamClosed", "TooManyNodes",
+           "REASONS", "ending_in_words"]
+
+#: What each exit number of the program says.
+STATUSES = {
+    0: "all is done, and nothing was refused",
+    1: "something in its input was refused",
+    2: "the words of its command line name no command",
+    3: "a read failed",
+    4: "a write failed: the device is full, or nothing reads what it writes",
+    5: "there was not enough memory",
+    126: "the file can't be run",
+    127: "the file, or the loader that it names, isn't there",
+}
+
+#: What each reason of a refused batch says.
+REASONS = {
+    "bad-line": "the line is neither an item nor `end`",
+    "bad-vertex": "the item names a vertex that isn't there",
+    "line-long": "the line has more than 65,536 bytes",
+    "too-many": "the batch has more than 1,048,576 items",
+    "truncated": "the input ends before the `end` of the batch",
+    "input-limit": "the input has more than 1,073,741,824 bytes",
+    "edge-limit": "the graph would have more than 16,777,216 edges",
+    "phase-limit": "there would be more than 16,777,215 phases",
+}
+
+
+def ending_in_words(status: int) -> str:
+    """Says how a program ended.
+
+    Parameters
+    ----------
+    status : int
+        Its exit number, or less than 0: the signal that ended it, as `subprocess` has it.
+
+    Returns
+    -------
+    str
+
+    Examples
+    --------
+    >>> ending_in_words(5)
+    'ended with 5: there was not enough memory'
+    >>> ending_in_words(-9)
+    'was ended by the signal SIGKILL (9); the system may have run out of memory'
+    """
+    if status < 0:
+        try:
+            name = signal.Signals(-status).name
+        except ValueError:
+            name = "of number"
+        hint = "; the system may have run out of memory" if status == -9 else ""
+        return f"was ended by the signal {name} ({-status}){hint}"
+    return f"ended with {status}: {STATUSES.get(status, 'a number that the program itself never gives')}"
+
+
+class KcoreError(Exception):
+    """Is the base of all exceptions of this package."""
+
+
+class ProgramNotFound(KcoreError):
+    """Says that there is no program where it was looked for."""
+
+
+class ProgramEnded(KcoreError):
+    """Says that the program ended before its work was done.
+
+    Attributes
+    ----------
+    status : int or None
+        The exit number; less than 0 is the signal that ended it. None where it doesn't end.
+    """
+
+    def __init__(self, message: str, status: Optional[int] = None) -> None:
+        super().__init__(message)
+        self.status = status
+
+
+class BatchRefused(KcoreError):
+    """Says that a batch was refused. It changed nothing, and the stream goes on.
+
+    Attributes
+    ----------
+    line : int
+        The line of the stream's input that decides, counted from 1.
+    reason : str
+        One of the reasons of ``docs/FORMATS.md``: ``too-many``, ``edge-limit``, ``phase-limit``, ``input-limit``, and
+        for `Stream.apply_lines` also ``bad-line``, ``bad-vertex`` and ``line-long``.
+    number : int
+        The number of the batch, as `Batch.number` counts them.
+    item : int or None
+        The place of the item on that line among the items of the batch, counted from 0. None where the line is no item.
+    sent : bool
+        Whether the program refused it. If not, the module did and sent nothing.
+    applied : Batch or None
+        What took effect of a batch that was cut (``cut=True``) before the refused piece.
+    """
+
+    def __init__(self, line: int, reason: str, number: int, item: Optional[int] = None, sent: bool = True,
+                 applied: Any = None) -> None:
+        meaning = REASONS.get(reason, "for a reason that this package doesn't know")
+        super().__init__(f"batch {number} is refused at line {line}: {reason}, {meaning}")
+        self.line, self.reason, self.number = line, reason, number
+        self.item, self.sent, self.applied = item, sent, applied
+
+
+class Mismatch(KcoreError):
+    """Says that a text of the program differs from what this module kept or can read."""
+
+
+class StreamClosed(KcoreError):
+    """Says that a call needs an open stream, or one that has ended."""
+
+
+class TooManyNodes(KcoreError, ValueError):
+    """Says that a batch names more nodes than the stream was opened for. Nothing was sent."""
