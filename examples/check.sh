@@ -1,14 +1,15 @@
 #!/usr/bin/env bash
-# Runs kcore on each example, and on each small input in `cases`: it has to write the text beside it, and to exit with 1 where it
-# refuses something. Tries each exit number, of kserve too. Then tries `snap_to_kcore.py` and compares corenesses with those of a plain
-# program, where there is a python3, and tries `draw.py`, where there is matplotlib too. Silent where all is well.
+# Runs kcore on each example, and on each small input in `cases`: it has to write the text beside it, and to exit with 1 if it
+# refuses something. Tries each exit number, of kserve too, each limit (`limits.sh`), answers over a pipe that stays open (`live.sh`) and inputs
+# in pieces (`pieces.py`). Then tries the converter and `check.sql`, compares corenesses and levels with those of plain programs, and tries
+# `draw.py`, if there is matplotlib. Silent if all is well.
 #     examples/check.sh KCORE KSERVE
 set -u
 program=$(realpath "$1") || exit 1
 kserve=$(realpath "$2") || exit 1
 cd "$(dirname "$0")" || exit 1
-out=$(mktemp) && err=$(mktemp) || exit 1
-trap 'rm -f "$out" "$out.svg" "$err"' EXIT
+out=$(mktemp) && err=$(mktemp) && long=$(mktemp) && strip=$(mktemp) || exit 1
+trap 'rm -f "$out" "$out.svg" "$err" "$long" "$strip"' EXIT
 failed=0
 wrong() { echo "examples/$1"; failed=1; }
 
@@ -39,6 +40,7 @@ done
 for text in *_final.txt cases/*_final.txt; do
   writes "${text%_final.txt}.kc" "$text" final 1
   writes "${text%_final.txt}.kc" "$text" final 3
+  grep -q '^refused' "$text" && continue
   "$program" check <"$text" >"$out"
   [ $? = 0 ] && grep -q '^certified ' "$out" || wrong "$text isn't certified"
 done
@@ -58,11 +60,31 @@ for text in *.txt cases/*.txt; do
   [ $? = 0 ] && grep -qx explained "$out" || wrong "$text isn't explained"
 done
 
-# says LINE WORDS.. <DOCUMENT: a document that isn't right is told so.
+# Nor does it matter how many readers ask meanwhile: but for their lines the text is the same, with the line numbers of refusals one greater
+# for one `ask` more, and the replies are explained.
+for input in cases/*.kc; do
+  grep -q '^refused' "${input%.kc}.txt" && continue
+  awk '{ print } $1 == "vertices" && !n { n = $2 + 0; print "ask 7 0", n - 1, int(n / 2) }' "$input" >"$err"
+  for workers in 1 4; do
+    "$program" run $workers <"$err" >"$out"
+    awk '$1 == "batch" && $3 == "refused" { $5 += 1 } $1 != "reader"' "${input%.kc}.txt" | cmp -s - <(grep -v '^reader' "$out") || wrong "$input: another text by run $workers beside one more reader"
+    "$program" audit <"$out" | grep -qx explained || wrong "$input: run $workers beside one more reader isn't explained"
+  done
+done
+
+# says LINE WORDS.. <DOCUMENT: of this document the program writes this line, and exits with 1 where it isn't right.
 says() {
   "$program" "${@:2}" >"$out"
-  [ $? = 1 ] && echo "$1" | cmp -s - "$out" || wrong "another line of ${*:2} than '$1'"
+  exited=$?
+  case $1 in certified* | explained) wanted=0 ;; *) wanted=1 ;; esac
+  [ $exited = $wanted ] && echo "$1" | cmp -s - "$out" || wrong "exit number $exited, or another line of ${*:2} than '$1'"
 }
+for line in cases/*_check.txt; do
+  says "$(cat "$line")" check <"${line%_check.txt}.cert"
+done
+for line in cases/*_audit.txt; do
+  says "$(cat "$line")" audit <"${line%_audit.txt}.run"
+done
 says 'upper 2' check <breach.cert
 says 'refused line 1 bad-line' check <karate.txt
 says 'unexplained reader 0 ask 2' audit <unexplained.run
@@ -77,16 +99,28 @@ for text in *_orient.txt cases/*_orient.txt; do
   writes "${text%_orient.txt}.kc" "$text" orient 3
 done
 
-# A line of 65,537 bytes fits nowhere.
-{ printf 'kcore 1\nvertices 2\nbatch\n0 1\n' && head -c 65537 /dev/zero | tr '\0' 1; } | "$program" run 1 >"$out"
-[ $? = 1 ] && grep -qx 'batch 1 refused line 5 line-long' "$out" || wrong "a line of 65537 bytes isn't refused"
-
 # The most questions that a reader may have.
 printf 'kcore 1\nvertices 5\nask 65536 0\n' | "$program" run 1 >"$out"
 [ $? = 0 ] && { printf 'reader 0' && yes ' 0=0' | head -65536 | tr -d '\n' && echo; } | cmp -s - <(grep '^reader' "$out") || wrong "a reader with 65536 questions: another text"
 # Its line has more than 65,536 bytes, as a line of a run text may.
 "$program" audit <"$out" | grep -qx explained || wrong "a reader with 65536 questions isn't explained"
 sed '/^reader 0/s/=0$/=1/' "$out" | "$program" audit | grep -qx 'unexplained reader 0 ask 65536' || wrong "a reader with 65536 questions: its last reply"
+
+# Lists that are long enough to go to threads. In the first batch 6,144 vertices begin to rise at once, in the second 12,288 that have a
+# neighbour above them. Then a strip of vertices each of which is joined to the next two; it comes in, and goes out again.
+awk 'function pairs(n, further) { for (v = 0; v < n; v++) print v, v + further }
+  BEGIN { print "kcore 1\nvertices 18432\nbatch"; pairs(3072, 3072); print "end\nbatch"; pairs(6144, 6144); pairs(6144, 12288); print "end" }' >"$long"
+awk 'function strip(sign) { print "batch"; for (v = 0; v + 2 < 60000; v++) { print sign, v, v + 1; print sign, v, v + 2 } print "end" }
+  BEGIN { print "kcore 1\nvertices 60000"; strip("+"); strip("-") }' >"$strip"
+for input in "$long" "$strip"; do
+  "$program" run 1 <"$input" >"$err"
+  [ $? = 0 ] && [ "$(tail -n 1 "$err")" = end ] || wrong "long lists: no text by run 1"
+  for workers in 2 3 64; do
+    "$program" run $workers <"$input" | cmp -s - "$err" || wrong "long lists: another text by run $workers than by run 1"
+  done
+done
+# All edges of the strip are gone.
+tail -n 60001 "$err" | grep -qvE '^(vertex [0-9]+ level 0 est 0 low 0 high 0 up 0 down 0|end)$' && wrong "long lists: an edge of the strip is left"
 
 # What a generated load comes to: one line, the same for any number of workers. Nothing is read.
 generates() {
@@ -99,7 +133,7 @@ line=$("$program" gen 1 20000 4 20000 1)
 generates "$line" 1 20000 4 20000 4
 
 # Words that name no command: nothing is written.
-for words in "" run "run 0" "run 65" "run +1" "run 00000000001" "run x" "run 1 1" "exact 1" final "final 0" "final 65" orient "orient 0" "orient 65" "orient 1 1" "dense 1" "check 1" "audit 1" gen "gen 0 5 1 3" "gen 0 0 1 3 1" "gen 0 5 33 1048576 1" "gen 0 5 1 3 65" --help --version; do
+for words in "" run "run 0" "run +1" "run 00000000001" "run x" "run 1 1" "exact 1" final "final 0" orient "orient 0" "orient x" "orient 1 1" "dense 1" "check 1" "audit 1" gen "gen 0 5 1 3" "gen 0 5 1 3 1 1" "gen 0 5 1 3 x" --help --version; do
   "$program" $words <path.kc >"$out" 2>"$err"
   exited=$?
   [ $exited = 2 ] && [ ! -s "$out" ] && [ ! -s "$err" ] || wrong "path.kc: '$words': exit number $exited"
@@ -129,27 +163,34 @@ serves() {
   [ $exited = "$1" ] && [ ! -s "$err" ] || wrong "$2: exit number $exited of kserve ${*:3}"
 }
 # Which updates share a batch is up to the schedule, and each client's stand in the order of its script.
-for workers in 1 3; do
+for workers in 1 03; do
   serves 0 clients.ks $workers
   for client in "0 + 0 1,0 + 0 2" "1 + 1 2,1 + 2 3" "2 + 3 4,2 - 3 4"; do
     [ "$(grep "^take ${client%% *} " "$out" | cut -c6- | paste -sd,)" = "$client" ] || wrong "clients.ks: kserve $workers takes something else than '$client'"
   done
 done
+for input in cases/*.ks; do
+  serves "$(grep -c '^refused' "${input%.ks}.txt")" "$input" 3
+  cmp -s "$out" "${input%.ks}.txt" || wrong "$input: another text of kserve"
+done
 serves 1 karate.kc 2
 echo 'refused line 2 header' | cmp -s - "$out" || wrong "karate.kc: another text of kserve"
-for words in "" 0 65 x "1 1" "run 1"; do
+for words in "" 0 x "1 1" "run 1" --help 99999999999; do
   serves 2 clients.ks $words
   [ ! -s "$out" ] || wrong "clients.ks: 'kserve $words' writes something"
 done
 serves 3 . 2
 [ ! -s "$out" ] || wrong "kserve writes something of a folder"
 
+# A pipe that stays open.
+./live.sh "$program" || failed=1
+
 # A text that can't be written: the device is full.
 if [ -c /dev/full ]; then
   "$kserve" 2 <clients.ks >/dev/full 2>"$err"
   exited=$?
   [ $exited = 4 ] && [ ! -s "$err" ] || wrong "clients.ks: kserve to a full device: exit number $exited"
-  for words in "run 1" "final 1" "orient 1" exact dense; do
+  for words in "run 1" "final 1" "orient 1" exact dense check audit "gen 0 5 1 3 2"; do
     "$program" $words <path.kc >/dev/full 2>"$err"
     exited=$?
     [ $exited = 4 ] && [ ! -s "$err" ] || wrong "path.kc: $words to a full device: exit number $exited"
@@ -158,21 +199,35 @@ else
   echo "a full device isn't tried: there is no /dev/full" >&2
 fi
 
+# Each limit, and one past it.
+./limits.sh "$program" "$kserve" || failed=1
+
+# A run with one worker starts no thread. With four it starts as many each time, and fewer where some list isn't cut for them.
+if command -v strace >/dev/null && strace -f -qq -o "$err" true 2>"$out"; then
+  for threads in 1:0 4:41; do
+    strace -f -qq -e trace=clone,clone3 -e signal=none -o "$err" "$program" run ${threads%:*} <"$strip" >"$out"
+    started=$(grep -c 'clone3\?(.*CLONE_THREAD' "$err")
+    [ "$started" = ${threads#*:} ] || wrong "the strip: run ${threads%:*} starts $started threads and not ${threads#*:}"
+  done
+else
+  echo "threads aren't counted: there is no strace that may trace" >&2
+fi
+
 if ! command -v python3 >/dev/null; then
-  echo "examples/snap_to_kcore.py isn't tried: there is no python3" >&2
+  echo "examples/to_kcore.py, check.sql, corenesses and inputs in pieces aren't tried: there is no python3" >&2
   exit $failed
 fi
 
-# converts INPUT TEXT WORDS..: the script makes this text of this input.
-converts() {
-  printf -- "$1" | python3 snap_to_kcore.py "${@:3}" >"$out"
-  [ $? = 0 ] && printf -- "$2" | cmp -s - "$out" || wrong "snap_to_kcore.py: '$1' ${*:3}"
-}
-# refuses NUMBER MESSAGE INPUT WORDS..: the script exits with this number, and writes nothing but such a message.
-refuses() {
-  printf -- "$3" | python3 snap_to_kcore.py "${@:4}" >"$out" 2>"$err"
-  [ $? = "$1" ] && [ ! -s "$out" ] && grep -q -e "$2" "$err" || wrong "snap_to_kcore.py: '$3' ${*:4}"
-}
+# The same inputs in pieces, and closed pipes.
+python3 -B pieces.py "$program" "$kserve" || failed=1
+
+# The levels after each phase of loads, beside a plain program.
+python3 -B levels.py "$program" || wrong "levels.py: other levels"
+
+# The converter: each format, good and bad; and certificates in SQL beside `check`.
+python3 -B test_to_kcore.py 2>"$err" || { cat "$err"; wrong "test_to_kcore.py"; }
+python3 -B test_check_sql.py "$program" || wrong "test_check_sql.py"
+python3 -B to_kcore.py --batch 20 <karate.snap 2>"$err" | cmp -s - karate_batches.kc || wrong "karate_batches.kc: another text"
 
 # The text of a load, put through `run`, comes to what `gen` writes.
 for load in "0 5 1 3" "1 300 7 500" "4294967295 17 20 40" "7 1 2 3" "5 2000 3 0"; do
@@ -198,20 +253,6 @@ for workers in 1 2 4 4 4; do
   sed '/^reader 0/s/0=. 4=.$/0=0 4=2/' "$out" | python3 explained.py 2>"$err" && wrong "explained.py: a level that 4 never has"
 done
 
-python3 snap_to_kcore.py --batch 20 <karate.snap | cmp -s - karate_batches.kc || wrong "karate_batches.kc: another text"
-converts '# x\n7\t0\r\n\n %% y\n0 7\n3 3' 'kcore 1\nvertices 8\nbatch\n7 0\n0 7\nend\nbatch\n3 3\nend\n' --batch 2
-converts '0 16777215 -1\n' 'kcore 1\nvertices 16777216\nbatch\n0 16777215\nend\n' --two-columns
-note='# renumbered in ascending order: the 3 ids 9 to 16777216 are the vertices 0 to 2'
-converts '16777216 9\n10 9\n' "$note\nkcore 1\nvertices 3\nbatch\n2 0\n1 0\nend\n"
-converts '0 1\n' 'kcore 2\nvertices 2\nbatch\n0 1\nend\n' --profile 2
-refuses 1 "line 3: 'x' isn't" '0 1\n# x\n2 x\n'
-refuses 1 "line 1: '-1' isn't" '-1 2\n'
-refuses 1 'line 2: one id' '0 1\n2\n'
-refuses 1 'line 1: 3 columns' '0 1 5\n'
-refuses 2 'from 1 to 1048576' '0 1\n' --batch 0
-refuses 2 'from 1 to 1048576' '0 1\n' --batch 1048577
-refuses 2 'invalid choice' '0 1\n' --profile 3
-
 # A python3 that has matplotlib, which may be another one than the first on the path.
 python=
 for one in python3 /usr/bin/python3; do
@@ -236,8 +277,14 @@ draws 0 graph karate.kc karate.txt
 draws 0 graph refused.kc refused.txt
 draws 0 graph cases/ask_after_a_batch.kc cases/ask_after_a_batch.txt
 draws 0 graph cases/batch_within_a_batch.kc cases/batch_within_a_batch.txt
+draws 0 graph karate.kc karate_exact.txt
+draws 0 run --exact karate_exact.txt karate_batches.txt
+draws 0 heat karate_batches.txt
 draws 1 run karate.kc
-draws 1 graph karate.kc karate_exact.txt
+draws 1 heat karate.kc
+draws 1 heat path.kc
+draws 1 graph karate.kc path.kc
+draws 1 run --exact clique.txt karate_batches.txt
 # A circle for each of the 34 vertices, and as many numbers.
 draws 0 graph karate.kc karate.txt
 for v in $(seq 0 33); do
