@@ -7,10 +7,11 @@ It runs `store_bench`, whose root file says what it measures, N times (5), takes
 many processors there are, and for each number of vertices:
 
 - the nanoseconds of a plain load, of a read of one load (nothing is marked) and of three (all is marked, nothing is
-  published), and of one beside an engine that plans and shows one batch after another, each with one reader
+  published), and of one beside a writer that shows one plan after another, and before each of them reads the levels of the
+  vertices that it moves by passes of its own, each with one reader
 - the ratios of these to a plain load
 - how many times one reader's rate eight readers have together, and so of eight threads that load from one array
-- the nanoseconds of a move: of its mark and its clearing, and its part of the publication of all
+- the nanoseconds of a mark, a publication and a clearing of one move
 
 and for the largest store how long it takes to open, beside zeroing as much memory. It judges nothing: times on a shared
 machine are ratios at best. Readers and writer take turns where there are fewer processors, and where a writer had ended before

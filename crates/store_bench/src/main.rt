@@ -1,17 +1,18 @@
 //! How long reads of a store take, beside plain loads from memory, and how long a writer takes to move levels.
 //!
 //! With no word on the command line it takes every measurement once on a few vertices, and prints what was measured but no times.
-//! With any word it measures stores of several sizes, and prints a line for each measurement: what it is, by how many at once, the
-//! number of vertices, how many loads, reads or moves it had, and the nanoseconds that they took together.
+//! With any word it measures stores of several sizes, and prints a line for each measurement: what it is, the number of
+//! vertices, how many loads, reads or moves it had, and the nanoseconds that they took together.
 //!
-//! `reading` reads, `writing` shows batches, and `measuring` takes the times.
+//! `plans` makes the phases that are shown, `showing` shows them, `reading` reads, and `measuring` takes the times.
 #![tactic(auto)]
 
 ghost use Rattle.std.specs.Prelude.{◌≤◌};
 
 mod measuring;
+mod plans;
 mod reading;
-mod writing;
+mod showing;
 
 use measuring::{Sizes, print_opening, print_reads};
 use std::env;
@@ -29,7 +30,7 @@ fn main(rt: HostRuntime) -> anyhow::Result<()> {
         let few = Sizes {
             vertices: 64,
             reads: 1000,
-            batches: 4,
+            plans: 4,
         };
         print_reads(&rt, rt.alloc(), few, false)?;
         return print_opening(&rt, rt.alloc(), 64, false);
@@ -37,12 +38,12 @@ fn main(rt: HostRuntime) -> anyhow::Result<()> {
     let small = Sizes {
         vertices: 65_536,
         reads: 16_777_216,
-        batches: 32,
+        plans: 32,
     };
     let large = Sizes {
         vertices: 1_048_576,
         reads: 4_194_304,
-        batches: 2,
+        plans: 2,
     };
     print_reads(&rt, rt.alloc(), small, true)?;
     print_reads(&rt, rt.alloc(), large, true)?;
