@@ -57,11 +57,11 @@ def halted_engine(kcore):
     is no memory before that, so there has to be a run that prints it."""
     trial = Trial("a plan of an engine, one allocation refused")
     if not os.path.exists(kcore.engine_tests):
-        trial.notes.append(f"not tried, since there is no {kcore.engine_tests}: `rt test` in crates/kc_engine makes it")
+        trial.notes.append(f"not tried, since there is no {kcore.engine_tests}: `rt test` in crates/store_tests makes it")
         yield trial
         return
     tests = Program(kcore.engine_tests)
-    words, number, failed, halted = ["tests::halting::an_engine_without_memory_has_halted"], 0, True, 0
+    words, number, failed, halted = ["tests::engine::an_engine_without_memory_has_halted"], 0, True, 0
     while failed:
         number += 1
         ended = tests.run(words, failing=Failing("allocation", number, error=errno.ENOMEM))

@@ -56,7 +56,7 @@ def main():
     crates = os.path.join(here, "..", "crates")
     parser.add_argument("--program", default=os.path.join(crates, "kcore", "out", "kcore"))
     parser.add_argument("--kserve", default=os.path.join(crates, "kserve", "out", "kserve"))
-    parser.add_argument("--engine-tests", default=os.path.join(crates, "kc_engine", "out", "kc_engine_tests"))
+    parser.add_argument("--engine-tests", default=os.path.join(crates, "store_tests", "out", "store_tests_tests"))
     parser.add_argument("--of", choices=("kcore", "kserve"))
     parser.add_argument("--only", default="")
     parser.add_argument("--short", action="store_true")
