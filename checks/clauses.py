@@ -1,5 +1,5 @@
 #!/usr/bin/env python3
-"""Holds the public contracts against the page of their clauses, checks/clauses.txt.
+"""Holds the public contracts against the page of their clauses, checks/clauses.txt. Runs in the gate, after `rt ci`.
 
     checks/clauses.py [--write | --self-test]
 

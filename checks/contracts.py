@@ -1,4 +1,4 @@
-"""Reads contracts: the public parts of a crate's sources, and the definitions of its specs."""
+"""Reads contracts: the public parts of a crate's sources, and the definitions of its specs. A module of clauses.py and specs.py."""
 import os
 import re
 

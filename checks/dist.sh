@@ -1,6 +1,6 @@
 #!/usr/bin/env bash
-# Compares the programs in dist/ byte for byte with those that the gate has just proved and built, and their checksums
-# with SHA256SUMS. Silent where all is well.
+# Runs in the gate, after `rt ci`. Compares the programs in dist/ byte for byte with those that the gate has just
+# proved and built, and their checksums with SHA256SUMS. Silent where all is well.
 set -u
 cd "$(dirname "$0")/../dist" || exit 1
 failed=0

@@ -1,5 +1,6 @@
 #!/usr/bin/env python3
 """Checks that each edit still fits the sources: those of crates/CRATE/must-fail and those of hostile/edits/CRATE.
+Runs in the gate, after `rt ci`.
 
     checks/edits.py
 

@@ -1,5 +1,5 @@
 #!/usr/bin/env python3
-"""Runs kcore and kserve where memory, threads, devices and inputs fail, and checks how each run ends.
+"""Runs kcore and kserve where memory, threads, devices and inputs fail, and checks how each run ends. Runs by hand.
 
     hostile/check.py [--program PATH] [--kserve PATH] [--engine-tests PATH] [--of PROGRAM] [--only WORD] [--short]
 
@@ -17,12 +17,13 @@ import collections
 import os
 import sys
 
-import broken
-import calls
-import clients
-import devices
-from program import Program
-from trials import BATCHES, Command, Kcore
+sys.path.insert(0, os.path.join(os.path.dirname(os.path.abspath(__file__)), "lib"))
+import broken  # noqa: E402
+import calls  # noqa: E402
+import clients  # noqa: E402
+import devices  # noqa: E402
+from program import Program  # noqa: E402
+from trials import BATCHES, Command, Kcore  # noqa: E402
 
 COMMANDS = [
     Command("run 2", BATCHES, is_noted=False),

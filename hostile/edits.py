@@ -1,5 +1,6 @@
 #!/usr/bin/env python3
 """Puts the wrong bodies of hostile/edits into a copy of the repository, and checks that the prover refuses each.
+Runs by hand.
 
     hostile/edits.py [CRATE | CRATE/NAME ..] [--lot N] [--seed S] [--list]
 

@@ -1,5 +1,5 @@
 #!/usr/bin/env python3
-"""Runs the tests that stand on threads over and over, and counts how often each passes.
+"""Runs the tests that stand on threads over and over, and counts how often each passes. Runs by hand.
 
     hostile/gates.py [--folder PATH] [--runs N] [--seconds S] [--at-once N] [--only WORD]
 
@@ -29,7 +29,7 @@ TESTS = {
                     "a_group_takes_effect_at_once", "a_reply_is_from_before_what_waits_for_it",
                     "a_reader_looks_while_batches_are_shown", "a_reader_looks_anew_at_the_same_vertex",
                     "a_batch_is_shown_before_it_is_told",
-                    "readers_run_at_once", "a_first_round_has_a_piece_for_each_worker",
+                    "readers_run_at_once", "a_reader_follows_the_batches", "a_first_round_has_a_piece_for_each_worker",
                     "a_queue_of_one", "eight_clients", "clients_of_very_different_lengths"],
     "kcore": ["a_first_round_has_two_pieces_at_once", "a_first_round_has_a_piece_for_each_worker",
               "both_branches_have_ended_after_a_fault"],

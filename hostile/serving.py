@@ -1,5 +1,5 @@
 #!/usr/bin/env python3
-"""Runs kserve over and over on scripts by chance, and checks each text that it writes.
+"""Runs kserve over and over on scripts by chance, and checks each text that it writes. Runs by hand.
 
     hostile/serving.py [--program PATH] [--kcore PATH] [--runs N] [--clients N] [--items N] [--seed S]
 
@@ -15,7 +15,8 @@ import random
 import subprocess
 import sys
 
-from served import block, fault_of, run
+sys.path.insert(0, os.path.join(os.path.dirname(os.path.abspath(__file__)), "lib"))
+from served import block, fault_of, run  # noqa: E402
 
 
 def script_of(draw, n, items):

@@ -1,4 +1,8 @@
-"""What kserve may write of scripts: the batches that the server drained, in any order of the clients, and the lines of the vertices."""
+"""What kserve may write of scripts: the batches that the server drained, in any order of the clients, and the lines
+of the vertices.
+
+A module of check.py and serving.py.
+"""
 import itertools
 import subprocess
 

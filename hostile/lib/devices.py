@@ -1,4 +1,4 @@
-"""Devices that fail: full ones, closed ones, ones that vanish or aren't ready."""
+"""Devices that fail: full ones, closed ones, ones that vanish or aren't ready. A module of check.py."""
 import fcntl
 import os
 import pty

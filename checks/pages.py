@@ -1,7 +1,7 @@
 #!/usr/bin/env python3
-"""Checks that proofs cite other crates by their pages of lemmas alone.
+"""Checks that proofs cite other crates by their pages of lemmas alone. Runs in the gate, after `rt ci`.
 
-    hostile/pages.py
+    checks/pages.py
 
 A page is `proofs/lemmas/PAGE.antt` of a crate, and passes on lemmas of the crate, each with a sentence above it. What a crate's files say of
 another crate's `proofs` has to be a lemma of a page, by its name; each lemma of a page has to be cited by another crate; and every module of

@@ -1,4 +1,4 @@
-"""Inputs and command lines that are broken: cut off, without end, of any bytes."""
+"""Inputs and command lines that are broken: cut off, without end, of any bytes. A module of check.py."""
 import os
 import random
 import re

@@ -1,4 +1,7 @@
-"""Calls of the system that fail, one after another: allocations, reads, writes, and the starts of threads."""
+"""Calls of the system that fail, one after another: allocations, reads, writes, and the starts of threads.
+
+A module of check.py.
+"""
 import errno
 import os
 import resource

@@ -1,21 +1,25 @@
 #!/usr/bin/env python3
-"""Checks that no public contract rests on the words of private ones.
+"""Checks that no public contract rests on the words of private ones. Runs in the gate, after `rt ci`.
 
-    hostile/specs.py
+    checks/specs.py [--table]
 
 `specs/private` of a crate holds the words of its private contracts and loop invariants; all other definitions of `specs/` are for who reads its
 public contracts, its public types and their models, and its laws. This follows the names from each of those through the definitions. It prints
 each way that leads to a private definition, each import of one in a file that isn't private, and each other definition that no way leads to; and
-a last line that counts what is reached from `run_command`. The exit number is 1 where something is wrong.
+a last line that counts what is reached from `run_command`. The exit number is 1 if something is wrong.
+
+docs/PROVED.md has a table of what each command rests on: the lines of definitions, and the modules that they stand in.
+`--table` prints its rows; a row that the page doesn't have is wrong. So is a definition that the page quotes and that stands
+in no file of `specs/`.
 """
 import os
 import re
 import sys
 
-sys.path.insert(0, os.path.join(os.path.dirname(os.path.abspath(__file__)), "..", "checks"))
-from contracts import WORD, Crate, Module, crate_names, files_of_specs, names_in  # noqa: E402
+from contracts import TOP, WORD, Crate, Module, crate_names, files_of_specs, names_in, read
 
 PRIVATE = ".specs.private."
+COMMANDS = "Rattle.kcore.specs.Commands"
 
 
 class Reading:
@@ -64,7 +68,7 @@ class Reading:
                 self.enter_type(home, word, way)
 
     def lines(self):
-        return sum(self.modules[module].definitions[at].count("\n") + 1 for module, at in self.ways)
+        return counted(self, self.ways)[0]
 
 
 def unreached(reading):
@@ -93,13 +97,39 @@ def readings():
     return everything, run
 
 
+def counted(reading, ways):
+    """The lines of these definitions, and the modules that they stand in."""
+    return sum(reading.modules[module].definitions[at].count("\n") + 1 for module, at in ways), len({module for module, _ in ways})
+
+
+def rows(reading):
+    """The rows of the table: what the text of each command and what holds of it rest on, what else `run_command` does, and all of it."""
+    home, by_command = reading.modules[COMMANDS], {}
+    for name in "IsText", "Holds":
+        for command, said in re.findall(rf"(?m)^{name} \(?(?:Some )?\(?([A-Z]\w+)[^=]*\S = (.*)$", home.definitions[home.place[name]]):
+            if command not in ("None", "Some"):
+                by_command.setdefault(command, Reading(reading.crates, reading.modules)).follow(said, home.imports, [command])
+    rest = set(reading.ways) - {way for one in by_command.values() for way in one.ways}
+    found = [(f"`{command.lower()}`", one.ways) for command, one in by_command.items()]
+    found += [("what they have in common: words, answers, prefixes, causes, completeness", rest), ("`run_command`", reading.ways)]
+    return ["| {} | {:,} | {} |".format(name, *counted(reading, ways)) for name, ways in found]
+
+
 def main():
     everything, run = readings()
+    if "--table" in sys.argv[1:]:
+        print("\n".join(rows(run)))
+        return
     wrong = [f"{' -> '.join(way)} -> {module}" for (module, _), way in everything.ways.items() if PRIVATE in module]
     for place, module in everything.modules.items():
         of = {other for other, _ in module.imports.names.values()} | set(module.imports.modules.values())
         wrong += [f"{place} imports {other}" for other in sorted(of) if PRIVATE in other and PRIVATE not in place]
     wrong += [f"{module}: no public contract leads to {', '.join(names)}" for module, names in unreached(everything).items()]
+    page = read(os.path.join(TOP, "docs", "PROVED.md"))
+    wrong += [f"docs/PROVED.md has no row {row}" for row in rows(run) if row not in page.split("\n")]
+    texts = [read(path) for name in crate_names() for _, path in files_of_specs(name)]
+    wrong += [f"docs/PROVED.md quotes what stands in no specs: {quoted[:60]}" for quoted in re.findall(r"(?s)```antt\n(.*?)\n```", page)
+              if not any(quoted in text for text in texts)]
     for what in wrong:
         print(what)
     contracts = sum(len(crate.contracts) for crate in everything.crates.values())

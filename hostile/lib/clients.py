@@ -1,4 +1,8 @@
-"""kserve: scripts of clients where calls, devices, memory or inputs fail. Any order of the clients' updates is right (`served.py`)."""
+"""kserve: scripts of clients where calls, devices, memory or inputs fail. Any order of the clients' updates is right
+(`served.py`).
+
+A module of check.py.
+"""
 import errno
 import os
 import random

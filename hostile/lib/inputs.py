@@ -1,9 +1,9 @@
-"""Inputs, and what the definition gives for an input that is cut off."""
+"""Inputs, and what the definition gives for an input that is cut off. A module of check.py."""
 import os
 import random
 import re
 
-EXAMPLES = os.path.join(os.path.dirname(os.path.abspath(__file__)), "..", "examples")
+EXAMPLES = os.path.join(os.path.dirname(os.path.abspath(__file__)), "..", "..", "examples")
 
 
 def example(name):

@@ -1,7 +1,7 @@
 #!/usr/bin/env python3
-"""Checks docs/ANSWERS.md against the contracts of the crates.
+"""Checks docs/ANSWERS.md against the contracts of the crates. Runs in the gate, after `rt ci`.
 
-    hostile/answers.py
+    checks/answers.py
 
 Each call of the page has to be there, with each clause that is named beside it; each public call that returns a `Result` or an `Option` has
 to be on the page; and a call of its last section has no allocator in its signature (but those marked so) and no case for a refusal of memory.
