@@ -1,4 +1,4 @@
-//! Tests of the crates on graphs, levels and rounds; see `tests.rt`.
+//! Tests of the crates on graphs, levels and rounds; see `tests.rt`. Floor: tests. No crate calls this one.
 #![tactic(auto)]
 
 #[cfg(test)]

@@ -1,7 +1,8 @@
 // Tests of the crates on graphs, levels and rounds: a file for each crate, with what is tested and where the expected
-// values are from. All run without a proof by `rt try --test` in this folder. `support.rt` has what several files need,
-// `drawing.rt` random edges, and `plainly.rt` plain bodies of phases. What other test crates need too stands in the crate
-// `test_support`.
+// values are from. All run without a proof by `rt try --test` in this folder.
+//
+// `support.rt` has what several files need, `drawing.rt` random edges, and `plainly.rt` plain bodies of phases. The
+// crate `test_support` has what other test crates need too.
 
 mod adj;
 mod bound;

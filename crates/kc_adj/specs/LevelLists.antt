@@ -1,7 +1,9 @@
 -- Lists by level, with a mark for each 64 levels.
 use Rattle.std.specs.Prelude.{ℕ, ◌*◌, ◌/◌, ◌<◌, ◌≤◌, ◌^◌, ◌≡◌, Bool, false, [], List, length, get_or}
 
--- each level has a mark, and where it doesn't stand the level has no items; a level is below 2 ^ 16 - 1
+-- each level has a mark; if the mark is false, the level has no items
+--
+-- A level is below 2 ^ 16 - 1.
 pub record AreMarked {T : Type 0} (lists : List (List T)) (marks : List Bool) : Type 0 where
   pub small : length lists < 2 ^ 16
   pub wide : length lists ≤ 64 * length marks

@@ -1,18 +1,19 @@
-//! The two counts of neighbours that a level adjacency keeps for each vertex, and how a count gains or loses a neighbour.
+//! The two counts of neighbours that a level adjacency keeps for each vertex, and how a count gains or loses a
+//! neighbour.
 
 ghost use Rattle.std.specs.Prelude.{◌≡◌, ◌+◌, ◌-◌, ◌<◌, ◌≤◌, ◌^◌, ◌&&◌, cond, nat_le, nat_lt, length, slice_index, slice_set};
 ghost use Rattle.kc_adj.specs.private.Moving.{is_passed};
 
-/// For each vertex two counts of its neighbours, each below the number of vertices.
+/// Two counts of neighbours for each vertex, each below the number of vertices.
 #[derive(Drop)]
 pub struct Counts {
     /// The neighbours on the vertex's level or above.
     pub own: Vec<u32>,
-    /// The neighbours on the level below the vertex's or above; for a vertex on level 0 all of them.
+    /// The neighbours on the level below the vertex's or above. For a vertex on level 0 these are all its neighbours.
     pub below: Vec<u32>,
 }
 
-/// 1 where it holds, else 0.
+/// Returns 1 if `holds`, else 0.
 pub fn as_one(holds: bool) -> u32
     ensures value { result ≡ cond holds 1 0 }
     ensures small { result ≤ 1 }
@@ -20,18 +21,20 @@ pub fn as_one(holds: bool) -> u32
     if holds { 1 } else { 0 }
 }
 
-/// Whether, on the way up from a level to another, one of the two levels is passed or reached that a vertex on `level` counts from: else
-/// none of its counts changes.
+/// Returns whether the way up from level `from` to level `to` passes or reaches a level from which a vertex on `level`
+/// counts.
+///
+/// A vertex has two counts, from its own level and from the level below on. If the result is false, neither changes.
 pub fn is_reached(from: u16, to: u16, level: u16) -> bool
     ensures { result ≡ nat_lt from level && nat_le (level - 1) to }
 {
     from < level && level - 1 <= to
 }
 
-/// A neighbour of w goes up from a level to another. w is on `level`: each of its counts gains the neighbour if the level that
-/// it counts from is passed or reached on the way.
+/// Counts a neighbour of w that goes up from a level to another; w is on `level`. Each count of w gains the neighbour
+/// if the count's level is passed or reached on the way.
 ///
-/// A single branch tells those for whom nothing changes.
+/// A single branch skips the vertices whose counts don't change.
 pub fn gain(counts: &mut Counts, w: u32, from: u16, to: u16, level: u16)
     requires own { w < length counts.old.own.items }
     requires below { w < length counts.old.below.items }
@@ -46,10 +49,10 @@ pub fn gain(counts: &mut Counts, w: u32, from: u16, to: u16, level: u16)
     }
 }
 
-/// A neighbour of w goes down from a level to another. w is on `level`: each of its counts loses the neighbour if the level that
-/// it counts from is above the new level and not above the old one.
+/// Counts a neighbour of w no more that goes down from a level to another; w is on `level`. Each count of w loses the
+/// neighbour if the count's level is above the new level and not above the old one.
 ///
-/// A single branch tells those for whom nothing changes.
+/// A single branch skips the vertices whose counts don't change.
 pub fn lose(counts: &mut Counts, w: u32, from: u16, to: u16, level: u16)
     requires own { w < length counts.old.own.items }
     requires below { w < length counts.old.below.items }

@@ -1,4 +1,4 @@
-//! The greatest level on which a vertex has enough neighbours to stand, looked for from its own level down.
+//! The greatest level on which a vertex has enough neighbours to stand, searched from its own level down.
 
 ghost use Rattle.std.specs.Prelude.{◌≡◌, ◌<◌, ◌≤◌, ◌↔◌, ℕ, IsTrue, length, slice_index};
 ghost use Rattle.kc_levels.specs.Thresholds.{top_level};
@@ -7,7 +7,7 @@ ghost use Rattle.kc_levels.specs.LevelList.{IsHeld, IsDesired};
 use kc_graph::Graph;
 use kc_levels::{Levels, Thresholds, at_least};
 
-// Whether v has enough neighbours from the level below on to stand on the level.
+// Returns whether v has enough neighbours from the level below on to stand on the level.
 fn is_held(graph: &Graph, levels: &Levels, th: &Thresholds, v: u32, level: u16) -> bool
     requires vertex { v < graph.now.vertices }
     requires sized { length levels.now ≡ graph.now.vertices }
@@ -19,10 +19,10 @@ fn is_held(graph: &Graph, levels: &Levels, th: &Thresholds, v: u32, level: u16) 
     th.low(th.group(level - 1)) <= at_least(graph, levels, v, level - 1)
 }
 
-/// A level above which v isn't held, up to its own: `guess`, or `most` where that is less or v is held above the guess. It isn't
-/// held above `most`.
+/// Returns a level up to its own above which v isn't held; it isn't held above `most`. The result is `guess` if that is
+/// less than `most` and v isn't held above it, and else `most`.
 ///
-/// One pass over the neighbours of v.
+/// Costs one pass over the neighbours of v.
 pub fn bound_near(
     graph: &Graph,
     levels: &Levels,
@@ -47,10 +47,10 @@ pub fn bound_near(
     }
 }
 
-/// The greatest level up to its own on which v is held; it isn't held above `most`.
+/// Returns the greatest level up to its own on which v is held; it isn't held above `most`.
 ///
-/// It is looked for from `most` down, in steps twice as long each time, and then between the last two: one pass over the neighbours
-/// of v where it is `most`, and else about two for each doubling of the distance.
+/// The search goes from `most` down in steps that double each time, and then halves the rest. Costs one pass over the
+/// neighbours of v if the result is `most`. Otherwise about two for each doubling of the distance.
 pub fn desired_below(graph: &Graph, levels: &Levels, th: &Thresholds, v: u32, most: u16) -> u16
     requires vertex { v < graph.now.vertices }
     requires sized { length levels.now ≡ graph.now.vertices }

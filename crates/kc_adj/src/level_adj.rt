@@ -1,4 +1,5 @@
-//! A graph with levels whose counts of neighbours follow each edge that comes or leaves, and each vertex that rises or falls.
+//! A graph with levels and counts of neighbours, which follow each edge that comes or leaves and each vertex that
+//! moves.
 
 ghost use Rattle.std.specs.Prelude.{◌≡◌, ◌+◌, ◌*◌, ◌-◌, ◌<◌, ◌≤◌, ◌↔◌, ℕ, [], IsTrue, OnOk, OnErr, IfOk, true, false, length, replicate, slice_index, slice_set};
 ghost use Rattle.kc_graph.specs.Shape.{EdgesFrom, IsGraph, neighbours_of, has_edge, with_edge, without_edge, with_edges, without_edges};
@@ -22,21 +23,22 @@ use std::marker::Model;
 use std::sync::ledger::Ledger;
 use std::thread::Threads;
 
-/// A graph with a level for each vertex, where for each vertex the number of neighbours on its level or above, and on the
-/// level below or above, is at hand.
+/// A graph with a level and two counts for each vertex. The counts are of the neighbours on its level or above, and on
+/// the level below or above.
 ///
-/// Contracts see it as a `LeveledGraph`: the graph and the list of the levels. A level is 0 to 65,535.
+/// Contracts see a `LeveledGraph`: the graph and the list of the levels. A level is 0 to 65,535. Besides the graph it
+/// takes 10 bytes a vertex.
 ///
-/// Besides the graph it takes 10 bytes a vertex. `link`, `unlink`, `rise`, `lift` and `fall` count one step for themselves, and one for
-/// each half-edge that they visit: a neighbour of the vertex that moves, or an end of the edge. `link_all`, `unlink_all`, `lift_all`
-/// and `par_lift_all` count as much for each edge or vertex of their list.
+/// `link`, `unlink`, `rise`, `lift` and `fall` count one step for themselves, and one for each half-edge that they
+/// visit. That is a neighbour of the vertex that moves, or an end of the edge. `link_all`, `unlink_all`, `lift_all` and
+/// `par_lift_all` count the same for each edge or vertex of their list.
 #[derive(Drop)]
 pub struct LevelAdj {
     // The graph; `levels` and `counts` are for its vertices.
     graph: Graph,
-    // The level of each vertex, any from 0 to 65,535: the invariants of levels aren't asked for here.
+    // The level of each vertex, any from 0 to 65,535: the invariants of levels aren't required here.
     levels: Levels,
-    // What `at_least` gives for each vertex from its level on, and from the level below on.
+    // The value of `at_least` for each vertex, from its level and from the level below on.
     counts: Counts,
 }
 
@@ -51,7 +53,7 @@ impl Model for LevelAdj {
 }
 
 impl LevelAdj {
-    /// The graph on n vertices without edges, all on level 0; n is 1 to `MAX_VERTICES`.
+    /// Makes the graph on n vertices without edges, all on level 0; n is 1 to `MAX_VERTICES`.
     ///
     /// Takes memory and time for n vertices. Fails only if memory runs out.
     pub fn new(alloc: Global, n: u32) -> Result<LevelAdj, AllocError>
@@ -70,14 +72,14 @@ impl LevelAdj {
         })
     }
 
-    /// The graph.
+    /// Returns the graph.
     pub fn graph(&self) -> &Graph
         ensures { result.now ≡ self.now.graph }
     {
         &self.graph
     }
 
-    /// The levels, one for each vertex of the graph.
+    /// Returns the levels, one for each vertex of the graph.
     pub fn levels(&self) -> &Levels
         ensures value { result.now ≡ self.now.levels }
         ensures sized { length self.now.levels ≡ self.now.graph.vertices }
@@ -85,7 +87,7 @@ impl LevelAdj {
         &self.levels
     }
 
-    /// The level of `v`, a vertex of the graph.
+    /// Returns the level of `v`, a vertex of the graph.
     pub fn level(&self, v: u32) -> u16
         requires { v < self.now.graph.vertices }
         ensures { result ≡ slice_index self.now.levels v }
@@ -93,7 +95,7 @@ impl LevelAdj {
         self.levels.get(v)
     }
 
-    /// How many neighbours of `v` are on its level or above (`at_least`). Costs O(1).
+    /// Returns how many neighbours of `v` are on its level or above (`at_least`). Costs O(1).
     pub fn at_least_own(&self, v: u32) -> u32
         requires { v < self.now.graph.vertices }
         ensures value { result ≡ at_least self.now.graph self.now.levels v (slice_index self.now.levels v) }
@@ -103,16 +105,16 @@ impl LevelAdj {
         self.counts.own[v as usize]
     }
 
-    /// For each vertex, how many of its neighbours are on its level or above: what `at_least_own` gives, for loops that read or
-    /// copy many of them.
+    /// Returns for each vertex how many of its neighbours are on its level or above. These are the values of
+    /// `at_least_own`, for loops that read or copy many of them.
     pub fn own_counts(&self) -> &[u32]
         ensures { IsCounted self.now.graph self.now.levels 0 result.now }
     {
         &self.counts.own
     }
 
-    /// How many neighbours of `v` are on the level below its own or above (`at_least`); on level 0 all are counted, so this
-    /// is the degree. Costs O(1).
+    /// Returns how many neighbours of `v` are on the level below its own or above (`at_least`). On level 0 all count,
+    /// so this is the degree. Costs O(1).
     pub fn at_least_below(&self, v: u32) -> u32
         requires { v < self.now.graph.vertices }
         ensures value { result ≡ at_least self.now.graph self.now.levels v (slice_index self.now.levels v - 1) }
@@ -123,7 +125,7 @@ impl LevelAdj {
         self.counts.below[v as usize]
     }
 
-    // Whether v is held on its own level, by its kept count.
+    // Returns whether v is held on its own level, by its kept count.
     fn meets_lower(&self, th: &Thresholds, v: u32) -> bool
         requires vertex { v < self.now.graph.vertices }
         requires scale { th.now.vertices ≡ self.now.graph.vertices }
@@ -134,13 +136,16 @@ impl LevelAdj {
         level == 0 || th.low(th.group(level - 1)) <= self.at_least_below(v)
     }
 
-    /// The greatest level, from 0 up to its own, on which `v` has enough neighbours to stand: 0, or one with as many
-    /// neighbours from the level below on as that level's group asks (`IsDesired`).
+    /// Returns the greatest level, from 0 up to its own, on which `v` has enough neighbours to stand (`IsDesired`).
+    /// That is 0, or a level with as many neighbours from the level below on as the lower level's band needs.
     ///
     /// The thresholds are for this number of vertices, and the level of `v` is at most their top. Takes no memory.
     ///
-    /// Costs O(1) where `v` can stay on its level. Else one pass over its neighbours where it can stand on the next level below, and
-    /// about two more for each doubling of the number of levels that it would fall, at most 27.
+    /// Cost:
+    ///
+    /// - O(1) if `v` can stay on its level;
+    /// - one pass over its neighbours if it can stand on the next level below;
+    /// - otherwise about two more passes for each doubling of the number of levels that it would fall, at most 27.
     pub fn desired(&self, th: &Thresholds, v: u32) -> u16
         requires vertex { v < self.now.graph.vertices }
         requires scale { th.now.vertices ≡ self.now.graph.vertices }
@@ -154,10 +159,10 @@ impl LevelAdj {
         desired::desired_below(&self.graph, &self.levels, th, v, most)
     }
 
-    /// What `desired` gives, for who has a guess at it: any guess will do. Takes no memory.
+    /// Returns the same as `desired`, faster for a close `guess`; any guess is allowed. Takes no memory.
     ///
-    /// Costs O(1) where `v` can stay on its level. Else two passes over its neighbours where the guess is right, and about two more
-    /// for each doubling of the number of levels by which it is too high.
+    /// Costs O(1) if `v` can stay on its level, and else two passes over its neighbours if the guess is right. A guess
+    /// that is too high costs about two more for each doubling of its distance in levels.
     pub fn desired_near(&self, th: &Thresholds, v: u32, guess: u16) -> u16
         requires vertex { v < self.now.graph.vertices }
         requires scale { th.now.vertices ≡ self.now.graph.vertices }
@@ -172,11 +177,10 @@ impl LevelAdj {
         desired::desired_below(&self.graph, &self.levels, th, v, near)
     }
 
-    /// Puts in an edge that is not there (`with_edge`); fewer than `MAX_EDGES` edges may be there. Levels stay.
+    /// Adds an edge that is not there (`with_edge`); fewer than `MAX_EDGES` edges may be there. Levels stay.
     ///
-    /// Counts 3 steps. Fails only if memory runs out, and all is then unchanged, the steps too.
-    ///
-    /// Costs what `Graph::insert` costs.
+    /// Counts 3 steps. Fails only if memory runs out; then all is unchanged, the steps too. Costs what `Graph::insert`
+    /// costs.
     pub fn link<L: Ledger>(
         &mut self,
         alloc: Global,
@@ -201,7 +205,7 @@ impl LevelAdj {
         Ok(())
     }
 
-    /// Takes out an edge that is there (`without_edge`). Levels stay. Counts 3 steps. Takes no memory.
+    /// Removes an edge that is there (`without_edge`). Levels stay. Counts 3 steps. Takes no memory.
     ///
     /// Costs what `Graph::remove` costs.
     pub fn unlink<L: Ledger>(&mut self, e: Edge, steps: &mut Steps<L>)
@@ -219,11 +223,12 @@ impl LevelAdj {
         steps.tick();
     }
 
-    /// Puts in ascending edges that are not there (`with_edges`); at most `MAX_EDGES` edges are there afterwards. Levels stay.
+    /// Adds ascending edges that are not there (`with_edges`); at most `MAX_EDGES` edges are there afterwards. Levels
+    /// stay.
     ///
-    /// Counts 3 steps an edge. Fails only if memory runs out, and all is then unchanged, the steps too.
+    /// Counts 3 steps an edge. Fails only if memory runs out; then all is unchanged, the steps too.
     ///
-    /// Costs what `Graph::par_insert_all` costs. `workers` is 1 to 64, and nothing but the time depends on it.
+    /// Costs what `Graph::par_insert_all` costs. `workers` is 1 to 64, and only the time depends on it.
     pub fn link_all<R: Threads + Sync, L: Ledger>(
         &mut self,
         rt: &R,
@@ -250,11 +255,11 @@ impl LevelAdj {
         Ok(())
     }
 
-    /// Takes out ascending edges that are there (`without_edges`). Levels stay.
+    /// Removes ascending edges that are there (`without_edges`). Levels stay.
     ///
-    /// Counts 3 steps an edge. Fails only if memory runs out, and all is then unchanged, the steps too.
+    /// Counts 3 steps an edge. Fails only if memory runs out; then all is unchanged, the steps too.
     ///
-    /// Costs what `Graph::par_remove_all` costs. `workers` is 1 to 64, and nothing but the time depends on it.
+    /// Costs what `Graph::par_remove_all` costs. `workers` is 1 to 64, and only the time depends on it.
     pub fn unlink_all<R: Threads + Sync, L: Ledger>(
         &mut self,
         rt: &R,
@@ -280,9 +285,9 @@ impl LevelAdj {
         Ok(())
     }
 
-    /// Puts `v` one level up; its level is below 65,535. Takes no memory.
+    /// Moves `v` one level up; its level is below 65,535. Takes no memory.
     ///
-    /// One pass over its neighbours. Counts a step for each of them, and one more.
+    /// Costs one pass over its neighbours. Counts a step for each of them, and one more.
     pub fn rise<L: Ledger>(&mut self, v: u32, steps: &mut Steps<L>)
         requires vertex { v < self.old.graph.vertices }
         requires room { slice_index self.old.levels v < 65535 }
@@ -293,9 +298,9 @@ impl LevelAdj {
         self.lift(v, to, steps);
     }
 
-    /// Puts `v` up to the level `to`, which is at least its own. Takes no memory.
+    /// Moves `v` up to the level `to`, which is at least its own. Takes no memory.
     ///
-    /// One pass over its neighbours, however far it rises. Counts a step for each of them, and one more.
+    /// Costs one pass over its neighbours, however far it rises. Counts a step for each of them, and one more.
     pub fn lift<L: Ledger>(&mut self, v: u32, to: u16, steps: &mut Steps<L>)
         requires vertex { v < self.old.graph.vertices }
         requires over { slice_index self.old.levels v ≤ to }
@@ -312,13 +317,14 @@ impl LevelAdj {
         );
     }
 
-    /// Puts each vertex of the list up to its level in `new`, which has no other changes. Takes no memory.
+    /// Moves each vertex of the list up to its level in `new`; all other levels in `new` are the present ones. Takes no
+    /// memory.
     ///
-    /// A level is 0 to 65,535, and no vertex stands lower in `new` than before; one of the list may stand where it stood. Each is in the
-    /// list once, in any order.
+    /// A level is 0 to 65,535, and no vertex is lower in `new` than before; a vertex of the list may stay. Each vertex
+    /// is in the list once, in any order.
     ///
-    /// One pass over the neighbours of each, however far it rises; at a neighbour that moves too nothing is written. Costs least where the
-    /// list is ascending. Counts a step for each neighbour, and one more for each vertex.
+    /// Costs one pass over the neighbours of each vertex, however far it rises; nothing is written at a neighbour that
+    /// moves too. An ascending list costs least. Counts a step for each neighbour, and one more for each vertex.
     pub fn lift_all<L: Ledger>(&mut self, vertices: &[u32], new: &Levels, steps: &mut Steps<L>)
         requires sized { length new.now ≡ self.old.graph.vertices }
         requires vertices { (v : ℕ) → has_number v vertices.now ≡ true → v < self.old.graph.vertices }
@@ -337,15 +343,20 @@ impl LevelAdj {
         take_up(&mut self.levels, vertices, new);
     }
 
-    /// As `lift_all`, by threads where the list is long.
+    /// Does what `lift_all` does, by threads if the list is long.
     ///
-    /// `workers` is 1 to 64, and nothing but the time depends on it. The vertices are cut into no more pieces than that, nor than they
-    /// have full ones of 4,096; so with one worker, or fewer than 8,192 vertices, it is `lift_all`, and takes no memory. Else each piece
-    /// goes to a thread of its own where one can be made, which passes over the neighbours and writes nothing, and then one thread writes
-    /// down what they found. Takes memory for that: 12 bytes a vertex, and 4, or up to twice that, for each neighbour that stays and may
-    /// gain, and in each piece for each neighbour of one vertex more.
+    /// `workers` is 1 to 64, and only the time depends on it. The vertices are cut into a piece for each worker, but at
+    /// most one for each full 4,096 vertices. So with one worker, or fewer than 8,192 vertices, it is `lift_all`, and
+    /// takes no memory.
     ///
-    /// Fails only if memory runs out, and all is then unchanged, the steps too. Counts what `lift_all` counts.
+    /// Otherwise each piece goes to a thread of its own if one can be made. The thread passes over the neighbours and
+    /// writes nothing. Then one thread writes what the others found. Memory is taken for that:
+    ///
+    /// - 12 bytes a vertex;
+    /// - 4 to 8 bytes for each neighbour that stays and may gain;
+    /// - in each piece the same for each neighbour of one more vertex.
+    ///
+    /// Fails only if memory runs out; then all is unchanged, the steps too. Counts what `lift_all` counts.
     pub fn par_lift_all<R: Threads + Sync, L: Ledger>(
         &mut self,
         rt: &R,
@@ -377,9 +388,9 @@ impl LevelAdj {
         Ok(())
     }
 
-    /// Puts `v` down to the level `to`, which is at most its own. Takes no memory.
+    /// Moves `v` down to the level `to`, which is at most its own. Takes no memory.
     ///
-    /// One pass over its neighbours, however far it falls. Counts a step for each of them, and one more.
+    /// Costs one pass over its neighbours, however far it falls. Counts a step for each of them, and one more.
     pub fn fall<L: Ledger>(&mut self, v: u32, to: u16, steps: &mut Steps<L>)
         requires vertex { v < self.old.graph.vertices }
         requires under { to ≤ slice_index self.old.levels v }

@@ -1,4 +1,4 @@
-//! Items filed under levels, and the next level that has some: levels without items are passed over 64 at a time.
+//! Items filed under levels, and the next level with items. Levels without items are passed over 64 at a time.
 
 ghost use Rattle.std.specs.Prelude.{◌≡◌, ◌+◌, ◌++◌, ◌∷◌, ◌<◌, ◌≤◌, ℕ, [], replicate, OnOk, OnErr, IfOk, slice_index_or, slice_set, length};
 
@@ -12,7 +12,7 @@ const SPAN: usize = 64;
 /// The items of one level, in the order in which they came.
 #[derive(Drop)]
 struct LevelList<T> {
-    // Those filed first stand first.
+    // The items, in the order in which they were filed.
     items: Vec<T>,
 }
 
@@ -26,13 +26,13 @@ impl<T> Model for LevelList<T> {
 
 /// A list of items for each level, from level 0 up to some level.
 ///
-/// Contracts see it as the list of the lists, that of level 0 first; there are fewer than 65,536. Levels without items cost a look
-/// for 64 of them.
+/// Contracts see a list of lists, that of level 0 first; there are fewer than 65,536. A search passes 64 levels without
+/// items at one step.
 #[derive(Drop)]
 pub struct LevelLists<T> {
-    // One for each level from 0 on; fewer than 65,536.
+    // One list for each level from 0 on; fewer than 65,536.
     lists: Vec<LevelList<T>>,
-    // For each 64 levels whether one of them may have items.
+    // For each 64 levels, whether one of them may have items.
     marks: Vec<bool>,
 }
 
@@ -48,7 +48,7 @@ impl<T> Model for LevelLists<T> {
 }
 
 impl<T: Drop> LevelLists<T> {
-    /// No items on each of `count` levels, from level 0 on. Fails only if memory runs out.
+    /// Makes `count` lists without items, from level 0 on. Fails only if memory runs out.
     pub fn new(alloc: Global, count: u16) -> Result<Self, AllocError>
         ensures { IfOk result (λ q. q ≡ replicate count []) }
     {
@@ -62,15 +62,15 @@ impl<T: Drop> LevelLists<T> {
         Ok(LevelLists { lists, marks })
     }
 
-    /// The number of levels that have a list. Costs O(1).
+    /// Returns the number of levels that have a list. Costs O(1).
     pub fn count(&self) -> u16
         ensures { result ≡ length self.now }
     {
         self.lists.len() as u16
     }
 
-    /// Makes lists without items up to this level, where there are fewer. Fails only if memory runs out, and some may have been
-    /// made then.
+    /// Adds lists without items up to this level, if there are fewer. Fails only if memory runs out; some lists may
+    /// have been added then.
     pub fn reach(&mut self, alloc: Global, level: u16) -> Result<(), AllocError>
         requires { level < 65535 }
         ensures enough { OnOk result (level < length self.new) }
@@ -88,7 +88,7 @@ impl<T: Drop> LevelLists<T> {
         Ok(())
     }
 
-    /// Puts an item last on a level. Fails only if memory runs out, and nothing is changed then.
+    /// Appends an item to the list of a level. Fails only if memory runs out; then nothing is changed.
     pub fn file(&mut self, level: u16, item: T) -> Result<(), AllocError>
         requires { level < length self.old }
         ensures ok { OnOk result (self.new ≡ slice_set self.old level (slice_index_or self.old level [] ++ item ∷ [])) }
@@ -99,7 +99,7 @@ impl<T: Drop> LevelLists<T> {
         Ok(())
     }
 
-    /// The items of a level.
+    /// Returns the items of a level.
     pub fn on(&self, level: u16) -> &[T]
         requires { level < length self.now }
         ensures { result.now ≡ slice_index_or self.now level [] }
@@ -107,7 +107,7 @@ impl<T: Drop> LevelLists<T> {
         self.lists[level as usize].items.as_slice()
     }
 
-    /// Takes the items of a level out.
+    /// Takes all items of a level out.
     pub fn take_all(&mut self, alloc: Global, level: u16) -> Vec<T>
         requires { level < length self.old }
         ensures taken { result.items ≡ slice_index_or self.old level [] }
@@ -116,7 +116,7 @@ impl<T: Drop> LevelLists<T> {
         mem::replace(&mut self.lists[level as usize].items, Vec::new(alloc))
     }
 
-    /// The first level from this one on that has items, or the number of levels where there is none.
+    /// Returns the first level from this one on that has items, or the number of levels if there is none.
     pub fn next(&self, from: u16) -> u16
         requires { from ≤ length self.now }
         ensures from { from ≤ result }

@@ -1,9 +1,12 @@
-//! Level adjacency: a graph with a level for each vertex, which keeps for each vertex how many of its neighbours are on its
-//! level or above, and how many on the level below or above. So nothing is counted anew when levels change.
+//! Level adjacency: a graph with levels, and two counts for each vertex. They are of its neighbours on its level or
+//! above, and on the level below or above. The counts are kept when levels change, so that no pass has to count afresh.
 //!
-//! [`LevelAdj`] is the graph with its levels. Its changing calls count their steps in a [`Steps`], which costs nothing when
-//! the program runs. [`LevelLists`] has a list of items for each level, for sweeps from level to level. What is found at many vertices is
-//! written in runs into one list, by [`put_where`], and read again by [`run_of`]. `specs/` has the definitions: read `LeveledGraph` first.
+//! [`LevelAdj`] is the graph with its levels. Its changing calls count their steps in a [`Steps`], which costs nothing
+//! when the program runs. [`LevelLists`] has a list of items for each level, for sweeps from level to level.
+//! [`put_where`] and [`run_of`] write and read runs of numbers in one list. `specs/` has the definitions: read
+//! `LeveledGraph` first.
+//!
+//! Floor: phases. From above: phases and the engine change and read a [`LevelAdj`].
 #![tactic(auto)]
 
 mod counts;

@@ -1,6 +1,7 @@
-//! How the counts change when many vertices go up together, each to its level in a list: one pass over the neighbours of each.
+//! How the counts change when many vertices go up together, each to its level in a list: one pass over the neighbours
+//! of each.
 //!
-//! `Lifting` of the definitions says who gains at whose pass. What it calls x are the levels before, and z those afterwards.
+//! `specs/private/Lifting` defines when each vertex gains. Its x are the levels before, and its z those afterwards.
 
 ghost use Rattle.std.specs.Prelude.{◌≡◌, ◌+◌, ◌-◌, ◌<◌, ◌==◌, ◌&&◌, ◌^◌, ℕ, cond, true, length, slice_index, slice_set};
 ghost use Rattle.kc_graph.specs.Numbers.{has_number};
@@ -18,7 +19,7 @@ use kc_graph::Graph;
 use kc_levels::Levels;
 use std::sync::ledger::Ledger;
 
-/// Vertices of a graph are to go from their levels in one list up to those in another.
+/// The vertices of a graph that go up, from their levels in one list to those in another.
 #[derive(Drop)]
 pub struct Lift<'a> {
     /// The graph.
@@ -29,7 +30,7 @@ pub struct Lift<'a> {
     pub new: &'a [u16],
 }
 
-// As `gain`, but w gains nothing if `level`, its new one, isn't its old one.
+// Does what `gain` does if w stays; a vertex stays if its new level, `level`, is its old one.
 fn gain_unmoved(old: &[u16], counts: &mut Counts, w: u32, from: u16, to: u16, level: u16)
     requires vertex { w < length old.now }
     requires own { w < length counts.old.own.items }
@@ -44,7 +45,7 @@ fn gain_unmoved(old: &[u16], counts: &mut Counts, w: u32, from: u16, to: u16, le
     }
 }
 
-// Brings the counts of those neighbours of v that stay to its new level, and counts for v itself.
+// Updates the counts of those neighbours of v that stay to v's new level, and returns both counts of v itself.
 fn pass(lift: &Lift, counts: &mut Counts, v: u32) -> (u32, u32)
     requires vertex { v < lift.now.graph.now.vertices }
     requires before { length lift.now.old.now ≡ lift.now.graph.now.vertices }
@@ -73,7 +74,7 @@ fn pass(lift: &Lift, counts: &mut Counts, v: u32) -> (u32, u32)
     (own, below)
 }
 
-/// Gives v its counts where it moves; who stays has them from its neighbours.
+/// Stores the counts of v if v moves. A vertex that stays has its counts from its neighbours' passes.
 pub fn renew(lift: &Lift, counts: &mut Counts, v: u32, own: u32, below: u32)
     requires before { v < length lift.now.old.now }
     requires after { v < length lift.now.new.now }
@@ -88,7 +89,7 @@ pub fn renew(lift: &Lift, counts: &mut Counts, v: u32, own: u32, below: u32)
     }
 }
 
-/// Brings all counts to the new levels, one vertex of the list after another.
+/// Updates all counts to the new levels, one vertex of the list after another.
 pub fn lift_counts<L: Ledger>(
     lift: &Lift,
     counts: &mut Counts,
@@ -114,7 +115,7 @@ pub fn lift_counts<L: Ledger>(
     }
 }
 
-/// Puts each vertex of the list on its new level, where no other changes.
+/// Puts each vertex of the list on its new level; all other levels stay.
 pub fn take_up(levels: &mut Levels, vertices: &[u32], new: &Levels)
     requires sized { length new.now ≡ length levels.old }
     requires vertices { (v : ℕ) → has_number v vertices.now ≡ true → v < length levels.old }

@@ -8,7 +8,7 @@ use crate::counts::Counts;
 use kc_graph::{Edge, Graph};
 use kc_levels::Levels;
 
-// 1 where w counts at v, which counts from `less` levels below its own on.
+// Returns 1 if v counts w, else 0; v counts from `less` levels below its own on.
 fn share(levels: &Levels, less: u16, v: u32, w: u32) -> u32
     requires first { v < length levels.now }
     requires second { w < length levels.now }
@@ -22,7 +22,7 @@ fn share(levels: &Levels, less: u16, v: u32, w: u32) -> u32
     }
 }
 
-/// Counts an edge between a and b that came in.
+/// Counts an edge between a and b that came in, at both ends.
 pub fn link(levels: &Levels, counts: &mut Vec<u32>, less: u16, a: u32, b: u32)
     requires order { a < b }
     requires below { b < length levels.now }
@@ -37,7 +37,7 @@ pub fn link(levels: &Levels, counts: &mut Vec<u32>, less: u16, a: u32, b: u32)
     counts[b as usize] = high;
 }
 
-/// Counts an edge between a and b no more.
+/// Removes an edge between a and b from the counts of both ends.
 pub fn unlink(levels: &Levels, counts: &mut Vec<u32>, less: u16, a: u32, b: u32)
     requires order { a < b }
     requires below { b < length levels.now }
@@ -52,7 +52,7 @@ pub fn unlink(levels: &Levels, counts: &mut Vec<u32>, less: u16, a: u32, b: u32)
     counts[b as usize] = high;
 }
 
-/// Counts edges that came into the graph.
+/// Counts the edges that came into the graph.
 pub fn link_all(graph: &Graph, levels: &Levels, counts: &mut Counts, edges: &[Edge])
     requires { AwaitsEdges graph.now levels.now counts.old.own.items counts.old.below.items edges.now }
     ensures { IsAdjacency graph.now levels.now counts.new.own.items counts.new.below.items }
@@ -64,7 +64,7 @@ pub fn link_all(graph: &Graph, levels: &Levels, counts: &mut Counts, edges: &[Ed
     }
 }
 
-/// Counts edges that left the graph no more.
+/// Removes the edges that left the graph from the counts.
 pub fn unlink_all(graph: &Graph, levels: &Levels, counts: &mut Counts, edges: &[Edge])
     requires { LosesEdges graph.now levels.now counts.old.own.items counts.old.below.items edges.now }
     ensures { IsAdjacency graph.now levels.now counts.new.own.items counts.new.below.items }

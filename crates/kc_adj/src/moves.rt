@@ -12,7 +12,7 @@ use kc_graph::Graph;
 use kc_levels::Levels;
 use std::sync::ledger::Ledger;
 
-// Brings the counts of the neighbours of v to its new level, above the old one, and counts for v itself.
+// Updates the counts of the neighbours of v to its new level, above the old one, and counts for v itself.
 fn shift_up<L: Ledger>(
     graph: &Graph,
     levels: &[u16],
@@ -45,7 +45,7 @@ fn shift_up<L: Ledger>(
     (own, below)
 }
 
-// Brings the counts of the neighbours of v to its new level, below the old one, and counts for v itself.
+// Updates the counts of the neighbours of v to its new level, below the old one, and counts for v itself.
 fn shift_down<L: Ledger>(
     graph: &Graph,
     levels: &[u16],

@@ -1,7 +1,7 @@
-//! Many vertices go up together, and threads share the passes over their neighbours: each passes over those of a piece of the list and
-//! writes nothing, and then one thread writes down in order what they found.
+//! Vertices that go up together, with passes over their neighbours by threads. Each thread passes over the neighbours
+//! of a piece of the list and writes no count. Then one thread writes what the threads found, in order.
 //!
-//! `Passing` of the definitions says what is found. What it calls x are the levels before, and z those afterwards.
+//! `specs/private/Passing` defines what is found. Its x are the levels before, and its z those afterwards.
 
 ghost use Rattle.std.specs.Prelude.{◌≡◌, ◌+◌, ◌-◌, ◌<◌, ◌≤◌, ◌==◌, ◌&&◌, ◌++◌, ℕ, All, IfOk, OnOk, OnErr, true, drop, take, length, nat_le, nat_lt, slice_index};
 ghost use Rattle.std.specs.Result.{is_ok};
@@ -23,42 +23,43 @@ use std::sync::ledger::Ledger;
 use std::thread;
 use std::thread::Threads;
 
-// A list is cut into no more pieces than it has full ones of this length: a piece is to cost far more than to start a thread and to join
-// it.
+// A list is cut into at most one piece for each full `LEAST_LIFTED` vertices. So a piece costs far more than to start
+// and join a thread.
 const LEAST_LIFTED: usize = 4_096;
 
-/// Who lifts: what starts threads, where memory comes from, and how many workers there are. No counts depend on the number.
+/// The threads, the memory and the number of workers for lifts. No count depends on the number of workers.
 #[derive(Drop)]
 pub struct Lifters<'a, R> {
-    /// What starts the threads.
+    /// The runtime that starts the threads.
     pub rt: &'a R,
-    /// Where the memory for what they find comes from.
+    /// The allocator of what the threads find.
     pub alloc: Global,
-    /// How many pieces a list of vertices is cut into at most; 0 counts as 1.
+    /// The greatest number of pieces of a list of vertices; 0 counts as 1.
     pub workers: u32,
 }
 
-/// What a pass over the neighbours of a vertex found.
+/// The result of a pass over the neighbours of a vertex.
 #[derive(Clone, Copy)]
 pub struct Turn {
-    /// How many are on its new level or above.
+    /// The number of neighbours on its new level or above.
     pub own: u32,
-    /// How many are on the level below that or above.
+    /// The number of neighbours on the level below that or above.
     pub below: u32,
-    /// How many stay, and may gain by its move.
+    /// The number of neighbours that stay and may gain by its move.
     pub touched: u32,
 }
 
-/// What was found at the vertices of a piece, in their order.
+/// The results of the passes at the vertices of a piece, in their order.
 #[derive(Drop)]
 pub struct Passed {
-    /// At each of them.
+    /// The result at each vertex.
     pub turns: Vec<Turn>,
-    /// The neighbours that stay and may gain, those of the first one first.
+    /// The neighbours that stay and may gain, those of the first vertex first.
     pub touched: Vec<u32>,
 }
 
-// Whether w, on `level` by the new levels, stays and may gain by a neighbour that goes up from a level to another.
+// Returns whether w stays, on `level` by the new levels, and may gain by a neighbour that goes up from a level to
+// another.
 fn is_touched(old: &[u16], w: u32, from: u16, to: u16, level: u16) -> bool
     requires { w < length old.now }
     ensures { result ≡ ((slice_index old.now w == level) && (nat_lt from level && nat_le (level - 1) to)) }
@@ -67,8 +68,8 @@ fn is_touched(old: &[u16], w: u32, from: u16, to: u16, level: u16) -> bool
     stays && is_reached(from, to, level)
 }
 
-// Passes over the neighbours of v, and puts those that it touches last in `touched`. Fails only if memory runs out; what `touched` holds
-// is then unspecified.
+// Passes over the neighbours of v, and appends those that it touches to `touched`. Fails only if memory runs out; the
+// content of `touched` is then unspecified.
 fn look(lift: &Lift, v: u32, touched: &mut Vec<u32>) -> Result<Turn, AllocError>
     requires vertex { v < lift.now.graph.now.vertices }
     requires before { length lift.now.old.now ≡ lift.now.graph.now.vertices }
@@ -116,7 +117,7 @@ fn look_at_piece(alloc: Global, lift: &Lift, piece: &[u32]) -> Result<Passed, Al
     Ok(Passed { turns, touched })
 }
 
-// Those that v touches gain by its move.
+// Lets the vertices that v touches gain by its move.
 fn gain_all(lift: &Lift, counts: &mut Counts, v: u32, touched: &[u32])
     requires vertex { v < lift.now.graph.now.vertices }
     requires before { length lift.now.old.now ≡ lift.now.graph.now.vertices }
@@ -137,7 +138,7 @@ fn gain_all(lift: &Lift, counts: &mut Counts, v: u32, touched: &[u32])
     }
 }
 
-// Writes down what was found at the first vertices of the list.
+// Writes the results of the first vertices of the list into the counts.
 fn write_down<L: Ledger>(
     lift: &Lift,
     counts: &mut Counts,
@@ -170,7 +171,7 @@ fn write_down<L: Ledger>(
     }
 }
 
-// Whether memory sufficed for each piece.
+// Returns whether there was memory for each piece.
 fn are_made(pieces: &[Result<Passed, AllocError>]) -> bool
     ensures { result ≡ true → All (λ r. is_ok r ≡ true) pieces.now }
 {
@@ -182,8 +183,8 @@ fn are_made(pieces: &[Result<Passed, AllocError>]) -> bool
     true
 }
 
-// Brings all counts to the new levels: the list is cut into pieces of one length, the last of which may be shorter, and each goes to a
-// thread of its own where one can be made. Nothing is written before all of them are made.
+// Updates all counts to the new levels, by pieces. The pieces have one length, but the last may be shorter. Each goes
+// to a thread of its own if one can be made. Nothing is written before all pieces are done.
 fn lift_counts_by<R: Threads + Sync, L: Ledger>(
     lifters: &Lifters<'_, R>,
     pieces: usize,
@@ -234,14 +235,15 @@ fn lift_counts_by<R: Threads + Sync, L: Ledger>(
     Ok(())
 }
 
-// Into how many pieces a list with this number of vertices is cut.
+// Returns the number of pieces of a list with this number of vertices.
 fn piece_count(workers: u32, vertices: usize) -> usize
     ensures { 1 ≤ result }
 {
     (vertices / LEAST_LIFTED).min(workers as usize).max(1)
 }
 
-/// As `lift_counts`, but threads share the passes where the list is long. Fails only if memory runs out, and all is then unchanged.
+/// Does what `lift_counts` does, but threads share the passes if the list is long. Fails only if memory runs out; then
+/// all is unchanged.
 pub fn par_lift_counts<R: Threads + Sync, L: Ledger>(
     lifters: &Lifters<'_, R>,
     lift: &Lift,

@@ -1,9 +1,11 @@
-//! Lists of numbers that are written in runs, one behind another, and read again run by run.
+//! Lists of numbers that are written in runs, one after another, and read again run by run.
 
 ghost use Rattle.std.specs.Prelude.{◌≡◌, ◌+◌, ◌<◌, ◌≤◌, ◌++◌, ◌∷◌, [], cond, drop, length, slice_set, take};
 
-/// Puts w behind the first `end` items, in place of what stood there, and gives where they end then: behind w if `holds`, else before
-/// it. All other items stay. There is no branch, since a processor couldn't predict it.
+/// Writes w at the place `end`; returns `end + 1` if `holds`, else `end`. The item at that place is replaced, and all
+/// other items stay.
+///
+/// There is no branch, since a processor couldn't predict it.
 pub fn put_where(items: &mut Vec<u32>, end: usize, w: u32, holds: bool) -> usize
     requires { end < length items.old.items }
     ensures written { items.new.items ≡ slice_set items.old.items end w }
@@ -15,7 +17,7 @@ pub fn put_where(items: &mut Vec<u32>, end: usize, w: u32, holds: bool) -> usize
     end + usize::from(holds)
 }
 
-/// The run of `count` items from the place `start` on.
+/// Returns the run of `count` items from the place `start` on.
 pub fn run_of(items: &[u32], start: usize, count: usize) -> &[u32]
     requires { start + count ≤ length items.now }
     ensures { result.now ≡ take count (drop start items.now) }

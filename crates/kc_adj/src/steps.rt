@@ -1,18 +1,20 @@
-//! A count of steps for bounds on the work of a call: contracts and a proof see it, and a running program has none of it.
+//! A count of steps for bounds on the work of a call. Contracts and a proof see the count, and a running program has
+//! none of it.
 
 ghost use Rattle.std.specs.Prelude.{ℕ, ◌≡◌, ◌+◌, ◌<◌};
 
 use std::marker::Model;
 use std::sync::ledger::{Blank, Book, Ledger, Share};
 
-/// How many steps were taken, from 0 on without a limit. Contracts see it as that number.
+/// The number of steps, from 0 on without a limit. Contracts see that number.
 ///
-/// It takes no bytes and no time when the program runs, and only `tick` and `add` change it. The number is kept in the ledger `L`.
+/// It takes no bytes and no time when the program runs, and only `tick` and `add` change it. The number is kept in the
+/// ledger `L`.
 #[derive(Drop)]
 pub struct Steps<L: Ledger> {
-    // What was added to the ledger in all: the number of steps.
+    // The sum of what was added to the ledger: the number of steps.
     book: Book<L>,
-    // Parts of the same ledger, at least one: who adds to the book has to hold some.
+    // Parts of the same ledger, at least one: only a holder of parts can add to the book.
     share: Share<L>,
 }
 
@@ -25,7 +27,8 @@ impl<L: Ledger> Model for Steps<L> {
 }
 
 impl<L: Ledger> Steps<L> {
-    /// A counter at 0, from a blank ledger of L's name and parts, of which there is at least one. Takes no memory.
+    /// Makes a counter at 0, from a blank ledger of L's name and parts, of which there is at least one. Takes no
+    /// memory.
     pub fn new(blank: Blank) -> Steps<L>
         requires name { blank.name ≡ L.name }
         requires parts { blank.parts ≡ L.parts }
@@ -43,7 +46,7 @@ impl<L: Ledger> Steps<L> {
         self.book.add(&mut self.share, 1);
     }
 
-    /// Counts `count` steps at once, as for a pass that threads made.
+    /// Counts `count` steps at once, for a pass that threads made.
     pub fn add(&mut self, count: usize)
         ensures { self.new ≡ self.old + count }
     {

@@ -1,4 +1,4 @@
--- What the lines of a run text say that aren't skipped, each by itself.
+-- What each line of a run text says by itself, of those that aren't skipped.
 use Rattle.std.specs.Prelude.{ℕ, Bool, true, false, ◌&&◌, ◌||◌, List, [], ◌∷◌, Option, Some, None, is_some, if◌then◌else◌, codes}
 use Rattle.std.specs.Str.{bytes_eq}
 use Rattle.kc_text.specs.declared.line.Body.{Body}
@@ -9,7 +9,7 @@ use Rattle.kc_text.specs.Words.{words}
 use Rattle.kc_text.specs.Numbers.{number_of}
 use Rattle.kc_audit.specs.Words.{is_nothing, first_number, has_fields}
 
--- what a line says; of a group or a reader line the words after its numbers
+-- what a line says; a group line and a reader line keep the words after their numbers
 pub data Kind : Type 0 where
   -- `kcore-run 1`
   Head : Kind
@@ -40,7 +40,7 @@ is_version [] = false
 is_version (w ∷ []) = bytes_eq w (codes "1")
 is_version (v ∷ w ∷ ws) = false
 
--- a word that tells why a batch was refused
+-- a word that is the reason of a refused batch
 abbrev pub names_reason : List ℕ → Bool
 names_reason w =
     bytes_eq w (reason_word LineLong) || (bytes_eq w (reason_word BadLine) || (bytes_eq w (reason_word BadVertex) || (bytes_eq w (reason_word TooMany)
@@ -55,12 +55,12 @@ is_refusal (r ∷ l ∷ n ∷ []) = false
 is_refusal (r ∷ l ∷ n ∷ reason ∷ []) = bytes_eq r (codes "refused") && (bytes_eq l (codes "line") && (is_some (number_of n) && names_reason reason))
 is_refusal (r ∷ l ∷ n ∷ reason ∷ w ∷ ws) = false
 
--- after `vertices`
+-- the kind of a line by what follows `vertices`
 abbrev pub vertices_kind : Option (ℕ × List (List ℕ)) → Kind
 vertices_kind (Some p) = if is_nothing p.1 then Vertices p.0 else Other
 vertices_kind None = Other
 
--- after `batch`
+-- the kind of a line by what follows `batch`
 abbrev pub batch_kind : Option (ℕ × List (List ℕ)) → Kind
 batch_kind (Some p) =
     if has_fields (words (codes "loops repeats idle removed added")) p.1 then Accepted p.0
@@ -68,7 +68,7 @@ batch_kind (Some p) =
     else Other
 batch_kind None = Other
 
--- whether a phase inserts, by its word
+-- whether a phase inserts, by the word of its direction
 abbrev pub direction_of : List ℕ → Option Bool
 direction_of w =
     if bytes_eq w (codes "insert") then Some true
@@ -80,37 +80,37 @@ phase_with p (Some add) true = Phase p add
 phase_with p (Some add) false = Other
 phase_with p None fits = Other
 
--- after `phase P`
+-- the kind of a line by what follows `phase P`
 unfoldable pub direction_kind : ℕ → List (List ℕ) → Kind
 direction_kind p [] = Other
 direction_kind p (w ∷ ws) = phase_with p (direction_of w) (has_fields (words (codes "quiet")) ws)
 
--- after `phase`
+-- the kind of a line by what follows `phase`
 abbrev pub phase_kind : Option (ℕ × List (List ℕ)) → Kind
 phase_kind (Some p) = direction_kind p.0 p.1
 phase_kind None = Other
 
--- after `group P`
+-- the kind of a line by what follows `group P`
 abbrev pub label_kind : ℕ → Option (ℕ × List (List ℕ)) → Kind
 label_kind p (Some l) = Group p l.0 l.1
 label_kind p None = Other
 
--- after `group`
+-- the kind of a line by what follows `group`
 abbrev pub group_kind : Option (ℕ × List (List ℕ)) → Kind
 group_kind (Some p) = label_kind p.0 (first_number p.1)
 group_kind None = Other
 
--- after `reader`
+-- the kind of a line by what follows `reader`
 abbrev pub reader_kind : Option (ℕ × List (List ℕ)) → Kind
 reader_kind (Some r) = Reader r.0 r.1
 reader_kind None = Other
 
--- after `vertex`
+-- the kind of a line by what follows `vertex`
 abbrev pub vertex_kind : Option (ℕ × List (List ℕ)) → Kind
 vertex_kind (Some v) = if has_fields (words (codes "level est low high up down")) v.1 then Vertex v.0 else Other
 vertex_kind None = Other
 
--- what a line says that begins with this word, and then has these
+-- the kind of a line by its first word and the words after it
 abbrev pub named_kind : List ℕ → List (List ℕ) → Kind
 named_kind name ws =
     if bytes_eq name (codes "group") then group_kind (first_number ws)
@@ -123,12 +123,12 @@ named_kind name ws =
     else if bytes_eq name (codes "end") then (if is_nothing ws then Close else Other)
     else Other
 
--- what a line of these words says
+-- the kind of a line by its words
 unfoldable pub kind_of_words : List (List ℕ) → Kind
 kind_of_words [] = Other
 kind_of_words (name ∷ ws) = named_kind name ws
 
--- what a line says
+-- the kind of a line
 abbrev pub kind_of : Body → Kind
 kind_of (body.Text text) = kind_of_words (words text)
 kind_of body.TooLong = TooLong

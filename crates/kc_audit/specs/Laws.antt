@@ -1,4 +1,4 @@
--- Laws of verdicts and histories, each the contract of a function of `laws`.
+-- Laws of verdicts and histories; each is the contract of a function in `laws`.
 use Rattle.std.specs.Prelude.{ℕ, ◌<◌, ◌≡◌, List, [], ◌∷◌, length, map, All, Option, Some, None}
 use Rattle.kc_levels.specs.declared.moves.Move.{Move}
 use Rattle.kc_history.specs.declared.entries.Entry.{Entry}
@@ -11,7 +11,7 @@ use Rattle.kc_audit.specs.declared.verdict.AuditVerdict.TheVariants.{Explained}
 use Rattle.kc_audit.specs.Runs.{history_of}
 use Rattle.kc_audit.specs.Verdicts.{replies_of, IsExplained, IsVerdict}
 
--- a run whose readers are explained is told to be
+-- a run whose readers are explained gets the verdict `Explained`
 abbrev pub ExplainedPasses : Type 0
 ExplainedPasses = (run : RunText) (verdict : AuditVerdict) → ((r : ℕ) → r < length run.readers → IsExplained run (replies_of run r)) → IsVerdict run verdict → verdict ≡ Explained
 
@@ -23,11 +23,11 @@ HasVerdict = (run : RunText) → (verdict : AuditVerdict) × IsVerdict run verdi
 abbrev pub IsOneVerdict : Type 0
 IsOneVerdict = (run : RunText) (first second : AuditVerdict) → IsVerdict run first → IsVerdict run second → first ≡ second
 
--- what is printed of a move
+-- a move as it is printed
 abbrev pub member_of : Move → Reply
 member_of m = record { vertex = m.vertex; level = m.new }
 
--- the group line of an entry with a label, before others
+-- the group line of an entry with a label, before other lines
 abbrev pub line_before : Entry → Option ℕ → List GroupLine → List GroupLine
 line_before e None rest = rest
 line_before e (Some label) rest = record { phase = e.phase; label = label; members = map member_of e.moves } ∷ rest
@@ -41,7 +41,7 @@ lines_of (e ∷ es) = line_before e e.label (lines_of es)
 abbrev pub IsQuietUnlessLabelled : Entry → Type 0
 IsQuietUnlessLabelled e = e.label ≡ None → e.moves ≡ []
 
--- replies that a history explains are explained by its group lines
+-- if a history explains replies, its group lines explain them too
 abbrev pub LinesExplain : Type 0
 LinesExplain =
     (n : ℕ) (history : List Entry) (rs : List Reply) → All IsQuietUnlessLabelled history → AreExplained n history 0 rs → AreExplained n (history_of (lines_of history)) 0 rs

@@ -1,4 +1,4 @@
--- The lines of a run by their words, as they are printed, and that they say their kinds.
+-- The lines of a run by their words as they are printed, and the kinds that these lines have.
 use Rattle.std.specs.Prelude.{ℕ, ◌≡◌, ◌<◌, ◌≤◌, ◌^◌, Bool, true, false, List, [], ◌∷◌, length, codes, decimal, if◌then◌else◌}
 use Rattle.std.specs.List.{list_all}
 use Rattle.kc_graph.specs.declared.limits.TheConstants.{MAX_VERTICES}
@@ -21,7 +21,7 @@ abbrev pub AreSmall : List Reply → Type 0
 AreSmall [] = Unit {0}
 AreSmall (r ∷ rs) = (IsSmall r.vertex × IsSmall r.level) × AreSmall rs
 
--- these are words of a line that isn't skipped, and it says this
+-- these are the words of a line that isn't skipped, and the line is of this kind
 pub record Says (ws : List (List ℕ)) (k : Kind) : Type 0 where
   pub words : list_all is_word ws ≡ true
   pub kept : is_skip ws ≡ false
@@ -34,7 +34,7 @@ IsRefusedReason _ = Unit {0}
 abbrev pub direction_word : Bool → List ℕ
 direction_word add = if add then codes "insert" else codes "delete"
 
--- each line of a run says its kind
+-- each line of a run has its kind
 pub record LinesSayKinds : Type 0 where
   pub head : Says (codes "kcore-run" ∷ codes "1" ∷ []) Head
   pub vertices : (n : ℕ) → IsSmall n → Says (codes "vertices" ∷ decimal n ∷ []) (Vertices n)
@@ -50,7 +50,7 @@ pub record LinesSayKinds : Type 0 where
       → Says (codes "vertex" ∷ decimal v ∷ codes "level" ∷ decimal l ∷ codes "est" ∷ decimal e ∷ codes "low" ∷ decimal lo ∷ codes "high" ∷ decimal hi ∷ codes "up" ∷ decimal u ∷ codes "down" ∷ decimal d ∷ []) (Vertex v)
   pub end : Says (codes "end" ∷ []) Close
 
--- lines of words say these kinds, and the input ends after them
+-- lines of words have these kinds, and the input ends after the lines
 abbrev pub SayAll : List (List (List ℕ)) → List Kind → Type 0
 SayAll [] [] = ⊥
 SayAll [] (k ∷ []) = k ≡ InputEnd
@@ -58,7 +58,7 @@ SayAll [] (k ∷ j ∷ ks) = ⊥
 SayAll (ws ∷ ls) [] = ⊥
 SayAll (ws ∷ ls) (k ∷ ks) = Says ws k × SayAll ls ks
 
--- the printed lines of a run are read as this run, where they are within the limits of a line and of the input
+-- the printed lines of a run are read as this run, if they are within the limits of a line and of the input
 abbrev pub PrintedRunIsReadBack : Type 0
 PrintedRunIsReadBack = (limit room n : ℕ) (bs : List BatchText) (rs : List (List Reply)) (ls : List (List (List ℕ))) → 1 ≤ n → n ≤ MAX_VERTICES → BatchesFit n 0 bs → length rs ≤ 64 → ReadersFit n rs
     → SayAll ls (run_kinds n bs rs) → list_all (is_line limit) ls ≡ true → length (printed ls) ≤ room

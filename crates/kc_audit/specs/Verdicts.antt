@@ -7,7 +7,7 @@ use Rattle.kc_audit.specs.declared.run_text.RunText.{RunText}
 use Rattle.kc_audit.specs.declared.verdict.AuditVerdict.{AuditVerdict}
 use Rattle.kc_audit.specs.declared.verdict.AuditVerdict.TheVariants.{Explained, Unexplained}
 
--- the replies of a reader of the run; none where there is no such reader
+-- the replies of a reader of the run; none if there is no such reader
 abbrev pub replies_of : RunText → ℕ → List Reply
 replies_of run reader = get_or run.readers reader []
 
@@ -28,7 +28,7 @@ pub record IsUnexplained (run : RunText) (reader ask : ℕ) : Type 0 where
   pub before : (r : ℕ) → r < reader → IsExplained run (replies_of run r)
   pub here : IsFirstUnexplained run (replies_of run reader) ask
 
--- what a verdict says
+-- what each verdict means
 abbrev pub IsVerdict : RunText → AuditVerdict → Type 0
 IsVerdict run Explained = (r : ℕ) → r < length run.readers → IsExplained run (replies_of run r)
 IsVerdict run (Unexplained reader ask) = IsUnexplained run reader ask

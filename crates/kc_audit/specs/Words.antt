@@ -14,12 +14,12 @@ abbrev pub before_words : Option ℕ → List (List ℕ) → Option (ℕ × List
 before_words (Some n) ws = Some (n, ws)
 before_words None ws = None
 
--- the number that the first word says, and the words after it
+-- the number of the first word, and the words after it
 unfoldable pub first_number : List (List ℕ) → Option (ℕ × List (List ℕ))
 first_number [] = None
 first_number (w ∷ ws) = before_words (number_of w) ws
 
--- names, with a number after each, and nothing more
+-- these names, with a number after each, and nothing more
 unfoldable pub has_fields : List (List ℕ) → List (List ℕ) → Bool
 has_fields [] ws = is_nothing ws
 has_fields (name ∷ names) [] = false
@@ -36,7 +36,7 @@ reply_with (Some v) (Some l) = Some (record { vertex = v; level = l })
 reply_with (Some v) None = None
 reply_with None l = None
 
--- the vertex and the level that a word says before and after its first mark, as in `4:1` and `4=1`
+-- the vertex and the level before and after the first mark of a word, as in `4:1` and `4=1`
 abbrev pub pair_of : ℕ → List ℕ → Option Reply
 pair_of mark w = reply_with (number_of (before_first (λ b. b == mark) w)) (level_in (number_of (after_first (λ b. b == mark) w)))
 
@@ -45,7 +45,7 @@ pair_before (Some r) (Some rs) = Some (r ∷ rs)
 pair_before (Some r) None = None
 pair_before None rest = None
 
--- the pairs that words say, if each says one
+-- the pairs of words, if each word is a pair
 unfoldable pub pairs_of : ℕ → List (List ℕ) → Option (List Reply)
 pairs_of mark [] = Some []
 pairs_of mark (w ∷ ws) = pair_before (pair_of mark w) (pairs_of mark ws)

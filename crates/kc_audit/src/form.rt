@@ -1,4 +1,4 @@
-//! What the lines of a run text say, each by itself.
+//! What each line of a run text says by itself.
 ghost use Rattle.std.specs.Prelude.{◌≡◌, ◌≤◌, length, drop};
 ghost use Rattle.kc_text.specs.Words.{words};
 ghost use Rattle.kc_text.specs.Kept.{text_of};
@@ -9,7 +9,7 @@ ghost use Rattle.kc_audit.specs.private.Kinds.{kind_told, IsWithin};
 use crate::words::{has_fields, is_at_end, number_at};
 use kc_text::{Body, Line, Reason, is_named, next_word, read_number};
 
-/// What a line says by itself, wherever it stands. The numbers are any numbers; those that no rule names are left out.
+/// The kind of a line, wherever it stands. The numbers are any numbers; those that no rule uses are left out.
 #[derive(Clone, Copy, Debug, PartialEq, Eq)]
 pub enum Form {
     /// `kcore-run 1`
@@ -20,11 +20,11 @@ pub enum Form {
     Accepted(u32),
     /// `batch T refused line N REASON`
     Refused(u32),
-    /// `phase P insert quiet E`, or `delete` where `add` is false.
+    /// `phase P insert quiet E`, or `delete` if `add` is false.
     Phase { phase: u32, add: bool },
-    /// `group P LABEL`, and the words for its members at or after `from`.
+    /// `group P LABEL`, and the words of its members at or after `from`.
     Group { phase: u32, label: u32, from: usize },
-    /// `reader R`, and the words for its replies at or after `from`.
+    /// `reader R`, and the words of its replies at or after `from`.
     Reader { reader: u32, from: usize },
     /// `vertex V level L est E low LO high HI up U down D`
     Vertex(u32),
@@ -40,16 +40,16 @@ pub enum Form {
     InputEnd,
 }
 
-/// A line by its form, which says at which of its bytes it goes on.
+/// A line with its form; the places in the form are places of the line's bytes.
 #[derive(Drop)]
 pub struct FormLine<'a> {
-    /// What the line is by its form.
+    /// The form of the line.
     pub form: Form,
-    /// The line's bytes; none where it isn't a text.
+    /// The line's bytes; none if the line isn't a text.
     pub text: &'a [u8],
 }
 
-// Whether the one word at or after `from` is `1`.
+// Returns whether the one word at or after `from` is `1`.
 #[tactic(auto, unfolding(crate::specs::Kinds::is_version))]
 fn is_version(text: &[u8], from: usize) -> bool
     requires { from ≤ length text.now }
@@ -77,7 +77,7 @@ fn names_reason(word: &[u8]) -> bool
         || is_named(word, Reason::PhaseLimit.word())
 }
 
-// Whether the words at or after `from` are `refused line N REASON`.
+// Returns whether the words at or after `from` are `refused line N REASON`.
 #[tactic(auto, unfolding(crate::specs::Kinds::is_refusal))]
 fn is_refusal(text: &[u8], from: usize) -> bool
     requires { from ≤ length text.now }
@@ -206,7 +206,8 @@ fn vertex_form(text: &[u8], from: usize) -> Form
     }
 }
 
-// What a line says that begins with this word and goes on at `from`. Group lines come first, since most lines are these.
+// Returns the form of a line that begins with this word and goes on at `from`. Group lines are tested first, since most
+// lines are group lines.
 fn named_form(name: &[u8], text: &[u8], from: usize) -> Form
     requires { from ≤ length text.now }
     ensures kind { kind_told text.now result ≡ named_kind name.now (words (drop from text.now)) }
@@ -252,7 +253,7 @@ fn form_of_text(text: &[u8]) -> Form
     }
 }
 
-/// What a line says.
+/// Returns the form of a line.
 pub fn form_of(line: &Line) -> Form
     ensures kind { kind_told (text_of line.now.body) result ≡ kind_of line.now.body }
     ensures within { IsWithin (text_of line.now.body) result }

@@ -15,17 +15,19 @@ pub struct GroupLine {
     pub phase: u32,
     /// The least of its members.
     pub label: u32,
-    /// The members, in the order in which they were printed; each reply tells the level after the phase.
+    /// The members, in the order in which they were printed; each reply has the level after the phase.
     pub members: Replies,
 }
 
-/// Group lines one after another. Contracts see them as a list of group lines. The members of all of them stand in one
-/// `Vec`, so that a line of few members takes little more than these: 16 bytes, and 8 for each member.
+/// Group lines one after another. Contracts see them as a list of group lines.
+///
+/// The members of all lines share one `Vec`. So a line takes little more than its numbers, even with few members: 16
+/// bytes, and 8 for each member.
 #[derive(Drop)]
 pub struct GroupLines {
-    // one for each line, in order; none ends before the one ahead of it
+    // One for each line, in order. No line ends before the previous one.
     heads: Vec<Head>,
-    // the members of all lines, one line after another; the last one ends with them
+    // The members of all lines, one line after another. The last line ends with this list.
     members: Vec<Reply>,
 }
 
@@ -42,7 +44,7 @@ impl Model for GroupLines {
     ghost invariant = { λ g. EndFrom 0 g.heads.items (length g.members.items) };
 }
 
-// Where the members of line i begin: where those of the line before it end.
+// Returns where the members of line i begin: at the end of those of the line before it.
 fn start_of(heads: &[Head], i: usize) -> usize
     requires { i < length heads.now }
     ensures { result ≡ start_of 0 heads.now i }
@@ -52,7 +54,7 @@ fn start_of(heads: &[Head], i: usize) -> usize
 
 ghost use Rattle.kc_audit.specs.private.Flat.{start_of};
 
-// The members of one line among those of all.
+// Returns the members of one line among those of all lines.
 fn part_of(members: &[Reply], start: usize, end: usize) -> &[Reply]
     requires rising { start ≤ end }
     requires within { end ≤ length members.now }
@@ -62,7 +64,7 @@ fn part_of(members: &[Reply], start: usize, end: usize) -> &[Reply]
 }
 
 impl GroupLines {
-    /// No group lines. Takes no memory.
+    /// Makes an empty list of group lines. Takes no memory.
     pub fn new(alloc: Global) -> Self
         ensures { result ≡ [] }
     {
@@ -72,21 +74,21 @@ impl GroupLines {
         }
     }
 
-    /// How many lines there are.
+    /// Returns the number of lines.
     pub fn len(&self) -> usize
         ensures { result ≡ length self.now }
     {
         self.heads.len()
     }
 
-    /// Whether there is no line.
+    /// Returns whether there is no line.
     pub fn is_empty(&self) -> bool
         ensures { IsTrue result ↔ (self.now ≡ []) }
     {
         self.heads.is_empty()
     }
 
-    /// The phase of line i, counted from 0.
+    /// Returns the phase of line i, counted from 0.
     pub fn phase(&self, i: usize) -> u32
         requires { i < length self.now }
         ensures { IfSome (slice_get self.now i) (λ line. result ≡ line.phase) }
@@ -94,7 +96,7 @@ impl GroupLines {
         self.heads[i].phase
     }
 
-    /// The label of line i, counted from 0.
+    /// Returns the label of line i, counted from 0.
     pub fn label(&self, i: usize) -> u32
         requires { i < length self.now }
         ensures { IfSome (slice_get self.now i) (λ line. result ≡ line.label) }
@@ -102,7 +104,7 @@ impl GroupLines {
         self.heads[i].label
     }
 
-    /// The members of line i, counted from 0.
+    /// Returns the members of line i, counted from 0.
     pub fn members(&self, i: usize) -> &[Reply]
         requires { i < length self.now }
         ensures { IfSome (slice_get self.now i) (λ line. result.now ≡ line.members) }
@@ -111,7 +113,7 @@ impl GroupLines {
         part_of(&self.members, start, self.heads[i].end)
     }
 
-    /// Puts a line at the end. After a refusal the lines are unchanged. Cost: a copy of its members.
+    /// Appends a line. Fails only if memory runs out; then the lines are unchanged. Cost: a copy of its members.
     pub fn push(&mut self, line: &GroupLine) -> Result<(), AllocError>
         ensures ok { OnOk result (self.new ≡ self.old ++ line.now ∷ []) }
         ensures err { OnErr result (self.new ≡ self.old) }
@@ -119,7 +121,7 @@ impl GroupLines {
         self.push_members(line.phase, line.label, line.members.as_slice())
     }
 
-    // Puts a line of this phase, this label and these members at the end.
+    // Appends a line of this phase, this label and these members.
     pub(crate) fn push_members(
         &mut self,
         phase: u32,

@@ -1,4 +1,5 @@
-//! What verdicts on runs come to, and that printed runs are read back. The functions do nothing: each has laws as its contract.
+//! What follows from the definitions of verdicts and printed runs. The functions do nothing: each has laws as its
+//! contract.
 
 ghost use Rattle.kc_audit.specs.Laws.{ExplainedPasses, HasVerdict, IsOneVerdict, LinesExplain};
 ghost use Rattle.kc_audit.specs.Printed.{LinesSayKinds, PrintedRunIsReadBack};
@@ -9,7 +10,7 @@ pub fn explained_passes()
     ensures { ExplainedPasses }
 {}
 
-/// Each run has a verdict, also where there is no memory for an audit.
+/// Each run has a verdict, even if there is no memory for an audit.
 pub fn has_verdict()
     ensures { HasVerdict }
 {}
@@ -19,23 +20,23 @@ pub fn one_verdict()
     ensures { IsOneVerdict }
 {}
 
-/// What a history explains, the group lines of its entries explain: neither the entries that move nothing matter, nor on
-/// which level a vertex was before a move.
+/// If a history explains replies, the group lines of its entries explain them too. Neither the entries without moves
+/// matter, nor the level of a vertex before a move.
 pub fn lines_explain()
     ensures { LinesExplain }
 {}
 
-/// Lines that say what the lines of a run say are read as its group lines and its readers.
+/// Lines with the kinds of a run's lines are read as the run's group lines and readers.
 pub fn run_is_read_back()
     ensures { RunIsReadBack }
 {}
 
-/// Each line of a run says, by its words as they are printed, what the line is for.
+/// Each line of a run has, by its words as they are printed, the kind that is meant.
 pub fn lines_say_kinds()
     ensures { LinesSayKinds }
 {}
 
-/// The printed lines of a run are read as its group lines and its readers, from bytes on.
+/// The printed lines of a run are read as its group lines and readers, from bytes on.
 pub fn printed_run_is_read_back()
     ensures { PrintedRunIsReadBack }
 {}

@@ -1,4 +1,4 @@
-//! A run text is read line by line into what an audit looks at, or refused at its first line that doesn't fit.
+//! Reading of a run text, line by line, into what an audit needs, or up to its first line that doesn't fit.
 ghost use Rattle.std.specs.Prelude.{◌≡◌, IfOk};
 ghost use Rattle.kc_text.specs.Kept.{kept_left};
 ghost use Rattle.kc_audit.specs.Runs.{IsAuditable};
@@ -19,10 +19,11 @@ pub enum AuditFault {
     /// A read of the source failed.
     #[error("a read of the source failed")]
     ReadFault,
-    /// The first line that doesn't fit, and why: `LineLong`, `BadLine`, `BadVertex`, `Truncated` or `InputLimit`.
+    /// The first line that doesn't fit, and the reason: `LineLong`, `BadLine`, `BadVertex`, `Truncated` or
+    /// `InputLimit`.
     #[error("the run text is refused at line {line}")]
     Refused { line: u32, reason: Reason },
-    /// There was no memory for a line, a group or the replies of a reader.
+    /// No memory for a line, a group or the replies of a reader.
     #[error(transparent)]
     Memory(AllocError),
 }
@@ -117,19 +118,26 @@ fn read_vertices<S: Source>(
     }
 }
 
-/// Reads a run text up to the end of the input, as `document_of` of `specs/Documents` says: `kcore-run 1`, `vertices N`, the
-/// lines of the batches with their phases and groups, a line for each reader, one for each vertex, and `end`. Empty lines and
-/// comments are skipped anywhere.
+/// Reads a run text up to the end of the input, as `document_of` of `specs/Documents` defines. Its lines are, in this
+/// order:
 ///
-/// The run has the group lines and the replies; of the other numbers only those are looked at by which batches, phases,
-/// readers and vertices are counted. Whatever the source tells, it can be audited (`IsAuditable` of `specs/Runs`).
+/// - `kcore-run 1` and `vertices N`;
+/// - the lines of the batches with their phases and groups;
+/// - a line for each reader, one for each vertex, and `end`.
 ///
-/// `Refused` tells the first line that doesn't fit and why. `BadVertex` is for a group or a reader line that would fit if it
-/// didn't name a vertex of N or more. `ReadFault` comes only where the source's count of faults rose, and `Memory` where there was
-/// none for a line, a group or the replies of a reader. After each of the three the reader isn't used again, since lines of the text are gone.
+/// Empty lines and comments are skipped anywhere. The run has the group lines and the replies. Of the other numbers
+/// only those are checked that count batches, phases, readers and vertices. Whatever the source has, the run can be
+/// audited (`IsAuditable` of `specs/Runs`).
 ///
-/// Cost: one pass over the bytes, and memory for the longest line, which is used again, beside 16 bytes for a group and 8 for
-/// each member and each reply.
+/// - `Refused` has the first line that doesn't fit, and the reason. `BadVertex` is for a group or a reader line that
+///   would fit if all its vertices were below N.
+/// - `ReadFault` comes only if the source's count of faults rose.
+/// - `Memory`: no memory for a line, a group or the replies of a reader.
+///
+/// After each of the three the reader can't be used again, since lines of the text are gone.
+///
+/// Cost: one pass over the bytes, and memory for the longest line, which is used again. Each group takes 16 bytes, and
+/// each member and each reply 8.
 pub fn read_run<S: Source>(
     alloc: Global,
     reader: &mut LineReader,

@@ -1,14 +1,14 @@
-//! What each reader of a run was told, as a list for each of them.
+//! The replies of each reader of a run, a list for each reader.
 ghost use Rattle.std.specs.Prelude.{◌≡◌, ◌↔◌, [], ◌∷◌, ◌++◌, length, IsTrue, OnOk, OnErr};
 
 use kc_history::Replies;
 use std::alloc::{AllocError, Global};
 use std::marker::Model;
 
-/// The replies of reader 0, of reader 1 and so on. Contracts see them as a list of lists of replies.
+/// The replies of reader 0, of reader 1 and so on. Contracts see a list of lists of replies.
 #[derive(Drop)]
 pub struct Readers {
-    // Those of each reader in the order of its line.
+    // The replies of each reader in the order of its line.
     lists: Vec<Replies>,
 }
 
@@ -22,7 +22,7 @@ impl Model for Readers {
 }
 
 impl Readers {
-    /// No readers. Takes no memory.
+    /// Makes an empty list of readers. Takes no memory.
     pub fn new(alloc: Global) -> Self
         ensures { result ≡ [] }
     {
@@ -31,28 +31,28 @@ impl Readers {
         }
     }
 
-    /// The replies of each reader, as a slice.
+    /// Returns the replies of each reader as a slice.
     pub fn as_slice(&self) -> &[Replies]
         ensures { result.now ≡ self.now }
     {
         self.lists.as_slice()
     }
 
-    /// How many readers there are.
+    /// Returns the number of readers.
     pub fn len(&self) -> usize
         ensures { result ≡ length self.now }
     {
         self.lists.len()
     }
 
-    /// Whether there is no reader.
+    /// Returns whether there is no reader.
     pub fn is_empty(&self) -> bool
         ensures { IsTrue result ↔ (self.now ≡ []) }
     {
         self.lists.is_empty()
     }
 
-    /// Puts the replies of a further reader at the end. After a refusal the list is unchanged.
+    /// Appends the replies of one more reader. Fails only if memory runs out; then the list is unchanged.
     pub fn push(&mut self, replies: Replies) -> Result<(), AllocError>
         ensures ok { OnOk result (self.new ≡ self.old ++ replies ∷ []) }
         ensures err { OnErr result (self.new ≡ self.old) }

@@ -10,16 +10,16 @@ use kc_history::{Replies, Reply};
 pub struct RunText {
     /// The number of vertices.
     pub vertices: u32,
-    /// The group lines of all phases in order. They are the history that the replies are held against.
+    /// The group lines of all phases in order: the history with which the replies are compared.
     pub groups: GroupLines,
     /// The replies of each reader.
     pub readers: Readers,
 }
 
-// The greatest number of readers, and of the replies of each, so that each has a number.
+// The greatest number of readers, and of the replies of each, so that each can be numbered.
 const MAX_ITEMS: usize = 4_294_967_294;
 
-// Whether the vertices of all of these are below n.
+// Returns whether the vertices of these replies are below n.
 pub(crate) fn are_below(n: u32, replies: &[Reply]) -> bool
     ensures test { result ≡ are_below n replies.now }
     ensures fact { IsTrue result ↔ AreBelow n replies.now }
@@ -61,8 +61,10 @@ fn have_few_replies(readers: &[Replies]) -> bool
 }
 
 impl RunText {
-    /// Whether the run can be audited: each vertex of a member or a reply is below `vertices`, and there are at most 4,294,967,294
-    /// readers with as many replies each. So it is of each run text that was read. Cost: one pass over members and replies.
+    /// Returns whether the run can be audited (`IsAuditable`), as each run text that was read can.
+    ///
+    /// Each vertex of a member or a reply is below `vertices`. There are at most 4,294,967,294 readers, with as many
+    /// replies each. Cost: one pass over members and replies.
     pub fn is_auditable(&self) -> bool
         ensures { IsTrue result ↔ IsAuditable self.now }
     {

@@ -19,10 +19,10 @@ use std::alloc::{AllocError, Global};
 // The greatest number of readers.
 const MAX_READERS: u32 = 64;
 
-// The greatest number of replies of a reader, so that each has a number. No line is long enough for as many.
+// The greatest number of replies of a reader, so that each can be numbered. No line is long enough for more.
 const MAX_REPLIES: usize = 4_294_967_294;
 
-/// Which phase lines may still come in a batch.
+/// The phase lines that may still come in a batch.
 #[derive(Clone, Copy, Debug, PartialEq, Eq)]
 pub enum PhasesLeft {
     NoPhase,
@@ -43,25 +43,25 @@ pub struct Place {
     pub left: PhasesLeft,
 }
 
-/// Which lines may come.
+/// The lines that may come.
 #[derive(Clone, Copy, Debug, PartialEq, Eq)]
 pub enum Stage {
-    /// After a batch line, or before the first.
+    /// Lines after a batch line, or before the first.
     Batches(Place),
-    /// After a phase line or one of its group lines; the next label is at least `low`.
+    /// Lines after a phase line or one of its group lines; the next label is at least `low`.
     Groups { place: Place, low: u32 },
-    /// After a reader line.
+    /// Lines after a reader line.
     Readers,
-    /// After a vertex line; the next one is of vertex `next`.
+    /// Lines after a vertex line; the next one is of vertex `next`.
     VertexLines { next: u32 },
-    /// After `end`.
+    /// The lines after `end`.
     Closed,
 }
 
 /// What a line does.
 #[derive(Clone, Copy, Debug, PartialEq, Eq)]
 pub enum Turn {
-    /// It fits, and this may follow.
+    /// It fits, and lines of this stage may follow.
     Go(Stage),
     /// It ends the document.
     End,
@@ -69,7 +69,7 @@ pub enum Turn {
     Stop(Reason),
 }
 
-/// Why a line doesn't fit where one of another kind is due.
+/// Returns why a line doesn't fit if a line of another kind is due.
 pub fn misfit(form: Form) -> Reason
     ensures { (text : List ℕ) → result ≡ misfit (kind_told text form) }
 {
@@ -81,7 +81,7 @@ pub fn misfit(form: Form) -> Reason
     }
 }
 
-/// Whether this is the line `kcore-run 1`, and why not.
+/// Succeeds if this is the line `kcore-run 1`; else returns why it isn't.
 pub fn head_of(form: Form) -> Result<(), Reason>
     ensures { (text : List ℕ) → result ≡ head_of (kind_told text form) }
 {
@@ -91,7 +91,7 @@ pub fn head_of(form: Form) -> Result<(), Reason>
     }
 }
 
-/// The number of vertices, where this is the line `vertices N`, and why it isn't.
+/// Returns the N of the line `vertices N`, or why there is no such N.
 pub fn vertices_of(form: Form) -> Result<u32, Reason>
     ensures { (text : List ℕ) → result ≡ vertices_of (kind_told text form) }
 {
@@ -101,7 +101,7 @@ pub fn vertices_of(form: Form) -> Result<u32, Reason>
     }
 }
 
-// Whether the number is the one after the last.
+// Returns whether `number` is the one after `last`.
 fn is_next(last: u32, number: u32) -> bool
     ensures { result ≡ is_next last number }
 {
@@ -153,7 +153,7 @@ fn phase_turn(place: Place, phase: u32, add: bool) -> Turn
     }
 }
 
-// Whether the vertices ascend strictly, from `low` on.
+// Returns whether the vertices ascend strictly, from `low` on.
 fn rises_from(low: u32, members: &[Reply]) -> bool
     ensures { result ≡ rises_from low members.now }
 {
@@ -167,7 +167,7 @@ fn rises_from(low: u32, members: &[Reply]) -> bool
     true
 }
 
-// Whether these may be the members of a group with this label.
+// Returns whether these may be the members of a group with this label.
 fn is_group(label: u32, members: &[Reply]) -> bool
     ensures { result ≡ is_group label members.now }
 {
@@ -177,7 +177,7 @@ fn is_group(label: u32, members: &[Reply]) -> bool
     }
 }
 
-// Takes the members of a group line of the open phase. `members` is used for them.
+// Takes the members of a group line of the open phase, by way of the list `members`.
 fn members_turn(
     run: &mut RunText,
     place: Place,
@@ -332,8 +332,8 @@ fn closed_turn(run: &RunText, form: Form) -> Turn
     }
 }
 
-/// Takes a line: it may add a group or a reader to the run. `members` is used for the members of a group line. After a refusal the
-/// run isn't used again.
+/// Takes a line, which may add a group or a reader to the run. The members of a group line pass through `members`.
+/// After a refusal the run can't be used again.
 pub fn turn_at(
     alloc: Global,
     run: &mut RunText,

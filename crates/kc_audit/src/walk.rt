@@ -1,9 +1,11 @@
 //! The walk through the history of a run, with all its readers side by side.
 //!
-//! At each point a reader goes on as long as its next reply tells the level that its vertex has there. So each reply gets the
-//! earliest point that it may have, and a reply that gets none has none. A reader whose next reply doesn't fit waits for its
-//! vertex to move: `awaited` is true for each vertex that one waits for, so that a group without such a member costs no
-//! look at the readers.
+//! At each point a reader passes its next replies as long as each has the level of its vertex there. So each reply gets
+//! the earliest point that it may have, and a reply that gets none has none. `told` counts the replies that each reader
+//! has passed.
+//!
+//! A reader whose next reply doesn't fit waits until the vertex of that reply moves. `awaited` is true for each vertex
+//! with a waiting reader. So a group costs no pass over the readers if none of its members is awaited.
 ghost use Rattle.std.specs.Prelude.{◌≡◌, ◌≤◌, length, replicate, All, get_or, false, IfOk};
 ghost use Rattle.kc_history.specs.Points.{with_moves};
 ghost use Rattle.kc_audit.specs.Runs.{AreBelow, moves_of, IsAuditable};
@@ -14,7 +16,8 @@ use crate::{AuditVerdict, RunText};
 use kc_history::{Replies, Reply};
 use std::alloc::{AllocError, Global};
 
-// The first reply at or after `from` that doesn't tell the level that its vertex has now; the number of replies where each does.
+// Returns the first reply at or after `from` that doesn't have the present level of its vertex. Returns the number of
+// replies if there is none.
 fn next_unfit(levels: &[u16], replies: &[Reply], from: usize) -> usize
     requires within { from ≤ length replies.now }
     requires below { AreBelow (length levels.now) replies.now }
@@ -29,7 +32,8 @@ fn next_unfit(levels: &[u16], replies: &[Reply], from: usize) -> usize
     replies.len()
 }
 
-// Each reader goes on over the replies that tell the levels of now. One that does waits no longer for its vertex.
+// Moves each reader on over the replies that have the present levels. The vertex of a reader that moves is no longer
+// awaited.
 fn go_on(levels: &[u16], awaited: &mut [bool], readers: &[Replies], told: &mut [usize])
     requires below { All (AreBelow (length levels.now)) readers.now }
     requires sized { length awaited.old ≡ length levels.now }
@@ -47,7 +51,7 @@ fn go_on(levels: &[u16], awaited: &mut [bool], readers: &[Replies], told: &mut [
     }
 }
 
-// Each reader with a reply left waits for its vertex. Whether there is such a reader.
+// Marks the next vertex of each reader with a reply left as awaited. Returns whether there is such a reader.
 fn wait(awaited: &mut [bool], readers: &[Replies], told: &[usize]) -> bool
     requires below { All (AreBelow (length awaited.old)) readers.now }
     requires within { AreWithin readers.now told.now }
@@ -66,7 +70,7 @@ fn wait(awaited: &mut [bool], readers: &[Replies], told: &[usize]) -> bool
     waits
 }
 
-// Puts each member on its level. Whether a reader waits for one of them.
+// Puts each member on its level. Returns whether one of them is awaited.
 fn show(levels: &mut [u16], awaited: &[bool], members: &[Reply]) -> bool
     requires below { AreBelow (length levels.old) members.now }
     requires sized { length awaited.now ≡ length levels.old }
@@ -82,7 +86,7 @@ fn show(levels: &mut [u16], awaited: &[bool], members: &[Reply]) -> bool
     met
 }
 
-// The verdict where each reader has told the number of its replies in `told`, and can tell no more.
+// Returns the verdict if each reader has passed the number of its replies in `told`, and can pass no more.
 fn verdict_of(readers: &[Replies], told: &[usize]) -> AuditVerdict
     requires within { AreWithin readers.now told.now }
     requires few { length readers.now ≤ 4294967294 }
@@ -100,7 +104,8 @@ fn verdict_of(readers: &[Replies], told: &[usize]) -> AuditVerdict
     AuditVerdict::Explained
 }
 
-// Each reader tells what it can at the levels of now, and then waits for the vertex of its next reply. Whether one waits.
+// Moves each reader on at the present levels, and then marks the vertex of its next reply as awaited. Returns whether a
+// reader waits.
 fn tell(levels: &[u16], awaited: &mut [bool], readers: &[Replies], told: &mut [usize]) -> bool
     requires below { All (AreBelow (length levels.now)) readers.now }
     requires sized { length awaited.old ≡ length levels.now }
@@ -113,7 +118,7 @@ fn tell(levels: &[u16], awaited: &mut [bool], readers: &[Replies], told: &mut [u
     wait(awaited, readers, told)
 }
 
-// The walk, from levels that are 0 and readers that have told nothing.
+// Walks through the history, from levels that are 0 and readers that have passed nothing.
 fn walk(run: &RunText, levels: &mut [u16], awaited: &mut [bool], told: &mut [usize]) -> AuditVerdict
     requires run { IsAuditable run.now }
     requires levels { levels.old ≡ replicate run.now.vertices 0 }
@@ -133,10 +138,13 @@ fn walk(run: &RunText, levels: &mut [u16], awaited: &mut [bool], told: &mut [usi
     verdict_of(readers, told)
 }
 
-/// Whether the group lines of a run explain the replies of each of its readers, as `IsVerdict` of `specs/Verdicts` says.
+/// Returns whether the group lines of a run explain the replies of each of its readers, as `IsVerdict` of
+/// `specs/Verdicts` defines.
 ///
-/// `AllocError` comes where there was no memory for 3 bytes a vertex and 8 a reader. Cost: one pass over the group lines and one
-/// over the replies, and a look at each reader for each group that moves a vertex for which one waits.
+/// Fails with `AllocError` only if there is no memory for 3 bytes a vertex and 8 a reader. Cost:
+///
+/// - one pass over the group lines and one over the replies;
+/// - a test of each reader for each group with a member for which a reader waits.
 pub fn audit(alloc: Global, run: &RunText) -> Result<AuditVerdict, AllocError>
     requires { IsAuditable run.now }
     ensures { IfOk result (IsVerdict run.now) }

@@ -9,7 +9,7 @@ use kc_history::Reply;
 use kc_text::{is_named, next_number, next_word, read_number};
 use std::alloc::AllocError;
 
-/// Whether there is no word at or after `from`.
+/// Returns whether there is no word at or after `from`.
 pub fn is_at_end(text: &[u8], from: usize) -> bool
     requires { from ≤ length text.now }
     ensures { result ≡ is_nothing (words (drop from text.now)) }
@@ -17,7 +17,7 @@ pub fn is_at_end(text: &[u8], from: usize) -> bool
     next_word(text, from).is_none()
 }
 
-/// The number that the first word at or after `from` says, and where that word ends.
+/// Returns the number of the first word at or after `from`, and where that word ends.
 #[tactic(auto, using(crate::proofs::WordLemmas::number_steps))]
 pub fn number_at(text: &[u8], from: usize) -> Option<(u32, usize)>
     requires { from ≤ length text.now }
@@ -27,7 +27,7 @@ pub fn number_at(text: &[u8], from: usize) -> Option<(u32, usize)>
     next_number(text, from)
 }
 
-/// Whether the words at or after `from` are these names, with a number after each.
+/// Returns whether the words at or after `from` are these names, with a number after each.
 pub fn has_fields(text: &[u8], from: usize, names: &[u8]) -> bool
     requires { from ≤ length text.now }
     ensures { result ≡ has_fields (words names.now) (words (drop from text.now)) }
@@ -68,7 +68,7 @@ fn reply_with(vertex: Option<u32>, level: Option<u16>) -> Option<Reply>
     }
 }
 
-// Where the first mark of a word is.
+// Returns the place of the first mark in a word.
 fn mark_of(word: &[u8], mark: u8) -> Option<usize>
     ensures place { result ≡ position (λ b. b == mark) word.now }
     ensures within { IfSome result (λ at. at < length word.now) }
@@ -76,7 +76,7 @@ fn mark_of(word: &[u8], mark: u8) -> Option<usize>
     word.iter().position(|b| *b == mark)
 }
 
-// The vertex and the level that a word says, with this mark between them.
+// Returns the vertex and the level of a word, which has this mark between them.
 fn pair_of(word: &[u8], mark: u8) -> Option<Reply>
     ensures { result ≡ pair_of mark word.now }
 {
@@ -89,8 +89,8 @@ fn pair_of(word: &[u8], mark: u8) -> Option<Reply>
     }
 }
 
-/// Reads the pairs that the words at or after `from` say into `pairs`, in place of what was there. Whether each word says one;
-/// if not, `pairs` holds some of them.
+/// Reads the pairs of the words at or after `from` into `pairs`, in place of its content. Returns whether each word is
+/// a pair. If not, `pairs` holds some of them.
 pub fn read_pairs(
     text: &[u8],
     from: usize,

@@ -1,4 +1,4 @@
--- What the levels of a graph say of coreness, each the contract of a function of `laws`.
+-- What the levels of a graph say of coreness; each law is the contract of a function in `laws`.
 use Rattle.std.specs.Prelude.{ℕ, ◌*◌, ◌≤◌, ◌<◌, ◌≡◌, Bool, List, [], get_or, take, replicate}
 use Rattle.kc_graph.specs.Numbers.{has_number}
 use Rattle.kc_graph.specs.Shape.{GraphShape, IsGraph}
@@ -25,20 +25,21 @@ EachHasCoreness = (g : GraphShape) (v : ℕ) → IsGraph g → v < g.vertices �
 abbrev pub CorenessIsOne : Type 0
 CorenessIsOne = (g : GraphShape) (v a b : ℕ) → IsCoreness g v a → IsCoreness g v b → a ≡ b
 
--- where each vertex meets the upper invariant, no coreness is above the high of the group of its vertex's level
+-- if each vertex meets the upper invariant, no coreness is above the high of the band of its vertex's level
 abbrev pub HighBoundsCoreness : Type 0
 HighBoundsCoreness =
     (p : Profile) (g : GraphShape) (x : List ℕ) → ((u : ℕ) → u < g.vertices → MeetsUpper p g x u) →
     (v c : ℕ) → IsCoreness g v c → c ≤ high p (group_of p g.vertices (get_or x v 0))
 
--- where each vertex meets the lower invariant, no coreness is below the lo of the group of its vertex's level
+-- if each vertex meets the lower invariant, no coreness is below the lo of the band of its vertex's level
 abbrev pub LoBoundsCoreness : Type 0
 LoBoundsCoreness =
     (p : Profile) (g : GraphShape) (x : List ℕ) → IsGraph g → ((u : ℕ) → u < g.vertices → MeetsLower p g x u) →
     (v c : ℕ) → IsCoreness g v c → lo p (group_of p g.vertices (get_or x v 0)) ≤ c
 
--- where both invariants hold, the estimate is at most twice the coreness, and the coreness at most three times the estimate,
--- in the second profile at most twice the estimate
+-- if both invariants hold, the estimate is near: at most twice the coreness, and at least a third of it
+--
+-- in the second profile at least half of it
 pub record EstimateIsNearCoreness : Type 0 where
   pub estimate : (p : Profile) (g : GraphShape) (x : List ℕ) → IsGraph g → MeetsBoth p g x →
       (v c : ℕ) → IsCoreness g v c → est p (group_of p g.vertices (get_or x v 0)) ≤ 2 * c
@@ -51,8 +52,9 @@ pub record EstimateIsNearCoreness : Type 0 where
 abbrev pub BothAreNear : Type 0
 BothAreNear = (p : Profile) (g : GraphShape) (x : List ℕ) → IsGraph g → MeetsBoth p g x → IsNear p g x
 
--- at each point of phases they are: from where both invariants hold, and so at each point of a history, which starts without
--- edges and on level 0. A point past the end is the end
+-- levels are near at each point of phases that begin where both invariants hold, and so at each point of a history
+--
+-- A history starts without edges and with all levels 0. A point past the end is the end.
 pub record EachPointIsNear : Type 0 where
   pub later : (p : Profile) (g h : GraphShape) (x y : List ℕ) (plans : List PhasePlan) (k : ℕ) → IsGraph g → MeetsBoth p g x → LeadOn p g x plans h y →
       IsNear p (graph_after g (take k (entries_in plans))) (levels_after x (take k (entries_in plans)))

@@ -7,13 +7,14 @@ use Rattle.kc_levels.specs.Thresholds.{high, lo, est, group_of}
 use Rattle.kc_levels.specs.LevelList.{MeetsBoth}
 use Rattle.kc_bound.specs.Cores.{IsCoreness}
 
--- the group of the level of v
+-- the band of the level of v
 abbrev pub group_at : Profile → GraphShape → List ℕ → ℕ → ℕ
 group_at p g x v = group_of p g.vertices (get_or x v 0)
 
--- the levels x meet both invariants in the graph g, and so the coreness of each vertex lies between the bounds that its level
--- stands for, the estimate is at most twice the coreness, and the coreness at most three times the estimate, in the second
--- profile at most twice
+-- the levels x meet both invariants in the graph g, so each coreness lies between the bounds of its vertex's level
+--
+-- The estimate is at most twice the coreness. The coreness is at most three times the estimate, in the second profile
+-- twice.
 pub record IsNear (p : Profile) (g : GraphShape) (x : List ℕ) : Type 0 where
   pub graph : IsGraph g
   pub both : MeetsBoth p g x

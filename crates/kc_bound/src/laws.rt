@@ -1,38 +1,37 @@
-//! What coreness comes to, and how the invariants of levels bound it. The functions do nothing: each has a law as its contract.
+//! What holds of coreness, and how the invariants of levels bound it. Each function does nothing: its contract is the
+//! law.
 
 ghost use Rattle.kc_bound.specs.Laws.{CoresAreLists, EachHasCoreness, CorenessIsOne, HighBoundsCoreness, LoBoundsCoreness, EstimateIsNearCoreness, BothAreNear, EachPointIsNear};
 
-/// Each core is the members of a list of vertices, so it is the same to speak of sets and of lists.
+/// Each core is the members of a list of vertices, so sets and lists give the same cores.
 pub fn cores_are_lists()
     ensures { CoresAreLists }
 {}
 
-/// Each vertex of a graph has a coreness, and no two.
+/// Each vertex of a graph has exactly one coreness.
 pub fn coreness_is_one()
     ensures some { EachHasCoreness }
     ensures one { CorenessIsOne }
 {}
 
-/// Where the upper invariant holds at each vertex, no coreness is above the upper bound that its vertex's level stands
-/// for.
+/// If the upper invariant holds at each vertex, no coreness is above the upper bound of its vertex's level.
 pub fn high_bounds_coreness()
     ensures { HighBoundsCoreness }
 {}
 
-/// Where the lower invariant holds at each vertex, no coreness is below the lower bound that its vertex's level stands
-/// for.
+/// If the lower invariant holds at each vertex, no coreness is below the lower bound of its vertex's level.
 pub fn lo_bounds_coreness()
     ensures { LoBoundsCoreness }
 {}
 
-/// Where both invariants hold at each vertex, the estimate that its level stands for is at most twice its coreness, and
-/// its coreness is at most three times the estimate, in the second profile at most twice the estimate.
+/// If both invariants hold at each vertex, the estimate of its level is at most twice its coreness. The coreness is at
+/// most three times the estimate, in the second profile twice.
 pub fn estimate_is_near_coreness()
     ensures { EstimateIsNearCoreness }
 {}
 
-/// At each point of a history of phases both invariants hold, so the coreness of each vertex lies between the bounds that its
-/// level stands for, and its estimate is near. They hold wherever both invariants do.
+/// Both invariants hold at each point of a history of phases. So the coreness of each vertex lies between the bounds of
+/// its level, and its estimate is near, there and wherever both invariants hold.
 pub fn each_point_is_near()
     ensures both { BothAreNear }
     ensures point { EachPointIsNear }

@@ -1,5 +1,6 @@
--- A certificate as it is read, line after line, and the first line that doesn't fit. All lines are lines that aren't skipped; `Limit` or
--- `InputEnd` is the last of them, so there is always one.
+-- A certificate as it is read, line after line, and the first line that doesn't fit.
+--
+-- All lines here are lines that aren't skipped. The last of them is `Limit` or `InputEnd`, so there is always one.
 use Rattle.std.specs.Prelude.{ℕ, zero, suc, ◌==◌, nat_le, nat_lt, Bool, ◌&&◌, ◌||◌, List, [], ◌∷◌, ◌++◌, length, Result, Ok, Err, if◌then◌else◌}
 use Rattle.kc_graph.specs.declared.limits.TheConstants.{MAX_VERTICES, MAX_EDGES}
 use Rattle.kc_graph.specs.Shape.{Pair}
@@ -12,7 +13,7 @@ use Rattle.kc_cert.specs.declared.token.Token.{Token}
 use Rattle.kc_cert.specs.declared.token.Kind.{Kind}
 use Rattle.kc_cert.specs.declared.token.Kind.TheVariants as kind
 
--- what lines say: a certificate, or the first line that doesn't fit and why
+-- what lines are: a certificate, or the first line that doesn't fit with its reason
 pub data Document : Type 0 where
   Accepted : (cert : Certificate) → Document
   Refused : (line : ℕ) (reason : Reason) → Document
@@ -23,7 +24,9 @@ pub data Stage : Type 0 where
   AtProfile : Stage
   AtVertices : (p : Profile) → Stage
   AtEdgeCount : (p : Profile) (n : ℕ) → Stage
-  -- `edges` edges, the next not before (a, b), then `levels` levels, and then `end`; `cert` has the edges and levels that were read
+  -- `edges` edges, the next not before (a, b), then `levels` levels, and then `end`
+  --
+  -- `cert` has the edges and levels that were read.
   AtBody : (cert : Certificate) (edges a b levels : ℕ) → Stage
   -- the end of the input
   AtInputEnd : (cert : Certificate) → Stage
@@ -42,29 +45,29 @@ with_last_edge cert e = record { profile = cert.profile; graph = record { vertic
 abbrev pub with_last_level : Certificate → ℕ → Certificate
 with_last_level cert l = record { profile = cert.profile; graph = cert.graph; levels = cert.levels ++ l ∷ [] }
 
--- why a line doesn't fit where one of another kind is due
+-- why a line doesn't fit if a line of another kind is due
 abbrev pub misfit : Kind → Reason
 misfit kind.TooLong = LineLong
 misfit kind.Limit = InputLimit
 misfit kind.InputEnd = Truncated
 misfit _ = BadLine
 
--- what a line of this kind tells where the first line is due, or why it doesn't fit
+-- the value of a line of this kind if the first line is due, or why it doesn't fit
 abbrev pub magic_of : Kind → Result (Unit {0}) Reason
 magic_of kind.Magic = Ok tt
 magic_of k = Err (misfit k)
 
--- where a profile is due
+-- the same if a profile is due
 abbrev pub profile_of : Kind → Result Profile Reason
 profile_of (kind.Profile p) = Ok p
 profile_of k = Err (misfit k)
 
--- where the number of vertices is due
+-- the same if the number of vertices is due
 abbrev pub vertices_of : Kind → Result ℕ Reason
 vertices_of (kind.Vertices n) = if nat_le 1 n && nat_le n MAX_VERTICES then Ok n else Err BadLine
 vertices_of k = Err (misfit k)
 
--- where the number of edges is due
+-- the same if the number of edges is due
 abbrev pub edge_count_of : Kind → Result ℕ Reason
 edge_count_of (kind.EdgeCount m) = if nat_le m MAX_EDGES then Ok m else Err BadLine
 edge_count_of k = Err (misfit k)
@@ -73,22 +76,22 @@ edge_count_of k = Err (misfit k)
 abbrev pub is_next_edge : ℕ → ℕ → ℕ → ℕ → Bool
 is_next_edge a b x y = nat_lt x y && (nat_lt a x || ((a == x) && nat_le b y))
 
--- where an edge between vertices below n is due, not before (a, b)
+-- the same if an edge between vertices below n is due, not before (a, b)
 abbrev pub edge_of : ℕ → ℕ → ℕ → Kind → Result Pair Reason
 edge_of n a b (kind.Edge x y) = if nat_lt x n && nat_lt y n then (if is_next_edge a b x y then Ok (x, y) else Err BadLine) else Err BadVertex
 edge_of n a b k = Err (misfit k)
 
--- where the level of vertex `next` below n is due, at most `top`
+-- the same if the level of vertex `next` below n is due, at most `top`
 abbrev pub level_of : ℕ → ℕ → ℕ → Kind → Result ℕ Reason
 level_of n top next (kind.Level v l) = if nat_lt v n then (if (v == next) && nat_le l top then Ok l else Err BadLine) else Err BadVertex
 level_of n top next k = Err (misfit k)
 
--- where `end` is due
+-- the same if `end` is due
 abbrev pub close_of : Kind → Result (Unit {0}) Reason
 close_of kind.Close = Ok tt
 close_of k = Err (misfit k)
 
--- where the input is to end
+-- the same if the input has to end
 abbrev pub input_end_of : Kind → Result (Unit {0}) Reason
 input_end_of kind.InputEnd = Ok tt
 input_end_of k = Err (misfit k)
@@ -98,7 +101,7 @@ abbrev pub onward : {T : Type 0} → (T → Stage) → Result T Reason → Resul
 onward next (Ok x) = Ok (next x)
 onward next (Err reason) = Err reason
 
--- the stage after a line of this kind, or why it doesn't fit
+-- the stage after a line of this kind, or why the line doesn't fit
 abbrev pub stage_after : Stage → Kind → Result Stage Reason
 stage_after AtMagic k = onward (λ u. AtProfile) (magic_of k)
 stage_after AtProfile k = onward (λ p. AtVertices p) (profile_of k)
@@ -115,16 +118,16 @@ abbrev pub act : ℕ → Result Stage Reason → (Stage → Document) → Docume
 act number (Ok stage) next = next stage
 act number (Err reason) next = Refused number reason
 
--- what there is where no line is left
+-- the result if no line is left
 abbrev pub last_of : Stage → Document
 last_of (Done cert) = Accepted cert
 last_of _ = Refused 0 Truncated
 
--- what lines say where these are due
+-- the result of lines from a stage on
 unfoldable pub read_from : Stage → List Token → Document
 read_from stage [] = last_of stage
 read_from stage (t ∷ rest) = act t.number (stage_after stage t.kind) (λ next. read_from next rest)
 
--- what lines say as a certificate
+-- the result of lines as a certificate
 abbrev pub document_of : List Token → Document
 document_of ts = read_from AtMagic ts

@@ -1,4 +1,4 @@
--- What the definitions of certificates come to: what is written is read back, and examples.
+-- Laws of certificates, and examples: what is written is read back.
 use Rattle.std.specs.Prelude.{ℕ, ◌+◌, ◌≡◌, ◌≤◌, true, List, [], ◌∷◌, ◌++◌, length, codes}
 use Rattle.std.specs.List.{list_all}
 use Rattle.kc_levels.specs.declared.profile.Profile.TheVariants.{Two}
@@ -15,11 +15,11 @@ use Rattle.kc_cert.specs.Verdicts.{IsVerdict}
 use Rattle.kc_cert.specs.declared.verdict.Verdict.{Verdict}
 use Rattle.kc_cert.specs.declared.verdict.Verdict.TheVariants.{Certified}
 
--- what bytes say as a certificate: at most `limit` bytes a line, of the first `room` bytes
+-- the result of bytes as a certificate: at most `limit` bytes a line, of the first `room` bytes
 abbrev pub document_in : ℕ → ℕ → List ℕ → Document
 document_in limit room bytes = document_of (tokens (lines limit room bytes))
 
--- a certificate is read back from its text, whatever lines that are skipped stand ahead of it; its own lines have less than 32 bytes
+-- a certificate is read back from its text, after any skipped lines; its own lines have fewer than 32 bytes
 abbrev pub CertificateIsReadBack : Type 0
 CertificateIsReadBack =
     (cert : Certificate) (limit room : ℕ) (notes : List (List (List ℕ))) → IsCertificate cert → 32 ≤ limit → list_all (is_line limit) notes ≡ true → list_all is_skip notes ≡ true
@@ -37,7 +37,7 @@ VerdictIsOne = (cert : Certificate) (first second : Verdict) → IsCertificate c
 abbrev pub VerdictIsCertified : Type 0
 VerdictIsCertified = (cert : Certificate) (verdict : Verdict) → MeetsBoth cert.profile cert.graph cert.levels → IsVerdict cert verdict → verdict ≡ Certified
 
--- what a text says under the limits of the program
+-- the result of a text under the limits of the program
 abbrev pub said : List ℕ → Document
 said text = document_in 65536 1073741824 text
 
@@ -45,7 +45,7 @@ said text = document_in 65536 1073741824 text
 abbrev pub one_edge : Certificate
 one_edge = record { profile = Two; graph = record { vertices = 2; edges = (0, 1) ∷ [] }; levels = 1 ∷ 1 ∷ [] }
 
--- a certificate, and each reason for which one is refused
+-- a certificate, and an example of each reason for a refusal
 pub record ReadsCertificates : Type 0 where
   pub whole : said (codes "kcore-cert 1\nprofile 2\nvertices 2\nedges 1\nedge 0 1\nlevel 0 1\nlevel 1 1\nend\n") ≡ Accepted one_edge
   pub skipped : said (codes "# a comment\r\n\r\nkcore-cert\t1\r\nprofile  2\r\nvertices 02\r\nedges 1\r\n# more\r\nedge 0 01\r\nlevel 0 1\r\nlevel 1 1\r\nend") ≡ Accepted one_edge

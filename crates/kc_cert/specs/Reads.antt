@@ -8,19 +8,19 @@ use Rattle.kc_cert.specs.declared.read.CertFault.{CertFault}
 use Rattle.kc_cert.specs.declared.read.CertFault.TheVariants as fault
 use Rattle.kc_cert.specs.Documents.{Document, Accepted, Refused}
 
--- the fault of a line that wasn't given
+-- the fault for a line that the reader didn't give
 abbrev pub fault_of : LineFault → CertFault
 fault_of line.ReadFault = fault.ReadFault
 fault_of (line.Memory e) = fault.Memory e
 
--- what lines say, by an answer that isn't a fault of the source or of the memory
+-- what lines are, by an answer that is no fault of the source or of the memory
 abbrev pub IsAnswer : Result Certificate CertFault → Document → Type 0
 IsAnswer (Ok cert) said = said ≡ Accepted cert
 IsAnswer (Err (fault.Refused line reason)) said = said ≡ Refused line reason
 IsAnswer (Err fault.ReadFault) said = Unit {0}
 IsAnswer (Err (fault.Memory _)) said = Unit {0}
 
--- a read fault comes only where the count rose, and else the count stays
+-- a read fault comes only if the count rose, and else the count stays
 abbrev pub CertCause : {T : Type 0} → ℕ → ℕ → Result T CertFault → Type 0
 CertCause before now (Err fault.ReadFault) = Rose before now
 CertCause before now (Err (fault.Refused _ _)) = now ≡ before

@@ -13,7 +13,7 @@ abbrev pub profile_word : Profile → List ℕ
 profile_word One = codes "1"
 profile_word Two = codes "2"
 
--- the lines ahead of the edges
+-- the lines before the edges
 abbrev pub head_lines : Profile → GraphShape → List (List (List ℕ))
 head_lines p g =
     (codes "kcore-cert" ∷ codes "1" ∷ []) ∷ (codes "profile" ∷ profile_word p ∷ [])

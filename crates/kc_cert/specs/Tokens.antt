@@ -1,4 +1,4 @@
--- What the lines of a certificate say that aren't skipped, each by itself.
+-- The tokens of a certificate: what each line that isn't skipped says by itself.
 use Rattle.std.specs.Prelude.{ℕ, Bool, true, false, ◌&&◌, List, [], ◌∷◌, Option, Some, None, if◌then◌else◌, codes}
 use Rattle.std.specs.Str.{bytes_eq}
 use Rattle.std.specs.Option.{option_map}
@@ -74,7 +74,7 @@ abbrev pub profile_kind : Option Profile → Kind
 profile_kind (Some p) = kind.Profile p
 profile_kind None = kind.Other
 
--- what a line of these words says
+-- the token of a line of these words
 unfoldable pub kind_of_words : List (List ℕ) → Kind
 kind_of_words [] = kind.Other
 kind_of_words (name ∷ ws) =
@@ -87,27 +87,27 @@ kind_of_words (name ∷ ws) =
     else if bytes_eq name (codes "end") && is_nothing ws then kind.Close
     else kind.Other
 
--- what a text says, unless it is skipped
+-- the token of a text, unless it is skipped
 unfoldable pub kind_of_text : List ℕ → Option Kind
 kind_of_text text = if is_skip (words text) then None else Some (kind_of_words (words text))
 
--- what a line says, unless it is skipped
+-- the token of a line, unless it is skipped
 abbrev pub kind_of : Body → Option Kind
 kind_of (body.Text text) = kind_of_text text
 kind_of body.TooLong = Some kind.TooLong
 kind_of body.Limit = Some kind.Limit
 kind_of body.End = Some kind.InputEnd
 
--- a line in front of others, unless it is skipped
+-- the token of a line before others, unless it is skipped
 abbrev pub token_before : ℕ → Option Kind → List Token → List Token
 token_before number None rest = rest
 token_before number (Some k) rest = record { number = number; kind = k } ∷ rest
 
--- what each of the lines says that isn't skipped
+-- the tokens of the lines that aren't skipped
 unfoldable pub tokens : List Line → List Token
 tokens [] = []
 tokens (line ∷ rest) = token_before line.number (kind_of line.body) (tokens rest)
 
--- the same of the lines that a reader has still to give, where its source tells what it has left
+-- the tokens of the lines that a reader has still to give, if its source tells what it has left
 abbrev pub tokens_left : Reading → Option (List ℕ) → Option (List Token)
 tokens_left r left = option_map tokens (lines_left r left)

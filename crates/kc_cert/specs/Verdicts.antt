@@ -1,4 +1,4 @@
--- What a verdict says of a certificate.
+-- The verdict of a certificate.
 use Rattle.std.specs.Prelude.{ℕ, ◌<◌}
 use Rattle.kc_levels.specs.LevelList.{MeetsUpper, MeetsLower}
 use Rattle.kc_cert.specs.declared.certificate.Certificate.{Certificate}
@@ -25,7 +25,7 @@ pub record IsFirstBreach (cert : Certificate) (v : ℕ) (Meets : ℕ → Type 0)
   pub upper_before : (w : ℕ) → w < v → HasUpper cert w
   pub lower_before : (w : ℕ) → w < v → HasLower cert w
 
--- what the verdict says
+-- the meaning of a verdict
 abbrev pub IsVerdict : Certificate → Verdict → Type 0
 IsVerdict cert Certified = MeetThroughout cert
 IsVerdict cert (Upper v) = IsFirstBreach cert v (HasUpper cert)

@@ -5,10 +5,11 @@ ghost use Rattle.kc_graph.specs.Shape.{EdgesFrom};
 use kc_graph::{Edge, Graph, MAX_EDGES};
 use std::alloc::{AllocError, Global};
 
-// The most edges that wait: 2^20.
+// The most edges that wait.
 const TOGETHER: usize = 1_048_576;
 
-/// Puts the edges that wait, which follow those of the graph, into it. Cost: that of `Graph::insert_all`.
+/// Puts the waiting edges, which follow those of the graph, into it. Costs what `Graph::insert_all` costs. Fails only
+/// if memory runs out.
 pub fn let_in(alloc: Global, graph: &mut Graph, waiting: &mut Vec<Edge>) -> Result<(), AllocError>
     requires ascending { EdgesFrom graph.old.vertices 0 0 (graph.old.edges ++ waiting.old.items) }
     requires few { length (graph.old.edges ++ waiting.old.items) ≤ MAX_EDGES }
@@ -21,7 +22,8 @@ pub fn let_in(alloc: Global, graph: &mut Graph, waiting: &mut Vec<Edge>) -> Resu
     Ok(())
 }
 
-/// Puts an edge that follows all others after those that wait. Where 1,048,576 wait, they come into the graph first.
+/// Appends an edge, which follows all others, to the waiting ones. If 1,048,576 wait, puts them into the graph first.
+/// Fails only if memory runs out.
 #[inline(always)]
 pub fn add_edge(
     alloc: Global,

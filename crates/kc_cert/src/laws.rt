@@ -1,19 +1,19 @@
-//! What the definitions of certificates and verdicts come to. Each function does nothing; its contract is a law.
+//! What holds of certificates and verdicts. Each function does nothing: its contract is the law.
 ghost use Rattle.kc_cert.specs.Laws.{CertificateIsReadBack, HasVerdict, VerdictIsOne, VerdictIsCertified, ReadsCertificates};
 
 use kc_levels::laws::thresholds_fit;
 
-/// A certificate within the limits is read back from its text as itself, whatever lines that are skipped stand ahead of it.
+/// A certificate within the limits is read back from its text as itself, after any skipped lines.
 pub fn certificate_is_read_back()
     ensures { CertificateIsReadBack }
 {}
 
-/// A certificate, and each reason for which one is refused.
+/// A certificate, and an example of each reason for a refusal.
 pub fn certificates_read()
     ensures { ReadsCertificates }
 {}
 
-/// Each certificate has a verdict, those within the limits exactly one. Where both invariants hold it is `Certified`.
+/// Each certificate has a verdict, and those within the limits exactly one. It is `Certified` if both invariants hold.
 pub fn certificate_has_verdict()
     ensures some { HasVerdict }
     ensures one { VerdictIsOne }

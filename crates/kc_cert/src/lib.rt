@@ -1,9 +1,11 @@
 //! Certificates: a graph with its levels as a text that anyone can check without its history.
 //!
-//! [`write_certificate`] writes one, [`read_certificate`] reads one back or tells the first line that doesn't fit, and
-//! [`verify`] says whether its levels meet both invariants, so that they bound the coreness of each vertex, whoever wrote
-//! the text. `specs/` has the definitions: read `Texts` for what is written, `Tokens` and then `Documents` for what is
-//! read, and `Verdicts`.
+//! [`write_certificate`] writes one. [`read_certificate`] reads one back, or returns the first line that doesn't fit.
+//! [`verify`] decides whether its levels meet both invariants: if so, they bound the coreness of each vertex, whatever
+//! program wrote the text. `specs/` has the definitions. Read `Texts` for what is written, `Tokens` and then
+//! `Documents` for what is read, and `Verdicts`.
+//!
+//! Floor: documents. From above: the three calls by programs, and [`laws`] in proofs.
 #![tactic(auto)]
 
 mod certificate;

@@ -1,4 +1,4 @@
-//! A certificate is read line by line into a graph and its levels, or refused at its first line that doesn't fit.
+//! Reads a certificate line by line into a graph and its levels, or refuses it at its first line that doesn't fit.
 ghost use Rattle.std.specs.Prelude.{◌≡◌, ℕ, ◌≤◌, [], length, IfOk, IfSome};
 ghost use Rattle.kc_cert.specs.Tokens.{tokens_left};
 ghost use Rattle.kc_cert.specs.Documents.{AtProfile, AtVertices, AtEdgeCount, AtBody, AtInputEnd, empty_certificate, document_of};
@@ -24,10 +24,11 @@ pub enum CertFault {
     /// A read of the source failed.
     #[error("a read of the source failed")]
     ReadFault,
-    /// The first line that doesn't fit, and why: `LineLong`, `BadLine`, `BadVertex`, `Truncated` or `InputLimit`.
+    /// The first line that doesn't fit, with its reason: `LineLong`, `BadLine`, `BadVertex`, `Truncated` or
+    /// `InputLimit`.
     #[error("the certificate is refused at line {line}")]
     Refused { line: u32, reason: Reason },
-    /// There was no memory for a line, the graph or the levels.
+    /// No memory for a line, the graph or the levels.
     #[error(transparent)]
     Memory(AllocError),
 }
@@ -77,7 +78,7 @@ fn read_input_end<S: Source>(
     }
 }
 
-// Reads `end` and what follows it.
+// Reads `end` and the lines after it.
 fn read_end<S: Source>(
     alloc: Global,
     reader: &mut LineReader,
@@ -99,7 +100,7 @@ fn read_end<S: Source>(
     }
 }
 
-// Reads the levels and what follows them.
+// Reads the levels and the lines after them.
 fn read_levels<S: Source>(
     alloc: Global,
     reader: &mut LineReader,
@@ -133,7 +134,7 @@ fn read_levels<S: Source>(
     read_end(alloc, reader, src, cert)
 }
 
-// Reads the edges and what follows them.
+// Reads the edges and the lines after them.
 fn read_edges<S: Source>(
     alloc: Global,
     reader: &mut LineReader,
@@ -171,7 +172,7 @@ fn read_edges<S: Source>(
     read_levels(alloc, reader, src, profile, graph)
 }
 
-// Reads the number of edges and what follows it.
+// Reads the number of edges and the lines after it.
 fn read_edge_count<S: Source>(
     alloc: Global,
     reader: &mut LineReader,
@@ -195,7 +196,7 @@ fn read_edge_count<S: Source>(
     }
 }
 
-// Reads the number of vertices and what follows it.
+// Reads the number of vertices and the lines after it.
 fn read_vertices<S: Source>(
     alloc: Global,
     reader: &mut LineReader,
@@ -216,7 +217,7 @@ fn read_vertices<S: Source>(
     }
 }
 
-// Reads the profile and what follows it.
+// Reads the profile and the lines after it.
 fn read_profile<S: Source>(
     alloc: Global,
     reader: &mut LineReader,
@@ -236,21 +237,24 @@ fn read_profile<S: Source>(
     }
 }
 
-/// Reads a certificate up to the end of the input, as `document_of` of `specs/Documents` says: `kcore-cert 1`, the
-/// profile, the numbers of vertices and of edges, the edges in ascending order, a level for each vertex in order, and `end`.
-/// Empty lines and comments are skipped anywhere.
+/// Reads a certificate up to the end of the input (`document_of` of `specs/Documents`).
 ///
-/// The certificate keeps its limits, whatever the source tells (`IsCertificate` of `specs/Texts`): 1 to `MAX_VERTICES`
-/// vertices, at most `MAX_EDGES` edges, one level for each vertex, none above the top of the profile, so `verify` may be asked.
+/// The lines are `kcore-cert 1`, the profile, the two counts, the edges in ascending order, a level for each vertex in
+/// order, and `end`. The counts are those of vertices and of edges. Empty lines and comments are skipped anywhere.
 ///
-/// `Refused` tells the first line that doesn't fit and why. `BadVertex` is for an `edge` or `level` line in its place, with
-/// two numbers, that names a vertex of n or more; an `edge` line where a level is due is `BadLine`. `ReadFault` comes only
-/// where the source's count of faults rose, and `Memory` where there was none for a line, the graph or the levels. After
-/// each of the three the reader isn't used again, since lines of the certificate are gone.
+/// The certificate is within its limits, whatever the source tells (`IsCertificate` of `specs/Texts`), so `verify` may
+/// be called. It has 1 to `MAX_VERTICES` vertices, at most `MAX_EDGES` edges, and one level for each vertex, none above
+/// the top of the profile.
 ///
-/// Cost: one pass over the lines, and the work of `Graph::insert_all` for each 1,048,576 edges. Beside the graph and the
-/// levels, whose memory is taken once their number of vertices was read, there is the memory of one line and of 1,048,576
-/// edges.
+/// Fails with one of three faults. After each the reader isn't used again, since lines of the certificate are gone.
+///
+/// - `Refused`: the first line that doesn't fit, with its reason. `BadVertex` is for an `edge` or `level` line in its
+///   place, with two numbers, that names a vertex of n or more. An `edge` line is `BadLine` if a level is due.
+/// - `ReadFault`: a read failed. It comes only if the source's count of faults rose.
+/// - `Memory`: no memory for a line, the graph or the levels.
+///
+/// Costs one pass over the lines, and `Graph::insert_all` for each 1,048,576 edges. Takes the memory of the graph and
+/// the levels once the number of vertices was read. Besides it takes the memory of one line and of 1,048,576 edges.
 pub fn read_certificate<S: Source>(
     alloc: Global,
     reader: &mut LineReader,

@@ -1,4 +1,4 @@
-//! What the lines of a certificate say.
+//! The tokens of a certificate: what each line says.
 ghost use Rattle.std.specs.Prelude.{◌≡◌, ℕ, ◌≤◌, ◌∷◌, List, Option, length, drop, IfOk};
 ghost use Rattle.std.specs.Option.{option_map};
 ghost use Rattle.kc_text.specs.Causes.{ReadCause};
@@ -10,7 +10,7 @@ use kc_levels::Profile;
 use kc_text::{Body, LineFault, LineReader, Source, is_named, next_number, next_word};
 use std::alloc::Global;
 
-/// What a line says by itself, wherever it stands.
+/// What a line says by itself, in any place.
 #[derive(Clone, Copy, Debug, PartialEq, Eq)]
 pub enum Kind {
     /// `kcore-cert 1`
@@ -37,16 +37,16 @@ pub enum Kind {
     InputEnd,
 }
 
-/// A line that isn't skipped: its number, counted from 1 over all lines, and what it says.
+/// A line that isn't skipped.
 #[derive(Clone, Copy, Debug, PartialEq, Eq)]
 pub struct Token {
-    /// The number of the line.
+    /// The number of the line, counted from 1 over all lines.
     pub number: u32,
     /// What the line says.
     pub kind: Kind,
 }
 
-// The number that the one word at or after `from` says.
+// Returns the number in the one word at or after `from`.
 #[tactic(auto, using(crate::proofs::NumberWords::number_steps))]
 fn one_number(text: &[u8], from: usize) -> Option<u32>
     requires { from ≤ length text.now }
@@ -59,7 +59,7 @@ fn one_number(text: &[u8], from: usize) -> Option<u32>
     Some(number)
 }
 
-// The two numbers that the two words at or after `from` say.
+// Returns the two numbers in the two words at or after `from`.
 #[tactic(auto, using(crate::proofs::NumberWords::number_steps))]
 fn two_numbers(text: &[u8], from: usize) -> Option<(u32, u32)>
     requires { from ≤ length text.now }
@@ -82,7 +82,7 @@ fn profile_named(name: &[u8]) -> Option<Profile>
     }
 }
 
-// The profile that the one word at or after `from` names.
+// Returns the profile that the one word at or after `from` names.
 #[tactic(auto, unfolding(crate::specs::Tokens::profile_in))]
 fn profile_in(text: &[u8], from: usize) -> Option<Profile>
     requires { from ≤ length text.now }
@@ -96,7 +96,7 @@ fn profile_in(text: &[u8], from: usize) -> Option<Profile>
     profile_named(name)
 }
 
-// Whether the one word at or after `from` is `1`.
+// Returns whether the one word at or after `from` is `1`.
 #[tactic(auto, unfolding(crate::specs::Tokens::is_version))]
 fn is_version(text: &[u8], from: usize) -> bool
     requires { from ≤ length text.now }
@@ -111,7 +111,7 @@ fn is_version(text: &[u8], from: usize) -> bool
     }
 }
 
-// What a line says that begins with this word, which ends there.
+// Returns what a line says that begins with this word, which ends there.
 #[tactic(auto, unfolding(crate::specs::Tokens::kind_of_words))]
 fn kind_of_line(name: &[u8], text: &[u8], end: usize) -> Kind
     requires { end ≤ length text.now }
@@ -151,7 +151,7 @@ fn kind_of_line(name: &[u8], text: &[u8], end: usize) -> Kind
     }
 }
 
-// What a line says, unless it is skipped.
+// Returns what a line says, unless it is skipped.
 #[tactic(auto, unfolding(crate::specs::Tokens::kind_of_text))]
 fn classify(text: &[u8]) -> Option<Kind>
     ensures { result ≡ kind_of_text text.now }
@@ -163,9 +163,10 @@ fn classify(text: &[u8]) -> Option<Kind>
     Some(kind_of_line(&text[start..end], text, end))
 }
 
-/// The next line that isn't skipped. After a fault skipped lines may be gone. Cost: one pass over the bytes of a line that
-/// lies whole in the reader's memory and is `edge` or `level` and two numbers, with one blank before each number; a few
-/// passes over the bytes of each other line.
+/// Returns the next line that isn't skipped. After a fault skipped lines may be gone.
+///
+/// Most lines are `edge` or `level` and two numbers, with one blank before each. Such a line costs one pass over its
+/// bytes if it lies whole in the reader's memory. Each other line costs a few passes.
 #[inline(always)]
 pub fn next_token<S: Source>(
     alloc: Global,

@@ -1,4 +1,4 @@
-//! Whether a line fits in its place.
+//! A line in its place: each call returns what the line says, or why it doesn't fit.
 ghost use Rattle.std.specs.Prelude.{◌≡◌, ◌<◌, ◌≤◌, ◌^◌, IfOk};
 ghost use Rattle.kc_cert.specs.Documents.{misfit, magic_of, profile_of, vertices_of, edge_count_of, edge_of, level_of, close_of, input_end_of};
 
@@ -7,7 +7,7 @@ use kc_graph::{Edge, MAX_EDGES, MAX_VERTICES};
 use kc_levels::Profile;
 use kc_text::Reason;
 
-// Why a line of this kind doesn't fit where one of another kind is due.
+// Returns why a line of this kind doesn't fit in the place of another kind.
 fn misfit(kind: Kind) -> Reason
     ensures { result ≡ misfit kind }
 {
@@ -19,7 +19,7 @@ fn misfit(kind: Kind) -> Reason
     }
 }
 
-/// Where the first line is due.
+/// Reads the first line.
 pub fn magic_of(kind: Kind) -> Result<(), Reason>
     ensures { result ≡ magic_of kind }
 {
@@ -29,7 +29,7 @@ pub fn magic_of(kind: Kind) -> Result<(), Reason>
     }
 }
 
-/// The profile, where it is due.
+/// Reads the profile.
 pub fn profile_of(kind: Kind) -> Result<Profile, Reason>
     ensures { result ≡ profile_of kind }
 {
@@ -39,7 +39,7 @@ pub fn profile_of(kind: Kind) -> Result<Profile, Reason>
     }
 }
 
-/// The number of vertices, where it is due.
+/// Reads the number of vertices, 1 to `MAX_VERTICES`.
 pub fn vertices_of(kind: Kind) -> Result<u32, Reason>
     ensures number { result ≡ vertices_of kind }
     ensures range { IfOk result (λ n. (1 ≤ n) × (n ≤ MAX_VERTICES)) }
@@ -50,7 +50,7 @@ pub fn vertices_of(kind: Kind) -> Result<u32, Reason>
     }
 }
 
-/// The number of edges, where it is due.
+/// Reads the number of edges, at most `MAX_EDGES`.
 pub fn edge_count_of(kind: Kind) -> Result<u32, Reason>
     ensures number { result ≡ edge_count_of kind }
     ensures range { IfOk result (λ m. m ≤ MAX_EDGES) }
@@ -61,7 +61,7 @@ pub fn edge_count_of(kind: Kind) -> Result<u32, Reason>
     }
 }
 
-/// The edge between vertices below `n`, where one is due that is not before `(a, b)`.
+/// Reads an edge between vertices below `n` that isn't before `(a, b)`.
 #[inline(always)]
 pub fn edge_of(n: u32, a: u32, b: u32, kind: Kind) -> Result<Edge, Reason>
     ensures { result ≡ edge_of n a b kind }
@@ -81,7 +81,7 @@ pub fn edge_of(n: u32, a: u32, b: u32, kind: Kind) -> Result<Edge, Reason>
     }
 }
 
-/// The level, at most `top`, where that of vertex `next` below `n` is due.
+/// Reads the level, at most `top`, of vertex `next` below `n`.
 #[inline(always)]
 pub fn level_of(n: u32, top: u16, next: u32, kind: Kind) -> Result<u16, Reason>
     ensures { result ≡ level_of n top next kind }
@@ -101,7 +101,7 @@ pub fn level_of(n: u32, top: u16, next: u32, kind: Kind) -> Result<u16, Reason>
     }
 }
 
-/// Where `end` is due.
+/// Reads `end`.
 pub fn close_of(kind: Kind) -> Result<(), Reason>
     ensures { result ≡ close_of kind }
 {
@@ -111,7 +111,7 @@ pub fn close_of(kind: Kind) -> Result<(), Reason>
     }
 }
 
-/// Where the input is to end.
+/// Reads the end of the input.
 pub fn input_end_of(kind: Kind) -> Result<(), Reason>
     ensures { result ≡ input_end_of kind }
 {

@@ -1,4 +1,4 @@
-//! Whether the levels of a certificate meet both invariants.
+//! Decides whether the levels of a certificate meet both invariants.
 ghost use Rattle.std.specs.Prelude.{◌≡◌, ◌<◌, ◌-◌, ◌^◌, All, length, get_or, nat_le, count_by};
 ghost use Rattle.kc_levels.specs.LevelList.{IsCapped};
 ghost use Rattle.kc_cert.specs.Verdicts.{IsVerdict};
@@ -7,20 +7,19 @@ ghost use Rattle.kc_cert.specs.private.Verdicts.{IsVerdictAt};
 use crate::Certificate;
 use kc_levels::Thresholds;
 
-/// What the levels of a certificate come to.
+/// The verdict on the levels of a certificate.
 #[derive(Clone, Copy, Debug, PartialEq, Eq)]
 pub enum Verdict {
     /// Both invariants hold at each vertex.
     Certified,
-    /// The least vertex at which an invariant doesn't hold: it has more neighbours on its level or above than its group
-    /// allows.
+    /// The least vertex that breaks an invariant: it has more neighbours on its level or above than its band allows.
     Upper(u32),
-    /// The least vertex at which an invariant doesn't hold: it has fewer neighbours from the level below on than it needs.
+    /// The least vertex that breaks an invariant: it has fewer neighbours on the level below or above than it needs.
     Lower(u32),
 }
 
-// How many of the neighbours stand on the level or above, and how many on the level below it or above; level 0 has none
-// below. One pass.
+// Returns how many of the neighbours stand on the level or above, and how many on the level below it or above. Level 0
+// has none below. One pass.
 fn counts(neighbours: &[u32], levels: &[u16], level: u16) -> (u32, u32)
     requires inside { All (λ w. w < length levels.now) neighbours.now }
     requires few { length neighbours.now < 2 ^ 32 }
@@ -42,7 +41,7 @@ fn counts(neighbours: &[u32], levels: &[u16], level: u16) -> (u32, u32)
     (up, down)
 }
 
-// The verdict at one vertex.
+// Returns the verdict at one vertex.
 fn verdict_at(cert: &Certificate, th: &Thresholds, v: u32) -> Verdict
     requires vertex { v < cert.now.graph.vertices }
     requires sized { length cert.now.levels ≡ cert.now.graph.vertices }
@@ -65,12 +64,14 @@ fn verdict_at(cert: &Certificate, th: &Thresholds, v: u32) -> Verdict
     Verdict::Certified
 }
 
-/// Whether the levels meet both invariants at each vertex, and else the least vertex that breaks one and which it breaks
-/// (`IsVerdict` of `specs/Verdicts`); no vertex breaks both.
+/// Returns `Certified` if the levels meet both invariants at each vertex (`IsVerdict` of `specs/Verdicts`). Otherwise
+/// returns the least vertex that breaks one, and which one it breaks. No vertex breaks both.
 ///
-/// The thresholds are those of the certificate's profile and number of vertices, each vertex has one level, and no level is
-/// above the top, as in each certificate that `read_certificate` gives. Takes no memory. Cost: one pass over the neighbours
-/// of each vertex up to the one that breaks an invariant, so time by vertices and edges.
+/// The thresholds are those of the certificate's profile and number of vertices. Each vertex has one level, and no
+/// level is above the top, as in each certificate of `read_certificate`.
+///
+/// Takes no memory. Costs one pass over the neighbours of each vertex up to the one that breaks an invariant, so O(n +
+/// m).
 pub fn verify(cert: &Certificate, th: &Thresholds) -> Verdict
     requires sized { length cert.now.levels ≡ cert.now.graph.vertices }
     requires profile { th.now.profile ≡ cert.now.profile }

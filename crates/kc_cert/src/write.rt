@@ -1,4 +1,4 @@
-//! A graph with its levels is written as a certificate: a line for each edge and for each level.
+//! Writes a graph with its levels as a certificate: a line for each edge and for each level.
 ghost use Rattle.std.specs.Prelude.{◌≡◌, ◌++◌, ◌∷◌, [], length, map, codes, OnOk, decimal};
 ghost use Rattle.kc_text.specs.Printing.{printed};
 ghost use Rattle.kc_text.specs.Writing.{Appends, WriteCause};
@@ -10,7 +10,7 @@ use kc_levels::{Levels, Profile};
 use kc_text::{LineBuf, SendFault, Sink, fill_named};
 use std::alloc::{AllocError, Global};
 
-// Writes a line of one text.
+// Writes a line with this text.
 fn write_text<K: Sink>(
     alloc: Global,
     buf: &mut LineBuf,
@@ -81,7 +81,7 @@ fn profile_text(profile: Profile) -> &'static [u8]
     }
 }
 
-// Writes the four lines ahead of the edges.
+// Writes the four lines before the edges.
 fn write_head<K: Sink>(
     alloc: Global,
     buf: &mut LineBuf,
@@ -98,7 +98,7 @@ fn write_head<K: Sink>(
     write_named(alloc, buf, sink, b"edges ", graph.edge_count())
 }
 
-// Writes the edges of v and those of its neighbours that are greater.
+// Writes the edges between v and those of its neighbours that are greater.
 fn write_row<K: Sink>(
     alloc: Global,
     buf: &mut LineBuf,
@@ -152,13 +152,16 @@ fn write_levels<K: Sink>(
     Ok(())
 }
 
-/// Writes the certificate of a graph and its levels (`certificate_text` of `specs/Texts`), line after line: `kcore-cert 1`,
-/// the profile, the numbers of vertices and of edges, the edges in ascending order, the level of each vertex, and `end`.
+/// Writes the certificate of a graph and its levels (`certificate_text` of `specs/Texts`), line after line.
 ///
-/// There is one level for each vertex; any levels are written. Each line is one `put_all`. After `WriteFault`, which only a
-/// failed write gives, and after `Memory`, which says that there was none for a line, the sink took a prefix of the text.
+/// The lines are `kcore-cert 1`, the profile, the numbers of vertices and of edges, the edges in ascending order, the
+/// level of each vertex, and `end`. There is one level for each vertex; any levels are written. Each line is one
+/// `put_all`.
 ///
-/// Cost: one pass over the neighbours of each vertex. Takes the memory of one line, of at most 23 bytes.
+/// Fails with `WriteFault`, which only a failed write gives, or with `Memory` if there is none for a line. After either
+/// the sink took a prefix of the text.
+///
+/// Costs one pass over the neighbours of each vertex. Takes the memory of one line, of at most 23 bytes.
 pub fn write_certificate<K: Sink>(
     alloc: Global,
     sink: &mut K,

@@ -1,14 +1,14 @@
--- What deletion phases work with.
+-- The workspace of deletion phases.
 use Rattle.std.specs.Prelude.{ℕ, ◌≡◌, Bool, false, [], List, replicate}
 use Rattle.kc_adj.specs.LeveledGraph.{LeveledGraph}
 
--- what contracts see of a `DeletionWork`: the levels before a phase, for each vertex whether it waits, and who fell
+-- what contracts see of a `DeletionWork`: the levels before a phase, whether each vertex waits, and the fallen vertices
 pub record Working : Type 0 where
   pub before : List ℕ
   pub waits : List Bool
   pub fallen : List ℕ
 
--- between phases: the levels are those of the graph, and nobody waits or is noted
+-- the state between phases: the levels are those of the graph, no vertex waits, and none is noted
 pub record IsReady (a : LeveledGraph) (w : Working) : Type 0 where
   pub before : w.before ≡ a.levels
   pub none_waits : w.waits ≡ replicate a.graph.vertices false

@@ -1,4 +1,4 @@
-//! The record of who fell in a deletion phase, from which the phase's moves are made at its end.
+//! The fallen vertices of a deletion phase, from which the phase's moves are made at its end.
 
 ghost use Rattle.std.specs.Prelude.{◌≡◌, ℕ, ◌<◌, ◌≤◌, List, [], IfOk, OnOk, length, slice_index, slice_set};
 ghost use Rattle.kc_levels.specs.Moved.{moves_between};
@@ -7,12 +7,12 @@ ghost use Rattle.kc_delete.specs.private.Fallen.{AreFallen};
 use kc_levels::{Levels, Moves, moves_of};
 use std::alloc::{AllocError, Global};
 
-/// Who fell in a phase, each once.
+/// The vertices that fell in a phase, each once.
 #[derive(Drop)]
 pub struct Fallen {
     /// The levels before the phase.
     pub before: Levels,
-    /// Those who fell.
+    /// The fallen vertices.
     pub vertices: Vec<u32>,
 }
 
@@ -29,7 +29,8 @@ impl Fallen {
         Ok(())
     }
 
-    /// The moves of those who fell to these levels, ascending. Afterwards nothing is left of the phase. Fails only if memory runs out.
+    /// Returns the moves of the fallen vertices to these levels, ascending. Afterwards nothing is left of the phase.
+    /// Fails only if memory runs out.
     pub fn take_moves(&mut self, alloc: Global, after: &Levels) -> Result<Moves, AllocError>
         requires sized { length after.now ≡ length self.old.before }
         requires fallen { AreFallen self.old.before after.now self.old.vertices.items }

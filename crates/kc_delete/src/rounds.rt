@@ -1,4 +1,5 @@
-//! A deletion phase from end to end: edges leave, and rounds of falls go on until each vertex has neighbours enough on its level.
+//! A deletion phase from end to end: edges leave, and vertices fall in rounds until each has enough neighbours to stand
+//! on its level.
 
 ghost use Rattle.std.specs.Prelude.{◌≡◌, ℕ, ◌<◌, ◌≤◌, OnOk, IfOk, length, true};
 ghost use Rattle.kc_graph.specs.Numbers.{has_number};
@@ -20,17 +21,17 @@ use std::alloc::{AllocError, Global};
 use std::sync::ledger::Ledger;
 use std::thread::Threads;
 
-/// What a phase did.
+/// The result of a phase.
 #[derive(Clone, Copy, Debug, PartialEq, Eq)]
 pub struct Tally {
     /// The number of vertices whose level is another one than before.
     pub moves: u32,
 }
 
-// The least number of edges whose halves are worth a sort, so that the row of each vertex is gone through once.
+// The least number of edges whose halves are worth a sort, so that the row of each vertex is passed over once.
 const LEAST_TOGETHER: usize = 8_192;
 
-// Takes the edges out, one after another. Levels stay.
+// Removes the edges, one after another. Levels stay.
 fn unlink_each<L: Ledger>(adj: &mut LevelAdj, removed: &[Edge], steps: &mut Steps<L>)
     requires removable { CanRemove adj.old.graph removed.now }
     ensures { adj.new ≡ record adj.old { graph = without_edges adj.old.graph removed.now } }
@@ -40,7 +41,7 @@ fn unlink_each<L: Ledger>(adj: &mut LevelAdj, removed: &[Edge], steps: &mut Step
     }
 }
 
-// Takes the edges out, many of them by the workers of `rounds`. Levels stay. Fails only if memory runs out.
+// Removes the edges, many of them by the workers of `rounds`. Levels stay. Fails only if memory runs out.
 fn unlink_edges<R: Threads + Sync, G: Gate + Sync, L: Ledger>(
     rounds: &Rounds<R, G>,
     alloc: Global,
@@ -81,30 +82,38 @@ fn add_short_ends(
     Ok(())
 }
 
-/// Takes the edges out and lowers the levels: afterwards they are the lowered list (`IsLowered`), the greatest levels that
-/// are at most the old ones and meet the lower invariant in the new graph. The graph is the old one without the edges
-/// (`without_edges`). Gives the moves (`moves_between`): each vertex that fell with its old and its new level, ascending by vertex.
+/// Removes the edges and lowers the levels to the lowered list (`IsLowered`). These are the greatest levels that are at
+/// most the old ones and meet the lower invariant in the new graph.
 ///
-/// The thresholds are for this number of vertices, and no level is above their top. The lower invariant holds before the
-/// call. `work` is ready for the graph (`IsReady`), and is ready for the new one afterwards. `removed` is ascending, and each of
-/// its edges is in the graph. The answer doesn't depend on the workers of `rounds` nor on what the gate does.
+/// The graph is the old one without the edges (`without_edges`). Returns the moves (`moves_between`): each vertex that
+/// fell with its old and its new level, ascending by vertex.
+///
+/// The thresholds are for this number of vertices, and no level is above their top. The lower invariant holds before
+/// the call. `work` is ready for the graph (`IsReady`), and afterwards ready for the new one. `removed` is ascending,
+/// and each of its edges is in the graph. The answer depends neither on the workers of `rounds` nor on the gate.
 ///
 /// Fails only if memory runs out; graph, levels, `work` and steps are then unspecified.
 ///
-/// A vertex that has too few neighbours to stand on its level waits, never twice at a time, under the level that it desired
-/// when it began to wait. A round is all that wait under the lowest level: up to as many threads as `rounds` has workers find those
-/// of them that have too few neighbours, which then fall one after the other, each to the level that it desires then. The first
-/// round in the life of `work` is cut into as many pieces as there are workers, later short ones into fewer.
+/// A vertex with too few neighbours to stand on its level waits, and never twice at a time. It waits under the level
+/// that it desired when it began to wait. A round is all vertices that wait under the lowest level. The threads of
+/// `rounds`, at most one a worker, find those of them that have too few neighbours. These then fall one after another,
+/// each to the level that it desires then. The first round in the life of `work` is cut into as many pieces as there
+/// are workers. Later short rounds are cut into fewer.
 ///
-/// A vertex is looked at only where an edge left it, or where a neighbour fell that it counted before and doesn't count now, and
-/// once in a round; a look is O(1). A vertex that begins to wait and one that falls cost a call of `LevelAdj::desired` each; a
-/// fall costs two passes over the neighbours more. That a vertex seldom falls twice isn't proved, and no bound on the steps is
-/// promised. Besides, those who fell are sorted, and the levels up to the greatest one that a vertex ever waited under are looked
-/// at, once or more often. So a phase has no pass over the vertices.
+/// Cost:
 ///
-/// Memory is taken for the vertices that wait, in a list for each level up to the greatest one that a vertex waited under, for
-/// those of a round that fall, and for who fell and the moves. While 8,192 edges or more are unlinked, 16 bytes for each of them,
-/// and 8 more until their halves are merged.
+/// - a test of a vertex is O(1). It is made once in a round. Else it is made only if an edge left the vertex, or if a
+///   neighbour fell that the vertex no longer counts;
+/// - a vertex that begins to wait and one that falls cost a call of `LevelAdj::desired` each;
+/// - a fall costs two more passes over the neighbours. No bound on the steps is promised: that a vertex seldom falls
+///   twice isn't proved;
+/// - the fallen vertices are sorted;
+/// - the levels up to the greatest one under which a vertex waited are passed over, once or more often.
+///
+/// So a phase has no pass over the vertices. Memory is taken for the vertices that wait, for those of a round that
+/// fall, for the fallen vertices and for the moves. The vertices that wait have a list for each level up to the
+/// greatest one under which a vertex waited. While 8,192 edges or more are unlinked, each takes 16 bytes, and 8 more
+/// until the halves of the edges are merged.
 pub fn delete_phase<R: Threads + Sync, G: Gate + Sync, L: Ledger>(
     rounds: &Rounds<R, G>,
     alloc: Global,
@@ -134,7 +143,7 @@ pub fn delete_phase<R: Threads + Sync, G: Gate + Sync, L: Ledger>(
     Ok(moves)
 }
 
-/// One phase with a workspace of its own (`delete_phase`), which costs a pass over all vertices besides.
+/// Runs one phase with a workspace of its own (`delete_phase`), which costs a pass over all vertices besides.
 ///
 /// `workers` is 1 to 64. Fails only if memory runs out; graph, levels and steps are then unspecified.
 pub fn delete_rounds<R: Threads + Sync, G: Gate + Sync, L: Ledger>(

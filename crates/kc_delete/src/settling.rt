@@ -18,7 +18,7 @@ use std::alloc::AllocError;
 use std::sync::ledger::Ledger;
 use std::thread::Threads;
 
-/// Lets v wait under its desired level, where it has too few neighbours to stand on its level and doesn't wait yet.
+/// Lets v wait under its desired level if it has too few neighbours to stand on its level and doesn't wait yet.
 ///
 /// Fails only if memory runs out.
 pub fn add_if_short(
@@ -42,8 +42,8 @@ pub fn add_if_short(
     Ok(())
 }
 
-// Whether a neighbour on this level counts a vertex on the level `from` from the level below its own on, and doesn't when
-// that vertex has gone down to `to`.
+// Returns whether a neighbour on level `level` loses a vertex from its count that falls from `from` to `to`. The
+// neighbour counts from the level below its own on.
 fn is_touched(from: u16, to: u16, level: u16) -> bool
     ensures touched { OnTrue result ((to < level - 1) × (level - 1 ≤ from)) }
     ensures untouched { OnFalse result (IsUntouched from to level) }
@@ -52,7 +52,7 @@ fn is_touched(from: u16, to: u16, level: u16) -> bool
     to < reach && reach <= from
 }
 
-// Lets those neighbours of v wait that have too few neighbours now that v fell from this level to its own.
+// Lets each neighbour of v wait that has too few neighbours since v fell from this level to its own.
 fn add_short_neighbours(
     adj: &LevelAdj,
     th: &Thresholds,
@@ -78,10 +78,11 @@ fn add_short_neighbours(
     Ok(())
 }
 
-/// Lets the vertices of `work` that wait fall to their desired levels, round after round, and their neighbours wait where they
-/// need to, until nobody waits. Nobody has fallen before; afterwards all who fell are noted.
+/// Lets the waiting vertices of `work` fall to their desired levels, round after round, until no vertex waits. A
+/// neighbour of a fallen vertex waits if it now has too few neighbours.
 ///
-/// Fails only if memory runs out; all is then unspecified.
+/// No vertex has fallen before; afterwards all fallen vertices are noted. Fails only if memory runs out; then all is
+/// unspecified.
 pub fn settle<R: Threads + Sync, G: Gate + Sync, L: Ledger>(
     rounds: &Rounds<R, G>,
     th: &Thresholds,

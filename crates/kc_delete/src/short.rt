@@ -1,4 +1,4 @@
-//! Which vertices have too few neighbours to stand on their level.
+//! The test for vertices that have too few neighbours to stand on their level.
 
 ghost use Rattle.std.specs.Prelude.{◌≡◌, ◌<◌, ◌≤◌, slice_index};
 ghost use Rattle.std.specs.Bool.{OnFalse};
@@ -10,7 +10,7 @@ use kc_adj::LevelAdj;
 use kc_levels::Thresholds;
 use kc_rounds::RoundTest;
 
-/// Whether v has too few neighbours to stand on its level, by its kept count.
+/// Returns whether v has too few neighbours to stand on its level, by its kept count.
 pub fn is_short(adj: &LevelAdj, th: &Thresholds, v: u32) -> bool
     requires vertex { v < adj.now.graph.vertices }
     requires scale { th.now.vertices ≡ adj.now.graph.vertices }
@@ -25,11 +25,11 @@ pub fn is_short(adj: &LevelAdj, th: &Thresholds, v: u32) -> bool
 /// Tests whether a vertex waits and has too few neighbours to stand on its level.
 #[derive(Drop)]
 pub struct Short<'a> {
-    /// The graph with its levels, of whose vertices the tested ones are.
+    /// The graph with its levels, which has the tested vertices.
     pub adj: &'a LevelAdj,
     /// The thresholds for its number of vertices; no tested vertex is above their top.
     pub th: &'a Thresholds,
-    /// For each vertex whether it waits.
+    /// For each vertex, whether it waits.
     pub marks: &'a Vec<bool>,
 }
 

@@ -1,4 +1,4 @@
-//! The queue of a deletion phase: vertices wait under levels, and those under the least one are the next round.
+//! The queue of a deletion phase: vertices wait under levels, and those under the least level are the next round.
 
 ghost use Rattle.std.specs.Prelude.{◌≡◌, ℕ, ◌<◌, ◌≤◌, ◌-◌, ◌⊎◌, ◌&&◌, ◌||◌, List, Bool, true, false, not, [], All, IfOk, IfSome, IfNone, OnOk, OnErr, length, replicate, slice_index_or, slice_set};
 ghost use Rattle.kc_graph.specs.Numbers.{has_number};
@@ -13,23 +13,23 @@ use std::alloc::{AllocError, Global};
 use std::marker::Model;
 use std::thread::Threads;
 
-/// Vertices that wait to be looked at, each filed under a level. Those of the least level are the next round.
+/// Vertices that wait for a test, each filed under a level. The next round is the vertices of the least level.
 ///
-/// Contracts see it as a list of marks: for each vertex whether it waits. Lists are made up to the greatest level that a
-/// vertex was filed under. Who lets no vertex wait that waits already has each in one list at most, or in the round.
+/// Contracts see a list of marks: for each vertex, whether it waits. There are lists up to the greatest level under
+/// which a vertex was filed. If no waiting vertex is added again, each is in at most one list, or in the round.
 #[derive(Drop)]
 pub struct Waiting {
-    // for each level the vertices that are filed under it
+    // For each level the vertices that are filed under it.
     filed: LevelLists<u32>,
-    // no vertex that waits is filed under a lower level
+    // No vertex that waits is filed under a lower level.
     first: u16,
-    // what is left of the round that is under way
+    // The rest of the open round.
     round: Vec<u32>,
-    // the level under which those of the round were filed
+    // The level under which the vertices of the round were filed.
     level: u16,
-    // for each vertex whether it waits
+    // For each vertex, whether it waits.
     marks: Vec<bool>,
-    // where the memory of the lists comes from
+    // The allocator of the lists.
     alloc: Global,
 }
 
@@ -44,7 +44,7 @@ impl Model for Waiting {
     ghost invariant = { λ w. AreFiled w.first w.filed w.round.items w.marks.items };
 }
 
-// Takes the last vertex of a round that waits still. Afterwards it doesn't wait.
+// Takes the last vertex of a round that still waits. Afterwards it doesn't wait.
 fn take_from(round: &mut Vec<u32>, marks: &mut Vec<bool>) -> Option<u32>
     requires inside { (v : ℕ) → has_number v round.old.items ≡ true → v < length marks.old.items }
     ensures inside { IfSome result (λ v. v < length marks.old.items) }
@@ -64,7 +64,7 @@ fn take_from(round: &mut Vec<u32>, marks: &mut Vec<bool>) -> Option<u32>
     None
 }
 
-// Takes the vertices of the least level that has some, from `first` on, or none where no level has any.
+// Takes the vertices of the least level that has some, from `first` on. Takes none if no level has any.
 fn take_least(alloc: Global, filed: &mut LevelLists<u32>, first: &mut u16) -> Vec<u32>
     requires inside { first.old ≤ length filed.old }
     ensures filed { (waits : List Bool) → AreFiled first.old filed.old [] waits → AreFiled first.new filed.new result.items waits }
@@ -81,7 +81,7 @@ fn take_least(alloc: Global, filed: &mut LevelLists<u32>, first: &mut u16) -> Ve
     filed.take_all(alloc, level)
 }
 
-// Of the candidates only the movers wait on.
+// Of the candidates, lets only the movers wait on.
 fn keep_marks(marks: &mut Vec<bool>, candidates: &[u32], movers: &[u32])
     requires candidates { All (λ v. v < length marks.old.items) candidates.now }
     requires movers { All (λ v. v < length marks.old.items) movers.now }
@@ -97,7 +97,7 @@ fn keep_marks(marks: &mut Vec<bool>, candidates: &[u32], movers: &[u32])
 }
 
 impl Waiting {
-    /// Nobody waits, of `n` vertices. Fails only if memory runs out.
+    /// Makes a queue for `n` vertices of which none waits. Fails only if memory runs out.
     pub fn new(alloc: Global, n: u32) -> Result<Self, AllocError>
         ensures { IfOk result (λ w. w ≡ replicate n false) }
     {
@@ -111,7 +111,7 @@ impl Waiting {
         })
     }
 
-    /// Whether `v` waits.
+    /// Returns whether `v` waits.
     pub fn has(&self, v: u32) -> bool
         requires { v < length self.now }
         ensures { result ≡ slice_index_or self.now v false }
@@ -119,7 +119,7 @@ impl Waiting {
         self.marks[v as usize]
     }
 
-    /// Lets `v` wait under this level. Fails only if memory runs out, and who waits is unchanged then.
+    /// Lets `v` wait under this level. Fails only if memory runs out; then the same vertices wait as before.
     pub fn add(&mut self, v: u32, level: u16) -> Result<(), AllocError>
         requires vertex { v < length self.old }
         requires small { level < 65535 }
@@ -133,16 +133,16 @@ impl Waiting {
         Ok(())
     }
 
-    /// The level under which the vertices of the round that is under way were filed.
+    /// Returns the level under which the vertices of the open round were filed.
     pub fn level(&self) -> u16 {
         self.level
     }
 
-    /// The next vertex of the round that is under way, or of a new round where that one has come to its end. Afterwards it
-    /// doesn't wait. `None` says that nobody waits.
+    /// Returns the next vertex of the open round, or of a new round if the open one has ended. Afterwards the vertex
+    /// doesn't wait. Returns `None` if no vertex waits.
     ///
-    /// A round is all that wait under the least level. Those of them that have enough neighbours when it begins leave it, and
-    /// wait no more. Fails only if memory runs out.
+    /// A round is all vertices that wait under the least level. Vertices that have enough neighbours when the round
+    /// begins leave it, and wait no more. Fails only if memory runs out.
     pub fn next<R: Threads + Sync, G: Gate + Sync>(
         &mut self,
         rounds: &Rounds<R, G>,

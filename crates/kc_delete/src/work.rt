@@ -13,17 +13,20 @@ use kc_rounds::FirstRound;
 use std::alloc::{AllocError, Global};
 use std::marker::Model;
 
-/// What deletion phases work with, kept between them, so that a phase costs what it changes and not what the graph has.
+/// The workspace of deletion phases, kept between phases, so that a phase costs what it changes and not what the graph
+/// has.
 ///
-/// Contracts see it as a `Working`. Between phases it is ready for the graph (`IsReady`): it has a copy of the levels, and nothing
-/// is left of a phase. An insertion phase changes the levels, and `follow` tells it so. Takes 3 bytes a vertex.
+/// Contracts see a `Working`. Between phases it is ready for the graph (`IsReady`): it has a copy of the levels, and
+/// nothing is left of a phase. An insertion phase changes the levels, and `follow` brings the copy up to date. Takes 3
+/// bytes a vertex.
 #[derive(Drop)]
 pub struct DeletionWork {
-    // Who is still to be looked at in the phase: nobody between phases.
+    // The vertices that wait for a test in the phase: none between phases.
     pub(crate) waiting: Waiting,
-    // The levels before the phase, and who fell in it: nobody between phases, when the levels are those of the graph.
+    // The levels before the phase and the vertices that fell in it. Between phases the levels are those of the graph,
+    // and no vertex has fallen.
     pub(crate) fallen: Fallen,
-    // Whether no round with candidates has been yet.
+    // Whether there has been no round with candidates yet.
     pub(crate) first: FirstRound,
 }
 
@@ -36,7 +39,7 @@ impl Model for DeletionWork {
 }
 
 impl DeletionWork {
-    /// Ready for this graph. Costs a pass over the vertices. Fails only if memory runs out.
+    /// Makes a workspace that is ready for this graph. Costs a pass over the vertices. Fails only if memory runs out.
     pub fn new(alloc: Global, adj: &LevelAdj) -> Result<Self, AllocError>
         ensures { IfOk result (IsReady adj.now) }
     {
@@ -51,8 +54,8 @@ impl DeletionWork {
         })
     }
 
-    /// Makes it ready for the graph after an insertion phase, where it was ready before: the moves are those of the phase. Costs a
-    /// look for each. Takes no memory.
+    /// Makes the workspace ready for the graph after an insertion phase, if it was ready before. The moves are those of
+    /// the phase. Costs a step for each. Takes no memory.
     pub fn follow(&mut self, moves: &Moves)
         requires { All (λ m. m.vertex < length self.old.before) moves.now }
         ensures { (a b : LeveledGraph) → IsReady a self.old → length a.levels ≡ a.graph.vertices → length b.levels ≡ b.graph.vertices → b.graph.vertices ≡ a.graph.vertices → moves.now ≡ moves_between a.graph.vertices a.levels b.levels → IsReady b self.new }

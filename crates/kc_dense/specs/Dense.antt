@@ -1,16 +1,16 @@
--- Peeling lists, the densest suffix of one, and how dense any set of vertices may be beside it.
+-- Peeling lists, the densest suffix of one, and how dense any set of vertices can be compared with it.
 use Rattle.std.specs.Prelude.{ℕ, ◌*◌, ◌≤◌, ◌<◌, ◌≡◌, Bool, true, List, [], ◌∷◌, ◌++◌, length}
 use Rattle.kc_graph.specs.Numbers.{has_number, RisesFrom}
 use Rattle.kc_graph.specs.Shape.{GraphShape}
 use Rattle.kc_dense.specs.Sets.{members_of, degree_within, edges_within, AreVertices}
 
--- v is in a set of vertices and has the least degree within it, and of several it is the least vertex
+-- v is in a set of vertices and has the least degree within it; of several such vertices it is the least
 pub record IsNext (g : GraphShape) (s : ℕ → Bool) (v : ℕ) : Type 0 where
   pub holds : s v ≡ true
   pub least : (u : ℕ) → s u ≡ true → degree_within g s v ≤ degree_within g s u
   pub first : (u : ℕ) → s u ≡ true → degree_within g s u ≡ degree_within g s v → v ≤ u
 
--- each vertex of the list is the next of those that stand from it on
+-- each vertex of the list is the next of the vertices from it on
 abbrev pub IsPeeled : GraphShape → List ℕ → Type 0
 IsPeeled g [] = Unit {0}
 IsPeeled g (v ∷ vs) = IsNext g (members_of (v ∷ vs)) v × IsPeeled g vs
@@ -27,11 +27,11 @@ pub record IsSuffix (part xs : List ℕ) : Type 0 where
   pub is : xs ≡ front ++ part
   pub some : 0 < length part
 
--- xs has at least as many edges for each of its vertices as ys
+-- xs has at least as many edges per vertex as ys
 abbrev pub IsAsDense : GraphShape → List ℕ → List ℕ → Type 0
 IsAsDense g xs ys = edges_within g (members_of ys) * length xs ≤ edges_within g (members_of xs) * length ys
 
--- the densest suffix of a list, and of several the longest
+-- the densest suffix of a list; of several the longest
 pub record IsDensestSuffix (g : GraphShape) (part xs : List ℕ) : Type 0 where
   pub suffix : IsSuffix part xs
   pub densest : (other : List ℕ) → IsSuffix other xs → IsAsDense g part other
@@ -46,7 +46,7 @@ pub record IsDensePart (g : GraphShape) (members : List ℕ) : Type 0 where
   pub ascending : RisesFrom 0 members
   pub same : (v : ℕ) → has_number v members ≡ has_number v part
 
--- no vertices of the graph have more than twice as many edges for each of them
+-- no set of vertices of the graph has more than twice as many edges per vertex
 abbrev pub IsHalfAsDenseAsAny : GraphShape → List ℕ → Type 0
 IsHalfAsDenseAsAny g members =
     (others : List ℕ) → AreVertices g others →

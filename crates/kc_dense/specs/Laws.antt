@@ -1,4 +1,4 @@
--- Laws of the definitions, each the contract of a function of `laws`.
+-- Laws of the definitions; each is the contract of a function in `laws`.
 use Rattle.std.specs.Prelude.{ℕ, ◌≤◌, ◌≡◌, List}
 use Rattle.kc_graph.specs.Shape.{GraphShape, IsGraph}
 use Rattle.kc_dense.specs.Dense.{IsPeelingList, IsDensePart, IsHalfAsDenseAsAny}
@@ -19,6 +19,6 @@ EachHasDensePart = (g : GraphShape) → 1 ≤ g.vertices → (members : List ℕ
 abbrev pub DensePartIsOne : Type 0
 DensePartIsOne = (g : GraphShape) (xs ys : List ℕ) → IsDensePart g xs → IsDensePart g ys → xs ≡ ys
 
--- the dense part is at least half as dense as any vertices of the graph
+-- the dense part is at least half as dense as any set of vertices of the graph
 abbrev pub DensePartIsHalfAsDense : Type 0
 DensePartIsHalfAsDense = (g : GraphShape) (members : List ℕ) → IsGraph g → IsDensePart g members → IsHalfAsDenseAsAny g members

@@ -1,4 +1,4 @@
-//! From the peeling list of a graph to its dense part: the members of the densest suffix, ascending.
+//! The dense part of a graph: the members of the densest suffix of its peeling list, ascending.
 
 ghost use Rattle.std.specs.Prelude.{◌≡◌, ◌≤◌, length, IfOk};
 ghost use Rattle.kc_dense.specs.Sets.{members_of, edges_within};
@@ -11,24 +11,24 @@ use std::alloc::{AllocError, Global};
 /// A dense part of a graph.
 #[derive(Drop)]
 pub struct Dense {
-    /// Its vertices, ascending, at least one.
+    /// Its vertices, ascending; at least one.
     pub members: Vec<u32>,
-    /// How many edges have both ends among them.
+    /// The number of edges with both ends among them.
     pub edges: u32,
 }
 
-/// The dense part of a graph (`IsDensePart`): the vertices of the densest suffix of its peeling list, of several the longest. No
-/// vertices of the graph have more than twice as many edges between them for each of them.
+/// Returns the dense part of a graph (`IsDensePart`): the vertices of the densest suffix of its peeling list, of
+/// several the longest. No set of vertices of the graph has more than twice as many edges per vertex.
 ///
-/// Costs time O((n + m) log n) for n vertices and m edges, and memory for at most five numbers a vertex, of which it hands
-/// out one for each member. Fails only if memory runs out.
+/// Costs time O((n + m) log n) for n vertices and m edges. Takes memory for at most five numbers a vertex, and returns
+/// one for each member. Fails only if memory runs out.
 pub fn densest(alloc: Global, graph: &Graph) -> Result<Dense, AllocError>
     ensures members { IfOk result (λ d. IsDensePart graph.now d.members.items) }
     ensures edges { IfOk result (λ d. d.edges ≡ edges_within graph.now (members_of d.members.items)) }
     ensures few { IfOk result (λ d. length d.members.items ≤ graph.now.vertices) }
     ensures factor { IfOk result (λ d. IsHalfAsDenseAsAny graph.now d.members.items) }
 {
-    // Its contract says that the edges of the graph ascend.
+    // The contract of `vertices` says that the edges of the graph ascend.
     let _ = graph.vertices();
     let peeled = peel(alloc, graph)?;
     let mut members = Vec::from_slice(alloc, &peeled.order[peeled.densest.first as usize..])?;

@@ -1,20 +1,20 @@
-//! What peeling lists and dense parts come to. The functions do nothing: each has a law as its contract.
+//! What holds of peeling lists and dense parts. Each function does nothing: its contract is the law.
 
 ghost use Rattle.kc_dense.specs.Laws.{EachHasPeelingList, PeelingListIsOne, EachHasDensePart, DensePartIsOne, DensePartIsHalfAsDense};
 
-/// Each graph has a peeling list, and no two.
+/// Each graph has exactly one peeling list.
 pub fn peeling_list_is_one()
     ensures some { EachHasPeelingList }
     ensures one { PeelingListIsOne }
 {}
 
-/// Each graph with a vertex has a dense part, and no two.
+/// Each graph with a vertex has exactly one dense part.
 pub fn dense_part_is_one()
     ensures some { EachHasDensePart }
     ensures one { DensePartIsOne }
 {}
 
-/// The dense part is at least half as dense as any vertices of the graph.
+/// The dense part is at least half as dense as any set of vertices of the graph.
 pub fn dense_part_is_half_as_dense()
     ensures { DensePartIsHalfAsDense }
 {}

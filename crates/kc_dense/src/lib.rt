@@ -1,9 +1,12 @@
 //! A dense part of a graph: vertices that have many edges between them for their number.
 //!
-//! Peeling takes the vertices of a graph away one after another, each time the one with the fewest neighbours left, and of several the
-//! least. The densest suffix of the list that this gives is at least half as dense as any set of vertices is: [`densest`] finds it.
+//! Peeling takes the vertices of a graph away one after another. Each time it takes the vertex with the fewest
+//! neighbours left, of several the least. The densest suffix of this list is at least half as dense as any set of
+//! vertices: [`densest`] finds it.
 //!
 //! `specs/` has the definitions: read `Sets` first, then `Dense`.
+//!
+//! Floor: graph and levels. From above: [`densest`] by programs, and [`laws`] in proofs.
 #![tactic(auto)]
 
 mod dense_part;

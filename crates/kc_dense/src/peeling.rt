@@ -1,5 +1,5 @@
-//! Peeling takes vertex after vertex away, and the edges that are left after each are counted on the way, so that the densest
-//! suffix is known at the end.
+//! Peeling: takes vertex after vertex away and counts the edges that are left after each. So the densest suffix is
+//! known at the end.
 
 ghost use Rattle.std.specs.Prelude.{◌≡◌, ◌-◌, ◌*◌, ◌<◌, ℕ, cond, nat_lt, drop, IfOk};
 ghost use Rattle.kc_graph.specs.declared.limits.TheConstants.{MAX_VERTICES};
@@ -15,12 +15,12 @@ use std::alloc::{AllocError, Global};
 pub struct Suffix {
     /// The place where they begin.
     pub first: u32,
-    /// How many edges have both ends among them.
+    /// The number of edges with both ends among them.
     pub edges: u32,
 }
 
 impl Suffix {
-    // Of two suffixes of a list of n vertices the denser one, and the first of the two where they are equally dense.
+    // Returns the denser of two suffixes of a list of n vertices, or the first if they are equally dense.
     fn denser(n: u32, one: Suffix, other: Suffix) -> Suffix
         requires one { one.first < n }
         requires other { other.first < n }
@@ -37,11 +37,11 @@ impl Suffix {
 pub struct Peeled {
     /// All vertices, in the order in which they were taken.
     pub order: Vec<u32>,
-    /// The densest suffix of them, of several the longest.
+    /// The densest suffix, of several the longest.
     pub densest: Suffix,
 }
 
-/// Peels a graph (`IsPeelingList`), and finds the densest suffix, of several the longest (`IsDensestSuffix`), on the way.
+/// Peels a graph (`IsPeelingList`) and finds the densest suffix on the way, of several the longest (`IsDensestSuffix`).
 ///
 /// Costs time O((n + m) log n) for n vertices and m edges. Fails only if memory runs out.
 pub fn peel(alloc: Global, graph: &Graph) -> Result<Peeled, AllocError>

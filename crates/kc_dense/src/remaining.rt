@@ -1,4 +1,4 @@
-//! The vertices that peeling hasn't taken yet, each with its number of neighbours among them, and how the next is taken.
+//! The vertices that peeling hasn't taken yet, each with its degree among them, and how the next one is taken.
 
 ghost use Rattle.std.specs.Prelude.{◌≡◌, ◌≢◌, ◌≤◌, ◌<◌, ℕ, true, length, nat_lt, set, slice_index, IfOk};
 ghost use Rattle.kc_graph.specs.Shape.{IsGraph, neighbours_of};
@@ -14,16 +14,16 @@ use std::alloc::{AllocError, Global};
 /// Stands in place of the degree of a vertex that was taken.
 const TAKEN: u32 = u32::MAX;
 
-/// A vertex that was taken, with what went with it.
+/// A vertex that was taken.
 #[derive(Clone, Copy)]
 pub struct Taken {
     /// The vertex.
     pub vertex: u32,
-    /// How many of its neighbours were left.
+    /// The number of its neighbours that were left.
     pub degree: u32,
 }
 
-// How many neighbours each vertex has.
+// Returns the degree of each vertex.
 fn degrees(alloc: Global, graph: &Graph) -> Result<Vec<u32>, AllocError>
     ensures sized { IfOk result (λ r. length r.items ≡ graph.now.vertices) }
     ensures values { IfOk result (λ r. (u : ℕ) → u < graph.now.vertices → slice_index r.items u ≡ length (neighbours_of u graph.now.edges)) }
@@ -38,17 +38,18 @@ fn degrees(alloc: Global, graph: &Graph) -> Result<Vec<u32>, AllocError>
     Ok(degrees)
 }
 
-/// The degrees while all vertices are left. Takes memory for at most four numbers a vertex. Fails only if memory runs out.
+/// Returns the degrees while all vertices are left. Takes memory for at most four numbers a vertex. Fails only if
+/// memory runs out.
 pub fn all_remaining(alloc: Global, graph: &Graph) -> Result<Tournament, AllocError>
     ensures remaining { IfOk result (AreRemaining graph.now) }
     ensures all { IfOk result (λ degrees. (u : ℕ) → is_left degrees u ≡ nat_lt u graph.now.vertices) }
 {
-    // Its contract says that the edges of the graph ascend.
+    // The contract of `vertices` says that the edges of the graph ascend.
     let _ = graph.vertices();
     Tournament::new(alloc, &degrees(alloc, graph)?)
 }
 
-// Takes one from the degree of a vertex, if it is left.
+// Takes one from the degree of a vertex if it is left.
 fn lower(degrees: &mut Tournament, u: u32)
     requires below { u < length degrees.old }
     requires some { slice_index degrees.old u ≢ 0 }
@@ -60,9 +61,9 @@ fn lower(degrees: &mut Tournament, u: u32)
     }
 }
 
-/// Takes the vertex with the least degree among those that are left, and of several the least vertex (`IsNext`).
+/// Takes the vertex with the least degree among those that are left, of several the least vertex (`IsNext`).
 ///
-/// Costs a step for each doubling of the number of vertices at most, for the vertex and for each neighbour that is left.
+/// Costs O(log n) for the vertex and for each neighbour that is left, in a graph of n vertices.
 pub fn take_next(degrees: &mut Tournament, graph: &Graph) -> Taken
     requires graph { IsGraph graph.now }
     requires remaining { AreRemaining graph.now degrees.old }

@@ -1,5 +1,5 @@
-//! A tournament tree: numbers at the leaves, and at each node above them the lesser of its children, so that the least of all is
-//! at the root.
+//! A tournament tree: numbers at the leaves, and at each other node the lesser of its children. The root is the least
+//! of all.
 
 ghost use Rattle.std.specs.Prelude.{◌≡◌, ◌+◌, ◌*◌, ◌^◌, ◌<◌, length, drop, set, min, slice_index, IfOk};
 ghost use Rattle.kc_dense.specs.private.Tournaments.{IsPlayed, IsFirstLeastWithin, IsFirstLeast};
@@ -7,20 +7,19 @@ ghost use Rattle.kc_dense.specs.private.Tournaments.{IsPlayed, IsFirstLeastWithi
 use std::alloc::{AllocError, Global};
 use std::marker::Model;
 
-// What stands at the leaves that are none of the numbers.
+// The number at the leaves past the given numbers.
 const GREATEST: u32 = u32::MAX;
 
-/// Numbers of which the least is found fast, and of several the first: a tournament tree. Contracts see the list of the
+/// A tournament tree: numbers of which the least is found fast, of several the first. Contracts see the list of the
 /// numbers.
 #[derive(Drop)]
 pub struct Tournament {
-    // How many numbers there are.
+    // The number of numbers.
     len: usize,
-    // How many leaves there are: a power of two, and no fewer than the numbers.
+    // The number of leaves: a power of two, and no fewer than the numbers.
     width: usize,
-    // Node 1 is the root, the children of a node stand at twice its place and next to it, and the leaves are the upper
-    // half. The first leaves are the numbers, at the others stands `GREATEST`, and each node with children is the lesser of
-    // the two.
+    // Node 1 is the root, and the children of node i stand at 2i and 2i + 1. The leaves are the upper half: first the
+    // numbers, then `GREATEST`. Each node with children is the lesser of the two.
     nodes: Vec<u32>,
 }
 
@@ -35,7 +34,7 @@ impl Model for Tournament {
     ghost invariant = { λ t. IsTree t.len t.width t.nodes.items };
 }
 
-// The lesser of the numbers at the two children of a node.
+// Returns the lesser of the numbers at the two children of a node.
 fn lesser_number(nodes: &[u32], node: usize) -> u32
     requires { 2 * node + 1 < length nodes.now }
     ensures { result ≡ min (slice_index nodes.now (2 * node)) (slice_index nodes.now (2 * node + 1)) }
@@ -43,7 +42,7 @@ fn lesser_number(nodes: &[u32], node: usize) -> u32
     nodes[2 * node].min(nodes[2 * node + 1])
 }
 
-// The child of a node with the lesser number, the first where both have the same.
+// Returns the child of a node with the lesser number, the first if both have the same.
 fn first_lesser_child(nodes: &[u32], node: usize) -> usize
     requires { 2 * node + 1 < length nodes.now }
     ensures { IsFirstLeastWithin (2 * node) (2 * node + 2) nodes.now result }
@@ -55,7 +54,7 @@ fn first_lesser_child(nodes: &[u32], node: usize) -> usize
     }
 }
 
-// Plays the whole tournament over its leaves.
+// Computes all nodes above the leaves.
 fn play(nodes: &mut [u32], width: usize)
     requires { length nodes.old ≡ 2 * width }
     ensures played { IsPlayed nodes.new }
@@ -68,7 +67,7 @@ fn play(nodes: &mut [u32], width: usize)
     }
 }
 
-// Puts a number at a leaf, and plays again above it, as far up as anything changes.
+// Puts a number at a leaf and recomputes the nodes above it, as far up as anything changes.
 fn replay(nodes: &mut [u32], width: usize, i: usize, number: u32)
     requires sized { length nodes.old ≡ 2 * width }
     requires below { i < width }
@@ -89,7 +88,7 @@ fn replay(nodes: &mut [u32], width: usize, i: usize, number: u32)
 }
 
 impl Tournament {
-    /// The tournament of these numbers.
+    /// Makes the tree of these numbers.
     ///
     /// Costs one pass over them. Takes memory for at most four numbers for each. Fails only if memory runs out.
     pub fn new(alloc: Global, numbers: &[u32]) -> Result<Self, AllocError>
@@ -106,7 +105,7 @@ impl Tournament {
         Ok(Tournament { len, width, nodes })
     }
 
-    /// The number at place i.
+    /// Returns the number at place i.
     pub fn get(&self, i: usize) -> u32
         requires { i < length self.now }
         ensures { result ≡ slice_index self.now i }
@@ -114,7 +113,7 @@ impl Tournament {
         self.nodes[self.width + i]
     }
 
-    /// Puts a number at place i. Costs a step for each doubling of the count of numbers at most.
+    /// Puts a number at place i. Costs O(log n) for n numbers.
     pub fn set(&mut self, i: usize, number: u32)
         requires { i < length self.old }
         ensures { self.new ≡ set self.old i number }
@@ -122,8 +121,7 @@ impl Tournament {
         replay(&mut self.nodes, self.width, i, number);
     }
 
-    /// The place of the least number, and of several the first place. Costs a step for each doubling of the count of
-    /// numbers.
+    /// Returns the place of the least number, of several the first. Costs O(log n) for n numbers.
     pub fn first_least(&self) -> usize
         requires { 0 < length self.now }
         ensures { IsFirstLeast self.now result }

@@ -1,4 +1,4 @@
--- Laws of the definitions, each the contract of a function of `laws`.
+-- Laws of the definitions; each is the contract of a function in `laws`.
 use Rattle.std.specs.Prelude.{ℕ, ◌≡◌, ◌≤◌, ◌<◌, ◌+◌, None, List, ◌++◌, length, get_or, map, All}
 use Rattle.kc_graph.specs.declared.cleaning.Cleaned.{Cleaned}
 use Rattle.kc_graph.specs.declared.limits.TheConstants.{MAX_EDGES}
@@ -30,7 +30,7 @@ BatchKeepsSound =
     (limit : ℕ) (s t : State) (c : Cleaned) → limit ≤ MAX_EDGES → IsSound limit s → IsCleaning s.graph c → refusal_of limit s c ≡ None →
     IsAfterBatch s c t → IsSound limit t
 
--- both invariants hold after a batch where they held before it
+-- both invariants hold after a batch if they held before it
 abbrev pub BatchKeepsBoth : Type 0
 BatchKeepsBoth =
     (limit : ℕ) (s t : State) (c : Cleaned) → IsSound limit s → IsCleaning s.graph c → IsAfterBatch s c t →
@@ -42,7 +42,7 @@ PhasesAreOne =
     (limit : ℕ) (s : State) (c : Cleaned) → IsSound limit s → IsCleaning s.graph c →
     (plans : List PhasePlan) × (((t : State) × IsAfterPhases s c t plans) × ((u : State) (others : List PhasePlan) → IsAfterPhases s c u others → others ≡ plans))
 
--- the phases are numbered on from those before the batch, and those of its plan are all of its phases
+-- the phases are numbered on from those before the batch, and its plan has all of them
 pub record PhasesAreNumberedOn : Type 0 where
   pub count : (s t : State) (c : Cleaned) (plans : List PhasePlan) → IsAfterPhases s c t plans → s.phases + length plans ≡ t.phases
   pub number : (s t : State) (c : Cleaned) (plans : List PhasePlan) (i : ℕ) → IsAfterPhases s c t plans → i < length plans → get_or (map (λ (p : PhasePlan). p.quiet.phase) plans) i 0 ≡ s.phases + i + 1
@@ -62,7 +62,7 @@ pub record IsHistoryOf (n : ℕ) (history : List Entry) (s : State) : Type 0 whe
   pub graph : points.graph_at n history (length history) ≡ s.graph
   pub levels : points.levels_at n history (length history) ≡ s.levels
 
--- after a history that ends at the state before the batch, they lead to the state after it
+-- after a history that ends at the state before the batch, the phases lead to the state after it
 abbrev pub PhasesLeadOn : Type 0
 PhasesLeadOn =
     (limit n : ℕ) (history : List Entry) (s t : State) (c : Cleaned) (plans : List PhasePlan) → IsSound limit s → IsCleaning s.graph c → IsAfterPhases s c t plans →

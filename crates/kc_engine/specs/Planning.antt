@@ -1,4 +1,4 @@
--- What contracts see of an engine, and what a cleaned batch does to it.
+-- What contracts see of an engine, and how a cleaned batch changes that.
 use Rattle.std.specs.Prelude.{ℕ, ◌≡◌, ◌≤◌, Bool, true, false, Some, None, Result, Ok, Err}
 use Rattle.kc_graph.specs.declared.cleaning.Cleaned.{Cleaned}
 use Rattle.kc_graph.specs.declared.limits.TheConstants.{MAX_EDGES}
@@ -15,7 +15,7 @@ use Rattle.kc_engine.specs.Batches.{refusal_of, moves_through, IsAfterBatch, Are
 -- what contracts see of an `Engine`; once it has halted, graph and levels of the state are unspecified
 pub record EngineView : Type 0 where
   pub state : State
-  -- what its thresholds are for
+  -- the profile and the number of vertices of its thresholds
   pub scale : Scale
   pub workers : ℕ
   pub edge_limit : ℕ
@@ -27,8 +27,10 @@ pub record EngineView : Type 0 where
 abbrev pub opened : Shape → EngineView
 opened shape = record { state = start shape.profile shape.n shape.phases_before; scale = record { profile = shape.profile; vertices = shape.n }; workers = shape.workers; edge_limit = shape.edge_limit; halted = false; waits = false }
 
--- what an engine keeps: it has a place for the marker of each worker, no plan waits once it has halted, and unless it has halted its
--- thresholds are for its graph, its state is sound, and a phase may begin
+-- what an engine keeps
+--
+-- It has a place for the marker of each worker, and no plan waits once it has halted. Unless it has halted, its
+-- thresholds are for its graph, its state is sound, and a phase may begin.
 pub record IsKept (places : ℕ) (work : PhaseWork) (e : EngineView) : Type 0 where
   pub some_workers : 1 ≤ e.workers
   pub few_workers : e.workers ≤ 64
@@ -39,7 +41,7 @@ pub record IsKept (places : ℕ) (work : PhaseWork) (e : EngineView) : Type 0 wh
   pub sound : e.halted ≡ false → IsSound e.edge_limit e.state
   pub ready : e.halted ≡ false → AreReady e.state.profile (record { graph = e.state.graph; levels = e.state.levels }) work
 
--- the batch was accepted: f is the engine e after it, the plan has its phases, and waits to be shown
+-- the batch was accepted: f is the engine e after it, and the plan has its phases and waits to be shown
 pub record IsPlanned (e : EngineView) (c : Cleaned) (plan : BatchPlan) (f : EngineView) : Type 0 where
   pub running : e.halted ≡ false
   pub accepted : refusal_of e.edge_limit e.state c ≡ None
@@ -63,7 +65,7 @@ pub record IsCutOff (e : EngineView) (c : Cleaned) (f : EngineView) : Type 0 whe
   pub profile : f.state.profile ≡ e.state.profile
   pub phases : f.state.phases ≡ e.state.phases
 
--- what `plan` answers to a batch that comes to c, and the engine before and after it
+-- what `plan` returns for a batch with the cleaning c, and the engine before and after it
 abbrev pub Answers : EngineView → Cleaned → Result BatchPlan EngineFault → EngineView → Type 0
 Answers e c (Ok plan) f = IsPlanned e c plan f
 Answers e c (Err Halted) f = (e.halted ≡ true) × (f ≡ e)

@@ -1,4 +1,4 @@
-//! The engine itself: a batch is planned, which changes graph and levels, and the plan is then shown in a store or left unshown.
+//! The engine: it plans a batch, which changes graph and levels; then its plan is shown in a store, or left unshown.
 ghost use Rattle.std.specs.Prelude.{◌≡◌, ◌-◌, ◌<◌, ◌≤◌, true, false, IfOk, OnOk, All, slice_index};
 ghost use Rattle.kc_levels.specs.LevelList.{at_least, MeetsBoth};
 ghost use Rattle.kc_groups.specs.WellFormed.{IsWellFormed};
@@ -27,30 +27,31 @@ use std::thread::Threads;
 
 /// A graph with levels, which cleaned batches change one after another.
 ///
-/// Contracts see it as an `EngineView`: its state (`State`), what its thresholds are for, workers and edge limit, whether it has halted, and
-/// whether a plan waits to be shown. Unless it has halted its state is sound (`IsSound`): both invariants hold, and no number is
-/// above its limit.
+/// Contracts see an `EngineView`: its state (`State`), the scale of its thresholds, workers and edge limit. They also
+/// see whether it has halted, and whether a plan is pending. Unless it has halted, its state is sound (`IsSound`): both
+/// invariants hold, and no number is above its limit.
 ///
-/// Besides the graph it keeps 25 bytes a vertex: 10 for levels and counts, and 15 for what phases work with.
+/// Besides the graph it keeps 25 bytes a vertex: 10 for levels and counts, and 15 for the workspaces of phases.
 #[derive(Drop)]
 pub struct Engine {
-    // For the vertices of the graph.
+    // The thresholds for the vertices of the graph.
     thresholds: Thresholds,
-    // The graph with its levels and counts. Unless it has halted, the levels meet both invariants.
+    // The graph with its levels and counts. Unless the engine has halted, the levels meet both invariants.
     adj: LevelAdj,
-    // What phases work with: ready for the graph and its levels, unless it has halted.
+    // The workspaces of phases, ready for the graph and its levels unless the engine has halted.
     work: PhaseWork,
-    // How many phases there were, at most `MAX_PHASE`.
+    // The number of phases so far, at most `MAX_PHASE`.
     phases: u32,
-    // The most threads that a phase uses, 1 to 64: as many as there are places.
+    // The most threads that a phase uses, 1 to 64: the number of places for markers.
     workers: u32,
-    // The most edges that a batch may come to, 0 to `MAX_EDGES`. Unless it has halted, the graph has no more.
+    // The most edges that the graph may have after a batch, 0 to `MAX_EDGES`. Unless the engine has halted, the graph
+    // has no more now.
     edge_limit: u32,
-    // Whether there was no memory for a batch: graph and levels may then be those in the middle of a phase.
+    // Whether there was no memory for a batch. Graph and levels may then be those in the middle of a phase.
     halted: bool,
-    // Whether a plan waits to be shown.
+    // Whether a pending plan waits to be shown.
     waits: bool,
-    // Where the markers stand that it lends while it shows a plan: one place a worker.
+    // The places of the markers that the engine lends while it shows a plan: one for each worker.
     places: MarkerPlaces,
 }
 
@@ -65,9 +66,11 @@ impl Model for Engine {
 }
 
 impl Engine {
-    /// The engine of this shape before its first batch (`opened`): no edges, all levels 0, not halted, and no plan waits to be shown.
+    /// Makes the engine of this shape before its first batch (`opened`): no edges, all levels 0, not halted, and no
+    /// pending plan.
     ///
-    /// The numbers of the shape are within their ranges. Takes memory and time for n vertices. Fails only if memory runs out.
+    /// The numbers of the shape are within their ranges. Takes memory and time for n vertices. Fails only if memory
+    /// runs out.
     pub fn open(alloc: Global, shape: Shape) -> Result<Engine, AllocError>
         requires some { 1 ≤ shape.n }
         requires small { shape.n ≤ MAX_VERTICES }
@@ -94,13 +97,13 @@ impl Engine {
         })
     }
 
-    // Why the batch is refused, if it is. The engine hasn't halted.
+    // Returns why the batch is refused, if it is. The engine hasn't halted.
     fn refusal_of(&self, cleaned: &Cleaned) -> Option<EngineFault>
         requires running { self.now.halted ≡ false }
         requires cleaning { IsCleaning self.now.state.graph cleaned.now }
         ensures { result ≡ refusal_of self.now.edge_limit self.now.state cleaned.now }
     {
-        // Its contract says that the edges of the graph ascend.
+        // Evidence for the check: the edges of the graph ascend.
         let _n = self.adj.graph().vertices();
         let left = self.adj.graph().edge_count() - cleaned.removed.len() as u32;
         let edges = left + cleaned.added.len() as u32;
@@ -115,29 +118,35 @@ impl Engine {
         None
     }
 
-    /// Changes graph and levels by a cleaned batch (`Answers`), and gives the phases and the number of moves.
+    /// Changes graph and levels by a cleaned batch (`Answers`), and returns its phases and the number of moves.
     ///
-    /// First the edges of `removed` leave and the levels fall to the lowered list (`IsLowered`), then the edges of `added` come
-    /// in and the levels rise to the raised list (`IsRaised`). Each is a phase of its own and takes the next number; there is
-    /// none for an empty list. No plan waits to be shown, and unless the engine has halted, `cleaned` is what `clean` gives for this
-    /// graph. After `Ok` the plan waits.
+    /// First the edges of `removed` leave and the levels fall to the lowered list (`IsLowered`). Then the edges of
+    /// `added` come in and the levels rise to the raised list (`IsRaised`). Each is a phase of its own and takes the
+    /// next number; an empty list has no phase. No plan is pending, and unless the engine has halted, `cleaned` is the
+    /// result of `clean` for this graph. After `Ok` the plan is pending.
     ///
-    /// The faults, of which the first that applies comes, before memory is asked for:
-    /// - `Halted` exactly where an earlier batch ran out of memory;
-    /// - `EdgeLimit` exactly where the edges less those removed and with those added are more than the edge limit, with that
+    /// Of these faults the first that applies is returned, before memory is requested:
+    ///
+    /// - `Halted` exactly if an earlier batch ran out of memory;
+    /// - `EdgeLimit` exactly if the graph would have more edges after the batch than the edge limit, with their number;
+    /// - `PhaseLimit` exactly if the batch has a phase and the number of its last one is above `MAX_PHASE`, with that
     ///   number;
-    /// - `PhaseLimit` exactly where the batch has a phase and the number of its last one is above `MAX_PHASE`, with that number;
-    /// - `Memory` only where none of these applies.
+    /// - `Memory` only if none of the others applies.
     ///
-    /// After the first three the engine is unchanged. After `Memory` it has halted, and its graph and levels are unspecified.
+    /// After the first three the engine is unchanged. After `Memory` it has halted, and its graph and levels are
+    /// unspecified.
     ///
-    /// A phase has the entries of `AreEntries`, by its number, the levels before and after it, and the graph that has its edges:
-    /// the one before edges leave, and the one after they come in. Each is well formed.
+    /// A phase has the entries of `AreEntries`, by its number, the levels before and after it, and the graph that has
+    /// its edges. That is the graph before edges leave, or after edges come in. Each plan is well formed.
     ///
-    /// Costs what `delete_phase`, `insert_phase` and, for each phase, `plan_moves` cost, besides what it takes to follow each phase
-    /// with what the other kind works with: after a deletion phase two looks an edge that left, and one for each vertex that fell
-    /// and each of its neighbours; after an insertion phase a look for each vertex that rose. So no phase passes over all vertices
-    /// or all edges. A batch without phases and one that is refused cost O(1).
+    /// The cost is that of `delete_phase`, `insert_phase` and, for each phase, `plan_moves`. After each phase the
+    /// workspace of the other kind of phase is brought up to date:
+    ///
+    /// - after a deletion phase by two steps for each edge that left, and one for each fallen vertex and each of its
+    ///   neighbours;
+    /// - after an insertion phase by a step for each vertex that rose.
+    ///
+    /// So no phase passes over all vertices or all edges. A refused batch and a batch without phases cost O(1).
     pub fn plan<R: Threads + Sync, G: Gate + Sync>(
         &mut self,
         rt: &R,
@@ -158,7 +167,7 @@ impl Engine {
         if let Some(fault) = self.refusal_of(cleaned) {
             return Err(fault);
         }
-        // Until both phases are done.
+        // The engine counts as halted until both phases are done.
         self.halted = true;
         let context = PhaseContext {
             rounds: Rounds::new(rt, alloc, gate, self.workers),
@@ -180,20 +189,23 @@ impl Engine {
         Ok(plan)
     }
 
-    /// Shows the plan that waits: each of its phases takes effect in the store, one group after another, and the writer's history grows by
-    /// their entries (`AreShown`). Afterwards no plan waits, and the engine is otherwise unchanged.
+    /// Shows the pending plan: each of its phases takes effect in the store, one group after another. The writer's
+    /// history grows by their entries (`AreShown`). Afterwards no plan is pending, and the engine is otherwise
+    /// unchanged.
     ///
-    /// The store is the writer's and for the vertices of the graph. Each group of the writer's last begun phase is published, each of
-    /// its moves cleared, and no marker is out; so it is again afterwards. The plan continues the writer's history to the engine
-    /// (`Continues`).
+    /// The store is the writer's and for the vertices of the graph. Each group of the writer's last begun phase is
+    /// published, and each of its moves is cleared. No marker is out. All of that holds again afterwards. The plan
+    /// continues the writer's history to the engine's state (`Continues`).
     ///
-    /// The moves of a group are cut into ranges of their number divided by the workers, rounded up. The ranges are marked, the group is
-    /// published, and the ranges are cleared. At the start of each range the gate is told `Piece` with its index, for marking and for
-    /// clearing, and before each publication `Publishing`. The ranges of a group go to threads where it has 8,192 moves or more, or is the
-    /// first one that the engine shows, and are done one after another otherwise; where no thread can be made the calling thread does the
-    /// range. Takes no memory, and never waits.
+    /// The moves of a group are cut into ranges. A range has the number of moves divided by the workers, rounded up.
+    /// The ranges are marked, the group is published, and the ranges are cleared.
     ///
-    /// Costs two stores to mark a move and one to clear it.
+    /// The gate gets `Piece` with the range's index at the start of each range, for marking and for clearing, and
+    /// `Publishing` before each publication. The ranges go to threads if the group has 8,192 moves or more, or is the
+    /// first one that the engine shows. Otherwise they are done one after another. If no thread can be made, the
+    /// calling thread does the range. Takes no memory, and never waits.
+    ///
+    /// Cost: two stores to mark a move and one to clear it.
     pub fn show<R: Threads + Sync, G: Gate + Sync>(
         &mut self,
         rt: &R,
@@ -219,17 +231,17 @@ impl Engine {
         self.waits = false;
     }
 
-    /// Leaves the plan that waits unshown, where nobody looks levels up. Afterwards no plan waits, and the engine is otherwise
-    /// unchanged. Costs O(1).
+    /// Leaves the pending plan unshown, for an engine whose levels no reader looks up. Afterwards no plan is pending,
+    /// and the engine is otherwise unchanged. Costs O(1).
     pub fn leave_unshown(&mut self)
         requires { self.old.waits ≡ true }
         ensures { self.new ≡ record self.old { waits = false } }
     {
-        // Graph and levels are those after the plan already.
+        // Graph and levels are already those after the plan.
         self.waits = false;
     }
 
-    /// The graph, of which nothing is specified once the engine has halted.
+    /// Returns the graph. Once the engine has halted, the graph is unspecified.
     pub fn graph(&self) -> &Graph
         ensures value { result.now ≡ self.now.state.graph }
         ensures sound { self.now.halted ≡ false → IsSound self.now.edge_limit self.now.state }
@@ -238,7 +250,7 @@ impl Engine {
         self.adj.graph()
     }
 
-    /// The levels, of which nothing is specified once the engine has halted.
+    /// Returns the levels. Once the engine has halted, the levels are unspecified.
     pub fn levels(&self) -> &Levels
         ensures value { result.now ≡ self.now.state.levels }
         ensures sound { self.now.halted ≡ false → IsSound self.now.edge_limit self.now.state }
@@ -246,7 +258,7 @@ impl Engine {
         self.adj.levels()
     }
 
-    /// How many neighbours of `v` are on its level or above (`at_least`). Costs O(1).
+    /// Returns how many neighbours of `v` are on its level or above (`at_least`). Costs O(1).
     pub fn at_least_own(&self, v: u32) -> u32
         requires { v < self.now.state.graph.vertices }
         ensures { result ≡ at_least self.now.state.graph self.now.state.levels v (slice_index self.now.state.levels v) }
@@ -254,7 +266,8 @@ impl Engine {
         self.adj.at_least_own(v)
     }
 
-    /// How many neighbours of `v` are on the level below its own or above (`at_least`), and on level 0 how many it has. Costs O(1).
+    /// Returns how many neighbours of `v` are on the level below its own or above (`at_least`); on level 0 all count.
+    /// Costs O(1).
     pub fn at_least_below(&self, v: u32) -> u32
         requires { v < self.now.state.graph.vertices }
         ensures { result ≡ at_least self.now.state.graph self.now.state.levels v (slice_index self.now.state.levels v - 1) }
@@ -262,7 +275,7 @@ impl Engine {
         self.adj.at_least_below(v)
     }
 
-    /// The thresholds that the levels go by. They are for the vertices of the graph, unless the engine has halted.
+    /// Returns the thresholds of the levels. Unless the engine has halted, they are for the vertices of the graph.
     pub fn thresholds(&self) -> &Thresholds
         ensures value { result.now ≡ self.now.scale }
         ensures profile { result.now.profile ≡ self.now.state.profile }
@@ -271,7 +284,7 @@ impl Engine {
         &self.thresholds
     }
 
-    /// How many phases there were, those before the engine was opened among them: 0 to `MAX_PHASE`.
+    /// Returns the number of phases, 0 to `MAX_PHASE`. The phases before the engine was opened count too.
     pub fn phases(&self) -> u32
         ensures value { result ≡ self.now.state.phases }
         ensures few { self.now.halted ≡ false → result ≤ MAX_PHASE }
@@ -279,7 +292,7 @@ impl Engine {
         self.phases
     }
 
-    /// The most threads that a phase uses: 1 to 64.
+    /// Returns the most threads that a phase uses: 1 to 64.
     pub fn workers(&self) -> u32
         ensures value { result ≡ self.now.workers }
         ensures some { 1 ≤ result }

@@ -26,21 +26,20 @@ use std::marker::Brand;
 use std::sync::ledger::{Blank, Ledger};
 use std::thread::Threads;
 
-// What stays the same through the phases of a batch: who makes their rounds, who plans them, where memory comes from, and the
-// thresholds.
+// The values that stay the same through the phases of a batch: rounds, planners, allocator and thresholds.
 #[derive(Drop)]
 pub(crate) struct PhaseContext<'a, R, G> {
-    // By whom candidates are tested, and who is told of it.
+    // Tests candidates, and passes their spots to the gate.
     pub(crate) rounds: Rounds<'a, R, G>,
-    // By whom the moves of a phase are gathered into groups.
+    // Gathers the moves of a phase into groups.
     pub(crate) planners: Planners<'a, R>,
-    // Where the memory of rounds, moves and plans comes from.
+    // The allocator of rounds, moves and plans.
     pub(crate) alloc: Global,
     // The thresholds for the number of vertices of the graph that the phases change.
     pub(crate) th: &'a Thresholds,
 }
 
-// How many phases it takes to let these edges leave, or come in: 0 or 1.
+// Returns the number of phases in which these edges leave, or come in: 0 or 1.
 fn phases_for(edges: &Edges) -> u32
     ensures value { result ≡ phases_for edges.now }
     ensures few { result ≤ 1 }
@@ -48,7 +47,7 @@ fn phases_for(edges: &Edges) -> u32
     u32::from(!edges.is_empty())
 }
 
-// How many phases the batch has: 0, 1 or 2.
+// Returns the number of phases of the batch: 0, 1 or 2.
 pub(crate) fn phase_count(cleaned: &Cleaned) -> u32
     ensures value { result ≡ phases_of cleaned.now }
     ensures few { result ≤ 2 }
@@ -56,8 +55,8 @@ pub(crate) fn phase_count(cleaned: &Cleaned) -> u32
     phases_for(&cleaned.removed) + phases_for(&cleaned.added)
 }
 
-// Lets edges leave, in phase `phase` if there are any, and gives its plan. `work` is ready before and afterwards. The counter of
-// the phase's steps is made from the blank ledger.
+// Lets edges leave, in phase `phase` if there are any, and returns its plan. `work` is ready before and afterwards. The
+// counter of the phase's steps is made from the blank ledger.
 fn deletion_phase<R: Threads + Sync, G: Gate + Sync, L: Ledger>(
     context: &PhaseContext<'_, R, G>,
     blank: Blank,
@@ -82,7 +81,8 @@ fn deletion_phase<R: Threads + Sync, G: Gate + Sync, L: Ledger>(
     if removed.is_empty() {
         return Ok(BatchPlan::empty(context.alloc));
     }
-    // Their contracts say that the edges of the graph ascend, how many vertices there are at most, and that each has a level.
+    // Evidence for the check: the edges of the graph ascend, its vertices are at most `MAX_VERTICES`, and each has a
+    // level.
     let _n = adj.graph().vertices();
     let _levels = adj.levels();
     let alloc = context.alloc;
@@ -103,8 +103,8 @@ fn deletion_phase<R: Threads + Sync, G: Gate + Sync, L: Ledger>(
     BatchPlan::of_phase(alloc, plan, moves.len() as u32)
 }
 
-// Lets edges come in, in phase `phase` if there are any, and gives its plan. `work` is ready before and afterwards. The counter of
-// the phase's steps is made from the blank ledger.
+// Lets edges come in, in phase `phase` if there are any, and returns its plan. `work` is ready before and afterwards.
+// The counter of the phase's steps is made from the blank ledger.
 fn insertion_phase<R: Threads + Sync, G: Gate + Sync, L: Ledger>(
     context: &PhaseContext<'_, R, G>,
     blank: Blank,
@@ -130,7 +130,7 @@ fn insertion_phase<R: Threads + Sync, G: Gate + Sync, L: Ledger>(
     if added.is_empty() {
         return Ok(BatchPlan::empty(context.alloc));
     }
-    // As in a phase of deletions.
+    // Evidence for the check, as in a phase of deletions.
     let _n = adj.graph().vertices();
     let _levels = adj.levels();
     let alloc = context.alloc;
@@ -159,8 +159,10 @@ fn insertion_phase<R: Threads + Sync, G: Gate + Sync, L: Ledger>(
     BatchPlan::of_phase(alloc, plan, moves.len() as u32)
 }
 
-// Lets the edges leave that the batch removes, and then those come in that it adds, each in a phase of their own if there are
-// any, and gives the plan of both. There were `before` phases. After memory ran out graph, levels and `work` are unspecified.
+// Lets the edges leave that the batch removes, and then those come in that it adds. Each is a phase of its own if there
+// are any. Returns the plan of both.
+//
+// There were `before` phases. If memory runs out, graph, levels and `work` are unspecified.
 pub(crate) fn run_phases<R: Threads + Sync, G: Gate + Sync>(
     context: &PhaseContext<'_, R, G>,
     adj: &mut LevelAdj,
@@ -180,7 +182,7 @@ pub(crate) fn run_phases<R: Threads + Sync, G: Gate + Sync>(
     ensures plan { IfOk result (λ plan. IsPlanOf context.now.th.now.profile before adj.old.graph cleaned.now adj.old.levels adj.new.levels plan) }
     ensures well_formed { IfOk result (λ plan. All (IsWellFormed adj.old.graph.vertices) plan.phases) }
 {
-    // Its contract says that the edges of the graph ascend, and how many vertices there are at most.
+    // Evidence for the check: the edges of the graph ascend, and its vertices are at most `MAX_VERTICES`.
     let _n = adj.graph().vertices();
     let fallen = deletion_phase::<R, G, Brand>(
         context,

@@ -1,23 +1,23 @@
-//! What a batch comes to in an engine: the entries of its phases, and how many moves they have together.
+//! The result of a batch in an engine: the entries of its phases, and the number of moves in them.
 ghost use Rattle.std.specs.Prelude.{◌≡◌, ◌+◌, ◌<◌, ◌^◌, [], ◌∷◌, ◌++◌, IfOk};
 
 use crate::plan_lists::PhasePlans;
 use kc_groups::PhasePlan;
 use std::alloc::{AllocError, Global};
 
-/// What a batch did.
+/// The result of a batch.
 #[derive(Drop)]
 pub struct BatchPlan {
-    /// The entries of the batch's phases: those in which edges leave, if some do, and then those in which edges come in, if some
-    /// do.
+    /// The entries of the batch's phases. The edges that leave are the first phase, and those that come in the last
+    /// one. A phase without edges is left out.
     pub phases: PhasePlans,
-    /// The number of moves in the batch's phases: a vertex that has another level after a phase than before it moves once in
-    /// that phase. At most twice the number of vertices.
+    /// The number of moves in the batch's phases, at most twice the number of vertices. A vertex moves once in a phase
+    /// if its level after the phase is another than before.
     pub moves: u32,
 }
 
 impl BatchPlan {
-    // No phase.
+    // Makes a plan without phases.
     pub(crate) fn empty(alloc: Global) -> BatchPlan
         ensures { result ≡ record { phases = []; moves = 0 } }
     {
@@ -27,7 +27,7 @@ impl BatchPlan {
         }
     }
 
-    // One phase, with `moves` moves.
+    // Makes a plan of one phase, with `moves` moves.
     pub(crate) fn of_phase(
         alloc: Global,
         plan: PhasePlan,
@@ -40,7 +40,7 @@ impl BatchPlan {
         Ok(BatchPlan { phases, moves })
     }
 
-    // The phases, and after them those of another plan.
+    // Returns the phases, and after them those of another plan.
     pub(crate) fn and_then(self, later: BatchPlan) -> Result<BatchPlan, AllocError>
         requires { self.moves + later.moves < 2 ^ 32 }
         ensures { IfOk result (λ batch. batch ≡ record { phases = self.phases ++ later.phases; moves = self.moves + later.moves }) }

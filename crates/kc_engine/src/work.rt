@@ -9,20 +9,20 @@ use kc_insert::InsertionWork;
 use kc_levels::Thresholds;
 use std::alloc::{AllocError, Global};
 
-// What the phases of an engine work with, kept between them and ready for its graph (`AreReady`), so that a phase costs what it
-// changes and not what the graph has. Takes 15 bytes a vertex.
+// The workspaces of an engine's phases, kept between phases and ready for its graph (`AreReady`). So a phase costs what
+// it changes, and not what the graph has. Takes 15 bytes a vertex.
 #[derive(Drop)]
 pub(crate) struct PhaseWork {
-    // What deletion phases work with: it has a copy of the levels.
+    // The workspace of deletion phases, with a copy of the levels.
     pub(crate) deletion: DeletionWork,
-    // What insertion phases work with: it has copies of the levels and of a count for each vertex.
+    // The workspace of insertion phases, with copies of the levels and of a count for each vertex.
     pub(crate) insertion: InsertionWork,
-    // What plans work with: it has the number of vertices at each vertex, as none moves between phases.
+    // The workspace of plans, with the number of vertices at each vertex, as no vertex moves between phases.
     pub(crate) groups: GroupWork,
 }
 
 impl PhaseWork {
-    // Ready for this graph. Costs a pass over the vertices and one over the levels up to the top.
+    // Makes the workspaces, ready for this graph. Costs a pass over the vertices and one over the levels up to the top.
     pub(crate) fn new(
         alloc: Global,
         th: &Thresholds,

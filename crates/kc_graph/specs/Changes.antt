@@ -1,4 +1,4 @@
--- Lists of edges that may come into a graph, or leave it, one after another.
+-- Lists of edges that may come into a graph or leave it, one after another.
 use Rattle.std.specs.Prelude.{◌≡◌, ◌<◌, false, true, List, [], ◌∷◌, length, All}
 use Rattle.kc_graph.specs.declared.limits.TheConstants.{MAX_EDGES}
 use Rattle.kc_graph.specs.Shape.{GraphShape, Pair, has_edge, with_edge, without_edge}

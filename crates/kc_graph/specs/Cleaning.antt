@@ -1,4 +1,4 @@
--- Cleaning: what the items of a batch, which ask one after another, come to in a graph.
+-- Cleaning: the net effect on a graph of the items of a batch, which ask one after another.
 use Rattle.std.specs.Prelude.{ℕ, ◌+◌, ◌<◌, ◌==◌, nat_lt, Bool, false, true, not, ◌&&◌, ◌||◌, cond, List, [], ◌∷◌, Option, Some, None, filter, count_by}
 use Rattle.std.specs.List.{list_any}
 use Rattle.kc_graph.specs.declared.items.Item.{Item}
@@ -30,7 +30,8 @@ pair_of u v = cond (nat_lt u v) (u, v) (v, u)
 abbrev pub holds : ℕ → Pair → Bool
 holds v e = (e.0 == v) || (e.1 == v)
 
--- whether the item touches the pair e: an insertion or deletion between its two vertices, in either order, or an isolation of one of them
+-- whether the item touches the pair e: an insertion or deletion between its two vertices, in either order, or an
+-- isolation of one of them
 abbrev pub touches : Pair → Item → Bool
 touches e (Insert u v) = same_edge e (pair_of u v)
 touches e (Delete u v) = same_edge e (pair_of u v)
@@ -45,14 +46,14 @@ abbrev pub deciding_item : Pair → List Item → Option Item
 deciding_item e [] = None
 deciding_item e (item ∷ later) = cond (is_touched e later) (deciding_item e later) (cond (touches e item) (Some item) None)
 
--- whether there is a deciding item, and it takes the edge out: a deletion or an isolation
+-- whether an item decides on the pair and takes the edge out: a deletion or an isolation
 abbrev pub takes_out : Option Item → Bool
 takes_out None = false
 takes_out (Some (Insert u v)) = false
 takes_out (Some (Delete u v)) = true
 takes_out (Some (Isolate v)) = true
 
--- whether there is a deciding item, and it is an insertion
+-- whether an item decides on the pair and is an insertion
 abbrev pub is_insertion : Option Item → Bool
 is_insertion None = false
 is_insertion (Some (Insert u v)) = true
@@ -80,11 +81,13 @@ is_repeat (Insert u v) later = is_touched (pair_of u v) later
 is_repeat (Delete u v) later = is_touched (pair_of u v) later
 is_repeat (Isolate v) later = false
 
--- whether an isolation of v decides on an edge: one at v that no later item touches
+-- whether an isolation of v decides on an edge: on one at v that no later item touches
 abbrev pub isolates_some : ℕ → List Pair → List Item → Bool
 isolates_some v edges later = list_any (λ e. holds v e && not (is_touched e later)) edges
 
--- whether the item decides and changes nothing: it inserts an edge that is there, deletes one that is not, or isolates a vertex and decides on no edge
+-- whether the item decides and changes nothing
+--
+-- It inserts an edge that is there, deletes one that isn't, or isolates a vertex and decides on no edge.
 abbrev pub is_idle : List Pair → Item → List Item → Bool
 is_idle edges (Insert u v) later = not (is_touched (pair_of u v) later) && has_edge (pair_of u v) edges
 is_idle edges (Delete u v) later = not (is_touched (pair_of u v) later) && not (has_edge (pair_of u v) edges)
@@ -95,7 +98,7 @@ abbrev pub count_with_later : (Item → List Item → Bool) → List Item → �
 count_with_later p [] = 0
 count_with_later p (item ∷ later) = cond (p item later) 1 0 + count_with_later p later
 
--- what the items come to: loops are set aside, and on each pair the last item that touches it decides
+-- the net effect of the items: loops are set aside, and on each pair the last item that touches it decides
 abbrev pub cleaned : GraphShape → List Item → Cleaned
 cleaned g items =
     let proper = proper_items items in

@@ -1,4 +1,4 @@
--- Laws of cleaning, each the contract of a function of `laws`.
+-- Laws of cleaning; each is the contract of a function in `laws`.
 use Rattle.std.specs.Prelude.{ℕ, ◌≡◌, ◌+◌, ◌-◌, ◌≤◌, ◌==◌, Bool, false, not, ◌&&◌, cond, List, [], ◌∷◌, length, filter, All}
 use Rattle.kc_graph.specs.declared.cleaning.Cleaned.{Cleaned}
 use Rattle.kc_graph.specs.declared.items.Item.{Item}
@@ -8,7 +8,9 @@ use Rattle.kc_graph.specs.Shape.{GraphShape, Pair, EdgesFrom, IsGraph, has_edge,
 use Rattle.kc_graph.specs.Changes.{CanAdd, CanRemove, AllAbsent, AllPresent}
 use Rattle.kc_graph.specs.Cleaning.{IsInside, holds, pair_of, proper_items, is_touched, isolates_some, count_with_later, cleaned}
 
--- the edges removed are in the graph and those added are not, both ascend, each edge once, and the one list may leave and then the other come in
+-- the edges removed are in the graph, and those added are not
+--
+-- Both lists ascend, each edge once. The removed ones may leave, and then the added ones may come in.
 pub record FitsGraph (g : GraphShape) (c : Cleaned) : Type 0 where
   pub removed_ascend : EdgesFrom g.vertices 0 0 c.removed
   pub removed_present : AllPresent g c.removed
@@ -20,7 +22,7 @@ pub record FitsGraph (g : GraphShape) (c : Cleaned) : Type 0 where
   pub fewer_later : length (without_edges g c.removed).edges + length c.removed ≡ length g.edges
   pub can_add : length g.edges - length c.removed + length c.added ≤ MAX_EDGES → CanAdd (without_edges g c.removed) c.added
 
--- what a batch comes to fits the graph
+-- the net effect of a batch fits the graph
 abbrev pub CleanedFitsGraph : Type 0
 CleanedFitsGraph = (g : GraphShape) (items : List Item) → IsGraph g → All (IsInside g.vertices) items → FitsGraph g (cleaned g items)
 
@@ -28,7 +30,10 @@ CleanedFitsGraph = (g : GraphShape) (items : List Item) → IsGraph g → All (I
 abbrev pub without_edges_at : ℕ → GraphShape → GraphShape
 without_edges_at v g = record { vertices = g.vertices; edges = filter (λ e. not (holds v e)) g.edges }
 
--- the graph after an item, which changes nothing if it is a loop, inserts an edge that is there, deletes one that is not, or isolates a vertex without edges
+-- the graph after an item
+--
+-- A loop changes nothing. Neither does an insertion of an edge that is there, a deletion of one that isn't, or an
+-- isolation of a vertex without edges.
 abbrev pub after_item : GraphShape → Item → GraphShape
 after_item g (Insert u v) = cond (u == v) g (with_edge g (pair_of u v))
 after_item g (Delete u v) = cond (u == v) g (without_edge g (pair_of u v))
@@ -39,7 +44,7 @@ abbrev pub after_items : GraphShape → List Item → GraphShape
 after_items g [] = g
 after_items g (item ∷ later) = after_items (after_item g item) later
 
--- the edges removed and added lead to the graph to which the items lead, one after another
+-- the edges removed and added lead to the same graph as the items, one after another
 abbrev pub CleanedLeadsAsItems : Type 0
 CleanedLeadsAsItems = (g : GraphShape) (items : List Item) → IsGraph g → All (IsInside g.vertices) items → with_edges (without_edges g (cleaned g items).removed) (cleaned g items).added ≡ after_items g items
 

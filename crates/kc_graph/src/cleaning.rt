@@ -1,4 +1,5 @@
-//! Cleaning: the edges that the items of a batch take out of a graph and put in, and how many items ask for nothing.
+//! Cleaning: the edges that the items of a batch take out of a graph and put in, and the counts of items that change
+//! nothing.
 
 ghost use Rattle.std.specs.Prelude.{◌≡◌, ◌<◌, ◌≤◌, [], true, false, length, All, IfOk, OnOk};
 ghost use Rattle.std.specs.List.{list_any};
@@ -15,30 +16,28 @@ use crate::limits::MAX_ITEMS;
 use std::alloc::{AllocError, Global};
 use std::thread::Threads;
 
-/// What the items of a batch come to in a graph (`cleaned`).
+/// The net effect of the items of a batch on a graph (`cleaned`).
 ///
 /// Of several items that touch the same two vertices the last decides.
 #[derive(Drop)]
 pub struct Cleaned {
-    /// The edges that leave the graph, ascending: each is in it, and a deletion of it or an isolation
-    /// of one of its vertices decides on it.
+    /// The edges that leave, ascending. Each is in the graph, and a deletion of it or an isolation of one of its
+    /// vertices decides on it.
     pub removed: Edges,
-    /// The edges that come into the graph, ascending: none is in it, and an insertion decides on
-    /// each.
+    /// The edges that come in, ascending. None is in the graph, and an insertion decides on each.
     pub added: Edges,
-    /// The number of insertions and deletions between a vertex and itself. They ask for nothing.
+    /// The number of loops: insertions and deletions between a vertex and itself. They ask for nothing.
     pub loops: u32,
-    /// The number of the other insertions and deletions that don't decide, since a later item
-    /// touches the same two vertices.
+    /// The number of repeats: other insertions and deletions whose two vertices a later item touches. They don't
+    /// decide.
     pub repeats: u32,
-    /// The number of items that change nothing and are neither loops nor repeats: insertions of
-    /// edges that are in the graph, deletions of edges that are not, and isolations that decide on
-    /// no edge of the graph.
+    /// The number of items that change nothing and are neither loops nor repeats. These are insertions of edges that
+    /// are there, deletions of edges that aren't, and isolations that decide on no edge.
     pub idle: u32,
 }
 
 impl Cleaned {
-    /// What loops come to, before the other items are taken in one by one.
+    /// Returns the net effect of this many loops, before any other item is taken in.
     pub fn of_loops(alloc: Global, loops: u32) -> Self
         ensures { result ≡ record { removed = []; added = []; loops = loops; repeats = 0; idle = 0 } }
     {
@@ -70,13 +69,14 @@ impl Cleaned {
     }
 }
 
-// As many workers as an engine may have. Any number from 2 on does the same here.
+// The most workers of an engine. Any number from 2 on does the same here.
 const MAX_WORKERS: u32 = 64;
 
-// The number of keys whose rows are looked at together.
+// The number of keys whose rows are prefetched together.
 const TOGETHER: usize = 16;
 
-// Whether the rows of the lesser vertices of the first keys are at hand, which they are after a look at each.
+// Prefetches the rows of the lesser vertices of the first keys. Always true; the compiler can't know that, so it keeps
+// the loads.
 fn are_at_hand(graph: &Graph, keys: &[Key]) -> bool
     ensures { result ≡ true }
 {
@@ -88,8 +88,8 @@ fn are_at_hand(graph: &Graph, keys: &[Key]) -> bool
     true
 }
 
-// Whether the key is the last of its pair (`is_last_of_pair`). Before 16 of the later keys have their turn, their rows are looked at
-// together.
+// Returns whether the key is the last of its pair (`is_last_of_pair`). At every 16th key it prefetches the rows of the
+// next 16.
 fn is_last_in_turn(graph: &Graph, key: &Key, later: &[Key]) -> bool
     ensures { result ≡ is_last_of_pair key.now later.now }
 {
@@ -99,7 +99,7 @@ fn is_last_in_turn(graph: &Graph, key: &Key, later: &[Key]) -> bool
     key.is_last_of_pair(later)
 }
 
-// What the items of a batch without isolations come to, by a walk over their sorted keys.
+// Returns the net effect of a batch without isolations, by a walk over its sorted keys.
 fn clean_pairs<R: Threads + Sync>(
     rt: &R,
     alloc: Global,
@@ -112,7 +112,7 @@ fn clean_pairs<R: Threads + Sync>(
     requires none { list_any is_isolation items.now ≡ false }
     ensures { IfOk result (λ c. c ≡ cleaned graph.now items.now) }
 {
-    // Its contract says that the edges of the graph ascend.
+    // The contract of `vertices` says that the edges of the graph ascend.
     let _ = graph.vertices();
     let keys = sorted_keys(rt, alloc, workers, items)?;
     let mut cleaned = Cleaned::of_loops(alloc, (items.len() - keys.len()) as u32);
@@ -128,7 +128,7 @@ fn clean_pairs<R: Threads + Sync>(
     Ok(cleaned)
 }
 
-// What the items of any batch come to, by a walk from the last item to the first.
+// Returns the net effect of any batch, by a walk from its last item to its first.
 fn clean_all<R: Threads + Sync>(
     rt: &R,
     alloc: Global,
@@ -140,7 +140,7 @@ fn clean_all<R: Threads + Sync>(
     requires few { length items.now ≤ MAX_ITEMS }
     ensures { IfOk result (λ c. c ≡ cleaned graph.now items.now) }
 {
-    // Its contract says that the edges of the graph ascend.
+    // The contract of `vertices` says that the edges of the graph ascend.
     let _ = graph.vertices();
     let mut cleaned = walk_back(alloc, graph, items)?.cleaned;
     cleaned.removed.sort(rt, workers);
@@ -156,15 +156,14 @@ fn has_isolation(items: &[Item]) -> bool
         .any(|item| matches!(*item, Item::Isolate { .. }))
 }
 
-/// What the items of a batch come to in the graph, which stays as it is (`cleaned`), for a caller with this
-/// many workers: any number.
+/// Returns the net effect of the items on the graph (`cleaned`), which stays as it is. The caller has this many
+/// workers, any number.
 ///
-/// The vertices of the items are below n, and they are at most `MAX_ITEMS`. The answer is the same
-/// for any number of workers. Fails only if memory runs out.
+/// The vertices of the items are below n, and there are at most `MAX_ITEMS` items. The answer is the same for any
+/// number of workers. Fails only if memory runs out.
 ///
-/// With 1 worker or 0 the calling thread sorts the lists, and no thread is started. With 2 or more a list
-/// of 65,536 keys or edges or more is sorted by as many threads as the runtime has. Else it costs what
-/// `clean` costs, in memory too.
+/// With at most 1 worker the calling thread sorts, and no thread is started. With 2 or more, as many threads as the
+/// runtime has sort a list of 65,536 keys or edges or more. All else costs what `clean` costs, in memory too.
 pub fn clean_by<R: Threads + Sync>(
     rt: &R,
     alloc: Global,
@@ -183,21 +182,25 @@ pub fn clean_by<R: Threads + Sync>(
     }
 }
 
-/// What the items of a batch come to in the graph, which stays as it is (`cleaned`).
+/// Returns the net effect of the items on the graph (`cleaned`), which stays as it is.
 ///
-/// The vertices of the items are below n, and they are at most `MAX_ITEMS`. The answer is the same
-/// for any number of threads. Fails only if memory runs out.
+/// The vertices of the items are below n, and there are at most `MAX_ITEMS` items. The answer is the same for any
+/// number of threads. Fails only if memory runs out.
 ///
-/// Costs a sort of one key an item, of 16 bytes, and one look-up in the graph for each pair that the
-/// items name. Takes memory for the keys and for the two lists. A batch with an isolation costs in
-/// place of the sort a look-up in a tree for each item and for each neighbour of an isolated vertex,
-/// once a vertex, and a sort of the two lists; it takes memory for the tree in place of the keys. A
-/// list of 65,536 keys or edges or more is sorted by as many threads as the runtime has, a shorter
-/// one by the calling thread alone.
+/// Costs, for a batch without isolations:
 ///
-/// The calling thread deals 2,048 keys or more to buckets four times, with two passes over them each
-/// time, and takes memory for the keys twice meanwhile, and for 4,096 counts; it sorts them in place where this memory isn't there. Keys that
-/// come in order cost one pass.
+/// - a sort of one key an item, of 16 bytes, and one look-up in the graph for each pair that the items name;
+/// - memory for the keys and for the two lists.
+///
+/// Costs, for a batch with an isolation:
+///
+/// - a look-up in a tree for each item and for each neighbour of an isolated vertex, once a vertex;
+/// - a sort of the two lists, and memory for the tree in place of the keys.
+///
+/// As many threads as the runtime has sort a list of 65,536 keys or edges or more. The calling thread alone sorts a
+/// shorter one. If it has 2,048 keys or more, it deals them to buckets four times, with two passes each time. Meanwhile
+/// it takes memory for the keys twice and for 4,096 counters. It sorts them in place if it doesn't get that memory.
+/// Keys that come in order cost one pass.
 pub fn clean<R: Threads + Sync>(
     rt: &R,
     alloc: Global,

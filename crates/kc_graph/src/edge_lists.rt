@@ -11,18 +11,18 @@ use crate::sorting::is_shared;
 use rayon::slice::par_sort_unstable;
 use std::thread::Threads;
 
-/// Edges one after another. Contracts see them as the list of their pairs. Whether they ascend, contracts say where it matters.
+/// Edges one after another. Contracts see them as the list of their pairs, and say where they ascend.
 pub type Edges = List<Edge>;
 
 impl List<Edge> {
-    /// The last edge (`last_edge`).
+    /// Returns the last edge (`last_edge`).
     pub fn last(&self) -> Option<Edge>
         ensures { result ≡ last_edge self.now }
     {
         self.items.last().copied()
     }
 
-    /// Puts the edges in ascending order, by threads where the list is shared (`is_shared`).
+    /// Puts the edges in ascending order, with threads if the list is long enough (`is_shared`).
     pub(crate) fn sort<R: Threads + Sync>(&mut self, rt: &R, workers: u32)
         ensures same { IsPermutation self.old self.new }
         ensures in_order { IsSorted pair_cmp self.new }

@@ -15,7 +15,7 @@ use std::alloc::{AllocError, Global};
 use std::marker::Model;
 use std::thread::Threads;
 
-// The number of rows that are looked at together.
+// The number of rows that are prefetched together.
 const TOGETHER: usize = 16;
 
 /// A graph on the vertices 0 to n - 1, without loops, each edge once.
@@ -43,7 +43,7 @@ impl Model for Graph {
 }
 
 impl Graph {
-    /// The graph on n vertices without edges; n is 1 to `MAX_VERTICES`.
+    /// Makes the graph on n vertices without edges; n is 1 to `MAX_VERTICES`.
     ///
     /// Takes memory for n empty rows. Fails only if memory runs out.
     pub fn new(alloc: Global, n: u32) -> Result<Graph, AllocError>
@@ -58,7 +58,7 @@ impl Graph {
         Ok(Graph { n, count: 0, rows })
     }
 
-    /// The number of vertices.
+    /// Returns the number of vertices.
     pub fn vertices(&self) -> u32
         ensures count { result ≡ self.now.vertices }
         ensures graph { IsGraph self.now }
@@ -68,7 +68,7 @@ impl Graph {
         self.n
     }
 
-    /// The number of edges.
+    /// Returns the number of edges.
     pub fn edge_count(&self) -> u32
         ensures count { result ≡ length self.now.edges }
         ensures few { length self.now.edges ≤ MAX_EDGES }
@@ -76,7 +76,7 @@ impl Graph {
         self.count
     }
 
-    /// Whether the edge is there. Costs a binary search in one row.
+    /// Returns whether the edge is there. Costs a binary search in one row.
     pub fn has(&self, e: Edge) -> bool
         requires { e.1 < self.now.vertices }
         ensures { result ≡ has_edge e self.now.edges }
@@ -84,7 +84,7 @@ impl Graph {
         self.rows[e.a as usize].has(e.b)
     }
 
-    /// The vertices that share an edge with v, ascending (`neighbours_of`). Costs O(1).
+    /// Returns the neighbours of v, ascending (`neighbours_of`). Costs O(1).
     pub fn neighbours(&self, v: u32) -> &[u32]
         requires { v < self.now.vertices }
         ensures value { result.now ≡ neighbours_of v self.now.edges }
@@ -96,10 +96,11 @@ impl Graph {
         self.rows[v as usize].as_slice()
     }
 
-    /// True, after a look at the first and the last neighbour of v, if it has any.
+    /// Prefetches the row of v: loads its first and its last neighbour. Always true.
     ///
-    /// Rows lie anywhere in memory, and a look at several of them together takes little longer than at one: a loop that passes over
-    /// the rows of many vertices looks at some of them, and then passes over these.
+    /// Rows lie anywhere in memory, and loads from several rows take little longer than from one. So a loop over many
+    /// rows prefetches some of them before it passes over these. The compiler can't know that the answer is true, so it
+    /// keeps the loads.
     pub fn is_at_hand(&self, v: u32) -> bool
         ensures { result ≡ true }
     {
@@ -109,8 +110,8 @@ impl Graph {
         }
     }
 
-    /// The vertex at a place of a list, for loops that pass over the rows of its vertices in turn: before the first of 16 has its
-    /// turn, the rows of the 16 are looked at together (`is_at_hand`).
+    /// Returns `vertices[place]`, for loops over the rows of a list of vertices. At every 16th place it prefetches the
+    /// next 16 rows (`is_at_hand`).
     pub fn in_turn(&self, vertices: &[u32], place: usize) -> u32
         requires { place < length vertices.now }
         ensures { result ≡ slice_index vertices.now place }
@@ -127,14 +128,12 @@ impl Graph {
         v
     }
 
-    /// Puts in an edge that is not there (`with_edge`); fewer than `MAX_EDGES` edges may be there.
+    /// Puts in an edge that isn't there (`with_edge`). Fewer than `MAX_EDGES` edges are there before.
     ///
-    /// Fails only if memory runs out, and the graph is then unchanged. The memory comes from the
-    /// allocator that `new` was given.
+    /// Fails only if memory runs out; the graph is then unchanged. The memory comes from the allocator of `new`.
     ///
-    /// Costs a binary search and a move of the greater neighbours in the rows of both ends, and
-    /// neither where the new neighbour is greater than all others: edges that come in ascending
-    /// order cost O(1) each, amortized.
+    /// Costs a binary search and a move of the greater neighbours in the rows of both ends. If the new neighbour is the
+    /// greatest of its row it costs neither, so edges in ascending order cost O(1) each, amortized.
     pub fn insert(&mut self, _alloc: Global, e: Edge) -> Result<(), AllocError>
         requires below { e.1 < self.old.vertices }
         requires absent { has_edge e self.old.edges ≡ false }
@@ -159,13 +158,13 @@ impl Graph {
         self.count -= 1;
     }
 
-    /// Puts in ascending edges that are not there (`with_edges`); at most `MAX_EDGES` edges are there afterwards.
+    /// Puts in ascending edges that aren't there (`with_edges`). At most `MAX_EDGES` edges are there afterwards.
     ///
-    /// Fails only if memory runs out, and the graph is then unchanged.
+    /// Fails only if memory runs out; the graph is then unchanged.
     ///
-    /// Costs a sort of one pair an edge and a merge, for which it takes memory, and for each vertex that gets neighbours one pass over them
-    /// and over those that it had above the least of them. From 2,048 edges on the sort takes time as their number, and memory for the pairs
-    /// once more, which it gives back before the merge.
+    /// Costs a sort of one pair an edge and a merge, for which it takes memory. Each vertex that gets neighbours costs
+    /// one pass over them and over its old neighbours above the least of them. From 2,048 edges on the sort takes
+    /// linear time, and memory for the pairs once more, which it gives back before the merge.
     pub fn insert_all(&mut self, alloc: Global, edges: &[Edge]) -> Result<(), AllocError>
         requires ascending { EdgesFrom self.old.vertices 0 0 edges.now }
         requires absent { AllAbsent self.old edges.now }
@@ -182,13 +181,13 @@ impl Graph {
         Ok(())
     }
 
-    /// As `insert_all`, by threads where the edges are many, each at rows of its own. `workers` is 1 to 64, and the graph doesn't depend on
-    /// it.
+    /// Does what `insert_all` does, with threads if the edges are many, each at rows of its own. `workers` is 1 to 64,
+    /// and the graph doesn't depend on it.
     ///
-    /// Fails only if memory runs out, and the graph is then unchanged.
+    /// Fails only if memory runs out; the graph is then unchanged.
     ///
-    /// Costs what `insert_all` costs, but that threads share the passes over neighbours: where there are 16,384 edges or more two of them, and
-    /// up to as many as workers where there are 8,192 edges for each. To share them costs a few passes over the pairs.
+    /// Costs what `insert_all` costs, but threads share the passes over neighbours. From 16,384 edges on there are two
+    /// of them, and up to `workers` with 8,192 edges for each. To share the passes costs a few passes over the pairs.
     pub fn par_insert_all<R: Threads + Sync>(
         &mut self,
         rt: &R,
@@ -214,14 +213,15 @@ impl Graph {
 
     /// Takes out ascending edges that are there (`without_edges`).
     ///
-    /// `workers` is 1 to 64, and the most threads that take edges out, where these are many, each at rows of its own. The graph doesn't
-    /// depend on it.
+    /// `workers` is 1 to 64: the most threads that take out edges if these are many, each at rows of its own. The graph
+    /// doesn't depend on it.
     ///
-    /// Fails only if memory runs out, and the graph is then unchanged.
+    /// Fails only if memory runs out; the graph is then unchanged.
     ///
-    /// Costs a sort of one pair an edge and a merge, for which it takes memory, and for each vertex that loses neighbours at most one pass
-    /// over those that it had, or, where it loses few of many, a binary search for each and one move of those that stay. Threads share
-    /// these passes as in `par_insert_all`, and the sort is that of `insert_all`.
+    /// Costs a sort of one pair an edge and a merge, for which it takes memory. Each vertex that loses neighbours costs
+    /// at most one pass over its old neighbours. If it loses few of many, it costs a binary search for each and one
+    /// move of those that stay. Threads share these passes as in `par_insert_all`, and the sort is that of
+    /// `insert_all`.
     pub fn par_remove_all<R: Threads + Sync>(
         &mut self,
         rt: &R,

@@ -1,4 +1,5 @@
-//! Cleaning of a batch that may isolate vertices: a walk from its last item to its first, which knows what the later ones touch.
+//! Cleaning of a batch that may isolate vertices: a walk from its last item to its first, which knows what later items
+//! touch.
 
 ghost use Rattle.std.specs.Prelude.{◌≡◌, ◌≢◌, ◌<◌, ◌≤◌, ◌||◌, [], ◌∷◌, ◌++◌, length, filter, map, cond, All, IfOk, OnOk};
 ghost use Rattle.kc_graph.specs.Shape.{IsGraph, same_edge, neighbours_of};
@@ -17,7 +18,7 @@ use crate::limits::MAX_ITEMS;
 use crate::touched::Touched;
 use std::alloc::{AllocError, Global};
 
-/// What the later items of a batch come to, in a walk from its last item to its first (`ComesTo`).
+/// The net effect of the later items of a batch, in a walk from its last item to its first (`ComesTo`).
 #[derive(Drop)]
 pub struct Later {
     /// The counts, and the two lists in any order.
@@ -26,7 +27,7 @@ pub struct Later {
     pub touched: Touched,
 }
 
-// The edge between two different vertices.
+// Returns the edge between two different vertices.
 fn edge_between(v: u32, w: u32) -> Edge
     requires { v ≢ w }
     ensures { result ≡ pair_of v w }
@@ -38,7 +39,7 @@ fn edge_between(v: u32, w: u32) -> Edge
     }
 }
 
-// Puts the edges from v to these vertices at the end, but those that are touched.
+// Appends the edges from v to these vertices that no later item touches.
 fn take_row(removed: &mut Edges, touched: &Touched, v: u32, row: &[u32]) -> Result<(), AllocError>
     requires { All (λ w. v ≢ w) row.now }
     ensures { OnOk result (removed.new ≡ removed.old ++ untouched_at touched.now v row.now) }
@@ -62,7 +63,7 @@ impl Later {
         }
     }
 
-    // Takes in the key of an item that stands before the others.
+    // Takes in the key of an item before the others.
     fn take_key(&mut self, graph: &Graph, key: &Key) -> Result<(), AllocError>
         requires ordered { key.now.a < key.now.b }
         requires below { key.now.b < graph.now.vertices }
@@ -80,7 +81,7 @@ impl Later {
         self.touched.add_pair(edge)
     }
 
-    // Takes in an isolation of v that stands before the others.
+    // Takes in an isolation of v before the others.
     fn isolate(&mut self, graph: &Graph, v: u32) -> Result<(), AllocError>
         requires graph { IsGraph graph.now }
         requires below { v < graph.now.vertices }
@@ -106,7 +107,7 @@ impl Later {
         Ok(())
     }
 
-    // Takes in an item that stands before the others.
+    // Takes in an item before the others.
     fn take(&mut self, graph: &Graph, item: Item) -> Result<(), AllocError>
         requires graph { IsGraph graph.now }
         requires inside { IsInside graph.now.vertices item }
@@ -132,10 +133,9 @@ impl Later {
     }
 }
 
-/// What the items of a batch come to, in any order of the two lists (`ComesTo`).
+/// Returns the net effect of the items of a batch, with the two lists in any order (`ComesTo`).
 ///
-/// Costs a look-up in a tree of the pairs that the items name for each item, and for each neighbour
-/// of a vertex that they isolate, once a vertex.
+/// Costs a look-up in a tree of pairs for each item, and for each neighbour of an isolated vertex, once a vertex.
 pub fn walk_back(alloc: Global, graph: &Graph, items: &[Item]) -> Result<Later, AllocError>
     requires graph { IsGraph graph.now }
     requires inside { All (IsInside graph.now.vertices) items.now }

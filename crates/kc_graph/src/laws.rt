@@ -1,20 +1,20 @@
-//! What graphs, their edges and the cleaning of batches come to. The functions do nothing: each has a law as its contract.
+//! What holds of graphs, their edges and the cleaning of batches. Each function does nothing: its contract is the law.
 
 ghost use Rattle.kc_graph.specs.Laws.{InsertionsKeepGraph, RemovalsKeepGraph, AscendingEdgesFillEmptyGraph, NeighboursAreJoined, GraphIsItsEdges};
 ghost use Rattle.kc_graph.specs.CleaningLaws.{CleanedFitsGraph, CleanedLeadsAsItems, EachItemCountsOnce};
 
-/// Edges between vertices of a graph that come in leave a graph.
+/// A graph into which edges between its vertices come is a graph.
 pub fn insertions_keep_graph()
     ensures { InsertionsKeepGraph }
 {}
 
-/// Edges that leave a graph leave a graph.
+/// A graph that edges leave is a graph.
 pub fn removals_keep_graph()
     ensures { RemovalsKeepGraph }
 {}
 
-/// Ascending edges that come into the graph without edges are its edges then, and they may come in
-/// if they are at most `MAX_EDGES`.
+/// Ascending edges that come into the graph without edges become its edges. They may come in if there are at most
+/// `MAX_EDGES`.
 pub fn ascending_edges_fill_empty_graph()
     ensures { AscendingEdgesFillEmptyGraph }
 {}
@@ -25,19 +25,18 @@ pub fn neighbours_are_joined()
     ensures { NeighboursAreJoined }
 {}
 
-/// Two graphs on the same vertices that have the same edges are one.
+/// Two graphs with the same vertices and the same edges are one.
 pub fn graph_is_its_edges()
     ensures { GraphIsItsEdges }
 {}
 
-/// What a cleaned batch removes is in the graph and may leave it, and what it adds is not and may
-/// come in after, if there is room.
+/// The edges that a cleaned batch removes are in the graph and may leave it. The edges that it adds aren't, and may
+/// come in afterwards if there is room.
 pub fn cleaned_fits_graph()
     ensures { CleanedFitsGraph }
 {}
 
-/// Removing and adding what a cleaned batch says leads to the same graph as its items, one after
-/// another.
+/// Removing and adding the edges of a cleaned batch leads to the same graph as its items, one after another.
 pub fn cleaned_leads_as_items()
     ensures { CleanedLeadsAsItems }
 {}

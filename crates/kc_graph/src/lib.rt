@@ -1,7 +1,12 @@
 //! Undirected graphs whose vertices are the numbers below n.
-//! A `Graph` keeps the neighbours of each vertex in order; contracts see it as n and the ascending
-//! list of its edges. An `Item` asks for one change of a graph, and `clean` says what a batch of
-//! items comes to.
+//!
+//! A [`Graph`] keeps the neighbours of each vertex in order; contracts see it as n and the ascending list of its edges.
+//! An [`Item`] asks for one change of a graph. [`clean`] reduces the items of a batch to the edges that leave and the
+//! edges that come in. `specs/` has the definitions: read `Shape` first, then `Cleaning`; [`laws`] has what is proved
+//! of them.
+//!
+//! Floor: graph and levels, the lowest crate there. Every crate above may call it. Sessions and `kserve` clean batches
+//! by [`clean_by`], and phases link and unlink edges by the calls of [`Graph`].
 #![tactic(auto)]
 
 mod buckets;

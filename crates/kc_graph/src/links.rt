@@ -1,4 +1,4 @@
-//! Edges come into the rows of both their ends and leave them, singly, or as halves by one pass over each row.
+//! Edges come into the rows of both ends and leave them: singly, or as halves by one pass over each row.
 
 ghost use Rattle.std.specs.Prelude.{◌≡◌, ◌<◌, [], length, false, slice_index_or, OnOk, OnErr};
 ghost use Rattle.kc_graph.specs.Numbers.{has_number};
@@ -9,7 +9,7 @@ use crate::halves::{Half, run_len};
 use crate::rows::Row;
 use std::alloc::AllocError;
 
-/// Puts a and b into each other's rows. After a refusal the rows are as before.
+/// Puts a and b into each other's rows. Fails only if memory runs out; the rows are then unchanged.
 pub fn join(rows: &mut Vec<Row>, a: u32, b: u32) -> Result<(), AllocError>
     requires order { a < b }
     requires below { b < length rows.old.items }
@@ -35,10 +35,11 @@ pub fn part(rows: &mut Vec<Row>, a: u32, b: u32)
     rows[b as usize].remove(a);
 }
 
-// The number of halves whose rows are looked at together.
+// The number of halves whose rows are prefetched together.
 const AHEAD: usize = 32;
 
-// Whether the rows of the first halves are at hand, which they are after a look at each.
+// Prefetches the rows of the first halves. Always true, since rows ascend; the compiler can't know that, so it keeps
+// the loads.
 fn are_at_hand(rows: &[Row], first: u32, halves: &[Half]) -> bool {
     for k in 0..halves.len().min(AHEAD) {
         if let Some(row) = rows.get(halves[k].vertex().saturating_sub(first) as usize) {
@@ -50,8 +51,8 @@ fn are_at_hand(rows: &[Row], first: u32, halves: &[Half]) -> bool {
     true
 }
 
-/// Puts the other end of each half into the row of its vertex, by one merge for each run of halves of one vertex. The first row is
-/// that of `first`. After a refusal some may have been put in.
+/// Puts the other end of each half into the row of its vertex, by one merge for each run of halves of one vertex. The
+/// first row is that of `first`. Fails only if memory runs out; some other ends may then be in their rows.
 pub fn give_all(first: u32, halves: &[Half], rows: &mut [Row]) -> Result<(), AllocError>
     requires { AreInside first (length rows.old) halves.now }
     ensures ok { OnOk result (AreGiven first rows.old rows.new halves.now) }
@@ -72,8 +73,8 @@ pub fn give_all(first: u32, halves: &[Half], rows: &mut [Row]) -> Result<(), All
     Ok(())
 }
 
-/// Takes the other end of each half out of the row of its vertex, where it is there, by one pass for each run of halves of one
-/// vertex. The first row is that of `first`.
+/// Takes the other end of each half out of the row of its vertex if it is there. Makes one pass for each run of halves
+/// of one vertex. The first row is that of `first`.
 pub fn take_all(first: u32, halves: &[Half], rows: &mut [Row])
     requires { AreInside first (length rows.old) halves.now }
     ensures { AreTaken first rows.old rows.new halves.now }

@@ -21,7 +21,7 @@ impl<T> Model for List<T> {
 }
 
 impl<T: Drop> List<T> {
-    /// No items. Takes no memory.
+    /// Makes an empty list. Takes no memory.
     pub fn new(alloc: Global) -> Self
         ensures { result ≡ [] }
     {
@@ -30,42 +30,42 @@ impl<T: Drop> List<T> {
         }
     }
 
-    /// The items of a `Vec`, in its order. Takes no memory.
+    /// Makes a list of the items of a `Vec`, in its order. Takes no memory.
     pub fn from_vec(items: Vec<T>) -> Self
         ensures { result ≡ items.items }
     {
         List { items }
     }
 
-    /// The `Vec` of the items. Takes no memory.
+    /// Returns the `Vec` of the items. Takes no memory.
     pub fn into_vec(self) -> Vec<T>
         ensures { result.items ≡ self }
     {
         self.items
     }
 
-    /// The items as a slice.
+    /// Returns the items as a slice.
     pub fn as_slice(&self) -> &[T]
         ensures { result.now ≡ self.now }
     {
         self.items.as_slice()
     }
 
-    /// How many items there are.
+    /// Returns the number of items.
     pub fn len(&self) -> usize
         ensures { result ≡ length self.now }
     {
         self.items.len()
     }
 
-    /// Whether there are none.
+    /// Returns whether there are no items.
     pub fn is_empty(&self) -> bool
         ensures { IsTrue result ↔ (self.now ≡ []) }
     {
         self.items.is_empty()
     }
 
-    /// Puts an item at the end. After a refusal the list is unchanged.
+    /// Appends an item. Fails only if memory runs out; the list is then unchanged.
     pub fn push(&mut self, item: T) -> Result<(), AllocError>
         ensures ok { OnOk result (self.new ≡ self.old ++ item ∷ []) }
         ensures err { OnErr result (self.new ≡ self.old) }
@@ -74,7 +74,8 @@ impl<T: Drop> List<T> {
         Ok(())
     }
 
-    /// Puts the items of another list at the end, in its order. After a refusal the list is unchanged, and those items are dropped.
+    /// Appends the items of another list, in its order. Fails only if memory runs out; the list is then unchanged, and
+    /// those items are dropped.
     pub fn append(&mut self, later: List<T>) -> Result<(), AllocError>
         ensures ok { OnOk result (self.new ≡ self.old ++ later) }
         ensures err { OnErr result (self.new ≡ self.old) }

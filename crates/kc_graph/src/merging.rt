@@ -1,4 +1,5 @@
-//! Ascending numbers that come into an ascending list, or leave it, by one pass, or where few leave a long list by a search for each.
+//! Ascending numbers that come into an ascending list or leave it, by one pass. If few leave a long list, each is
+//! searched.
 
 ghost use Rattle.std.specs.Prelude.{◌≡◌, ℕ, ◌+◌, ◌≤◌, ◌<◌, ◌++◌, ◌||◌, not, length, take, drop, filter, slice_index, slice_index_or};
 ghost use Rattle.kc_graph.specs.Numbers.{has_number, RisesFrom};
@@ -6,8 +7,9 @@ ghost use Rattle.kc_graph.specs.private.Halves.{has_second, SecondsRise};
 
 use crate::halves::Half;
 
-/// Merges the first `old` numbers with those that come in, from the greatest down, to the end of the list. Gives where the rest of
-/// the old ones, which stay in their place, ends, and where the merged ones begin: the places between are free.
+/// Merges the first `old` numbers with those that come in, from the greatest down, into the end of the list.
+///
+/// Returns where the old numbers that stay in place end, and where the merged ones begin. The places between are free.
 pub fn merge_back(items: &mut Vec<u32>, old: usize, incoming: &[Half]) -> (usize, usize)
     requires room { length items.old.items ≡ old + length incoming.now }
     requires rises { RisesFrom 0 (take old items.old.items) }
@@ -38,7 +40,7 @@ pub fn merge_back(items: &mut Vec<u32>, old: usize, incoming: &[Half]) -> (usize
     (i, at)
 }
 
-/// Takes out what stands from one place up to another.
+/// Removes the items from one place up to another.
 pub fn close(items: &mut Vec<u32>, from: usize, to: usize)
     requires order { from ≤ to }
     requires within { to ≤ length items.old.items }
@@ -49,7 +51,7 @@ pub fn close(items: &mut Vec<u32>, from: usize, to: usize)
     }
 }
 
-// The first place from j on whose number isn't below x.
+// Returns the first place from j on whose number isn't below x.
 fn first_from(outgoing: &[Half], j: usize, x: u32) -> usize
     requires { j ≤ length outgoing.now }
     ensures from { j ≤ result }
@@ -64,7 +66,7 @@ fn first_from(outgoing: &[Half], j: usize, x: u32) -> usize
     j
 }
 
-// As `keep_others` says, number by number.
+// Does what `keep_others` does, number by number.
 fn keep_each(items: &mut Vec<u32>, outgoing: &[Half]) -> usize
     requires rises { RisesFrom 0 items.old.items }
     requires outgoing { SecondsRise outgoing.now }
@@ -84,7 +86,7 @@ fn keep_each(items: &mut Vec<u32>, outgoing: &[Half]) -> usize
     kept
 }
 
-// The first place of an ascending list, from one place on, whose number isn't below x.
+// Returns the first place of an ascending list, from one place on, whose number isn't below x.
 fn place_from(items: &[u32], from: usize, x: u32) -> usize
     requires inside { from ≤ length items.now }
     requires rises { (j k : ℕ) → from ≤ j → j < k → k < length items.now → slice_index items.now j < slice_index items.now k }
@@ -106,7 +108,7 @@ fn place_from(items: &[u32], from: usize, x: u32) -> usize
     low
 }
 
-// As `keep_others` says, by a search for each number that leaves, and a move of those between two of them at once.
+// Does what `keep_others` does, by a search for each number that leaves. Moves the numbers between two of them at once.
 fn keep_runs(items: &mut Vec<u32>, outgoing: &[Half]) -> usize
     requires rises { RisesFrom 0 items.old.items }
     requires outgoing { SecondsRise outgoing.now }
@@ -130,10 +132,11 @@ fn keep_runs(items: &mut Vec<u32>, outgoing: &[Half]) -> usize
     kept + (end - from)
 }
 
-// Where a row has this many numbers for each that leaves, or more, a search for each is less than a look at every number.
+// If a row has this many numbers for each that leaves, or more, a search for each costs less than a look at every
+// number.
 const LEAST_RUN: usize = 16;
 
-/// Moves the numbers that stay to the front, in their order, and says how many they are.
+/// Moves the numbers that stay to the front, in their order, and returns how many they are.
 pub fn keep_others(items: &mut Vec<u32>, outgoing: &[Half]) -> usize
     requires rises { RisesFrom 0 items.old.items }
     requires outgoing { SecondsRise outgoing.now }

@@ -10,7 +10,7 @@ use crate::merging::{close, keep_others, merge_back};
 use std::alloc::{AllocError, Global};
 use std::marker::Model;
 
-/// A set of numbers, seen as the ascending list of them.
+/// A set of numbers. Contracts see the ascending list of them.
 #[derive(Drop)]
 pub struct Row {
     // Strictly ascending.
@@ -25,7 +25,7 @@ impl Model for Row {
     ghost invariant = { λ r. RisesFrom 0 r.items.items };
 }
 
-// Where x stands in the list, or where it is to be put.
+// Returns the place of x in the list, or where it belongs.
 fn place_of(items: &[u32], x: u32) -> Result<usize, usize>
     requires { RisesFrom 0 items.now }
     ensures { Found items.now x result }
@@ -33,7 +33,7 @@ fn place_of(items: &[u32], x: u32) -> Result<usize, usize>
     items.binary_search(&x)
 }
 
-// Whether all of the list is below x, which its last number tells.
+// Returns whether all of the list is below x, by its last number.
 fn ends_below(items: &[u32], x: u32) -> bool
     requires { RisesFrom 0 items.now }
     ensures { IsTrue result ↔ All (λ y. y < x) items.now }
@@ -59,8 +59,8 @@ impl Row {
         self.items.as_slice()
     }
 
-    /// Whether the first number is no greater than the last, as in every row: a look at both ends, which are at hand then for a
-    /// pass over the row.
+    /// Prefetches the row: loads its first and its last number, for a pass over the row. Always true, since a row
+    /// ascends.
     pub fn is_at_hand(&self) -> bool
         ensures { result ≡ true }
     {
@@ -74,8 +74,8 @@ impl Row {
         place_of(&self.items, x).is_ok()
     }
 
-    /// Puts x at its place; a row that has x stays as it is. A number above all others costs no
-    /// search and no move.
+    /// Puts x at its place; a row that has x is unchanged. A number above all others costs no search and no move. Fails
+    /// only if memory runs out; the row is then unchanged.
     pub fn insert(&mut self, x: u32) -> Result<(), AllocError>
         ensures ok { OnOk result (self.new ≡ put x self.old) }
         ensures rises { RisesFrom 0 self.new }
@@ -94,7 +94,7 @@ impl Row {
         }
     }
 
-    /// Takes x out; a row without x stays as it is.
+    /// Takes x out; a row without x is unchanged.
     pub fn remove(&mut self, x: u32)
         ensures value { self.new ≡ without x self.old }
         ensures rises { RisesFrom 0 self.new }
@@ -104,8 +104,8 @@ impl Row {
         }
     }
 
-    /// Puts the other ends of the halves at their places, a single one as `insert` does, and several by one pass from the greatest
-    /// down; those that the row has stay as they are. After a refusal the row is as before.
+    /// Puts the other ends of the halves at their places; those that the row has are unchanged. A single one goes as in
+    /// `insert`, several by one pass from the greatest down. Fails only if memory runs out; the row is then unchanged.
     pub fn insert_all(&mut self, incoming: &[Half]) -> Result<(), AllocError>
         requires { SecondsRise incoming.now }
         ensures ok { OnOk result ((x : ℕ) → has_number x self.new ≡ has_number x self.old || has_second x incoming.now) }
@@ -118,7 +118,7 @@ impl Row {
         }
     }
 
-    // As `insert_all` says, by one pass from the greatest down.
+    // Does what `insert_all` does, by one pass from the greatest down.
     fn merge_in(&mut self, incoming: &[Half]) -> Result<(), AllocError>
         requires { SecondsRise incoming.now }
         ensures ok { OnOk result ((x : ℕ) → has_number x self.new ≡ has_number x self.old || has_second x incoming.now) }
@@ -132,8 +132,8 @@ impl Row {
         Ok(())
     }
 
-    /// Takes the other ends of the halves out, a single one as `remove` does, several by one pass, and few of a long row by a search for
-    /// each.
+    /// Takes the other ends of the halves out. A single one goes as in `remove`, several by one pass, and few of a long
+    /// row by a search for each.
     pub fn remove_all(&mut self, outgoing: &[Half])
         requires { SecondsRise outgoing.now }
         ensures value { self.new ≡ filter (λ x. not (has_second x outgoing.now)) self.old }
@@ -145,7 +145,7 @@ impl Row {
         }
     }
 
-    // As `remove_all` says, in place and in order.
+    // Does what `remove_all` does, in place and in order.
     fn keep_others(&mut self, outgoing: &[Half])
         requires { SecondsRise outgoing.now }
         ensures value { self.new ≡ filter (λ x. not (has_second x outgoing.now)) self.old }

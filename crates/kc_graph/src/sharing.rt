@@ -1,4 +1,5 @@
-//! Halves are cut by vertices into parts, so that several threads put them into rows or take them out, each at rows of its own.
+//! Several threads put halves into rows or take them out. Halves are cut by vertices into parts, so each thread has
+//! rows of its own.
 
 ghost use Rattle.std.specs.Prelude.{◌≡◌, ◌+◌, ◌<◌, ◌≤◌, length, take, drop, All, IfSome, OnOk};
 ghost use Rattle.std.specs.Bool.{OnTrue};
@@ -11,23 +12,23 @@ use crate::rows::Row;
 use std::alloc::AllocError;
 use std::thread::{Threads, join_mut};
 
-// The least number of halves of a part, so that fewer than twice as many aren't cut: to start threads and to join them costs about a
-// hundred microseconds.
+// The least number of halves of a part. Fewer than twice as many aren't cut: a thread costs about a hundred
+// microseconds.
 const LEAST_PART: usize = 16_384;
 
-// Who goes through the halves.
+// The threads that go through the halves.
 #[derive(Drop)]
 struct Crew<'a, R> {
-    // What starts the threads.
+    // Starts the threads.
     rt: &'a R,
-    // Up to how many threads do it; 0 counts as 1.
+    // The most threads; 0 counts as 1.
     threads: u32,
-    // Halves that are fewer than twice as many aren't cut into parts.
+    // The least number of halves of a part: fewer than twice as many aren't cut.
     least: usize,
 }
 
 impl<'a, R> Crew<'a, R> {
-    // The same with this number of threads.
+    // Returns the same crew with this number of threads.
     fn with(&self, threads: u32) -> Crew<'a, R>
         ensures { result.threads ≡ threads }
     {
@@ -39,16 +40,16 @@ impl<'a, R> Crew<'a, R> {
     }
 }
 
-// Halves of vertices from `first` on; the first of the rows that they are for is that of `first`.
+// Halves of vertices from `first` on, for rows of which the first is that of `first`.
 #[derive(Clone, Copy)]
 struct Part<'a> {
     // The vertex of the first row: no greater than that of any half.
     first: u32,
-    // Those that go into these rows, or out of them.
+    // The halves that go into these rows, or out of them.
     halves: &'a [Half],
 }
 
-// How many halves stand before the first one whose vertex is v or greater.
+// Returns how many halves stand before the first one whose vertex is v or greater.
 fn len_below(halves: &[Half], v: u32) -> usize
     ensures within { result ≤ length halves.now }
     ensures lesser { All (λ h. h.0 < v) (take result halves.now) }
@@ -60,7 +61,7 @@ fn len_below(halves: &[Half], v: u32) -> usize
     len
 }
 
-// Whether no half is of a vertex below v.
+// Returns whether no half is of a vertex below v.
 fn are_from(halves: &[Half], v: u32) -> bool
     ensures { OnTrue result (All (λ h. v ≤ h.0) halves.now) }
 {
@@ -72,8 +73,8 @@ fn are_from(halves: &[Half], v: u32) -> bool
     true
 }
 
-// The vertex of the half in the middle, and how many halves stand before those of it, where these are all that are of lesser
-// vertices, as in a list by vertices.
+// Returns the vertex v of the half in the middle, and how many halves stand before the first of v or greater. Returns
+// none if a half of a lesser vertex stands after these, as can't be in a list by vertices.
 fn cut(halves: &[Half]) -> Option<(usize, u32)>
     ensures { IfSome result (λ place. IsCut halves.now place.0 place.1) }
 {
@@ -86,8 +87,8 @@ fn cut(halves: &[Half]) -> Option<(usize, u32)>
     }
 }
 
-// As `give_all` says, by the threads of the crew, where the halves are enough to be cut. Each thread has the rows of vertices that
-// follow one another for itself, and the halves of these.
+// Does what `give_all` does, with the threads of the crew if the halves are enough to be cut. Each thread has the rows
+// of consecutive vertices for itself, and the halves of these.
 #[cycle(giving)]
 fn give_parts<R: Threads + Sync>(
     crew: &Crew<'_, R>,
@@ -147,8 +148,8 @@ fn give_both<R: Threads + Sync>(
     given_back
 }
 
-// As `take_all` says, by the threads of the crew, where the halves are enough to be cut. Each thread has the rows of vertices that
-// follow one another for itself, and the halves of these.
+// Does what `take_all` does, with the threads of the crew if the halves are enough to be cut. Each thread has the rows
+// of consecutive vertices for itself, and the halves of these.
 #[cycle(taking)]
 fn take_parts<R: Threads + Sync>(crew: &Crew<'_, R>, part: Part<'_>, rows: &mut [Row])
     requires { AreInside part.first (length rows.old) part.halves.now }
@@ -198,8 +199,8 @@ fn take_both<R: Threads + Sync>(
     join_mut(crew.rt, &mut left, &mut right);
 }
 
-/// Puts the other end of each half into the row of its vertex; the rows are those of all vertices. After a refusal some may have been put
-/// in.
+/// Puts the other end of each half into the row of its vertex. The rows are those of all vertices. Fails only if memory
+/// runs out; some other ends may then be in their rows.
 pub fn give_alone(halves: &[Half], rows: &mut Vec<Row>) -> Result<(), AllocError>
     requires { AreInside 0 (length rows.old.items) halves.now }
     ensures ok { OnOk result (AreGiven 0 rows.old.items rows.new.items halves.now) }
@@ -208,7 +209,7 @@ pub fn give_alone(halves: &[Half], rows: &mut Vec<Row>) -> Result<(), AllocError
     give_all(0, halves, rows.as_mut_slice())
 }
 
-/// Takes the other end of each half out of the row of its vertex, where it is there; the rows are those of all vertices.
+/// Takes the other end of each half out of the row of its vertex if it is there. The rows are those of all vertices.
 pub fn take_alone(halves: &[Half], rows: &mut Vec<Row>)
     requires { AreInside 0 (length rows.old.items) halves.now }
     ensures { AreTaken 0 rows.old.items rows.new.items halves.now }
@@ -216,7 +217,7 @@ pub fn take_alone(halves: &[Half], rows: &mut Vec<Row>)
     take_all(0, halves, rows.as_mut_slice());
 }
 
-/// As `give_alone`. Where the halves are many, up to `threads` threads do it, each at rows of its own.
+/// Does what `give_alone` does. If the halves are many, up to `threads` threads do it, each at rows of its own.
 pub fn give_by<R: Threads + Sync>(
     rt: &R,
     threads: u32,
@@ -238,7 +239,7 @@ pub fn give_by<R: Threads + Sync>(
     )
 }
 
-/// As `take_alone`. Where the halves are many, up to `threads` threads do it, each at rows of its own.
+/// Does what `take_alone` does. If the halves are many, up to `threads` threads do it, each at rows of its own.
 pub fn take_by<R: Threads + Sync>(rt: &R, threads: u32, halves: &[Half], rows: &mut Vec<Row>)
     requires { AreInside 0 (length rows.old.items) halves.now }
     ensures { AreTaken 0 rows.old.items rows.new.items halves.now }

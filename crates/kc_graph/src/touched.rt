@@ -19,7 +19,7 @@ pub struct Touched {
 }
 
 impl Touched {
-    /// No pairs. Takes no memory.
+    /// Makes an empty set of pairs. Takes no memory.
     pub fn new(alloc: Global) -> Self
         ensures pairs { result.pairs.keys ≡ [] }
         ensures isolated { result.isolated.keys ≡ [] }
@@ -30,7 +30,7 @@ impl Touched {
         }
     }
 
-    /// Whether the pair is touched (`is_noted`).
+    /// Returns whether the pair is touched (`is_noted`).
     pub fn has(&self, e: Edge) -> bool
         ensures { result ≡ is_noted self.now e }
     {
@@ -54,7 +54,7 @@ impl Touched {
         Ok(())
     }
 
-    /// Whether all pairs that hold v are touched, since a later item isolates v.
+    /// Returns whether all pairs that hold v are touched, since a later item isolates v.
     pub fn has_all_at(&self, v: u32) -> bool
         ensures { result ≡ true → (e : _) → holds v e ≡ true → is_noted self.now e ≡ true }
     {

@@ -1,4 +1,4 @@
--- The entries of a phase that changes the levels x to y. Its edges come in where `add` is true, and leave where it is false.
+-- The entries of a phase that changes the levels x to y. Its edges come in if `add` is true, and leave if it is false.
 use Rattle.std.specs.Prelude.{ℕ, ◌≡◌, ◌==◌, ◌||◌, ◌&&◌, Bool, not, List, [], ◌∷◌, ◌++◌, Some, None, get_or, map, filter}
 use Rattle.std.proofs.Common.{suc, zero}
 use Rattle.kc_graph.specs.Shape.{GraphShape, Pair}
@@ -8,7 +8,7 @@ use Rattle.kc_history.specs.declared.entries.Entry.{Entry}
 use Rattle.kc_groups.specs.declared.plans.PhasePlan.{PhasePlan}
 use Rattle.kc_groups.specs.Links.{AreLabels}
 
--- the labels among the vertices below k, ascending: each is its own label
+-- the labels among the vertices below k, ascending; a label is a vertex that is its own label
 abbrev pub labels_below : List ℕ → ℕ → List ℕ
 labels_below labels zero = []
 labels_below labels (suc k) = pushed_if (get_or labels k 0 == k) k (labels_below labels k)
@@ -18,11 +18,11 @@ abbrev pub moves_below : List ℕ → List ℕ → List ℕ → ℕ → ℕ → 
 moves_below labels x y l zero = []
 moves_below labels x y l (suc k) = pushed_if (get_or labels k 0 == l) (move_of x y k) (moves_below labels x y l k)
 
--- whether an end of the edge has the label l
+-- an end of the edge has the label l
 abbrev pub ends_at : List ℕ → ℕ → Pair → Bool
 ends_at labels l e = (get_or labels e.0 0 == l) || (get_or labels e.1 0 == l)
 
--- whether no end of the edge moves
+-- no end of the edge moves
 abbrev pub is_quiet : List ℕ → List ℕ → Pair → Bool
 is_quiet x y e = not (is_moved x y e.0) && not (is_moved x y e.1)
 
@@ -43,7 +43,7 @@ abbrev pub entries_in : List PhasePlan → List Entry
 entries_in [] = []
 entries_in (plan ∷ plans) = entries_of plan ++ entries_in plans
 
--- the plan holds the entries of the phase: the quiet one, and one for each label, labels ascending
+-- the plan has the entries of the phase: the quiet one, and one for each label, labels ascending
 pub record AreEntries (phase : ℕ) (add : Bool) (edges : List Pair) (x y : List ℕ) (g : GraphShape) (plan : PhasePlan) : Type 0 where
   pub labels : List ℕ
   pub are_labels : AreLabels g (is_moved x y) labels

@@ -1,4 +1,4 @@
--- The moves of a phase, each at its place in their list, gathered by links.
+-- The moves of a phase, each with its place in their list, gathered by links.
 use Rattle.std.specs.Prelude.{ℕ, ◌≡◌, List, length, map, replicate}
 use Rattle.kc_graph.specs.Numbers.{RisesFrom, AllBelow}
 use Rattle.kc_levels.specs.declared.moves.Move.{Move}
@@ -19,6 +19,6 @@ pub record AreMovesOf (n : ℕ) (x y : List ℕ) (ms : List Move) : Type 0 where
   pub after : length y ≡ n
   pub moves : ms ≡ moves_between n x y
 
--- the numbers of n vertices where no phase is at hand
+-- the numbers of n vertices between phases
 abbrev pub clean : ℕ → List ℕ
 clean n = replicate n n

@@ -1,4 +1,4 @@
--- Laws of the entries of a phase, each the contract of a function of `laws`.
+-- Laws of the entries of a phase; each is the contract of a function in `laws`.
 use Rattle.std.specs.Prelude.{ℕ, ◌≡◌, ◌<◌, Bool, true, false, cond, List, Some, length, get_or, count_by, take, All, Contains, ◌++◌}
 use Rattle.kc_graph.specs.Numbers.{RisesFrom}
 use Rattle.kc_graph.specs.Shape.{GraphShape, Pair, IsGraph, EdgesFrom, has_edge, with_edges, without_edges}
@@ -30,7 +30,7 @@ pub record IsPhase (edges : List Pair) (x y : List ℕ) (g : GraphShape) : Type 
   pub ascending : EdgesFrom g.vertices 0 0 edges
   pub present : AllPresent g edges
 
--- there is exactly one plan that holds the entries
+-- there is exactly one plan with these entries
 abbrev pub PlanIsOne : Type 0
 PlanIsOne =
     (phase : ℕ) (add : Bool) (edges : List Pair) (x y : List ℕ) (g : GraphShape) → IsGraph g →
@@ -42,7 +42,7 @@ PlanIsWellFormed =
     (phase : ℕ) (add : Bool) (edges : List Pair) (x y : List ℕ) (g : GraphShape) (plan : PhasePlan) →
     AreEntries phase add edges x y g plan → IsWellFormed g.vertices plan
 
--- a vertex that moves, with its label: it has its move in the entry of its label
+-- a vertex that moves has its move in the entry of its label
 pub record HasMove (x y : List ℕ) (v l : ℕ) (plan : PhasePlan) : Type 0 where
   pub place : ℕ
   pub inside : place < length plan.groups
@@ -58,7 +58,8 @@ pub record IsOwnMove (x y : List ℕ) (g : GraphShape) (e : Entry) (m : Move) : 
   pub label_is : IsLabel g (is_moved x y) m.vertex label
   pub entry : e.label ≡ Some label
 
--- the moves of the plan are those of the vertices that move, each in the entry of its label with its levels before and after
+-- the moves of the plan are those of the vertices that move, each in the entry of its label with its levels before and
+-- after
 pub record MovesAreInTheirGroups : Type 0 where
   pub each : (phase : ℕ) (add : Bool) (edges : List Pair) (x y : List ℕ) (g : GraphShape) (plan : PhasePlan) (v l : ℕ) → IsGraph g → AreEntries phase add edges x y g plan → v < g.vertices → is_moved x y v ≡ true → IsLabel g (is_moved x y) v l → HasMove x y v l plan
   pub only : (phase : ℕ) (add : Bool) (edges : List Pair) (x y : List ℕ) (g : GraphShape) (plan : PhasePlan) → AreEntries phase add edges x y g plan → All (λ e. All (IsOwnMove x y g e) e.moves) plan.groups
@@ -85,8 +86,10 @@ pub record PlanAscends : Type 0 where
   pub moves : (phase : ℕ) (add : Bool) (edges : List Pair) (x y : List ℕ) (g : GraphShape) (plan : PhasePlan) → AreEntries phase add edges x y g plan → All (λ e. RisesFrom 0 (vertices_of e)) plan.groups
   pub edges : (phase : ℕ) (add : Bool) (edges : List Pair) (x y : List ℕ) (g : GraphShape) (plan : PhasePlan) → IsPhase edges x y g → AreEntries phase add edges x y g plan → All (λ e. EdgesFrom g.vertices 0 0 e.edges) (entries_of plan)
 
--- the entries of phases, one after another, lead from the graph and levels before the first phase to those after the last; and
--- phases that follow lead on from there
+-- the entries of phases, one after another, lead from the graph and levels before the first phase to those after the
+-- last
+--
+-- Phases that follow lead on from there.
 pub record PhasesLead : Type 0 where
   pub graph : (p : Profile) (g h : GraphShape) (x y : List ℕ) (plans : List PhasePlan) → IsGraph g → length x ≡ g.vertices → LeadOn p g x plans h y → graph_after g (entries_in plans) ≡ h
   pub levels : (p : Profile) (g h : GraphShape) (x y : List ℕ) (plans : List PhasePlan) → IsGraph g → length x ≡ g.vertices → LeadOn p g x plans h y → levels_after x (entries_in plans) ≡ y

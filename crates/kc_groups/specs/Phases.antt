@@ -1,4 +1,4 @@
--- Phases, one after another: in each, edges come into a graph and its levels rise, or edges leave it and its levels fall.
+-- Phases, one after another: edges come into a graph and its levels rise, or edges leave it and its levels fall.
 use Rattle.std.specs.Prelude.{ℕ, ◌≡◌, ◌≢◌, Bool, true, false, List, [], ◌∷◌}
 use Rattle.kc_graph.specs.Shape.{GraphShape, Pair, EdgesFrom, with_edges, without_edges}
 use Rattle.kc_graph.specs.Changes.{AllAbsent, AllPresent}
@@ -17,12 +17,14 @@ abbrev pub graph_after_phase : Bool → GraphShape → List Pair → GraphShape
 graph_after_phase true g edges = with_edges g edges
 graph_after_phase false g edges = without_edges g edges
 
--- the graph that has all edges of the phase: the one after it where they come in, and the one before it where they leave
+-- the graph that has all edges of the phase: the graph after edges come in, or before edges leave
 abbrev pub graph_with_all : Bool → GraphShape → List Pair → GraphShape
 graph_with_all true g edges = with_edges g edges
 graph_with_all false g edges = g
 
--- the levels y after the phase at the levels x: raised in the graph after it where edges came in, and lowered where they left
+-- the levels y after the phase at the levels x
+--
+-- They are raised in the graph after edges came in, and lowered in the graph after edges left.
 abbrev pub AreLevelsAfterPhase : Profile → Bool → GraphShape → List Pair → List ℕ → List ℕ → Type 0
 AreLevelsAfterPhase p true g edges x y = IsRaised p (with_edges g edges) x y
 AreLevelsAfterPhase p false g edges x y = IsLowered p (without_edges g edges) x y
@@ -30,7 +32,7 @@ AreLevelsAfterPhase p false g edges x y = IsLowered p (without_edges g edges) x 
 -- the plan is a phase that leads from the graph g at the levels x to the graph h at the levels y
 pub record LeadsTo (p : Profile) (g : GraphShape) (x : List ℕ) (plan : PhasePlan) (h : GraphShape) (y : List ℕ) : Type 0 where
   pub phase : ℕ
-  -- whether its edges come in
+  -- its edges come in
   pub add : Bool
   pub edges : List Pair
   pub some : edges ≢ []

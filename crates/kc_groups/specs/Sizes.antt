@@ -1,4 +1,4 @@
--- How large a well-formed plan is.
+-- The greatest size of a well-formed plan.
 use Rattle.std.specs.Prelude.{ℕ, ◌≤◌, length, All}
 use Rattle.kc_history.specs.declared.entries.Entry.{Entry}
 use Rattle.kc_groups.specs.declared.plans.PhasePlan.{PhasePlan}

@@ -1,4 +1,4 @@
--- What each plan of a phase keeps.
+-- The facts that hold of each plan of a phase.
 use Rattle.std.specs.Prelude.{ℕ, ◌≤◌, ◌<◌, ◌≡◌, ◌≢◌, Bool, List, [], Some, None, length, get_or, map, All}
 use Rattle.kc_graph.specs.Numbers.{RisesFrom, AllBelow}
 use Rattle.kc_levels.specs.declared.moves.Move.{Move}
@@ -10,7 +10,7 @@ pub record IsMove (n : ℕ) (m : Move) : Type 0 where
   pub vertex : m.vertex < n
   pub differ : m.old ≢ m.new
 
--- an entry of the phase, with a move at least
+-- an entry of the phase with at least one move
 pub record IsGroupEntry (n phase : ℕ) (add : Bool) (e : Entry) : Type 0 where
   pub phase_is : e.phase ≡ phase
   pub add_is : e.add ≡ add
@@ -25,7 +25,9 @@ vertices_of e = map (λ (m : Move). m.vertex) e.moves
 abbrev pub vertex_at : PhasePlan → ℕ → ℕ → ℕ
 vertex_at plan i a = get_or (vertices_of (get_or plan.groups i plan.quiet)) a 0
 
--- a quiet entry without moves, and then groups of one phase and one direction, labels ascending, in which no vertex moves twice
+-- a well-formed plan: a quiet entry without moves, and then groups of one phase and one direction
+--
+-- The labels ascend, and no vertex moves twice in the groups.
 pub record IsWellFormed (n : ℕ) (plan : PhasePlan) : Type 0 where
   pub quiet_label : plan.quiet.label ≡ None
   pub quiet_moves : plan.quiet.moves ≡ []

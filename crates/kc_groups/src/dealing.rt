@@ -1,4 +1,4 @@
-//! The moves and edges of a phase, dealt to the entries of their labels.
+//! Dealing of the moves and edges of a phase to the entries of their labels.
 ghost use Rattle.std.specs.Prelude.{◌≡◌, ℕ, ◌<◌, ◌≤◌, [], true, OnOk, All, get_or, map, filter, length, slice_index};
 ghost use Rattle.kc_groups.specs.private.Labels.{AreRooted};
 ghost use Rattle.kc_groups.specs.Gathering.{vertices, AreInOrder};
@@ -10,8 +10,10 @@ use kc_graph::{Edge, Edges, MAX_VERTICES};
 use kc_history::{Entry, Move};
 use std::alloc::{AllocError, Global};
 
-// An empty entry for each label, labels ascending. Turns the label of each vertex that moves into the place of its entry: a
-// label is the least vertex of its group, so that its own place is there before another vertex asks for it.
+// Makes an empty entry for each label, labels ascending. Turns the label of each vertex that moves into the place of
+// its entry.
+//
+// A label is the least vertex of its group. So the label's own place is there before another vertex needs it.
 pub(crate) fn open_groups(
     alloc: Global,
     phase: u32,
@@ -40,10 +42,11 @@ pub(crate) fn open_groups(
     Ok(())
 }
 
-// The number of entries that are looked at together: they lie anywhere in memory, and so do the lists in them.
+// The number of entries that are prefetched together: the entries and their lists lie anywhere in memory.
 const TOGETHER: usize = 16;
 
-// Whether the last move of the entry is of one of n vertices, as each of its moves is: a look at the end of the list.
+// Prefetches the end of the entry's moves: loads the last move. Always true, since each move of the entry is of one of
+// n vertices. The compiler can't know that, so it keeps the load.
 fn ends_inside(entry: &Entry, n: usize) -> bool
     requires { All (λ m. m.vertex < n) entry.now.moves }
     ensures { result ≡ true }
@@ -54,7 +57,7 @@ fn ends_inside(entry: &Entry, n: usize) -> bool
     }
 }
 
-// The place of the vertex of move k. Before the first of 16 has its turn, the entries of the 16 are looked at together.
+// Returns the place of the vertex of move k. At every 16th move it prefetches the entries of the next 16.
 fn move_in_turn(moves: &[Move], places: &[u32], entries: &[Entry], k: usize) -> u32
     requires inside { k < length moves.now }
     requires placed { All (λ m. (m.vertex < length places.now) × (slice_index places.now m.vertex < length entries.now)) moves.now }
@@ -74,7 +77,7 @@ fn move_in_turn(moves: &[Move], places: &[u32], entries: &[Entry], k: usize) -> 
     place
 }
 
-// Puts each move at the end of the entry at the place of its vertex.
+// Appends each move to the entry at the place of its vertex.
 pub(crate) fn deal_moves(
     moves: &[Move],
     places: &[u32],
@@ -91,7 +94,7 @@ pub(crate) fn deal_moves(
     Ok(())
 }
 
-// The place of an end of the edge that moves, if there is one. Else the number of vertices.
+// Returns the place of an end of the edge that moves, if there is one, and else the number of vertices.
 fn place_at(places: &[u32], e: Edge) -> u32
     requires small { length places.now ≤ MAX_VERTICES }
     requires order { e.0 < e.1 }
@@ -106,7 +109,8 @@ fn place_at(places: &[u32], e: Edge) -> u32
     }
 }
 
-// Whether the last edge of the entry has its lesser vertex first, as every edge does: a look at the end of the list.
+// Prefetches the end of the entry's edges: loads the last edge. Always true, since each edge has its lesser vertex
+// first. The compiler can't know that, so it keeps the load.
 fn ends_in_order(entry: &Entry) -> bool
     ensures { result ≡ true }
 {
@@ -116,7 +120,7 @@ fn ends_in_order(entry: &Entry) -> bool
     }
 }
 
-// The place of edge k (`place_at`). Before the first of 16 has its turn, the entries of the 16 are looked at together.
+// Returns the place of edge k (`place_at`). At every 16th edge it prefetches the entries of the next 16.
 fn edge_in_turn(edges: &[Edge], places: &[u32], entries: &[Entry], k: usize) -> u32
     requires small { length places.now ≤ MAX_VERTICES }
     requires inside { k < length edges.now }
@@ -137,7 +141,7 @@ fn edge_in_turn(edges: &[Edge], places: &[u32], entries: &[Entry], k: usize) -> 
     place
 }
 
-// Puts each edge into the entry at its place, or among the quiet ones.
+// Appends each edge to the entry at its place, or to the quiet edges.
 pub(crate) fn deal_edges(
     places: &[u32],
     edges: &[Edge],

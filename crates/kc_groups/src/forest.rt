@@ -1,11 +1,11 @@
-//! A forest over the places of a list: each place points to one that is no greater, and a root to itself.
+//! A forest over the places of a list: each place points to a place that is no greater, and a root to itself.
 ghost use Rattle.std.specs.Prelude.{◌≡◌, ℕ, Bool, List, ◌<◌, ◌||◌, length, slice_index};
 ghost use Rattle.kc_groups.specs.private.Forest.{IsForest, AreGathered, merged};
 ghost use Rattle.kc_groups.specs.private.Gathering.{AreLinks};
 
 use kc_graph::Edge;
 
-// The root of a place. Every second place on the way points to where its parent points, afterwards.
+// Returns the root of a place. On the way it halves the path: every second place then points to its parent's parent.
 fn find(parents: &mut Vec<u32>, place: u32) -> u32
     requires inside { place < length parents.old.items }
     requires forest { (roots : List ℕ) × IsForest parents.old.items roots }
@@ -22,7 +22,7 @@ fn find(parents: &mut Vec<u32>, place: u32) -> u32
     at
 }
 
-// Makes one tree of those of two places, under the lesser of their roots.
+// Makes one tree of the trees of two places, under the lesser of their roots.
 pub(crate) fn join(parents: &mut Vec<u32>, first: u32, second: u32)
     requires first { first < length parents.old.items }
     requires second { second < length parents.old.items }
@@ -30,7 +30,7 @@ pub(crate) fn join(parents: &mut Vec<u32>, first: u32, second: u32)
     ensures forest { (roots : List ℕ) → IsForest parents.old.items roots → IsForest parents.new.items (merged first second roots) }
     ensures sized { length parents.new.items ≡ length parents.old.items }
 {
-    // Two that point to the same are in one tree already. Most are, and then nothing is written.
+    // Two places with the same parent are in one tree already. Most are, so this test saves the stores.
     if parents[first as usize] == parents[second as usize] {
         return;
     }
@@ -39,7 +39,7 @@ pub(crate) fn join(parents: &mut Vec<u32>, first: u32, second: u32)
     parents[first.max(second) as usize] = first.min(second);
 }
 
-// Joins the places that each of the links leads between.
+// Joins the two places of each link.
 pub(crate) fn join_links(links: &[Edge], parents: &mut Vec<u32>)
     requires forest { (roots : List ℕ) × IsForest parents.old.items roots }
     requires links { (linked : ℕ → ℕ → Bool) × AreLinks (length parents.old.items) linked links.now }

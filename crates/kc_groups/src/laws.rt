@@ -1,4 +1,5 @@
-//! What labels, groups and plans of phases come to. The functions do nothing: each has laws as its contract.
+//! What follows from the definitions of labels, groups and plans of phases. The functions do nothing: each has laws as
+//! its contract.
 
 ghost use Rattle.kc_groups.specs.Laws.{LabelsAreOne, PlanIsOne, PlanIsWellFormed, MovesAreInTheirGroups, EdgesAreDealtOnce, EntriesLeadOver, PointsLieBetween, PlanAscends, PhasesLead};
 
@@ -7,7 +8,7 @@ pub fn labels_are_one()
     ensures { LabelsAreOne }
 {}
 
-/// Exactly one plan holds the entries of a phase.
+/// Exactly one plan has the entries of a phase.
 pub fn plan_is_one()
     ensures { PlanIsOne }
 {}
@@ -17,7 +18,8 @@ pub fn plan_is_well_formed()
     ensures { PlanIsWellFormed }
 {}
 
-/// The moves of a plan are those of the vertices that move, each in the entry of its label with its levels before and after.
+/// The moves of a plan are those of the vertices that move. Each is in the entry of its label, with its levels before
+/// and after.
 pub fn moves_are_in_their_groups()
     ensures { MovesAreInTheirGroups }
 {}
@@ -27,13 +29,13 @@ pub fn edges_are_dealt_once()
     ensures { EdgesAreDealtOnce }
 {}
 
-/// The entries of a phase lead from the graph and levels before it to those after it.
+/// The entries of a phase lead from the graph and levels before the phase to those after it.
 pub fn entries_lead_over()
     ensures { EntriesLeadOver }
 {}
 
-/// At each point of a phase the graph and levels lie between those before and those after it, so that both invariants hold
-/// there where they hold before and after.
+/// At each point of a phase the graph and levels lie between those before and those after the phase. So both invariants
+/// hold at the point if they hold before and after.
 pub fn points_lie_between()
     ensures { PointsLieBetween }
 {}
@@ -43,8 +45,8 @@ pub fn plan_ascends()
     ensures { PlanAscends }
 {}
 
-/// The entries of phases, one after another, lead from the graph and levels before the first to those after the last, and more
-/// phases lead on from there.
+/// The entries of phases, one after another, lead from the graph and levels before the first to those after the last.
+/// More phases lead on from there.
 pub fn phases_lead()
     ensures { PhasesLead }
 {}

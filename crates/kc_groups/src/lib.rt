@@ -1,10 +1,16 @@
 //! The groups of vertices that move together in a phase, as entries of the history.
 //!
-//! Two vertices that move in a phase are linked where they share an edge before or after it. A group is what links connect,
-//! and its label is its least vertex. [`plan_moves`] makes a [`PhasePlan`] of a [`Phase`], by [`Planners`] and with a
-//! [`GroupWork`] that is kept between phases: a quiet entry of the edges at which nothing moves, and an entry for each group.
-//! [`plan_phase`] makes the same from the levels before and after. `specs/` has the definitions: read `Links` first, then
-//! `Entries` and `WellFormed`; `Gathering` says what moves are asked for. [`laws`] says what they come to.
+//! Two vertices that move in a phase are linked if they share an edge before or after the phase. A group is the
+//! vertices that links connect, and its label is its least vertex. [`plan_moves`] makes a [`PhasePlan`] of a [`Phase`],
+//! by [`Planners`] and with a [`GroupWork`] that is kept between phases. The plan has a quiet entry, of the edges
+//! without an end that moves, and an entry for each group. [`plan_phase`] makes the same from the levels before and
+//! after.
+//!
+//! `specs/` has the definitions: read `Links` first, then `Entries` and `WellFormed`; `Gathering` has what is required
+//! of moves. [`laws`] says what follows from them.
+//!
+//! Floor: graph and levels. From above: plans by the engine; [`PhasePlan`] in the store and in texts; [`laws`] in
+//! proofs.
 #![tactic(auto)]
 
 mod dealing;

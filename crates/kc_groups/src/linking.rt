@@ -1,4 +1,4 @@
-//! The moves of a phase, gathered into a tree for each group, and the links that lead between them.
+//! The moves of a phase, gathered into a tree for each group, and the links between them.
 ghost use Rattle.std.specs.Prelude.{◌≡◌, ℕ, List, Bool, ◌<◌, ◌≤◌, ◌||◌, IfOk, OnOk, cond, false, true, length, nat_lt, slice_index};
 ghost use Rattle.kc_graph.specs.Shape.{EdgesFrom};
 ghost use Rattle.kc_groups.specs.private.Forest.{AreGathered, IsForest};
@@ -10,7 +10,7 @@ use kc_graph::{Edge, Graph, MAX_VERTICES};
 use kc_history::Move;
 use std::alloc::{AllocError, Global};
 
-// Each of m places as a tree of its own.
+// Makes a forest of m places, each a tree of its own.
 pub(crate) fn lone_places(alloc: Global, m: u32) -> Result<Vec<u32>, AllocError>
     ensures { IfOk result (λ parents. AreGathered m (λ i j. false) parents.items) }
 {
@@ -21,10 +21,11 @@ pub(crate) fn lone_places(alloc: Global, m: u32) -> Result<Vec<u32>, AllocError>
     Ok(parents)
 }
 
-// The number of moves whose rows are looked at together.
+// The number of moves whose rows are prefetched together.
 const TOGETHER: u32 = 16;
 
-// Whether the rows of the vertices of the 16 moves from this place on are at hand, which they are after a look at each.
+// Prefetches the rows of the vertices of the 16 moves from this place on. Always true; the compiler can't know that, so
+// it keeps the loads.
 fn are_at_hand(graph: &Graph, moves: &[Move], place: u32) -> bool
     requires { place ≤ length moves.now }
     ensures { result ≡ true }
@@ -38,7 +39,7 @@ fn are_at_hand(graph: &Graph, moves: &[Move], place: u32) -> bool
     true
 }
 
-// The vertex of the move at `place`. Before a place that 16 divides has its turn, its row and the next 15 are looked at together.
+// Returns the vertex of the move at `place`. At every 16th place it prefetches the rows of the next 16.
 fn vertex_in_turn(graph: &Graph, moves: &[Move], place: u32) -> u32
     requires { place < length moves.now }
     ensures { result ≡ slice_index (vertices moves.now) place }
@@ -49,8 +50,11 @@ fn vertex_in_turn(graph: &Graph, moves: &[Move], place: u32) -> u32
     moves[place as usize].vertex
 }
 
-// The place of w, a neighbour of the vertex v of the move at `place`, if w is less than v, and else `place`. So it is less than
-// `place` only where w moves and has a lesser place: no greater vertex has one, since the vertices of the moves ascend.
+// Returns the place of w if w is less than v, and else `place`. Here v is the vertex of the move at `place`, and w is a
+// neighbour of v.
+//
+// The result is less than `place` only if w moves and has a lesser place. No greater vertex has a lesser place, since
+// the vertices of the moves ascend.
 fn place_below(places: &[u32], v: u32, w: u32, place: u32) -> u32
     requires { w < length places.now }
     ensures { result ≡ cond (nat_lt w v) (slice_index places.now w) place }
@@ -75,7 +79,7 @@ fn link_row(graph: &Graph, moves: &[Move], places: &[u32], parents: &mut Vec<u32
     }
 }
 
-// A forest over the moves, in which each is joined with those of its neighbours at lesser places.
+// Makes a forest over the moves in which each is joined with those of its neighbours at lesser places.
 pub(crate) fn link_rows(
     alloc: Global,
     graph: &Graph,
@@ -93,7 +97,7 @@ pub(crate) fn link_rows(
     Ok(parents)
 }
 
-// Adds to the links those of the move at `place` to its neighbours at lesser places, which `link_row` joins.
+// Appends the links of the move at `place` to its neighbours at lesser places, which `link_row` joins.
 fn find_links(
     graph: &Graph,
     moves: &[Move],
@@ -115,7 +119,7 @@ fn find_links(
     Ok(())
 }
 
-// The links to lesser places of the moves from place `from` on, before place `to`.
+// Returns the links to lesser places of the moves from place `from` up to place `to`, without `to`.
 pub(crate) fn links_between(
     alloc: Global,
     graph: &Graph,
@@ -136,7 +140,7 @@ pub(crate) fn links_between(
     Ok(links)
 }
 
-// Joins the moves that one of the edges leads between.
+// Joins the two moves at the ends of each edge, if both ends move.
 pub(crate) fn link_edges(edges: &[Edge], moves: &[Move], places: &[u32], parents: &mut Vec<u32>)
     requires small { length moves.now ≤ MAX_VERTICES }
     requires numbered { AreNumbered (length places.now) (vertices moves.now) places.now }

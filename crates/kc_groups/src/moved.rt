@@ -1,4 +1,4 @@
-//! The moves of a phase, found from the levels before and after it.
+//! The moves of a phase, as they are found from the levels before and after it.
 ghost use Rattle.std.specs.Prelude.{◌≡◌, ◌<◌, ◌≤◌, OnOk, IfOk, length};
 ghost use Rattle.kc_levels.specs.Moved.{is_moved, moves_between};
 
@@ -6,10 +6,11 @@ use kc_graph::MAX_VERTICES;
 use kc_history::{Move, Moves};
 use std::alloc::{AllocError, Global};
 
-// How many levels are compared at once: 64 bytes. Where some vertices move here and there, a longer run is seldom the same.
+// The number of levels that are compared at once: 64 bytes. If single vertices move here and there, longer runs are
+// seldom equal.
 const RUN: u32 = 32;
 
-// Whether v moves.
+// Returns whether v moves.
 fn is_moved(before: &[u16], after: &[u16], v: u32) -> bool
     requires vertex { v < length before.now }
     requires same { length after.now ≡ length before.now }
@@ -18,7 +19,7 @@ fn is_moved(before: &[u16], after: &[u16], v: u32) -> bool
     before[v as usize] != after[v as usize]
 }
 
-// Puts the moves of the vertices from one place to another at the end of those before.
+// Appends the moves of the vertices from one place to another.
 fn list_run(
     before: &[u16],
     after: &[u16],
@@ -44,8 +45,8 @@ fn list_run(
     Ok(())
 }
 
-// The moves of n vertices, ascending. One pass over the levels, which looks at single vertices only where a run of levels has
-// changed.
+// Returns the moves of n vertices, ascending. One pass over the levels, which tests single vertices only if a run of
+// levels has changed.
 pub(crate) fn find_moves(
     alloc: Global,
     n: u32,

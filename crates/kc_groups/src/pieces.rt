@@ -1,4 +1,4 @@
-//! The links of the moves of a phase, found piece by piece, by a thread for each.
+//! The links of the moves of a phase, which are found piece by piece, by a thread for each piece.
 ghost use Rattle.std.specs.Prelude.{◌≡◌, ◌+◌, ◌<◌, ◌≤◌, IfOk, length};
 ghost use Rattle.kc_groups.specs.private.Forest.{AreGathered};
 ghost use Rattle.kc_groups.specs.Gathering.{vertices};
@@ -12,23 +12,23 @@ use std::alloc::{AllocError, Global};
 use std::thread;
 use std::thread::Threads;
 
-// The moves are cut into no more pieces than they have full ones of this length: a piece is to cost far more than to start a thread and
-// to join it.
+// Moves are cut into at most one piece for each full `LEAST_LINKED` moves. So a piece costs far more than to start and
+// join a thread.
 const LEAST_LINKED: usize = 8_192;
 
-/// Who plans a phase: what starts threads, where memory comes from, and how many workers there are at most (0 counts as 1). No plan
-/// depends on the number.
+/// The threads, the memory and the number of workers with which a phase is planned. No plan depends on the number of
+/// workers.
 #[derive(Drop)]
 pub struct Planners<'a, R> {
-    /// What starts the threads.
+    /// The runtime that starts the threads.
     pub rt: &'a R,
-    /// Where the memory of plans, and of what they are made from, comes from.
+    /// The allocator of plans, and of the lists from which plans are made.
     pub alloc: Global,
-    /// How many pieces a list of moves is cut into at most; 0 counts as 1.
+    /// The greatest number of pieces of a list of moves; 0 counts as 1.
     pub workers: u32,
 }
 
-// Into how many pieces a list with this number of moves is cut.
+// Returns the number of pieces of a list with this number of moves.
 pub(crate) fn piece_count(workers: u32, moves: usize) -> u32
     ensures { 1 ≤ result }
 {
@@ -36,7 +36,7 @@ pub(crate) fn piece_count(workers: u32, moves: usize) -> u32
     long.max(1)
 }
 
-// The links to lesser places of as many moves as the piece has, from place `start` on.
+// Returns the links to lesser places of the moves of a piece, from place `start` on.
 fn links_of(
     alloc: Global,
     graph: &Graph,
@@ -54,9 +54,10 @@ fn links_of(
     links_between(alloc, graph, moves, places, start as u32, end as u32)
 }
 
-// A forest over the moves in which those that an edge of the graph leads between are in one tree. The links of each of `pieces` pieces,
-// or fewer where there are few moves, are found by a thread of its own where one can be made, and then joined by this one; for one
-// piece no thread is started, and each link is joined as it is found.
+// Makes a forest over the moves, in which moves with an edge of the graph between them are in one tree.
+//
+// There are `pieces` pieces, or fewer if there are few moves. Each finds its links in a thread of its own if one can be
+// made, and this thread then joins the links. A single piece starts no thread, and joins each link when it is found.
 pub(crate) fn gather_rows<R: Threads + Sync>(
     planners: &Planners<'_, R>,
     graph: &Graph,

@@ -1,5 +1,5 @@
-//! The plan of a phase from end to end: its moves are numbered and joined into groups, and moves and edges are dealt to the
-//! entries of these.
+//! The plan of a phase from end to end. Its moves are numbered and joined into groups. Then moves and edges are dealt
+//! to the entries of these groups.
 ghost use Rattle.std.specs.Prelude.{◌≡◌, ◌≤◌, ℕ, List, IfOk, OnOk, IsTrue, length, true, false};
 ghost use Rattle.kc_graph.specs.Shape.{EdgesFrom, with_edges};
 ghost use Rattle.kc_graph.specs.Changes.{AllPresent};
@@ -22,8 +22,8 @@ use kc_levels::Levels;
 use std::alloc::{AllocError, Global};
 use std::thread::Threads;
 
-// The plan of a phase from a forest of its moves (`gather_rows`): the moves that `gone` leads between are joined too, and each tree
-// is a group. `places` has the place of each move, and is clean afterwards.
+// Makes the plan of a phase from a forest of its moves (`gather_rows`). The moves with an edge of `gone` between them
+// are joined too, and each tree is a group. `places` has the place of each move, and is clean afterwards.
 fn plan_trees(
     alloc: Global,
     phase: &Phase<'_>,
@@ -40,7 +40,7 @@ fn plan_trees(
     ensures clean { OnOk result (places.new.items ≡ clean graph.now.vertices) }
     ensures entries { IfOk result (λ plan. (before after : List ℕ) → AreMovesOf graph.now.vertices before after phase.now.moves.now → AreEntries phase.now.number phase.now.add phase.now.edges.now before after (with_edges graph.now gone.now) plan) }
 {
-    // Its contract says how many vertices there are at most.
+    // Evidence for the check: the vertices of the graph are at most `MAX_VERTICES`.
     let _n = graph.vertices();
     let moves = phase.moves.as_slice();
     link_edges(gone, moves, places, &mut parents);
@@ -57,7 +57,7 @@ fn plan_trees(
     })
 }
 
-// As `plan_moves`, with the moves cut into this many pieces.
+// Returns the same as `plan_moves`, with the moves cut into this many pieces.
 pub(crate) fn plan_in_pieces<R: Threads + Sync>(
     planners: &Planners<'_, R>,
     phase: &Phase<'_>,
@@ -74,7 +74,7 @@ pub(crate) fn plan_in_pieces<R: Threads + Sync>(
     ensures clean { OnOk result (work.new ≡ clean graph.now.vertices) }
     ensures entries { IfOk result (λ plan. (before after : List ℕ) → AreMovesOf graph.now.vertices before after phase.now.moves.now → AreEntries phase.now.number phase.now.add phase.now.edges.now before after (with_edges graph.now gone.now) plan) }
 {
-    // As in `plan_trees`.
+    // Evidence for the check, as in `plan_trees`.
     let _n = graph.vertices();
     let moves = phase.moves.as_slice();
     let places = &mut work.places;
@@ -83,18 +83,22 @@ pub(crate) fn plan_in_pieces<R: Threads + Sync>(
     plan_trees(planners.alloc, phase, graph, gone, places, parents)
 }
 
-/// The entries of a phase, as `AreEntries` says: by the levels before and after it, whatever they are, that its moves lead between
-/// (`AreMovesOf`), and the graph with all its edges.
+/// Returns the entries of a phase, as `AreEntries` defines: by the graph with all its edges, and by levels before and
+/// after it. Any levels will do, if the moves lead from the first to the second (`AreMovesOf`).
 ///
-/// `graph` is the graph after the phase, or the one before it, and `gone` has those edges of the phase that it lacks: for the graph
-/// after an insertion none, and for the one after a deletion all. They ascend, and so do the vertices of the moves.
+/// `graph` is the graph after the phase, or the one before it. `gone` has those edges of the phase that `graph` lacks:
+/// none for the graph after an insertion, and all for the graph after a deletion. The edges of `gone` ascend, and so do
+/// the vertices of the moves.
 ///
-/// Looks only at the vertices that move, their neighbours and the edges of the phase, whatever the number of vertices. To the
-/// neighbours go threads: the moves are cut into as many pieces as there are workers, but no more than they have full 8,192s; the rest
-/// is one thread's. Takes 4 bytes a move besides the plan, and where there are pieces 8 bytes, or up to twice that, for each link between
-/// two moves. The plan doesn't depend on the workers.
+/// Cost:
 ///
-/// The workspace is clean before and afterwards. Fails only if memory runs out; the workspace is then of no further use.
+/// - steps for the vertices that move, their neighbours and the edges of the phase, whatever the number of vertices;
+/// - threads for the neighbours: the moves are cut into a piece for each worker, but at most one for each full 8,192
+///   moves;
+/// - 4 bytes a move besides the plan; with several pieces also 8 to 16 bytes for each link between two moves.
+///
+/// One thread does all other work. The plan doesn't depend on the workers. The workspace is clean before and
+/// afterwards. Fails only if memory runs out; the workspace is then of no further use.
 pub fn plan_moves<R: Threads + Sync>(
     planners: &Planners<'_, R>,
     phase: &Phase<'_>,
@@ -113,14 +117,14 @@ pub fn plan_moves<R: Threads + Sync>(
     plan_in_pieces(planners, phase, graph, gone, work, pieces)
 }
 
-/// The entries of phase `phase`, whose edges come in if `add` is true and else leave, and which changes the levels `before` to
-/// `after`, as `AreEntries` says. The plan is well formed.
+/// Returns the entries of phase `phase`, as `AreEntries` defines. Its edges come in if `add` is true, and otherwise
+/// leave. It changes the levels `before` to `after`. The plan is well formed.
 ///
-/// `graph` has every edge that is there before or after the phase: it is the graph after an insertion, and the graph before a
-/// deletion. The edges ascend and are in it.
+/// `graph` has every edge that is there before or after the phase: it is the graph after an insertion, and the graph
+/// before a deletion. The edges ascend and are in `graph`.
 ///
-/// One pass over the levels of all vertices, and a table with a number for each. Then only the vertices that move, their
-/// neighbours and the edges of the phase. Fails only if memory runs out.
+/// Cost: one pass over the levels of all vertices, and a table with a number for each. Then steps for the vertices that
+/// move, their neighbours and the edges of the phase. Fails only if memory runs out.
 pub fn plan_phase(
     alloc: Global,
     phase: u32,

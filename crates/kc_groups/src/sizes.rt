@@ -1,4 +1,4 @@
-//! How large a plan can be. The function does nothing: it has the law as its contract.
+//! The greatest size of a plan. The function does nothing: it has the law as its contract.
 
 ghost use Rattle.kc_groups.specs.Sizes.{PlansAreSmall};
 

@@ -1,4 +1,4 @@
-//! What a plan works with: a number for each vertex.
+//! The workspace of a plan: a number for each vertex.
 ghost use Rattle.std.specs.Prelude.{◌≡◌, ◌≤◌, ℕ, List, ◌<◌, IfOk, length};
 ghost use Rattle.kc_groups.specs.private.Forest.{IsForest};
 ghost use Rattle.kc_groups.specs.Gathering.{vertices, clean, AreInOrder};
@@ -9,12 +9,15 @@ use kc_history::Move;
 use std::alloc::{AllocError, Global};
 use std::marker::Model;
 
-/// What `plan_moves` works with, kept between phases. Contracts see it as a list with a number for each vertex, which is clean
-/// (`clean`) between phases.
+/// The workspace of `plan_moves`, kept between phases. Contracts see a list with a number for each vertex, which is
+/// clean (`clean`) between phases.
 #[derive(Drop)]
 pub struct GroupWork {
-    // A number for each vertex: the number of vertices at one that doesn't move, and so at all between phases. At one that moves it is,
-    // while the phase is planned, first the place of its move, then the label of its group, and at last the place of the group's entry.
+    // A number for each vertex. It is the number of vertices if the vertex doesn't move, so for each vertex between
+    // phases.
+    //
+    // While a phase is planned, the number of a vertex that moves is at first the place of its move. Then it is the
+    // label of its group, and at last the place of the group's entry.
     pub(crate) places: Vec<u32>,
 }
 
@@ -27,7 +30,7 @@ impl Model for GroupWork {
 }
 
 impl GroupWork {
-    /// For the phases of a graph with n vertices. Takes memory for n numbers. Fails only if memory runs out.
+    /// Makes the workspace of a graph with n vertices. Takes memory for n numbers. Fails only if memory runs out.
     pub fn new(alloc: Global, n: u32) -> Result<GroupWork, AllocError>
         ensures { IfOk result (λ work. work ≡ clean n) }
     {
@@ -49,7 +52,8 @@ pub(crate) fn number(moves: &[Move], places: &mut Vec<u32>)
     }
 }
 
-// Gives each vertex that moves the vertex of its root: what a place points to has its own already.
+// Gives each vertex that moves the vertex of its root. A place points to a lesser place, whose vertex already has its
+// root's.
 pub(crate) fn label(moves: &[Move], parents: &[u32], places: &mut Vec<u32>)
     requires numbered { AreNumbered (length places.old.items) (vertices moves.now) places.old.items }
     requires forest { (roots : List ℕ) × IsForest parents.now roots }
@@ -67,7 +71,7 @@ pub(crate) fn label(moves: &[Move], parents: &[u32], places: &mut Vec<u32>)
     }
 }
 
-// Gives each vertex that moves the number of vertices again, as where nothing moves.
+// Gives each vertex that moves the number of vertices again, as between phases.
 pub(crate) fn clear(moves: &[Move], places: &mut Vec<u32>)
     requires few { length places.old.items ≤ MAX_VERTICES }
     requires order { AreInOrder (length places.old.items) moves.now }

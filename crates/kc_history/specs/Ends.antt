@@ -1,8 +1,8 @@
--- What the end of a history is for one vertex, and for one label. Over the whole graph `Points` says it.
+-- The end of a history for one vertex and for one label. `Points` has it for the whole graph.
 use Rattle.std.specs.Prelude.{ℕ, List, [], ◌∷◌, Option, Some, None, nat_eq, if◌then◌else◌}
 use Rattle.kc_levels.specs.declared.moves.Move.{Move}
 
--- the first, if there is one, and else the second
+-- the first if there is one, else the second
 abbrev pub or_else : Option Move → Option Move → Option Move
 or_else (Some m) other = Some m
 or_else None other = other

@@ -1,4 +1,4 @@
--- A history and its points. A history is a list of entries, and grows at its end.
+-- A history and its points. A history is a list of entries that grows at its end.
 use Rattle.std.specs.Prelude.{ℕ, cond, List, [], ◌∷◌, set, take, replicate}
 use Rattle.kc_graph.specs.Shape.{GraphShape, with_edges, without_edges}
 use Rattle.kc_levels.specs.declared.moves.Move.{Move}

@@ -1,4 +1,4 @@
-//! An entry of a history: the moves and the edges that take effect together.
+//! An entry of a history: moves and edges that take effect together.
 ghost use Rattle.std.specs.Prelude.{◌≡◌, ◌++◌, ◌∷◌, [], OnOk, OnErr};
 
 use crate::{Move, Moves};
@@ -8,20 +8,20 @@ use std::alloc::{AllocError, Global};
 /// A change of a graph with levels that takes effect at once.
 #[derive(Drop)]
 pub struct Entry {
-    /// The number of the phase that the entry belongs to, 1 to `MAX_PHASE`.
+    /// The number of the entry's phase, 1 to `MAX_PHASE`.
     pub phase: u32,
-    /// The least vertex of the group that moves, or `None` where no vertex moves.
+    /// The least vertex of the group that moves, or `None` if no vertex moves.
     pub label: Option<u32>,
-    /// Whether the edges come in. They leave if not.
+    /// Whether the edges come in; else they leave.
     pub add: bool,
-    /// The vertices that move.
+    /// The moves.
     pub moves: Moves,
     /// The edges that come in or leave.
     pub edges: Edges,
 }
 
 impl Entry {
-    /// An entry without moves and edges. Takes no memory.
+    /// Makes an entry without moves and edges. Takes no memory.
     pub fn new(alloc: Global, phase: u32, label: Option<u32>, add: bool) -> Entry
         ensures { result ≡ record { phase = phase; label = label; add = add; moves = []; edges = [] } }
     {
@@ -34,7 +34,7 @@ impl Entry {
         }
     }
 
-    /// Puts a move at the end of the moves. After a refusal the entry is unchanged.
+    /// Appends a move. Fails only if memory runs out; the entry is then unchanged.
     pub fn push_move(&mut self, m: Move) -> Result<(), AllocError>
         ensures ok { OnOk result (self.new ≡ record self.old { moves = self.old.moves ++ m ∷ [] }) }
         ensures err { OnErr result (self.new ≡ self.old) }
@@ -42,7 +42,7 @@ impl Entry {
         self.moves.push(m)
     }
 
-    /// Puts an edge at the end of the edges. After a refusal the entry is unchanged.
+    /// Appends an edge. Fails only if memory runs out; the entry is then unchanged.
     pub fn push_edge(&mut self, e: Edge) -> Result<(), AllocError>
         ensures ok { OnOk result (self.new ≡ record self.old { edges = self.old.edges ++ e ∷ [] }) }
         ensures err { OnErr result (self.new ≡ self.old) }

@@ -3,5 +3,5 @@
 use crate::entries::Entry;
 use kc_graph::List;
 
-/// Entries one after another, in the order in which they take effect. Contracts see them as a list.
+/// Entries in the order in which they take effect. Contracts see them as a list.
 pub type Entries = List<Entry>;

@@ -1,8 +1,9 @@
-//! What points of a history come to, and which replies it explains. The functions do nothing: each has laws as its contract.
+//! What holds of the points of a history and of the replies that it explains. Each function does nothing: its contract
+//! is the law.
 
 ghost use Rattle.kc_history.specs.Laws.{PointsStay, HistoryStartsEmpty, EntriesLeadOn, PointsLeadOn, LongerExplains, EarlierExplains, EndExplainsMore, StartExplainsZeros};
 
-/// A point of a history is the same point of every history that this one begins.
+/// A point of a history is the same point of every history that continues it.
 pub fn points_stay()
     ensures { PointsStay }
 {}
@@ -12,28 +13,28 @@ pub fn history_starts_empty()
     ensures { HistoryStartsEmpty }
 {}
 
-/// Where entries follow a history, each point after its end is what the entries up to there make of that end.
+/// If entries follow a history, each point after its end is what the entries up to there make of that end.
 pub fn entries_lead_on()
     ensures end { EntriesLeadOn }
     ensures points { PointsLeadOn }
 {}
 
-/// What a history explains is explained by every history that it begins.
+/// A history that continues another explains what the other explains.
 pub fn longer_explains()
     ensures { LongerExplains }
 {}
 
-/// What is explained from a point on is explained from each earlier point on.
+/// Replies explained from a point on are explained from each earlier point on.
 pub fn earlier_explains()
     ensures { EarlierExplains }
 {}
 
-/// A reply that tells the level of its vertex at the end of the history can follow what is explained.
+/// A reply with the level of its vertex at the end of the history can follow explained replies.
 pub fn end_explains_more()
     ensures { EndExplainsMore }
 {}
 
-/// Replies of level 0 are explained by every history, from its start on.
+/// Every history explains replies of level 0, from its start on.
 pub fn start_explains_zeros()
     ensures { StartExplainsZeros }
 {}

@@ -1,15 +1,15 @@
-//! What a reader was told: a reply for each of its questions, in order.
+//! The replies to a reader: one for each of its questions, in order.
 
 use kc_graph::List;
 
-/// What a reader was told of a vertex: its level.
+/// The answer to a question: a vertex and its level.
 #[derive(Clone, Copy, Debug, PartialEq, Eq)]
 pub struct Reply {
-    /// The vertex that was asked for.
+    /// The vertex of the question.
     pub vertex: u32,
-    /// The level that it had at some point of the history.
+    /// Its level at some point of the history.
     pub level: u16,
 }
 
-/// Replies one after another, in the order of the questions. Contracts see them as a list.
+/// Replies in the order of the questions. Contracts see them as a list.
 pub type Replies = List<Reply>;

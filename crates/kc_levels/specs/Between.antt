@@ -4,14 +4,16 @@ use Rattle.kc_graph.specs.Shape.{GraphShape, IsGraph, joined}
 use Rattle.kc_levels.specs.declared.profile.Profile.{Profile}
 use Rattle.kc_levels.specs.LevelList.{MeetsBoth}
 
--- the vertex v has the same level, the same neighbours, and these the same levels, in h with y as in g with x
+-- the vertex v has the same level and the same neighbours on the same levels in h with y as in g with x
 pub record IsAlike (g h : GraphShape) (x y : List ℕ) (v : ℕ) : Type 0 where
   pub level : get_or y v 0 ≡ get_or x v 0
   pub edges : (w : ℕ) → joined v w h.edges ≡ joined v w g.edges
   pub levels : (w : ℕ) → joined v w g.edges ≡ true → get_or y w 0 ≡ get_or x w 0
 
--- h with y has at least the edges and levels of a with xa, and at most those of b with xb; and where these two differ in
--- the level of a vertex, it is as in one of them
+-- h with y lies between a with xa and b with xb
+--
+-- It has at least the edges and levels of a, and at most those of b. A vertex whose level differs in a and b is as in
+-- one of them.
 pub record IsBetween (a b h : GraphShape) (xa xb y : List ℕ) : Type 0 where
   pub lower : IsGraph a
   pub upper : IsGraph b

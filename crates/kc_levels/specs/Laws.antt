@@ -1,4 +1,4 @@
--- Laws of the thresholds and of raised and lowered lists, each the contract of a function of `laws`.
+-- Laws of the thresholds and of raised and lowered lists; each is the contract of a function in `laws`.
 use Rattle.std.specs.Prelude.{ℕ, ◌+◌, ◌-◌, ◌*◌, ◌≤◌, ◌<◌, ◌≡◌, true, List, [], ◌∷◌, length, min, max, map, replicate, All}
 use Rattle.kc_graph.specs.declared.limits.TheConstants.{MAX_VERTICES}
 use Rattle.kc_graph.specs.Shape.{GraphShape, Pair, IsGraph, has_edge, with_edges, without_edges}
@@ -63,8 +63,10 @@ LesserIsRaisable =
     (p : Profile) (g : GraphShape) (x y z : List ℕ) → IsRaisable p g x y → IsRaisable p g x z →
     IsRaisable p g x (lesser y z)
 
--- insertions in two steps raise the same list as in one: what is raised in a graph, and from there in one with more
--- edges, is raised in that one from the first
+-- insertions in two steps raise the same list as in one
+--
+-- The list raised in a graph is raised again in a graph with more edges. That is the list raised in the second graph at
+-- once.
 abbrev pub InsertionsAloneGiveOneList : Type 0
 InsertionsAloneGiveOneList =
     (p : Profile) (g h : GraphShape) (x y z : List ℕ) →
@@ -93,27 +95,27 @@ GreaterIsLowerable =
     (p : Profile) (g : GraphShape) (x y z : List ℕ) → IsLowerable p g x y → IsLowerable p g x z →
     IsLowerable p g x (greater y z)
 
--- where edges come in and the levels rise, both invariants are kept
+-- if edges come in and the levels rise, both invariants are kept
 abbrev pub InsertionKeepsBoth : Type 0
 InsertionKeepsBoth =
     (p : Profile) (g : GraphShape) (added : List Pair) (x y : List ℕ) →
     IsGraph g → All (λ e. (e.0 < e.1) × (e.1 < g.vertices)) added → MeetsBoth p g x →
     IsRaised p (with_edges g added) x y → MeetsBoth p (with_edges g added) y
 
--- where edges leave and the levels fall, both invariants are kept
+-- if edges leave and the levels fall, both invariants are kept
 abbrev pub DeletionKeepsBoth : Type 0
 DeletionKeepsBoth =
     (p : Profile) (g : GraphShape) (removed : List Pair) (x y : List ℕ) →
     IsGraph g → MeetsBoth p g x →
     IsLowered p (without_edges g removed) x y → MeetsBoth p (without_edges g removed) y
 
--- the estimate is twice lo, and high is at most three times the estimate, in the second profile at most twice the estimate
+-- the estimate is twice lo, and high is at most three times the estimate, in the second profile twice
 pub record EstimateIsNear : Type 0 where
   pub twice : (p : Profile) (j : ℕ) → est p j ≡ 2 * lo p j
   pub near : (p : Profile) (j : ℕ) → high p j ≤ 3 * est p j
   pub nearer : (j : ℕ) → high Two j ≤ 2 * est Two j
 
--- the sequences never fall, and a vertex that has too many neighbours for a group has enough for the next
+-- the sequences never fall, and a vertex that has too many neighbours for a band has enough for the next
 pub record SequencesRise : Type 0 where
   pub low_rises : (p : Profile) (i j : ℕ) → i ≤ j → low p i ≤ low p j
   pub high_rises : (p : Profile) (i j : ℕ) → i ≤ j → high p i ≤ high p j
@@ -121,18 +123,18 @@ pub record SequencesRise : Type 0 where
   pub grow_rises : (p : Profile) (i j : ℕ) → i ≤ j → grow p i ≤ grow p j
   pub next_is_reached : (p : Profile) (i : ℕ) → low p i ≤ high p i + 1
 
--- the height is the least number of levels after which a set has grown over n vertices
+-- the height is the least number of levels after which a set has grown to more than n vertices
 pub record HeightIsLeast : Type 0 where
   pub over : (p : Profile) (n : ℕ) → n < grow p (height p n)
   pub least : (p : Profile) (n j : ℕ) → j < height p n → grow p j ≤ n
 
--- the last group is the least one, from group 1 on, that allows as many neighbours as a vertex can have
+-- the last band is the least one, from band 1 on, that allows as many neighbours as a vertex can have
 pub record LastGroupIsLeast : Type 0 where
   pub some : (p : Profile) (n : ℕ) → 1 ≤ last_group p n
   pub allows : (p : Profile) (n : ℕ) → n - 1 ≤ high p (last_group p n)
   pub least : (p : Profile) (n i : ℕ) → 1 ≤ i → i < last_group p n → high p i < n - 1
 
--- no top is above that of the greatest number of vertices
+-- no top is above the top for `MAX_VERTICES` vertices
 pub record TopIsLow : Type 0 where
   pub one : (n : ℕ) → n ≤ MAX_VERTICES → top_level One n ≤ 5042
   pub two : (n : ℕ) → n ≤ MAX_VERTICES → top_level Two n ≤ 16769

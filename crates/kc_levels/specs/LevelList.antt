@@ -11,11 +11,11 @@ use Rattle.kc_levels.specs.Thresholds.{low, high, group_of, top_level}
 unfoldable pub at_least : GraphShape → List ℕ → ℕ → ℕ → ℕ
 at_least g x v l = count_by (λ w. nat_le l (get_or x w 0)) (neighbours_of v g.edges)
 
--- v has no more neighbours at its level or above than its group allows
+-- v has no more neighbours at its level or above than its band allows
 abbrev pub MeetsUpper : Profile → GraphShape → List ℕ → ℕ → Type 0
 MeetsUpper p g x v = at_least g x v (get_or x v 0) ≤ high p (group_of p g.vertices (get_or x v 0))
 
--- v has enough neighbours from the level below l on to stand on l
+-- v has enough neighbours on the level below l or above to stand on l
 abbrev pub IsHeld : Profile → GraphShape → List ℕ → ℕ → ℕ → Type 0
 IsHeld p g x v zero = Unit {0}
 IsHeld p g x v (suc l) = low p (group_of p g.vertices l) ≤ at_least g x v l

@@ -12,7 +12,7 @@ is_moved x y v = not (get_or x v 0 == get_or y v 0)
 abbrev pub moved_count : ℕ → List ℕ → List ℕ → ℕ
 moved_count n x y = count_below n (is_moved x y)
 
--- the list with x at its end, where b is true
+-- the list with x appended if b is true
 abbrev pub pushed_if : {A : Type 0} → Bool → A → List A → List A
 pushed_if b x xs = cond b (xs ++ x ∷ []) xs
 

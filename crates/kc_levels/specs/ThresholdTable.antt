@@ -4,7 +4,7 @@ use Rattle.kc_graph.specs.declared.limits.TheConstants.{MAX_VERTICES}
 use Rattle.kc_levels.specs.declared.profile.Profile.{Profile}
 use Rattle.kc_levels.specs.Thresholds.{low, height, last_group}
 
--- the height of a group, and low up to the last group
+-- the height of a band, and low up to the last band
 pub record IsThresholdTable (p : Profile) (n tall : ℕ) (lows : List ℕ) : Type 0 where
   pub positive : 1 ≤ n
   pub small : n ≤ MAX_VERTICES

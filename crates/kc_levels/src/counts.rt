@@ -1,4 +1,4 @@
-//! How many neighbours of a vertex stand from a level on, and so whether it meets the upper and the lower invariant.
+//! Counts of neighbours from a level on, and the tests of the two invariants by them.
 ghost use Rattle.std.specs.Prelude.{◌≡◌, ℕ, ◌<◌, ◌≤◌, ◌↔◌, IsTrue, length, slice_index};
 ghost use Rattle.std.specs.Bool.{OnFalse};
 ghost use Rattle.kc_levels.specs.Thresholds.{top_level};
@@ -7,7 +7,7 @@ ghost use Rattle.kc_levels.specs.LevelList.{at_least, MeetsUpper, MeetsLower};
 use crate::{Levels, Thresholds};
 use kc_graph::Graph;
 
-/// How many neighbours of `v` have a level of at least `level`, as `at_least` says.
+/// Returns how many neighbours of `v` have a level of at least `level` (`at_least`).
 ///
 /// One pass over the neighbours of `v`.
 pub fn at_least(graph: &Graph, levels: &Levels, v: u32, level: u16) -> u32
@@ -27,8 +27,8 @@ pub fn at_least(graph: &Graph, levels: &Levels, v: u32, level: u16) -> u32
     count
 }
 
-/// Whether `v` meets the upper invariant: it has no more neighbours at its level or above than the level's group allows,
-/// as `MeetsUpper` says. A vertex on the top level always does, so one that does not can rise.
+/// Returns whether `v` meets the upper invariant (`MeetsUpper`): it has no more neighbours at its level or above than
+/// its band allows. A vertex on the top level always meets it, so a vertex that doesn't can rise.
 ///
 /// One pass over the neighbours of `v`.
 pub fn check_upper(graph: &Graph, levels: &Levels, th: &Thresholds, v: u32) -> bool
@@ -44,8 +44,8 @@ pub fn check_upper(graph: &Graph, levels: &Levels, th: &Thresholds, v: u32) -> b
     at_least(graph, levels, v, level) <= th.high(th.group(level))
 }
 
-/// Whether `v` meets the lower invariant: on a level above 0 it has enough neighbours at the level below or above, as
-/// `MeetsLower` says.
+/// Returns whether `v` meets the lower invariant (`MeetsLower`): it is on level 0, or has enough neighbours on the
+/// level below or above.
 ///
 /// One pass over the neighbours of `v`.
 pub fn check_lower(graph: &Graph, levels: &Levels, th: &Thresholds, v: u32) -> bool

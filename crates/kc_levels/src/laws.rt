@@ -1,22 +1,22 @@
-//! What thresholds, raised and lowered levels and both invariants come to. The functions do nothing: each has laws as its
-//! contract.
+//! What holds of thresholds, of raised and lowered levels and of both invariants. Each function does nothing: its
+//! contract is the law.
 
 ghost use Rattle.kc_levels.specs.Laws.{FirstProfileBegins, SecondProfileBegins, EstimateIsNear, RaisedIsOneList, TopIsRaisable, LesserIsRaisable, InsertionsAloneGiveOneList, LoweredIsOneList, ZerosAreLowerable, GreaterIsLowerable, InsertionKeepsBoth, DeletionKeepsBoth, SequencesRise, HeightIsLeast, LastGroupIsLeast, TopIsLow, NoneBreaksBoth};
 ghost use Rattle.kc_levels.specs.Between.{BetweenMeetsBoth};
 ghost use Rattle.kc_levels.specs.Sweep.{SweptIsRaised};
 
-/// The first numbers of each sequence of profile 1, and the height and the last group for 1 to 8 vertices.
+/// The first numbers of each sequence of profile 1, and the height and the last band for 1 to 8 vertices.
 pub fn profile_one_begins()
     ensures { FirstProfileBegins }
 {}
 
-/// The first numbers of each sequence of profile 2, and the height and the last group for 1 to 8 vertices.
+/// The first numbers of each sequence of profile 2, and the height and the last band for 1 to 8 vertices.
 pub fn profile_two_begins()
     ensures { SecondProfileBegins }
 {}
 
-/// The estimate of a group is twice its lower bound, and its upper bound is at most three times the estimate, in profile 2 at
-/// most twice the estimate.
+/// The estimate of a band is twice its lower bound, and its upper bound is at most three times the estimate, in profile
+/// 2 twice.
 pub fn estimate_is_near()
     ensures { EstimateIsNear }
 {}
@@ -29,8 +29,8 @@ pub fn raised_is_one_list()
     ensures lesser { LesserIsRaisable }
 {}
 
-/// Levels after insertions alone depend on the graph, and not on how its edges were cut into batches: the list raised in a graph, raised
-/// again in a graph with more edges, is the list raised there at once.
+/// Levels after insertions alone depend on the graph, and not on how its edges were cut into batches. A list raised in
+/// a graph and again in one with more edges is the list raised in the second at once.
 pub fn insertions_alone_give_one_list()
     ensures { InsertionsAloneGiveOneList }
 {}
@@ -43,14 +43,14 @@ pub fn lowered_is_one_list()
     ensures greater { GreaterIsLowerable }
 {}
 
-/// Both invariants hold after a phase where they held before it.
+/// If both invariants hold before a phase, they hold after it.
 pub fn phases_keep_both()
     ensures insertion { InsertionKeepsBoth }
     ensures deletion { DeletionKeepsBoth }
 {}
 
-/// The sequences of a profile never fall. The height of a group and the last group are the least numbers that they are
-/// meant to be, for every number of vertices. The top is at most 5,042 in profile 1 and 16,769 in profile 2, for up to
+/// The sequences of a profile never fall. The height of a band and the last band are the least numbers for their
+/// purpose, for every number of vertices. The top is at most 5,042 in profile 1 and 16,769 in profile 2, for up to
 /// `MAX_VERTICES` vertices. No vertex breaks both invariants.
 pub fn thresholds_fit()
     ensures rise { SequencesRise }
@@ -60,14 +60,14 @@ pub fn thresholds_fit()
     ensures apart { NoneBreaksBoth }
 {}
 
-/// Both invariants hold in a graph with levels that lies between two in which they hold, where each vertex whose level
-/// differs in these two is as in one of them. So they hold at every point of a phase that takes effect part by part.
+/// Both invariants hold in a state between two in which they hold. Each vertex whose level differs in the two has to be
+/// as in one of them. So they hold at every point of a phase that takes effect part by part.
 pub fn between_meets_both()
     ensures { BetweenMeetsBoth }
 {}
 
-/// The swept lists are the raised ones: above each level stand just the vertices that were above it before, and those that
-/// have more neighbours among the vertices on that level or above than its group allows.
+/// The swept lists are the raised ones. Above each level stand the vertices that were above it before. With them stand
+/// the vertices that have more neighbours among those on the level or above than its band allows.
 pub fn swept_is_raised()
     ensures { SweptIsRaised }
 {}

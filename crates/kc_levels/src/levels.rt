@@ -6,10 +6,10 @@ use crate::Moves;
 use std::alloc::{AllocError, Global};
 use std::marker::Model;
 
-/// A level for each vertex, seen as the list of the levels.
+/// A level for each vertex. Contracts see the list of the levels.
 #[derive(Drop)]
 pub struct Levels {
-    // That of vertex 0 first.
+    // The level of each vertex, from vertex 0 on.
     items: Vec<u16>,
 }
 
@@ -22,7 +22,7 @@ impl Model for Levels {
 }
 
 impl Levels {
-    /// `n` vertices on level 0. Fails only if memory runs out.
+    /// Returns `n` levels 0. Fails only if memory runs out.
     pub fn zeros(alloc: Global, n: u32) -> Result<Levels, AllocError>
         ensures { IfOk result (λ x. x ≡ replicate n 0) }
     {
@@ -31,7 +31,7 @@ impl Levels {
         })
     }
 
-    /// A list of the same levels. Fails only if memory runs out.
+    /// Returns a copy. Fails only if memory runs out.
     pub fn copy(&self, alloc: Global) -> Result<Levels, AllocError>
         ensures { IfOk result (λ x. x ≡ self.now) }
     {
@@ -40,7 +40,7 @@ impl Levels {
         })
     }
 
-    /// The level of `v`, a vertex of the list.
+    /// Returns the level of `v`, a vertex of the list.
     pub fn get(&self, v: u32) -> u16
         requires { v < length self.now }
         ensures { result ≡ slice_index self.now v }
@@ -56,7 +56,8 @@ impl Levels {
         self.items[v as usize] = level;
     }
 
-    /// Puts each vertex of the moves on its new level: where they lead from this list to another, it is that one afterwards.
+    /// Puts each vertex of the moves on its new level. If the moves lead from this list to another, it becomes that
+    /// one.
     pub fn follow(&mut self, moves: &Moves)
         requires { All (λ m. m.vertex < length self.old) moves.now }
         ensures sized { length self.new ≡ length self.old }
@@ -67,7 +68,7 @@ impl Levels {
         }
     }
 
-    /// The levels by vertex, for loops that read many of them.
+    /// Returns the levels by vertex, for loops that read many of them.
     pub fn as_slice(&self) -> &[u16]
         ensures { result.now ≡ self.now }
     {

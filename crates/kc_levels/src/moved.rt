@@ -1,4 +1,4 @@
-//! How many vertices two lists of levels tell apart, and the moves that lead from the one to the other.
+//! The vertices whose level differs in two lists, and the moves that lead from one list to the other.
 ghost use Rattle.std.specs.Prelude.{◌≡◌, ◌<◌, ◌≤◌, ℕ, true, IfOk, length, map};
 ghost use Rattle.kc_graph.specs.Numbers.{has_number, RisesFrom};
 ghost use Rattle.kc_levels.specs.Moved.{is_moved, moved_count, move_of, moves_between};
@@ -8,7 +8,7 @@ use crate::{Levels, Move, Moves};
 use kc_graph::{MAX_VERTICES, sort_numbers};
 use std::alloc::{AllocError, Global};
 
-/// How many vertices have another level in `after` than in `before`, as `moved_count` says. One pass over the levels.
+/// Returns how many vertices have another level in `after` than in `before` (`moved_count`). One pass over the levels.
 pub fn moved_count(before: &Levels, after: &Levels) -> u32
     requires sized { length after.now ≡ length before.now }
     requires small { length before.now ≤ MAX_VERTICES }
@@ -25,7 +25,7 @@ pub fn moved_count(before: &Levels, after: &Levels) -> u32
     count
 }
 
-// Puts the vertices in ascending order. Each is there once.
+// Puts the vertices in ascending order. No vertex is there twice.
 fn sort(alloc: Global, vertices: &mut Vec<u32>)
     requires { AreDistinct vertices.old.items }
     ensures rises { RisesFrom 0 vertices.new.items }
@@ -34,7 +34,7 @@ fn sort(alloc: Global, vertices: &mut Vec<u32>)
     sort_numbers(alloc, vertices);
 }
 
-// The moves of the vertices from one list of levels to another, in their order.
+// Returns the moves of the vertices from one list of levels to the other, in the order of the vertices.
 fn moves_in_order(
     alloc: Global,
     before: &Levels,
@@ -56,11 +56,11 @@ fn moves_in_order(
     Ok(Moves::from_vec(items))
 }
 
-/// The moves from one list of levels to another, ascending by vertex (`moves_between`). The vertices are those that have another
-/// level in the second list, each once; afterwards they are in ascending order.
+/// Returns the moves from one list of levels to another, ascending by vertex (`moves_between`). `vertices` has each
+/// vertex whose level differs, once and in any order; afterwards they are in ascending order.
 ///
-/// Costs a sort of the vertices (`sort_numbers`), and no pass over the levels. Takes memory for the moves, and before them for what the
-/// sort takes. Fails only if memory runs out.
+/// Costs a sort of the vertices (`sort_numbers`), and no pass over the levels. Takes memory for the moves, and before
+/// them for the sort. Fails only if memory runs out.
 pub fn moves_of(
     alloc: Global,
     before: &Levels,

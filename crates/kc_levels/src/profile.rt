@@ -1,20 +1,20 @@
-//! The two profiles, and how the thresholds of a group follow from those of the one before it.
+//! The two profiles, and how the thresholds of a band follow from those of the band below.
 ghost use Rattle.std.specs.Prelude.{◌≡◌, ◌≤◌, ◌<◌, ◌^◌};
 ghost use Rattle.kc_levels.specs.Thresholds.{next_low, high_over, next_grow, lo_after};
 
-/// Which sequences the thresholds go by.
+/// Which sequences the thresholds follow.
 #[derive(Clone, Copy, Debug, PartialEq, Eq)]
 pub enum Profile {
-    /// From 1 on each `low` is the one before and a quarter of it, at least 1 more; each `high` but the first, which is 0,
-    /// is twice the `low`.
+    /// From 1 on each `low` is the one before and a quarter of it, at least 1 more. Each `high` is twice the `low`, but
+    /// the first is 0.
     One,
-    /// The finer one. From 1 on each `low` is the one before and an eighth of it, at least 1 more; each `high` but the first,
-    /// which is 0, is the `low` and half of it.
+    /// The finer one. From 1 on each `low` is the one before and an eighth of it, at least 1 more. Each `high` is the
+    /// `low` and half of it, but the first is 0.
     Two,
 }
 
 impl Profile {
-    // The low that follows one.
+    // Returns the low after this one.
     pub(crate) fn next_low(self, low: u32) -> u32
         requires { low < 2 ^ 25 }
         ensures { result ≡ next_low self low }
@@ -25,7 +25,7 @@ impl Profile {
         }
     }
 
-    // The high of a group with this low.
+    // Returns the high of a band with this low.
     pub(crate) fn high_over(self, low: u32) -> u32
         requires { low < 2 ^ 25 }
         ensures { result ≡ high_over self low }
@@ -36,7 +36,7 @@ impl Profile {
         }
     }
 
-    // The grow that follows one.
+    // Returns the grow after this one.
     pub(crate) fn next_grow(self, grown: u32) -> u32
         requires { grown < 2 ^ 25 }
         ensures { result ≡ next_grow self grown }
@@ -47,7 +47,7 @@ impl Profile {
         }
     }
 
-    // The lo of the group after one with this low.
+    // Returns the lo of the band above one with this low.
     pub(crate) fn lo_after(self, low: u32) -> u32
         requires { low < 2 ^ 24 }
         ensures value { result ≡ lo_after self low }

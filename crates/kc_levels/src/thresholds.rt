@@ -1,4 +1,4 @@
-//! How many neighbours each group of levels needs and allows, and what a level says of the coreness of its vertices.
+//! How many neighbours each band of levels needs and allows, and what a level says of its vertex's coreness.
 ghost use Rattle.std.specs.Prelude.{◌≡◌, ℕ, ◌+◌, ◌-◌, ◌*◌, ◌<◌, ◌≤◌, ◌^◌, IfOk, length, slice_index};
 ghost use Rattle.kc_levels.specs.Thresholds.{low, high, lo, est, height, last_group, top_level, group_of};
 
@@ -7,27 +7,27 @@ use kc_graph::MAX_VERTICES;
 use std::alloc::{AllocError, Global};
 use std::marker::Model;
 
-/// What the group of a vertex's level stands for: an estimate of the vertex's coreness, and two bounds of it.
+/// What the band of a vertex's level says of the vertex's coreness: an estimate, and two bounds.
 #[derive(Clone, Copy, Debug, PartialEq, Eq)]
 pub struct Estimate {
-    /// The estimate of the coreness: twice the lower bound.
+    /// The estimate: twice the lower bound.
     pub est: u32,
     /// The lower bound.
     pub lo: u32,
-    /// The upper bound, which is at most three times the estimate, in `Profile::Two` at most twice the estimate.
+    /// The upper bound: at most three times the estimate, in `Profile::Two` twice.
     pub hi: u32,
 }
 
-/// The thresholds of a profile for a number of vertices, seen as these two (`Scale`).
+/// The thresholds of a profile for a number of vertices. Contracts see these two (`Scale`).
 #[derive(Drop)]
 pub struct Thresholds {
-    // which sequences they go by
+    // Which sequences they follow.
     profile: Profile,
-    // the number of vertices, 1 to MAX_VERTICES
+    // The number of vertices, 1 to `MAX_VERTICES`.
     n: u32,
-    // how many levels each group but group 0 has
+    // The number of levels of each band but band 0.
     height: u16,
-    // low of group 0 to low of the last group
+    // The `low` of band 0 to that of the last band.
     lows: Vec<u32>,
 }
 
@@ -42,7 +42,7 @@ impl Model for Thresholds {
     ghost invariant = { λ t. IsThresholdTable t.profile t.n t.height t.lows.items };
 }
 
-// The least j with grow j above n.
+// Returns the least j with grow j above n.
 fn height_of(profile: Profile, n: u32) -> u16
     requires positive { 1 ≤ n }
     requires small { n ≤ MAX_VERTICES }
@@ -57,7 +57,7 @@ fn height_of(profile: Profile, n: u32) -> u16
     height
 }
 
-// Low of group 0 to low of the last group.
+// Returns the `low` of band 0 to that of the last band.
 fn lows_to_last(alloc: Global, profile: Profile, n: u32) -> Result<Vec<u32>, AllocError>
     requires positive { 1 ≤ n }
     requires small { n ≤ MAX_VERTICES }
@@ -76,8 +76,8 @@ fn lows_to_last(alloc: Global, profile: Profile, n: u32) -> Result<Vec<u32>, All
 }
 
 impl Thresholds {
-    /// The thresholds for `n` vertices, 1 to `MAX_VERTICES`. Takes memory and time for a number per group, of which
-    /// there are at most 133. Fails only if memory runs out.
+    /// Makes the thresholds for `n` vertices, 1 to `MAX_VERTICES`. Takes memory and time for a number per band, of
+    /// which there are at most 133. Fails only if memory runs out.
     pub fn new(alloc: Global, profile: Profile, n: u32) -> Result<Thresholds, AllocError>
         requires positive { 1 ≤ n }
         requires small { n ≤ MAX_VERTICES }
@@ -92,8 +92,8 @@ impl Thresholds {
         })
     }
 
-    /// How many neighbours on a level of group `i`, or above it, a vertex needs to stand on the next level.
-    /// Groups are 0 to the last group.
+    /// Returns how many neighbours on a level of band `i` or above a vertex needs to stand on the next level. Bands are
+    /// 0 to the last band.
     pub fn low(&self, i: u16) -> u32
         requires { i ≤ last_group self.now.profile self.now.vertices }
         ensures value { result ≡ low self.now.profile i }
@@ -102,7 +102,7 @@ impl Thresholds {
         self.lows[i as usize]
     }
 
-    /// How many neighbours at its own level or above a vertex of group `i` may have.
+    /// Returns how many neighbours at its own level or above a vertex of band `i` may have.
     pub fn high(&self, i: u16) -> u32
         requires { i ≤ last_group self.now.profile self.now.vertices }
         ensures value { result ≡ high self.now.profile i }
@@ -115,8 +115,8 @@ impl Thresholds {
         }
     }
 
-    /// The group of a level, 0 to the last group, for a level from 0 to the top. Level 0 alone is group 0; each later group has the same number of levels, but for the
-    /// last, which has one.
+    /// Returns the band of a level, 0 to the last band, for a level from 0 to the top. Level 0 alone is band 0. Each
+    /// later band has the same number of levels, but the last has one.
     pub fn group(&self, level: u16) -> u16
         requires { level ≤ top_level self.now.profile self.now.vertices }
         ensures value { result ≡ group_of self.now.profile self.now.vertices level }
@@ -130,7 +130,7 @@ impl Thresholds {
         }
     }
 
-    /// The greatest level, at least 1.
+    /// Returns the greatest level, at least 1.
     pub fn top(&self) -> u16
         ensures value { result ≡ top_level self.now.profile self.now.vertices }
         ensures small { result < 65535 }
@@ -140,7 +140,7 @@ impl Thresholds {
         1 + (self.lows.len() as u16 - 2) * self.height
     }
 
-    // The lower bound of the coreness in group j.
+    // Returns the lower bound of the coreness in band j.
     fn lo(&self, j: u16) -> u32
         requires { j ≤ last_group self.now.profile self.now.vertices }
         ensures value { result ≡ lo self.now.profile j }
@@ -153,7 +153,7 @@ impl Thresholds {
         }
     }
 
-    /// The estimate and the two bounds that a level, from 0 to the top, stands for.
+    /// Returns the estimate and the two bounds of a level, from 0 to the top.
     pub fn estimate(&self, level: u16) -> Estimate
         requires { level ≤ top_level self.now.profile self.now.vertices }
         ensures est { result.est ≡ est self.now.profile (group_of self.now.profile self.now.vertices level) }

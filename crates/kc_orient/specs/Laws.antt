@@ -1,4 +1,4 @@
--- Laws of orientations and colourings, each the contract of a function of `laws`.
+-- Laws of orientations and colourings; each is the contract of a function in `laws`.
 use Rattle.std.specs.Prelude.{ℕ, ◌*◌, ◌≡◌, ◌≢◌, ◌≤◌, ◌<◌, true, false, not, List, [], ◌∷◌, length, get_or, sum_by}
 use Rattle.kc_graph.specs.Numbers.{has_number, RisesFrom}
 use Rattle.kc_graph.specs.Shape.{GraphShape, IsGraph, joined}
@@ -9,14 +9,15 @@ use Rattle.kc_levels.specs.LevelList.{MeetsUpper}
 use Rattle.kc_orient.specs.Shape.{above, out_neighbours, orientation}
 use Rattle.kc_orient.specs.Colouring.{IsColouring}
 
--- of two vertices exactly one is above the other, no vertex is above itself, and what is above one above v is above v
+-- of two vertices exactly one is above the other, no vertex is above itself, and above is transitive
 pub record AboveIsAnOrder : Type 0 where
   pub one_way : (x : List ℕ) (v w : ℕ) → v ≢ w → above x w v ≡ not (above x v w)
   pub never_itself : (x : List ℕ) (v : ℕ) → above x v v ≡ false
   pub onward : (x : List ℕ) (u v w : ℕ) → above x u v ≡ true → above x v w ≡ true → above x u w ≡ true
 
--- each edge stands in exactly one of the lists of its ends, and nothing else stands in a list, so the lists have as many
--- members as the graph has edges
+-- each edge stands in exactly one of the lists of its ends, and the lists have nothing else
+--
+-- So all lists together are as long as the list of edges.
 pub record EachEdgeOnce : Type 0 where
   pub edge : (g : GraphShape) (x : List ℕ) (v w : ℕ) → IsGraph g → joined v w g.edges ≡ true →
       has_number v (out_neighbours g x w) ≡ not (has_number w (out_neighbours g x v))
@@ -33,8 +34,9 @@ IsWalk g x v (w ∷ ws) = (has_number w (out_neighbours g x v) ≡ true) × IsWa
 abbrev pub NoCycle : Type 0
 NoCycle = (g : GraphShape) (x : List ℕ) (v : ℕ) (ws : List ℕ) → IsWalk g x v ws → has_number v ws ≡ false
 
--- a vertex that meets the upper invariant has at most as many out-neighbours as the high of its level's group, which is at
--- most six times the lo of that group, in the second profile four times
+-- a vertex that meets the upper invariant has at most the high of its band out-neighbours
+--
+-- That is at most six times the band's lo, in the second profile four times.
 pub record OutNeighboursAreFew : Type 0 where
   pub most : (p : Profile) (g : GraphShape) (x : List ℕ) (v : ℕ) → MeetsUpper p g x v →
       length (out_neighbours g x v) ≤ high p (group_of p g.vertices (get_or x v 0))

@@ -7,7 +7,7 @@ use Rattle.kc_orient.specs.Shape.{OrientationShape, IsOriented}
 abbrev pub list_at : List ℕ → List ℕ → ℕ → List ℕ
 list_at starts heads v = slice_range heads (get_or starts v 0) (get_or starts (v + 1) 0)
 
--- what levels and lists are seen as
+-- what contracts see of levels and lists
 abbrev pub shape_of : List ℕ → List ℕ → List ℕ → OrientationShape
 shape_of levels starts heads = record { levels = levels; outs = map (list_at starts heads) (range_with_len 0 (length levels)) }
 

@@ -13,12 +13,13 @@ above x v w = nat_lt (get_or x v 0) (get_or x w 0) || ((get_or x v 0 == get_or x
 abbrev pub out_neighbours : GraphShape → List ℕ → ℕ → List ℕ
 out_neighbours g x v = filter (above x v) (neighbours_of v g.edges)
 
--- what contracts see of an `Orientation`: the level of each vertex, by which `above` tells, and the out-neighbours of each
+-- what contracts see of an `Orientation`: the level of each vertex, by which `above` decides, and the out-neighbours of
+-- each
 pub record OrientationShape : Type 0 where
   pub levels : List ℕ
   pub outs : List (List ℕ)
 
--- the orientation of a graph: each edge leads from one end to the other that is above it
+-- the orientation of a graph: each edge leads to the end that is above the other
 abbrev pub orientation : GraphShape → List ℕ → OrientationShape
 orientation g x = record { levels = x; outs = map (out_neighbours g x) (range_with_len 0 g.vertices) }
 

@@ -1,4 +1,4 @@
-//! A colour for each vertex that none of its out-neighbours has: vertices are coloured from the greatest level down.
+//! A colour for each vertex that none of its out-neighbours has. Vertices are coloured from the greatest level down.
 ghost use Rattle.std.specs.Prelude.{◌≡◌, ◌≢◌, ℕ, ◌+◌, ◌<◌, ◌≤◌, [], All, IfOk, length, slice_index, slice_index_or};
 ghost use Rattle.kc_graph.specs.declared.limits.TheConstants.{MAX_VERTICES};
 ghost use Rattle.kc_orient.specs.Colouring.{IsLeastFree, IsColouring};
@@ -10,7 +10,7 @@ use crate::descent::{Descent, descend};
 use crate::orientation::Orientation;
 use std::alloc::{AllocError, Global};
 
-// The greatest number of out-neighbours of a vertex.
+// Returns the greatest number of out-neighbours of a vertex.
 fn most_out(orientation: &Orientation) -> u32
     ensures { (v : ℕ) → v < length orientation.now.levels → length (slice_index_or orientation.now.outs v []) ≤ result }
 {
@@ -21,7 +21,7 @@ fn most_out(orientation: &Orientation) -> u32
     most
 }
 
-// The least colour that none of the vertices has. Marks their colours by a stamp that no mark has yet.
+// Returns the least colour that none of the vertices has. Marks their colours by a stamp that no mark has yet.
 fn least_free(vertices: &[u32], colours: &[u32], marks: &mut Vec<u32>, stamp: u32) -> u32
     requires below { All (λ w. (w < length colours.now) × (slice_index colours.now w < length marks.old.items)) vertices.now }
     requires few { length vertices.now ≤ MAX_VERTICES }
@@ -41,7 +41,7 @@ fn least_free(vertices: &[u32], colours: &[u32], marks: &mut Vec<u32>, stamp: u3
     colour
 }
 
-// Colours the vertices of a level, from the greatest down. Those on greater levels have their colours.
+// Colours the vertices of a level, from the greatest down. Vertices on greater levels have their colours.
 fn colour_level(
     orientation: &Orientation,
     descent: &Descent,
@@ -63,11 +63,13 @@ fn colour_level(
     }
 }
 
-/// The colour of each vertex: the least number, from 0 on, that none of its out-neighbours has (`IsColouring`). The ends of an
-/// edge have different colours, and no colour is above the number of its vertex's out-neighbours.
+/// Returns the colour of each vertex: the least number, from 0 on, that none of its out-neighbours has (`IsColouring`).
 ///
-/// Costs one pass over the vertices and their out-neighbours, and one over the levels up to the highest. Takes memory for two
-/// numbers a vertex, one of which it hands out, and a number a level and a colour. Fails only if memory runs out.
+/// The ends of an edge have different colours, and no colour is above the number of its vertex's out-neighbours.
+///
+/// Costs one pass over the vertices and their out-neighbours, and one over the levels up to the highest. Takes memory
+/// for two numbers a vertex, of which it returns one, and a number for each level and each colour. Fails only if memory
+/// runs out.
 pub fn colour(alloc: Global, orientation: &Orientation) -> Result<Vec<u32>, AllocError>
     ensures { IfOk result (λ colours. IsColouring orientation.now.outs colours.items) }
 {

@@ -1,4 +1,4 @@
-//! The out-neighbours of each vertex, where each edge leads to the end that is above the other.
+//! The out-neighbours of each vertex. Each edge leads to the end that is above the other.
 ghost use Rattle.std.specs.Prelude.{◌≡◌, ℕ, ◌<◌, ◌≤◌, [], All, length, slice_index_or};
 ghost use Rattle.kc_graph.specs.declared.limits.TheConstants.{MAX_VERTICES};
 ghost use Rattle.kc_graph.specs.Numbers.{RisesFrom};
@@ -7,9 +7,9 @@ ghost use Rattle.kc_orient.specs.Shape.{above, IsOriented};
 use kc_levels::Levels;
 use std::marker::Model;
 
-/// The edges of a graph, each directed from one end to the other that is above it.
+/// The edges of a graph, each directed to the end that is above the other.
 ///
-/// Contracts see it as an `OrientationShape`: the level of each vertex, and the list of the out-neighbours of each.
+/// Contracts see it as an `OrientationShape`: the level of each vertex, and the out-neighbours of each.
 #[derive(Drop)]
 pub struct Orientation {
     // The level of each vertex, by which the edges were directed.
@@ -31,7 +31,7 @@ impl Model for Orientation {
     ghost invariant = { λ o. IsKept o.levels o.starts.items o.heads.items };
 }
 
-/// Whether w is above v: on a greater level, or on the same one and the greater number.
+/// Returns whether w is above v: on a greater level, or on the same level with the greater number.
 pub(crate) fn is_above(levels: &[u16], v: u32, w: u32) -> bool
     requires v { v < length levels.now }
     requires w { w < length levels.now }
@@ -43,7 +43,7 @@ pub(crate) fn is_above(levels: &[u16], v: u32, w: u32) -> bool
 }
 
 impl Orientation {
-    /// The out-neighbours of v, ascending: its neighbours that are above it. Costs O(1), and takes no memory.
+    /// Returns the out-neighbours of v, ascending: its neighbours that are above it. Costs O(1), and takes no memory.
     pub fn out(&self, v: u32) -> &[u32]
         requires { v < length self.now.levels }
         ensures value { result.now ≡ slice_index_or self.now.outs v [] }
@@ -57,8 +57,10 @@ impl Orientation {
         &self.heads[start..end]
     }
 
-    /// Whether w is above v, so that an edge between the two leads from v to w (`above`): w is on a greater level than v, or on the
-    /// same one and the greater number. Costs O(1), and takes no memory.
+    /// Returns whether w is above v, so that an edge between the two leads from v to w (`above`).
+    ///
+    /// That is: w is on a greater level than v, or on the same level with the greater number. Costs O(1), and takes no
+    /// memory.
     pub fn above(&self, v: u32, w: u32) -> bool
         requires v { v < length self.now.levels }
         requires w { w < length self.now.levels }
@@ -67,7 +69,7 @@ impl Orientation {
         is_above(self.levels.as_slice(), v, w)
     }
 
-    // The number of vertices.
+    // Returns the number of vertices.
     pub(crate) fn vertices(&self) -> u32
         ensures count { result ≡ length self.now.levels }
         ensures oriented { IsOriented self.now }

@@ -1,4 +1,4 @@
-//! The edges of a graph are directed by the levels of their ends.
+//! Directs the edges of a graph by the levels of their ends.
 ghost use Rattle.std.specs.Prelude.{◌≡◌, ℕ, ◌<◌, ◌++◌, All, IfOk, OnOk, filter, length};
 ghost use Rattle.kc_orient.specs.Shape.{above, orientation};
 
@@ -7,7 +7,7 @@ use kc_graph::Graph;
 use kc_levels::Levels;
 use std::alloc::{AllocError, Global};
 
-// Puts those of the vertices that are above v at the end of the list.
+// Appends to the list the vertices that are above v.
 fn push_above(
     vertices: &[u32],
     levels: &[u16],
@@ -26,11 +26,11 @@ fn push_above(
     Ok(())
 }
 
-/// The orientation of the graph by the levels (`orientation`): each edge leads from one end to the other that is above it, on a
-/// greater level or on the same one and the greater number.
+/// Returns the orientation of the graph by the levels (`orientation`). Each edge leads to the end that is above the
+/// other: on a greater level, or on the same level with the greater number.
 ///
-/// The list of levels has a level for each vertex, whatever they are. Costs one pass over the vertices and their neighbours, and
-/// takes memory for a number an edge, and a number and a level a vertex. Fails only if memory runs out.
+/// The list has a level for each vertex, and any levels are allowed. Costs one pass over the vertices and their
+/// neighbours. Takes memory for a number an edge, and a number and a level a vertex. Fails only if memory runs out.
 pub fn orient(alloc: Global, graph: &Graph, levels: &Levels) -> Result<Orientation, AllocError>
     requires { length levels.now ≡ graph.now.vertices }
     ensures { IfOk result (λ o. o ≡ orientation graph.now levels.now) }

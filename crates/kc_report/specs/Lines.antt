@@ -20,11 +20,11 @@ magic_line = line_of (codes "kcore-run" ∷ codes "1" ∷ [])
 abbrev pub vertices_line : ℕ → List ℕ
 vertices_line n = line_of (codes "vertices" ∷ decimal n ∷ [])
 
--- the two lines ahead of all others
+-- the first two lines
 abbrev pub head_text : ℕ → List ℕ
 head_text n = magic_line ++ vertices_line n
 
--- an accepted batch: its number, the counts of its cleaning, and how many edges it removed and added
+-- the line of an accepted batch: its number, the counts of its cleaning, and how many edges it removed and added
 abbrev pub batch_line : ℕ → Cleaned → List ℕ
 batch_line number c =
     line_of (codes "batch" ∷ decimal number
@@ -35,53 +35,54 @@ abbrev pub direction_word : Bool → List ℕ
 direction_word true = codes "insert"
 direction_word false = codes "delete"
 
--- a phase: its number, whether its edges come in or leave, and how many of them are quiet
+-- the line of a phase: its number, whether its edges come in or leave, and how many of them are quiet
 abbrev pub phase_line : PhasePlan → List ℕ
 phase_line plan =
     line_of (codes "phase" ∷ decimal plan.quiet.phase ∷ direction_word plan.quiet.add
     ∷ codes "quiet" ∷ decimal (length plan.quiet.edges) ∷ [])
 
--- a vertex that moved, and its new level
+-- the word of a vertex that moved: the vertex and its new level
 abbrev pub member_word : Move → List ℕ
 member_word m = decimal m.vertex ++ (58 ∷ decimal m.new)
 
--- the label of a group; each group has one
+-- the word of a group's label; each group has a label
 abbrev pub label_word : Option ℕ → List ℕ
 label_word (Some label) = decimal label
 label_word None = []
 
--- a group: the number of its phase, its label, and its vertices
+-- the line of a group: the number of its phase, its label, and its vertices
 abbrev pub group_line : Entry → List ℕ
 group_line group = line_of (codes "group" ∷ decimal group.phase ∷ label_word group.label ∷ map member_word group.moves)
 
--- a phase, and then its groups
+-- the line of a phase, and then those of its groups
 abbrev pub phase_text : PhasePlan → List ℕ
 phase_text plan = phase_line plan ++ flat_map group_line plan.groups
 
--- an accepted batch, and then its phases
+-- the line of an accepted batch, and then the lines of its phases
 abbrev pub batch_text : ℕ → Cleaned → List PhasePlan → List ℕ
 batch_text number c phases = batch_line number c ++ flat_map phase_text phases
 
--- a refused batch: its number, and the line and the reason of its first fault
+-- the line of a refused batch: its number, and the line and the reason of its first fault
 abbrev pub refused_line : ℕ → ℕ → Reason → List ℕ
 refused_line number line reason =
     line_of (codes "batch" ∷ decimal number
     ∷ codes "refused" ∷ codes "line" ∷ decimal line ∷ reason_word reason ∷ [])
 
--- the one line where the header is refused
+-- the one line of a run whose header is refused
 abbrev pub header_refused_line : ℕ → List ℕ
 header_refused_line line = line_of (codes "refused" ∷ codes "line" ∷ decimal line ∷ codes "header" ∷ [])
 
--- a vertex that was asked for, and the level that was told of it
+-- the word of a reply: the vertex and the level that the reply gives
 abbrev pub reply_word : Reply → List ℕ
 reply_word r = decimal r.vertex ++ (61 ∷ decimal r.level)
 
--- a reader: its number, and its replies
+-- the line of a reader: its number, and its replies
 abbrev pub reader_line : ℕ → List Reply → List ℕ
 reader_line number replies = line_of (codes "reader" ∷ decimal number ∷ map reply_word replies)
 
--- a vertex: its level, what the level says of its coreness, and how many neighbours it has on its level or above, and
--- on the level below or above
+-- the line of a vertex: its level, what the level says of its coreness, and two counts of neighbours
+--
+-- `up` are the neighbours on the vertex's level or above, `down` those on the level below or above.
 abbrev pub vertex_line : ℕ → ℕ → Estimate → ℕ → ℕ → List ℕ
 vertex_line v level e up down =
     line_of (codes "vertex" ∷ decimal v ∷ codes "level" ∷ decimal level
@@ -91,18 +92,18 @@ vertex_line v level e up down =
 abbrev pub end_line : List ℕ
 end_line = line_of (codes "end" ∷ [])
 
--- a refused batch ahead of a text that has no lines for batches: its line of a run, as a comment
+-- the line of a refused batch as a comment, before a text that has no lines for batches
 abbrev pub note_line : ℕ → ℕ → Reason → List ℕ
 note_line number line reason = codes "# " ++ refused_line number line reason
 
 abbrev pub exact_magic_line : List ℕ
 exact_magic_line = line_of (codes "kcore-exact" ∷ codes "1" ∷ [])
 
--- the two lines ahead of the vertices of an exact text
+-- the first two lines of an exact text
 abbrev pub exact_head_text : ℕ → List ℕ
 exact_head_text n = exact_magic_line ++ vertices_line n
 
--- a vertex of an exact text: its coreness, and what its level says of it
+-- the line of a vertex of an exact text: its coreness, and what its level says of it
 abbrev pub coreness_line : ℕ → ℕ → Estimate → List ℕ
 coreness_line v coreness e =
     line_of (codes "vertex" ∷ decimal v ∷ codes "coreness" ∷ decimal coreness

@@ -1,4 +1,4 @@
-//! The lines of a batch: of an accepted one its counts and its phases, of a refused one its first fault.
+//! The lines of a batch. An accepted batch has its counts and its phases, a refused one its first fault.
 ghost use Rattle.std.specs.Prelude.{◌≡◌, ℕ, ◌<◌, ◌^◌, [], ◌∷◌, ◌++◌, length, All, OnOk, decimal, codes};
 ghost use Rattle.kc_text.specs.Writing.{Appends, WriteCause};
 ghost use Rattle.kc_text.specs.Reasons.{reason_word};
@@ -12,7 +12,7 @@ use kc_groups::PhasePlan;
 use kc_text::{LineBuf, Reason, SendFault, Sink, fill_named};
 use std::alloc::{AllocError, Global};
 
-// The number of a batch and what its cleaning counted.
+// Appends the number of a batch and the counts of its cleaning.
 fn fill_counts(
     alloc: Global,
     buf: &mut LineBuf,
@@ -64,14 +64,16 @@ fn write_batch_line<K: Sink>(
     buf.send(alloc, sink)
 }
 
-/// Writes the lines of an accepted batch (`batch_text`), one after another: its own, with its number, what its cleaning counted,
-/// and how many edges are removed and added, fewer than 2^32 of each; and for each of its phases one with its number, its
-/// direction and how many edges are quiet, fewer than 2^32, and one for each group of vertices that moved together, with their
-/// new levels.
+/// Writes the lines of an accepted batch (`batch_text`), one after another.
 ///
-/// Batches are numbered from 1, refused ones included; any number is written. Each plan of a phase is well formed. After
-/// `WriteFault`, which only a failed write gives, and after `Memory` the sink took a prefix of the lines. Those after one that
-/// fails aren't tried.
+/// - The first line has the batch's number, the counts of its cleaning, and how many edges are removed and added.
+/// - Each phase has a line with its number, its direction and its number of quiet edges.
+/// - Each group of a phase, that is, vertices that moved together, has a line with their new levels.
+///
+/// The edges removed, the edges added and the quiet edges of a phase are fewer than 2^32 each. Batches are numbered
+/// from 1, refused ones included; any number is written. Each plan of a phase is well formed. `WriteFault` comes only
+/// from a failed write. After `WriteFault` or `Memory` the sink took a prefix of the lines. The lines after a failed
+/// one aren't tried.
 pub fn write_batch<K: Sink>(
     alloc: Global,
     buf: &mut LineBuf,
@@ -92,7 +94,7 @@ pub fn write_batch<K: Sink>(
     write_phases(alloc, buf, sink, phases)
 }
 
-// The line of a refused batch but for its line feed, after what the buffer holds.
+// Appends the line of a refused batch without its line feed to the buffer. Fails only if memory runs out.
 pub fn fill_refused(
     alloc: Global,
     buf: &mut LineBuf,
@@ -110,8 +112,8 @@ pub fn fill_refused(
 
 /// Writes the line of a refused batch (`refused_line`): its number, and the line and the reason of its first fault.
 ///
-/// Batches and lines are numbered from 1; any numbers are written. After `WriteFault`, which only a failed write gives,
-/// and after `Memory` the sink took a prefix of the line.
+/// Batches and lines are numbered from 1; any numbers are written. `WriteFault` comes only from a failed write. After
+/// `WriteFault` or `Memory` the sink took a prefix of the line.
 pub fn write_refused<K: Sink>(
     alloc: Global,
     buf: &mut LineBuf,

@@ -1,4 +1,4 @@
-//! The lines of an exact text: its first two, and one with the coreness of each vertex.
+//! The lines of an exact text: the first two, and one with the coreness of each vertex.
 ghost use Rattle.std.specs.Prelude.{◌≡◌, [], ◌∷◌, ◌++◌, OnOk};
 ghost use Rattle.kc_text.specs.Writing.{Appends, WriteCause};
 ghost use Rattle.kc_report.specs.Buffer.{IsCleared};
@@ -24,11 +24,11 @@ fn write_exact_magic<K: Sink>(
     buf.send(alloc, sink)
 }
 
-/// Writes the two lines ahead of the vertices of an exact text, for `n` vertices (`exact_head_text`), one after the
-/// other; any number is written.
+/// Writes the first two lines of an exact text for `n` vertices (`exact_head_text`), one after the other; any number is
+/// written.
 ///
-/// After `WriteFault`, which only a failed write gives, and after `Memory` the sink took a prefix of the two lines. The
-/// second isn't tried where the first fails.
+/// `WriteFault` comes only from a failed write. After `WriteFault` or `Memory` the sink took a prefix of the two lines.
+/// If the first line fails, the second isn't tried.
 pub fn write_exact_head<K: Sink>(
     alloc: Global,
     buf: &mut LineBuf,
@@ -60,11 +60,11 @@ fn fill_coreness(
     fill_named(alloc, buf, b" high ", estimate.hi)
 }
 
-/// Writes the line of vertex `v` in an exact text (`coreness_line`): its coreness, and the bounds and the estimate of it
-/// for which its level stands.
+/// Writes the line of vertex `v` in an exact text (`coreness_line`): its coreness, and the bounds and the estimate that
+/// its level gives.
 ///
-/// Any numbers are written: that they are those of `v` is the caller's part. After `WriteFault`, which only a failed
-/// write gives, and after `Memory` the sink took a prefix of the line.
+/// Any numbers are written; the caller makes sure that they are those of `v`. `WriteFault` comes only from a failed
+/// write. After `WriteFault` or `Memory` the sink took a prefix of the line.
 pub fn write_coreness<K: Sink>(
     alloc: Global,
     buf: &mut LineBuf,

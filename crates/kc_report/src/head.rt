@@ -1,4 +1,4 @@
-//! The first lines of a run and its last, and the one line of a run whose header is refused.
+//! The first two lines of a run, its last line, and the one line of a run whose header is refused.
 ghost use Rattle.std.specs.Prelude.{◌≡◌, [], ◌++◌, OnOk, decimal, codes};
 ghost use Rattle.kc_text.specs.Writing.{Appends, WriteCause};
 ghost use Rattle.kc_report.specs.Buffer.{IsCleared};
@@ -18,9 +18,9 @@ fn write_magic<K: Sink>(alloc: Global, buf: &mut LineBuf, sink: &mut K) -> Resul
     buf.send(alloc, sink)
 }
 
-/// Writes the line that tells the number of vertices (`vertices_line`), which several texts have alike; any number is written.
+/// Writes the line with the number of vertices (`vertices_line`), which several texts share; any number is written.
 ///
-/// After `WriteFault`, which only a failed write gives, and after `Memory` the sink took a prefix of the line.
+/// `WriteFault` comes only from a failed write. After `WriteFault` or `Memory` the sink took a prefix of the line.
 pub fn write_vertex_count<K: Sink>(
     alloc: Global,
     buf: &mut LineBuf,
@@ -36,10 +36,10 @@ pub fn write_vertex_count<K: Sink>(
     buf.send(alloc, sink)
 }
 
-/// Writes the two lines ahead of a run with `n` vertices (`head_text`), one after the other; any number is written.
+/// Writes the first two lines of a run with `n` vertices (`head_text`), one after the other; any number is written.
 ///
-/// After `WriteFault`, which only a failed write gives, and after `Memory` the sink took a prefix of the two lines. The
-/// second isn't tried where the first fails.
+/// `WriteFault` comes only from a failed write. After `WriteFault` or `Memory` the sink took a prefix of the two lines.
+/// If the first line fails, the second isn't tried.
 pub fn write_head<K: Sink>(
     alloc: Global,
     buf: &mut LineBuf,
@@ -61,10 +61,10 @@ fn fill_header_refused(alloc: Global, buf: &mut LineBuf, line: u32) -> Result<()
     buf.text(alloc, b" header")
 }
 
-/// Writes the one line of a run whose header is refused (`header_refused_line`), in place of all others.
+/// Writes the one line of a run whose header is refused (`header_refused_line`).
 ///
-/// `line` is the refused line of the input, counted from 1; any number is written. After `WriteFault`, which only a
-/// failed write gives, and after `Memory` the sink took a prefix of the line.
+/// `line` is the refused line of the input, counted from 1; any number is written. `WriteFault` comes only from a
+/// failed write. After `WriteFault` or `Memory` the sink took a prefix of the line.
 pub fn write_header_refused<K: Sink>(
     alloc: Global,
     buf: &mut LineBuf,
@@ -82,7 +82,7 @@ pub fn write_header_refused<K: Sink>(
 
 /// Writes the last line of a run (`end_line`).
 ///
-/// After `WriteFault`, which only a failed write gives, and after `Memory` the sink took a prefix of the line.
+/// `WriteFault` comes only from a failed write. After `WriteFault` or `Memory` the sink took a prefix of the line.
 pub fn write_end<K: Sink>(alloc: Global, buf: &mut LineBuf, sink: &mut K) -> Result<(), SendFault>
     ensures text { Appends (K.taken sink.old) (K.taken sink.new) end_line result }
     ensures buffer { IsCleared buf.new result }

@@ -1,12 +1,16 @@
-//! The lines that a run writes, those of an exact text, and the end of any text that has a line for each vertex.
+//! The lines of a run and of an exact text, and the end of any text with a line for each vertex.
 //!
-//! Each call empties the line buffer, whatever it held, puts a line together in it and sends it whole. The sink takes the
-//! lines of the definition that the call names. A line of this crate has at most 106 bytes, and one of a group or of a reader as many
-//! more as its vertices take; the buffer keeps their memory for the next one.
+//! Each call clears the line buffer, fills it with a line and sends that line whole. The sink takes the lines of the
+//! definition that the call names. A line of this crate has at most 106 bytes; the vertices of a group or of a reader
+//! come on top. The buffer keeps its memory for the next line.
 //!
-//! After either fault the sink took a prefix of the lines. `WriteFault` comes only where a write to the sink failed in
-//! this call; the buffer is empty then, as after success. `Memory` says that there was none for a line; the buffer may
-//! hold a part of it then, which the next call drops.
+//! After either fault the sink took a prefix of the lines.
+//!
+//! - `WriteFault`: a write to the sink failed in this call. The buffer is empty, as after success.
+//! - `Memory`: no memory for a line. The buffer may hold a part of the line, which the next call drops.
+//!
+//! Floor: documents. From above: sessions and programs write runs, notes and exact texts, each line by the call that
+//! names its definition. `specs/` has the definitions: read `Lines` first, then `VertexLines`.
 #![tactic(auto)]
 
 mod batches;

@@ -22,11 +22,11 @@ fn fill_note(
     fill_refused(alloc, buf, number, line, reason)
 }
 
-/// Writes the note of a refused batch (`note_line`): its line of a run, as a comment, ahead of a text that has no lines
+/// Writes the note of a refused batch (`note_line`): its line of a run as a comment, before a text that has no lines
 /// for batches.
 ///
-/// Batches and lines are numbered from 1; any numbers are written. After `WriteFault`, which only a failed write gives,
-/// and after `Memory` the sink took a prefix of the line.
+/// Batches and lines are numbered from 1; any numbers are written. `WriteFault` comes only from a failed write. After
+/// `WriteFault` or `Memory` the sink took a prefix of the line.
 pub fn write_note<K: Sink>(
     alloc: Global,
     buf: &mut LineBuf,

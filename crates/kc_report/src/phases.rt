@@ -11,7 +11,7 @@ use kc_history::{Entry, Move};
 use kc_text::{LineBuf, SendFault, Sink, fill_named};
 use std::alloc::{AllocError, Global};
 
-// The words of a phase between its number and that of its quiet edges, with their blanks.
+// Returns the words of a phase between its number and its count of quiet edges, with their blanks.
 fn direction(add: bool) -> &'static [u8]
     ensures { result.now ≡ (codes " " ++ direction_word add) ++ codes " quiet " }
 {
@@ -97,7 +97,7 @@ fn write_groups<K: Sink>(
     ensures buffer { IsCleared buf.new result }
     ensures cause { WriteCause (K.faults sink.old) (K.faults sink.new) result }
 {
-    // Without groups too the line is empty after this call.
+    // Clears the buffer here, so that it is empty after this call if there are no groups too.
     buf.clear();
     for group in groups {
         write_group(alloc, buf, sink, group)?;
@@ -135,7 +135,7 @@ pub fn write_phases<K: Sink>(
     ensures buffer { IsCleared buf.new result }
     ensures cause { WriteCause (K.faults sink.old) (K.faults sink.new) result }
 {
-    // Without phases too the line is empty after this call.
+    // Clears the buffer here, so that it is empty after this call if there are no phases too.
     buf.clear();
     for plan in phases {
         write_phase(alloc, buf, sink, plan)?;

@@ -1,4 +1,4 @@
-//! The line of a reader: its number, and each vertex that it asked for with the level that it was told.
+//! The line of a reader: its number, and each vertex of its questions with the level that the reader got.
 ghost use Rattle.std.specs.Prelude.{◌≡◌, [], ◌∷◌, ◌++◌, OnOk, decimal};
 ghost use Rattle.std.specs.List.{flat_map};
 ghost use Rattle.kc_text.specs.Writing.{Appends, WriteCause};
@@ -33,11 +33,11 @@ fn fill_reader(
     fill_replies(alloc, buf, replies)
 }
 
-/// Writes the line of a reader (`reader_line`): its number, and its replies in their order, each the vertex and the level that was
-/// told of it.
+/// Writes the line of a reader (`reader_line`): its number, and its replies in their order. Each reply has the vertex
+/// and the level.
 ///
-/// Readers are numbered from 0; any number is written, and any replies: where there are none, the number stands alone. After
-/// `WriteFault`, which only a failed write gives, and after `Memory` the sink took a prefix of the line.
+/// Readers are numbered from 0; any number is written, and any replies. Without replies the line ends after the number.
+/// `WriteFault` comes only from a failed write. After `WriteFault` or `Memory` the sink took a prefix of the line.
 pub fn write_reader<K: Sink>(
     alloc: Global,
     buf: &mut LineBuf,

@@ -9,16 +9,18 @@ use crate::write_end;
 use kc_text::{LineBuf, SendFault, Sink};
 use std::alloc::Global;
 
-/// Lines of vertices: what the line of a vertex is, and how it is written.
+/// Lines of vertices: the text of each vertex's line, and how it is written.
 pub trait VertexLines {
     /// The line of a vertex; its line feed is the last byte.
     ghost line: { Self → ℕ → List ℕ };
 
-    /// Which vertices have a line.
+    /// The vertices that have a line.
     ghost has_line: { Self → ℕ → Type 0 };
 
-    /// Writes the line of `v`, which has one, whatever the buffer holds before. After `WriteFault`, which only a failed write gives, and
-    /// after `Memory` the sink took a prefix of the line. The buffer is empty afterwards, but after `Memory`, where it may hold anything.
+    /// Writes the line of `v`, which has one, whatever the buffer holds before.
+    ///
+    /// `WriteFault` comes only from a failed write. After `WriteFault` or `Memory` the sink took a prefix of the line.
+    /// The buffer is empty afterwards, but after `Memory` it may hold anything.
     fn write_line<K: Sink>(
         &self,
         alloc: Global,
@@ -45,7 +47,7 @@ fn write_lines<L: VertexLines, K: Sink>(
     ensures buffer { IsCleared buf.new result }
     ensures cause { WriteCause (K.faults sink.old) (K.faults sink.new) result }
 {
-    // Without vertices too the line is empty after this call.
+    // Clears the buffer here, so that it is empty after this call if there are no vertices too.
     buf.clear();
     for v in 0..n {
         lines.write_line(alloc, buf, sink, v)?;
@@ -53,10 +55,11 @@ fn write_lines<L: VertexLines, K: Sink>(
     Ok(())
 }
 
-/// Writes what is after all else: the lines of the vertices below `n` in turn (`vertex_lines`), and the last line (`end_line`).
+/// Writes the end of a text: the lines of the vertices below `n` in ascending order (`vertex_lines`), and the last line
+/// (`end_line`).
 ///
-/// Each of these vertices has a line. After `WriteFault`, which only a failed write gives, and after `Memory` the sink took a prefix
-/// of the lines.
+/// Each of these vertices has a line. `WriteFault` comes only from a failed write. After `WriteFault` or `Memory` the
+/// sink took a prefix of the lines.
 pub fn write_tail<L: VertexLines, K: Sink>(
     alloc: Global,
     buf: &mut LineBuf,

@@ -1,4 +1,4 @@
-//! The line of a vertex in a run: its level, what that says of its coreness, and two counts of neighbours.
+//! The line of a vertex in a run: its level, what the level says of its coreness, and two counts of neighbours.
 ghost use Rattle.std.specs.Prelude.{◌≡◌, [], ◌∷◌, ◌++◌, OnOk, decimal, codes};
 ghost use Rattle.kc_text.specs.Writing.{Appends, WriteCause};
 ghost use Rattle.kc_report.specs.Buffer.{IsCleared};
@@ -8,7 +8,7 @@ use kc_levels::Estimate;
 use kc_text::{LineBuf, SendFault, Sink, fill_named};
 use std::alloc::{AllocError, Global};
 
-// What a vertex line says of the level.
+// Appends the words of a vertex line for the level and its estimate.
 fn fill_bounds(
     alloc: Global,
     buf: &mut LineBuf,
@@ -26,7 +26,7 @@ fn fill_bounds(
     fill_named(alloc, buf, b" high ", estimate.hi)
 }
 
-// What the line of a vertex says.
+// The numbers of a vertex line.
 #[derive(Clone, Copy)]
 struct VertexLine {
     // The vertex.
@@ -35,9 +35,9 @@ struct VertexLine {
     level: u16,
     // What the level says of its coreness.
     estimate: Estimate,
-    // How many of its neighbours are on its level or above.
+    // The number of its neighbours on its level or above.
     up: u32,
-    // How many are on the level below or above; on level 0 all.
+    // The number of its neighbours on the level below or above; on level 0 all.
     down: u32,
 }
 
@@ -51,11 +51,12 @@ fn fill_vertex(alloc: Global, buf: &mut LineBuf, line: VertexLine) -> Result<(),
     fill_named(alloc, buf, b" down ", line.down)
 }
 
-/// Writes the line of vertex `v` (`vertex_line`): its level, the estimate and the bounds of its coreness, and how many
-/// of its neighbours stand on its level or above (`up`) and on the level below or above (`down`; at level 0 the same).
+/// Writes the line of vertex `v` (`vertex_line`): its level, the estimate and the bounds of its coreness, and two
+/// counts of neighbours.
 ///
-/// Any numbers are written: that they are those of `v` is the caller's part. After `WriteFault`, which only a failed
-/// write gives, and after `Memory` the sink took a prefix of the line.
+/// `up` are the neighbours on its level or above, `down` those on the level below or above; at level 0 both are equal.
+/// Any numbers are written; the caller makes sure that they are those of `v`. `WriteFault` comes only from a failed
+/// write. After `WriteFault` or `Memory` the sink took a prefix of the line.
 pub fn write_vertex<K: Sink>(
     alloc: Global,
     buf: &mut LineBuf,

@@ -1,4 +1,4 @@
-//! One round: several threads test a list of vertices piece by piece, and those that pass are kept in order.
+//! A round: several threads test a list of vertices piece by piece, and the vertices that pass are kept in order.
 ghost use Rattle.std.specs.Prelude.{◌≡◌, ℕ, ◌-◌, ◌*◌, ◌/◌, ◌<◌, ◌≤◌, Bool, All, IfOk, filter};
 
 use crate::{Gate, Spot};
@@ -8,19 +8,19 @@ use std::thread::Threads;
 
 /// A test of vertices that several threads may make at once.
 pub trait RoundTest {
-    /// Which vertices pass.
+    /// The vertices that pass.
     ghost keeps: { Self → ℕ → Bool };
 
-    /// Which vertices may be tested.
+    /// The vertices that may be tested.
     ghost may_ask: { Self → ℕ → Type 0 };
 
-    /// Whether `v` passes.
+    /// Returns whether `v` passes.
     fn keep(&self, v: u32) -> bool
         requires { may_ask self.now v }
         ensures { result ≡ keeps self.now v };
 }
 
-/// The length of the pieces: the least with which there are no more pieces than workers.
+/// Returns the length of a piece: the least for which there are no more pieces than workers.
 pub fn piece_size(items: usize, workers: u32) -> usize
     requires few_workers { 1 ≤ workers }
     requires some { 0 < items }
@@ -31,7 +31,7 @@ pub fn piece_size(items: usize, workers: u32) -> usize
     items.div_ceil(workers as usize)
 }
 
-// The number of the piece that begins at this place, counted from 0.
+// Returns the number of the piece that begins at this place, counted from 0.
 fn piece_index(start: usize, size: usize, workers: u32) -> u32
     requires some { 0 < size }
     requires few { start < workers * size }
@@ -40,7 +40,7 @@ fn piece_index(start: usize, size: usize, workers: u32) -> u32
     (start / size) as u32
 }
 
-// The vertices of a piece that pass, in order. The gate is told the piece before the first of them is tested.
+// Returns the vertices of a piece that pass, in order. Tells the gate the piece before the first test.
 fn filter_piece<F: RoundTest, G: Gate>(
     alloc: Global,
     gate: &G,
@@ -61,13 +61,13 @@ fn filter_piece<F: RoundTest, G: Gate>(
     Ok(kept)
 }
 
-/// The candidates that pass, in order, whatever the number of workers.
+/// Returns the candidates that pass, in order, for any number of workers.
 ///
-/// `workers` is 1 to 64, and each candidate may be tested. They are cut into pieces of their number divided by `workers`,
-/// rounded up, and each piece is tested in a thread of its own where one can be made; with one worker no thread is started.
-/// At the start of each piece the gate is told its index. An empty list has no piece.
+/// `workers` is 1 to 64, and each candidate may be tested. A piece has as many candidates as their number divided by
+/// `workers`, rounded up. Each piece is tested in a thread of its own if one can be made. One worker starts no thread.
+/// At the start of each piece the gate gets its index. An empty list has no piece.
 ///
-/// Tests each candidate once. Takes memory for the answer, and with more than one worker for one answer of each piece besides.
+/// Tests each candidate once. Takes memory for the answer; with several workers, also for the answer of each piece.
 /// Fails only if memory runs out.
 pub fn filter_round<R: Threads + Sync, F: RoundTest + Sync, G: Gate + Sync>(
     rt: &R,

@@ -1,12 +1,12 @@
-//! A gate is told where a run is, so that a test may watch a thread there, or hold it.
+//! A gate learns where a run is, so that a test can watch a thread there or hold it.
 
 use crate::Spot;
 
-/// What a run tells where it is.
+/// Watches a run, which calls it at each spot that it reaches.
 ///
 /// A gate promises nothing but to return: no result of the crates that call it depends on what it does.
 pub trait Gate {
-    /// Is called at each spot, by the thread that has come to it.
+    /// Called at each spot, by the thread that has reached it.
     fn at(&self, spot: Spot);
 }
 
@@ -15,7 +15,7 @@ pub trait Gate {
 pub struct OpenGate;
 
 impl OpenGate {
-    /// Takes no memory.
+    /// Makes the gate. Takes no memory.
     pub fn new() -> Self {
         OpenGate
     }

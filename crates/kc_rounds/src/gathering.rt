@@ -1,4 +1,4 @@
-//! Several threads pass over a list of vertices piece by piece, and what they find at each is put together in order.
+//! Several threads pass over a list of vertices piece by piece, and what they find at each vertex is joined in order.
 ghost use Rattle.std.specs.Prelude.{◌≡◌, ◌≤◌, ◌++◌, ℕ, All, IfOk, List, OnOk, length};
 ghost use Rattle.kc_rounds.specs.Gathering.{AreGathered};
 
@@ -10,44 +10,45 @@ use std::thread::Threads;
 // The number of vertices for which room is made at once.
 const TOGETHER: usize = 16;
 
-/// What is gathered at a vertex, by several threads, each at other vertices: a number, and a list of what is found there, such as
-/// vertices.
+/// What several threads gather, each at vertices of its own: for each vertex a number and a list, such as neighbours.
 pub trait RoundGather {
-    /// The number at a vertex.
+    /// The number of a vertex.
     ghost number: { Self → ℕ → ℕ };
 
-    /// What is found at a vertex.
+    /// The list of a vertex.
     ghost finds: { Self → ℕ → List ℕ };
 
-    /// Which vertices may be gathered at.
+    /// The vertices at which gathering is allowed.
     ghost may_gather: { Self → ℕ → Type 0 };
 
-    /// The length of what is found at `v`, or more; all of it is reserved, so it isn't to be far more. It is asked for 16 vertices
-    /// together, before the first of them has its turn, so that what it reads of them is at hand then.
+    /// Returns the length of the list of `v`, or more. All of it is reserved, so it shouldn't be much more.
+    ///
+    /// Called for 16 vertices together, before the first of them is gathered at: what it reads of them is then in the
+    /// cache.
     fn room(&self, v: u32) -> usize
         requires { may_gather self.now v }
         ensures { length (finds self.now v) ≤ result };
 
-    /// Puts what is found at `v` last in `found`, and gives the number. Fails only if memory runs out; what `found` holds is then
-    /// unspecified.
+    /// Appends the list of `v` to `found` and returns the number. Fails only if memory runs out; `found` then holds
+    /// anything.
     fn gather(&self, v: u32, found: &mut Vec<u32>) -> Result<u32, AllocError>
         requires { may_gather self.now v }
         ensures number { IfOk result (λ k. k ≡ number self.now v) }
         ensures found { OnOk result (found.new.items ≡ found.old.items ++ finds self.now v) };
 }
 
-/// What was gathered at each of some vertices, in their order (`AreGathered`).
+/// What was gathered at each vertex of a list, in its order (`AreGathered`).
 #[derive(Drop)]
 pub struct Gathered {
-    /// The number at each.
+    /// The number of each vertex.
     pub numbers: Vec<u32>,
-    /// The length of what was found at each.
+    /// The length of the list of each vertex.
     pub lengths: Vec<usize>,
-    /// What was found, that at the first one first.
+    /// The lists of all vertices, one after another.
     pub found: Vec<u32>,
 }
 
-// Room for what is found at the first 16 vertices.
+// Returns the length of the room for what is found at the first 16 vertices.
 fn room_for<F: RoundGather>(vertices: &[u32], what: &F) -> usize
     requires { All (F.may_gather what.now) vertices.now }
 {
@@ -85,14 +86,14 @@ fn gather_piece<F: RoundGather>(
     })
 }
 
-/// What is gathered at each of the vertices, in order, whatever the number of workers.
+/// Returns what is gathered at each vertex, in order, for any number of workers.
 ///
-/// `workers` is 1 to 64, and each vertex may be gathered at. They are cut into pieces of their number divided by `workers`,
-/// rounded up, and each piece goes to a thread of its own where one can be made; with one worker no thread is started. No gate
-/// is told.
+/// `workers` is 1 to 64, and gathering is allowed at each vertex. A piece has as many vertices as their number divided
+/// by `workers`, rounded up. Each piece goes to a thread of its own if one can be made. One worker starts no thread. No
+/// gate is called.
 ///
-/// Gathers once at each vertex. Takes memory for the answer and, in each piece, for the room of 16 vertices, and with more than one
-/// worker for one answer of each piece besides. Fails only if memory runs out.
+/// Gathers once at each vertex. Takes memory for the answer and, in each piece, for the room of 16 vertices; with
+/// several workers, also for the answer of each piece. Fails only if memory runs out.
 pub fn gather_round<R: Threads + Sync, F: RoundGather + Sync>(
     rt: &R,
     alloc: Global,

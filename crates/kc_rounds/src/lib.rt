@@ -1,9 +1,12 @@
-//! Work in rounds: lists of vertices that go to several threads in pieces, and the places where a run can be watched and held.
+//! Rounds: lists of vertices that go to several threads in pieces, and spots at which a run can be watched and held.
 //!
-//! [`filter_round`] gives the vertices of a list that pass a [`RoundTest`], in order, by up to 64 workers, and
-//! [`Rounds::gather`] what a [`RoundGather`] finds at each vertex of one. Rounds of tests, publications and readers tell a
-//! [`Gate`] where they are. A program passes an [`OpenGate`]; a test passes a gate of its own,
-//! which may hold a thread at a place until another thread has come to one.
+//! [`filter_round`] returns the vertices of a list that pass a [`RoundTest`], in order, with up to 64 workers.
+//! [`Rounds::gather`] returns what a [`RoundGather`] finds at each vertex of a list. Rounds of tests, publications and
+//! readers call a [`Gate`] at each [`Spot`]. A program passes an [`OpenGate`]. A test passes a gate of its own, which
+//! may hold a thread at a spot until another thread has reached one.
+//!
+//! Floor: phases. It stands on std alone. From above: [`Rounds`] for phases and plans, [`Gate`] for whatever runs in
+//! threads.
 #![tactic(auto)]
 
 mod filtering;

@@ -1,4 +1,4 @@
-//! How many of the workers share a list: all of them in a first round, and one or few where a later list is short.
+//! How many workers share a list: all of them in a first round, one or a few if a later list is short.
 ghost use Rattle.std.specs.Prelude.{◌≡◌, ◌≤◌, ◌<◌, All, IfOk, filter};
 ghost use Rattle.kc_rounds.specs.Gathering.{AreGathered};
 
@@ -7,17 +7,18 @@ use crate::{Gate, Gathered, RoundGather, RoundTest, filter_round};
 use std::alloc::{AllocError, Global};
 use std::thread::Threads;
 
-// A list of tests is cut into no more pieces than it has full ones of this length, but in a first round: to start a thread and
-// to join it costs as much as some tens of thousands of tests.
+// The least number of tests of a piece, except in a first round: a thread costs as much as some tens of thousands of
+// tests.
 const LEAST_TESTS: usize = 131_072;
 
-// The like for a list whose vertices are gathered at: that is a pass over neighbours, and costs far more than a test.
+// The least number of vertices of a piece that is gathered: each costs a pass over its neighbours, far more than a
+// test.
 const LEAST_GATHERED: usize = 2_048;
 
 /// Whether a first round is still to come.
 ///
-/// Who makes rounds keeps one for as long as it lives: the first round with candidates goes to all workers, however short it is, so
-/// that a gate sees pieces at the same time.
+/// The owner of the rounds keeps one for life: the first round with candidates goes to all workers, even if it is
+/// short. So a test with a gate sees pieces at the same time.
 #[derive(Drop)]
 pub struct FirstRound {
     // True until the first round that has candidates.
@@ -25,31 +26,31 @@ pub struct FirstRound {
 }
 
 impl FirstRound {
-    /// No round has been yet. Takes no memory.
+    /// Makes one for which no round has been. Takes no memory.
     pub fn new() -> Self {
         FirstRound { is_ahead: true }
     }
 }
 
-/// The workers that rounds may use, and the gate that they tell.
+/// The workers that rounds may use, and the gate that they call.
 ///
-/// A first round goes to all workers: `filter_round` cuts it into as many pieces, or fewer where there are few candidates. In later
-/// rounds, and where it is gathered, a short list goes to fewer workers, down to one, since a thread costs more than the work
-/// that it would take over. No answer depends on it.
+/// A first round goes to all workers: `filter_round` cuts it into as many pieces, or fewer if there are few candidates.
+/// In later rounds and in gathering, a short list goes to fewer workers, down to one: a thread would cost more than its
+/// share. No answer depends on it.
 #[derive(Drop)]
 pub struct Rounds<'a, R, G> {
-    // What starts the threads.
+    // Starts the threads.
     rt: &'a R,
-    // Where the memory of the answers comes from.
+    // The allocator of the answers.
     alloc: Global,
-    // What is told of each piece of candidates before the first of them is tested.
+    // Called at each piece of candidates, before the first test.
     gate: &'a G,
     // The most pieces of a list: 1 to 64.
     workers: u32,
     ghost few_workers: { (1 ≤ workers) × (workers ≤ 64) },
 }
 
-// How many of the workers share a list: one for each full `least_piece` items, at least one.
+// Returns how many workers share a list: one for each full `least_piece` items, at least one.
 fn workers_for(workers: u32, items: usize, least_piece: usize) -> u32
     requires some_workers { 1 ≤ workers }
     requires some_length { 1 ≤ least_piece }
@@ -67,7 +68,7 @@ fn workers_for(workers: u32, items: usize, least_piece: usize) -> u32
 }
 
 impl<'a, R: Threads + Sync, G: Gate + Sync> Rounds<'a, R, G> {
-    /// Rounds by up to `workers` workers, 1 to 64.
+    /// Makes rounds with up to `workers` workers, 1 to 64.
     pub fn new(rt: &'a R, alloc: Global, gate: &'a G, workers: u32) -> Self
         requires { (1 ≤ workers) × (workers ≤ 64) }
     {
@@ -79,20 +80,21 @@ impl<'a, R: Threads + Sync, G: Gate + Sync> Rounds<'a, R, G> {
         }
     }
 
-    /// What starts the threads.
+    /// Returns what starts the threads.
     pub fn runtime(&self) -> &R {
         self.rt
     }
 
-    /// The number of workers that rounds may use, 1 to 64.
+    /// Returns the number of workers that rounds may use, 1 to 64.
     pub fn workers(&self) -> u32
         ensures { (1 ≤ result) × (result ≤ 64) }
     {
         self.workers
     }
 
-    /// One round: the candidates that pass, in order (`filter_round`). A round without candidates leaves a first one still to come.
-    /// Fails only if memory runs out.
+    /// Tests the candidates in one round and returns those that pass, in order (`filter_round`).
+    ///
+    /// A round without candidates doesn't count as the first. Fails only if memory runs out.
     pub fn movers<F: RoundTest + Sync>(
         &self,
         first: &mut FirstRound,
@@ -111,9 +113,11 @@ impl<'a, R: Threads + Sync, G: Gate + Sync> Rounds<'a, R, G> {
         filter_round(self.rt, self.alloc, self.gate, workers, candidates, test)
     }
 
-    /// What is gathered at each of the vertices, in order (`AreGathered`). The list is cut into no more pieces than there are
-    /// workers, and no more than it has full 2,048s, so one of fewer than 4,096 goes to one worker. No gate is told. Fails only if
-    /// memory runs out.
+    /// Returns what is gathered at each vertex, in order (`AreGathered`). No gate is called. Fails only if memory runs
+    /// out.
+    ///
+    /// There are no more pieces than workers, and no more than full 2,048s in the list. So fewer than 4,096 vertices go
+    /// to one worker.
     pub fn gather<F: RoundGather + Sync>(
         &self,
         vertices: &[u32],

@@ -36,7 +36,7 @@ pub record IsBefore (e f : Entry) : Type 0 where
   pub labels : (a b : ℕ) → e.label ≡ Some a → f.label ≡ Some b → a < b
   pub vertices : (v : ℕ) (m : Move) → last_move v f.moves ≡ Some m → last_move v e.moves ≡ None
 
--- a plan of a phase that is well formed for n vertices, said by places
+-- a plan of a phase that is well formed for n vertices, in terms of places
 pub record IsFormed (n phase : ℕ) (plan : PhasePlan) : Type 0 where
   pub phase_is : plan.quiet.phase ≡ phase
   pub no_label : plan.quiet.label ≡ None

@@ -1,4 +1,4 @@
--- What contracts see of a store, a writer, a marker and a pass, and what their seats hold.
+-- What contracts see of a store, a writer, a marker and a pass, and the states of their seats.
 use Rattle.std.specs.Prelude.{◌≡◌, ℕ, ◌+◌, ◌*◌, ◌≤◌, false, List, [], length, Some}
 use Rattle.std.specs.List.{slice_get}
 use Rattle.atomic_table.specs.Seated.{TableId}
@@ -14,22 +14,24 @@ use Rattle.kc_store.specs.declared.roles.Role.TheVariants.{Writes, Marks, Reads,
 use Rattle.kc_store.specs.Plans.{IsFormed}
 use Rattle.kc_store.specs.States.{empty_plan, opened}
 
--- a store: which table it is, and for how many vertices
+-- a store: its table, and its number of vertices
 pub record StoreShape : Type 0 where
   pub table : TableId
   pub vertices : ℕ
 
--- a writer: the table that it writes, and what it knows
+-- a writer: the table that it writes, and its state
 pub record WriterShape : Type 0 where
   pub table : TableId
   pub state : WriterState
 
--- a marker: the table that it writes, and what it knows
+-- a marker: the table that it writes, and its state
 pub record MarkerShape : Type 0 where
   pub table : TableId
   pub state : MarkerState
 
--- a pass: the table that it reads, the part of the history that it has seen, and how long the history was when it was made
+-- a pass: the table that it reads, and the part of the history that it has seen
+--
+-- `made` is the length of the history when the pass was made.
 pub record PassShape : Type 0 where
   pub table : TableId
   pub seen : List Entry

@@ -1,4 +1,4 @@
--- What a marker has done with its range, and what it takes to show a plan.
+-- What a marker has done with its range, and when a plan can be shown.
 use Rattle.std.specs.Prelude.{◌≡◌, ℕ, ◌-◌, List, [], ◌++◌, length, map, All}
 use Rattle.std.specs.List.{range_with_len}
 use Rattle.kc_history.specs.declared.entries.Entry.{Entry}
@@ -8,15 +8,15 @@ use Rattle.kc_store.specs.declared.roles.MarkerState.{MarkerState}
 use Rattle.kc_store.specs.Plans.{Move}
 use Rattle.kc_store.specs.States.{AllMovesIn, last_level}
 
--- the vertices of a marker's moves from the first of its range up to the number `end`, that one left out, in order
+-- the vertices of a marker's moves in order, from the first of its range up to the number `end`, without `end`
 abbrev pub lent_vertices : ℕ → MarkerState → List ℕ
 lent_vertices end m = map (vertex_at m.plan m.loan.group) (range_with_len m.loan.from (end - m.loan.from))
 
--- a marker noted and marked these moves, each once and in order, and nothing else
+-- a marker noted and marked these moves, each once and in order, and changed nothing else
 abbrev pub HasMarkedLent : ℕ → MarkerState → MarkerState → Type 0
 HasMarkedLent end old new = new ≡ record old { noted = old.noted ++ lent_vertices end old; marked = old.marked ++ lent_vertices end old }
 
--- a marker cleared these moves, each once and in order, and nothing else
+-- a marker cleared these moves, each once and in order, and changed nothing else
 abbrev pub HasClearedLent : ℕ → MarkerState → MarkerState → Type 0
 HasClearedLent end old new = new ≡ record old { cleared = old.cleared ++ lent_vertices end old }
 

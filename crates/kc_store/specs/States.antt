@@ -1,4 +1,4 @@
--- What writer, markers and passes know, and how each call changes it.
+-- The states of writer, markers and passes, and how each call changes them.
 use Rattle.std.specs.Prelude.{◌≡◌, ◌≢◌, ◌⊎◌, ℕ, ◌+◌, ◌<◌, ◌≤◌, true, List, [], ◌∷◌, ◌++◌, Option, Some, None, length, get_or, All, Contains, if◌then◌else◌, nat_eq, nat_lt}
 use Rattle.std.specs.List.{slice_get}
 use Rattle.kc_history.specs.declared.limits.TheConstants.{MAX_PHASE}
@@ -48,11 +48,11 @@ with_entry_if (Some e) es = es ++ e ∷ []
 abbrev pub with_published : WriterState → WriterState
 with_published s = record s { history = with_entry_if (slice_get s.plan.groups s.published) s.history; published = s.published + 1 }
 
--- a pass that had seen this is taken in
+-- a pass that had seen this part of the history is taken in
 abbrev pub with_joined : List Entry → WriterState → WriterState
 with_joined seen s = record s { joined = seen ∷ s.joined }
 
--- the loan of a range of moves of the group at place g, as it is lent now
+-- the loan of a range of moves of the group at place g, as it would be lent now
 abbrev pub loan_of : ℕ → ℕ → ℕ → WriterState → Loan
 loan_of g from to s = record { group = g; from = from; to = to; published = nat_lt g s.published; number = s.lent }
 
@@ -60,11 +60,11 @@ loan_of g from to s = record { group = g; from = from; to = to; published = nat_
 abbrev pub with_loan : ℕ → ℕ → ℕ → WriterState → WriterState
 with_loan g from to s = record s { loans = loan_of g from to s ∷ s.loans; lent = s.lent + 1 }
 
--- the marker that it is lent to
+-- the marker that gets this loan
 abbrev pub marker_for : ℕ → ℕ → ℕ → WriterState → MarkerState
 marker_for g from to s = record { vertices = s.vertices; phase = s.phase; plan = s.plan; loan = loan_of g from to s; noted = []; marked = []; cleared = [] }
 
--- the loans but the one of this number
+-- all loans but the one with this number
 abbrev pub without_loan : ℕ → List Loan → List Loan
 without_loan k [] = []
 without_loan k (l ∷ ls) = if nat_eq l.number k then without_loan k ls else l ∷ without_loan k ls
@@ -73,7 +73,7 @@ without_loan k (l ∷ ls) = if nat_eq l.number k then without_loan k ls else l �
 abbrev pub with_returned : MarkerState → WriterState → WriterState
 with_returned m s = record s { loans = without_loan m.loan.number s.loans; noted = s.noted ++ m.noted; marked = s.marked ++ m.marked; cleared = s.cleared ++ m.cleared }
 
--- a marker's steps
+-- the move of v is noted by a marker
 abbrev pub marker_noted : ℕ → MarkerState → MarkerState
 marker_noted v m = record m { noted = m.noted ++ v ∷ [] }
 

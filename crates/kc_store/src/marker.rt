@@ -10,16 +10,16 @@ use kc_groups::PhasePlan;
 use kc_words::pack;
 use std::marker::Model;
 
-/// Stores marks of a range of moves of one group, beside the writer and other markers. Contracts see its range, whether the group was
-/// published when it was lent, and the vertices whose moves it noted, marked and cleared.
+/// Stores the marks of a range of moves of one group, beside the writer and other markers.
 ///
-/// Each call asks that the store is the one of the writer that lent it, and takes no memory.
+/// Contracts see its range, whether the group was published when the range was lent, and the vertices whose moves it
+/// noted, marked and cleared. Each call requires the store of the writer that lent the range, and takes no memory.
 #[derive(Drop)]
 pub struct Marker {
     pub(crate) seat: Place,
-    // The place of the group in the plan, as in what the seat knows.
+    // The place of the group in the plan, as in the seat's state.
     pub(crate) group: u32,
-    // Its range, as in what the seat knows.
+    // Its range, as in the seat's state.
     pub(crate) from: u32,
     pub(crate) to: u32,
 }
@@ -36,8 +36,8 @@ impl Model for Marker {
 }
 
 impl Marker {
-    /// Marks move i of the group, counted from the group's first. It is in the marker's range, the group was not published when
-    /// the marker was lent, and the plan is the one of that time.
+    /// Marks move i of the group, counted from the group's first. The move is in the marker's range. The group was not
+    /// published when the marker was lent, and the plan is the one of that time.
     pub fn mark(&mut self, store: &Store, plan: &PhasePlan, i: u32)
         requires table { self.old.table ≡ store.now.table }
         requires plan { plan.now ≡ self.old.state.plan }
@@ -51,13 +51,13 @@ impl Marker {
         let v = m.vertex as usize;
         let old = word_of(m.old);
         let words = &store.table.shared;
-        // The old level comes first: a reader that finds the mark may load it.
+        // The old level is stored first: a reader that finds the mark may load the old level.
         words.store::<LentNotes>(seat, 2 * store.n as usize + 1 + v, old);
         words.store::<LentMarks>(seat, v + 1, pack(m.new, label, phase_of(plan)));
     }
 
-    /// Clears move i of the group, counted from the group's first. It is in the marker's range, the group was published when the
-    /// marker was lent, and the plan is the one of that time.
+    /// Clears move i of the group, counted from the group's first. The move is in the marker's range. The group was
+    /// published when the marker was lent, and the plan is the one of that time.
     pub fn clear(&mut self, store: &Store, plan: &PhasePlan, i: u32)
         requires table { self.old.table ≡ store.now.table }
         requires plan { plan.now ≡ self.old.state.plan }
@@ -74,15 +74,15 @@ impl Marker {
             .store::<LentClears>(seat, m.vertex as usize + 1, pack(m.new, 0, 0));
     }
 
-    // The first move of its range, and the one after the last.
+    // Returns the first move of its range, and the one after the last.
     fn range(&self) -> (u32, u32)
         ensures { result ≡ (self.now.state.loan.from, self.now.state.loan.to) }
     {
         (self.from, self.to)
     }
 
-    /// Marks each move of the marker's range, in order. The group was not published when the marker was lent, and the plan is the one of
-    /// that time.
+    /// Marks each move of the marker's range, in order. The group was not published when the marker was lent, and the
+    /// plan is the one of that time.
     pub fn mark_all(&mut self, store: &Store, plan: &PhasePlan)
         requires table { self.old.table ≡ store.now.table }
         requires plan { plan.now ≡ self.old.state.plan }
@@ -96,8 +96,8 @@ impl Marker {
         }
     }
 
-    /// Clears each move of the marker's range, in order. The group was published when the marker was lent, and the plan is the one of
-    /// that time.
+    /// Clears each move of the marker's range, in order. The group was published when the marker was lent, and the plan
+    /// is the one of that time.
     pub fn clear_all(&mut self, store: &Store, plan: &PhasePlan)
         requires table { self.old.table ≡ store.now.table }
         requires plan { plan.now ≡ self.old.state.plan }

@@ -1,4 +1,4 @@
-// What is read of a plan.
+// Reading of a plan by places.
 ghost use Rattle.std.specs.Prelude.{◌≡◌, ℕ, ◌^◌, ◌<◌, Some};
 ghost use Rattle.std.specs.List.{slice_get};
 ghost use Rattle.kc_history.specs.declared.entries.Entry.{Entry as EntryShape};
@@ -8,7 +8,7 @@ ghost use Rattle.kc_store.specs.private.Plans.{IsMoveAt};
 use kc_groups::PhasePlan;
 use kc_history::{Entry, Move};
 
-// The group at place g.
+// Returns the group at place g.
 pub(crate) fn group_at(plan: &PhasePlan, g: u32) -> &Entry
     requires { (e : EntryShape) × (slice_get plan.now.groups g ≡ Some e) }
     ensures { (e : EntryShape) → slice_get plan.now.groups g ≡ Some e → result.now ≡ e }
@@ -16,7 +16,7 @@ pub(crate) fn group_at(plan: &PhasePlan, g: u32) -> &Entry
     &plan.groups.as_slice()[g as usize]
 }
 
-// Move i of a group.
+// Returns move i of a group.
 pub(crate) fn move_of(group: &Entry, i: u32) -> Move
     requires { (m : MoveShape) × (slice_get group.now.moves i ≡ Some m) }
     ensures { (m : MoveShape) → slice_get group.now.moves i ≡ Some m → result ≡ m }
@@ -24,14 +24,14 @@ pub(crate) fn move_of(group: &Entry, i: u32) -> Move
     group.moves.as_slice()[i as usize]
 }
 
-// The number of the phase.
+// Returns the number of the phase.
 pub(crate) fn phase_of(plan: &PhasePlan) -> u32
     ensures { result ≡ plan.now.quiet.phase }
 {
     plan.quiet.phase
 }
 
-// The label of a group.
+// Returns the label of a group.
 pub(crate) fn label_of(group: &Entry) -> u32
     requires { (l : ℕ) × (group.now.label ≡ Some l) }
     ensures { group.now.label ≡ Some result }
@@ -42,7 +42,7 @@ pub(crate) fn label_of(group: &Entry) -> u32
     }
 }
 
-// Move i of the group at place g, and the group's label.
+// Returns move i of the group at place g, and the group's label.
 pub(crate) fn move_at(plan: &PhasePlan, g: u32, i: u32) -> (Move, u32)
     requires label { (e : EntryShape) × (l : ℕ) × (slice_get plan.now.groups g ≡ Some e) × (e.label ≡ Some l) }
     requires found { (e : EntryShape) × (m : MoveShape) × IsMoveAt plan.now g i e m }
@@ -52,7 +52,7 @@ pub(crate) fn move_at(plan: &PhasePlan, g: u32, i: u32) -> (Move, u32)
     (move_of(group, i), label_of(group))
 }
 
-// A level as a word, which has 16 bits.
+// Returns a level as a word, which is below 2^16.
 pub(crate) fn word_of(level: u16) -> u64
     ensures value { result ≡ level }
     ensures short { level < 2 ^ 16 }

@@ -1,4 +1,4 @@
-// What each seat of the table knows. No value of these types is made: they are what contracts and the store's rule speak of.
+// The state of each seat of the table. No value of these types is made: contracts and the store's rule name them.
 use kc_groups::PhasePlan;
 use kc_history::Entry;
 use std::collections::LinkedList;
@@ -11,13 +11,13 @@ pub struct Loan {
     pub from: u32,
     /// The move after the last.
     pub to: u32,
-    /// Whether the group was published when it was lent.
+    /// Whether the group was published when the range was lent.
     pub published: bool,
-    /// No two loans have the same.
+    /// The number of the loan; no two loans have the same number.
     pub number: u64,
 }
 
-/// What the writer knows.
+/// The state of the writer.
 pub struct WriterState {
     /// The number of vertices.
     pub vertices: u32,
@@ -27,25 +27,25 @@ pub struct WriterState {
     pub phase: u32,
     /// The plan of the open phase. It has no group until a phase was begun.
     pub plan: PhasePlan,
-    /// How many groups of the plan are published.
+    /// The number of published groups of the plan.
     pub published: u32,
     /// The history.
     pub history: LinkedList<Entry>,
-    /// The vertices whose moves are noted: the old level is stored.
+    /// The vertices whose moves are noted: their old level is stored.
     pub noted: LinkedList<u32>,
-    /// The vertices whose moves are marked: new level, label and phase are stored.
+    /// The vertices whose moves are marked: their new level, label and phase are stored.
     pub marked: LinkedList<u32>,
-    /// The vertices whose moves are cleared: the new level is stored with phase 0, as of a vertex that has no move.
+    /// The vertices whose moves are cleared: their new level is stored with phase 0, as for a vertex without a move.
     pub cleared: LinkedList<u32>,
-    /// What the passes had seen that were taken in.
+    /// The parts of the history that passes had seen when they were taken in.
     pub joined: LinkedList<LinkedList<Entry>>,
-    /// What is lent to the markers that are out.
+    /// The loans of the markers that are out.
     pub loans: LinkedList<Loan>,
-    /// How many loans there were.
+    /// The number of loans so far.
     pub lent: u64,
 }
 
-/// What a marker knows.
+/// The state of a marker.
 pub struct MarkerState {
     /// The number of vertices.
     pub vertices: u32,
@@ -53,7 +53,7 @@ pub struct MarkerState {
     pub phase: u32,
     /// The plan of the open phase.
     pub plan: PhasePlan,
-    /// What is lent to it.
+    /// The range that is lent to it.
     pub loan: Loan,
     /// The vertices whose moves it noted.
     pub noted: LinkedList<u32>,
@@ -63,34 +63,35 @@ pub struct MarkerState {
     pub cleared: LinkedList<u32>,
 }
 
-/// What a pass knows between the loads of a read.
+/// The state of a pass between the loads of a read.
 pub struct Pending {
     /// The number of vertices.
     pub vertices: u32,
-    /// What the pass had seen before the read.
+    /// The part of the history that the pass had seen before the read.
     pub seen: LinkedList<Entry>,
-    /// How long the history was when the pass was made.
+    /// The length of the history when the pass was made.
     pub made: u64,
     /// The vertex that is read.
     pub vertex: u32,
-    /// Its loaded word.
+    /// The word that was loaded for the vertex.
     pub word: u64,
     /// The history at the first load.
     pub from: LinkedList<Entry>,
 }
 
-/// What a seat of the table is for, with what it knows.
+/// The use of a seat of the table, with its state.
 pub enum Role {
-    /// Nothing any more.
+    /// No use any more.
     Spent,
     /// The writer's.
     Writes(WriterState),
     /// A marker's.
     Marks(MarkerState),
-    /// A pass's, with the number of vertices, what it has seen, and how long the history was when it was made.
+    /// A pass's, with the number of vertices and the part of the history that it has seen. The last number is the
+    /// length of the history when the pass was made.
     Reads(u32, LinkedList<Entry>, u64),
     /// A pass's after the first load of a read.
     Looks(Pending),
-    /// A pass's after the second load, where the stamp was below the word's phase.
+    /// A pass's after the second load, if the stamp was below the word's phase.
     FoundBelow(Pending),
 }

@@ -1,4 +1,4 @@
-// The rule of the table, and what each kind of step tells.
+// The rule of the table, and what its seat learns from each kind of step.
 use crate::roles::Role;
 use atomic_table::{Join, Play, Seat, Split, TableRule};
 use std::marker::{Brand, PhantomData};
@@ -7,7 +7,7 @@ pub(crate) type Place = Seat<u8, Role>;
 
 pub(crate) struct Rule;
 
-// What a table is opened with.
+// The numbers with which a table is opened.
 #[derive(Clone, Copy)]
 pub(crate) struct Size {
     pub vertices: u32,
@@ -65,7 +65,7 @@ impl Play<u8, Role> for Marks {
     ghost then = { marks };
 }
 
-// The writer stores the new level of a published move with phase 0: a reader of it looks no further.
+// The writer stores the new level of a published move with phase 0, so that a reader needs no second load.
 pub(crate) struct Clears;
 
 impl Play<u8, Role> for Clears {
@@ -101,7 +101,7 @@ impl Play<u8, Role> for LentMarks {
     ghost then = { lent_marks };
 }
 
-// A marker stores the new level of a published move with phase 0: a reader of it looks no further.
+// A marker stores the new level of a published move with phase 0, so that a reader needs no second load.
 pub(crate) struct LentClears;
 
 impl Play<u8, Role> for LentClears {
@@ -119,7 +119,7 @@ impl Play<u8, Role> for FirstLoad {
     ghost then = { first_load };
 }
 
-// It loads the stamp of the word's label.
+// A pass loads the stamp of the word's label.
 pub(crate) struct SecondLoad;
 
 impl Play<u8, Role> for SecondLoad {
@@ -128,7 +128,7 @@ impl Play<u8, Role> for SecondLoad {
     ghost then = { second_load };
 }
 
-// It loads the old level of the vertex.
+// A pass loads the old level of the vertex.
 pub(crate) struct ThirdLoad;
 
 impl Play<u8, Role> for ThirdLoad {
@@ -160,7 +160,7 @@ impl Join<Role> for TakesIn {
     ghost spent = { Spent };
 }
 
-// What passes had seen begins the history.
+// The parts of the history that passes had seen are beginnings of the history.
 pub(crate) struct Tells;
 
 impl Play<u8, Role> for Tells {

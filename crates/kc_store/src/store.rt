@@ -11,10 +11,10 @@ use kc_words::unpack;
 use std::alloc::{AllocError, Global};
 use std::marker::Model;
 
-/// The levels of the vertices 0 to n - 1. Contracts see which table it is, and n.
+/// The levels of the vertices 0 to n - 1. Contracts see its table and n.
 #[derive(Drop)]
 pub struct Store {
-    // The number of phases, then for each vertex its mark, for each label its stamp, for each vertex its old level.
+    // The number of phases. Then for each vertex its mark, for each label its stamp, and for each vertex its old level.
     pub(crate) table: Table<u8, Role, Size, Rule, Global>,
     pub(crate) n: u32,
 }
@@ -30,7 +30,8 @@ impl Model for Store {
     ghost invariant = { λ s. (s.table.shared.key.vertices ≡ s.n) × (s.table.shared.table_id.words ≡ 3 * s.n + 1) };
 }
 
-/// What a reader reads with. Contracts see the part of the history that it has seen, and how long the history was when it was made.
+/// The state of a reader. Contracts see the part of the history that the pass has seen, and the length of the history
+/// when the pass was made.
 #[derive(Drop)]
 pub struct Pass {
     pub(crate) seat: Place,
@@ -47,11 +48,12 @@ impl Model for Pass {
 }
 
 impl Store {
-    /// A store for the vertices 0 to n - 1, each on level 0, and its writer. The history is empty, and the first phase has the number
-    /// after `phases_before`. n is 1 to `MAX_VERTICES`, and `phases_before` at most `MAX_PHASE`.
+    /// Opens a store for the vertices 0 to n - 1, each on level 0, and its writer. The history is empty, and the first
+    /// phase has the number after `phases_before`.
     ///
-    /// This takes all memory that the store and its writer, markers and passes ever need: 24 bytes a vertex, and as much again until
-    /// it returns, since the table copies the words that it begins with.
+    /// n is 1 to `MAX_VERTICES`, and `phases_before` at most `MAX_PHASE`. Takes all memory that the store and its
+    /// writer, markers and passes ever need: 24 bytes a vertex. Until it returns it takes twice that, since the table
+    /// copies the words with which it begins. Fails only if memory runs out.
     pub fn open(alloc: Global, n: u32, phases_before: u32) -> Result<(Store, Writer), AllocError>
         requires vertices { (1 ≤ n) × (n ≤ MAX_VERTICES) }
         requires phases { phases_before ≤ MAX_PHASE }
@@ -68,17 +70,17 @@ impl Store {
         Ok((Store { table, n }, Writer { seat }))
     }
 
-    /// The number of vertices.
+    /// Returns the number of vertices.
     pub fn vertices(&self) -> u32
         ensures { result ≡ self.now.vertices }
     {
         self.n
     }
 
-    /// The level of v at a point of the history that is not before what the pass had seen. The pass has then seen the history up
-    /// to that point. The pass is of this store, and v is below n.
+    /// Returns the level of v at a point of the history that is not before the part that the pass had seen. The pass
+    /// has then seen the history up to that point. The pass is of this store, and v is below n.
     ///
-    /// One to three loads, and no memory: it never waits, and never starts again.
+    /// Cost: one to three loads, and no memory. It never waits, and never starts again.
     pub fn read(&self, pass: &mut Pass, v: u32) -> u16
         requires table { pass.old.table ≡ self.now.table }
         requires vertex { v < self.now.vertices }
@@ -91,7 +93,8 @@ impl Store {
         if mark.phase == 0 {
             return mark.new;
         }
-        // The label may be published again in a later phase between the two loads, so the stamp may be greater.
+        // The label may be published again in a later phase between the two loads. Then the stamp is greater than the
+        // mark's phase.
         let stamp = words.load::<SecondLoad>(
             &mut pass.seat,
             self.n as usize + 1 + mark.label as usize,
@@ -99,7 +102,8 @@ impl Store {
         if u64::from(mark.phase) <= stamp {
             return mark.new;
         }
-        // Whoever stores this word later stores the level of v at that time, so whatever is found is a level since the first load.
+        // Later writers store the level of v at that time. So the value was the level of v at some time since the first
+        // load.
         words.load::<ThirdLoad>(&mut pass.seat, 2 * self.n as usize + 1 + v as usize) as u16
     }
 }

@@ -16,10 +16,11 @@ use kc_groups::PhasePlan;
 use kc_words::pack;
 use std::marker::{Brand, Model};
 
-/// The one that moves the levels of a store. Contracts see its history, the number of phases, the plan of the open phase with the
-/// number of published groups and the vertices whose moves are noted, marked and cleared, and what is lent.
+/// The writer, which moves the levels of a store.
 ///
-/// Each call asks that the store is the one that the writer was opened with, and takes no memory.
+/// Contracts see its history, the number of phases, the plan of the open phase with the number of published groups, and
+/// what is lent. They also see the vertices whose moves are noted, marked and cleared. Each call requires the store
+/// with which the writer was opened, and takes no memory.
 #[derive(Drop)]
 pub struct Writer {
     pub(crate) seat: Place,
@@ -51,8 +52,9 @@ impl Writer {
 
     /// Begins the phase of a plan: the history grows by the plan's quiet entry.
     ///
-    /// Each group of the last begun phase is published and each of its moves cleared, and no marker is out. The plan is well formed,
-    /// of the next phase, which is at most `MAX_PHASE`, and moves each vertex from its level at the end of the history.
+    /// Each group of the last begun phase is published, each of its moves is cleared, and no marker is out. The plan is
+    /// well formed. Its phase is the next one, at most `MAX_PHASE`, and it moves each vertex from its level at the end
+    /// of the history.
     pub fn begin(&mut self, store: &Store, plan: &PhasePlan)
         requires table { self.old.table ≡ store.now.table }
         requires begins { MayBegin self.old.state plan.now }
@@ -61,7 +63,8 @@ impl Writer {
         self.begin_as::<Brand>(store, plan);
     }
 
-    /// Marks move i of the group at place g, which is not published yet. The plan is the open phase's. No level and no history changes.
+    /// Marks move i of the group at place g, which is not published yet. The plan is the open phase's. No level
+    /// changes, and the history stays the same.
     pub fn mark(&mut self, store: &Store, plan: &PhasePlan, g: u32, i: u32)
         requires table { self.old.table ≡ store.now.table }
         requires plan { plan.now ≡ self.old.state.plan }
@@ -74,15 +77,15 @@ impl Writer {
         let v = m.vertex as usize;
         let old = word_of(m.old);
         let words = &store.table.shared;
-        // The old level comes first: a reader that finds the mark may load it.
+        // The old level is stored first: a reader that finds the mark may load the old level.
         words.store::<Notes>(seat, 2 * store.n as usize + 1 + v, old);
         words.store::<Marks>(seat, v + 1, pack(m.new, label, phase_of(plan)));
     }
 
-    /// Publishes the group at place g, whose moves all take effect at once: the history grows by its entry.
+    /// Publishes the group at place g, whose moves all take effect at once: the history grows by the group's entry.
     ///
-    /// The plan is the open phase's, g is the number of its published groups, each move of the group is marked, and no marker is
-    /// out for it.
+    /// The plan is the open phase's, and g is the number of its published groups. Each move of the group is marked, and
+    /// no marker is out for the group.
     pub fn publish(&mut self, store: &Store, plan: &PhasePlan, g: u32)
         requires table { self.old.table ≡ store.now.table }
         requires plan { plan.now ≡ self.old.state.plan }
@@ -98,7 +101,8 @@ impl Writer {
             .store::<Publishes>(seat, store.n as usize + 1 + label as usize, phase);
     }
 
-    /// Clears move i of the group at place g, which is published. The plan is the open phase's. No level and no history changes.
+    /// Clears move i of the group at place g, which is published. The plan is the open phase's. No level changes, and
+    /// the history stays the same.
     pub fn clear(&mut self, store: &Store, plan: &PhasePlan, g: u32, i: u32)
         requires table { self.old.table ≡ store.now.table }
         requires plan { plan.now ≡ self.old.state.plan }
@@ -114,7 +118,7 @@ impl Writer {
             .store::<Clears>(seat, m.vertex as usize + 1, pack(m.new, 0, 0));
     }
 
-    /// A pass that has seen the whole history.
+    /// Makes a pass that has seen the whole history.
     pub fn pass(&mut self, store: &Store) -> Pass
         requires table { self.old.table ≡ store.now.table }
         ensures same { self.new ≡ self.old }
@@ -125,7 +129,7 @@ impl Writer {
         }
     }
 
-    /// Ends a pass of this store. What it had seen is how the history begins.
+    /// Ends a pass of this store. The part that the pass had seen is a beginning of the history.
     pub fn take_in(&mut self, store: &Store, pass: Pass)
         requires table { self.old.table ≡ store.now.table }
         requires pass { pass.table ≡ store.now.table }
@@ -155,8 +159,10 @@ impl Writer {
         }
     }
 
-    /// A marker for the moves from one number up to another, that one left out, of the group at place g, none of which is lent. The
-    /// plan is the open phase's. It marks where the group is not published yet, and clears where it is.
+    /// Makes a marker for moves of the group at place g: from the number `from` up to the number `to`, without `to`.
+    ///
+    /// None of these moves is lent, and the plan is the open phase's. The marker marks if the group is not published
+    /// yet, and otherwise clears.
     pub fn lend(&mut self, store: &Store, plan: &PhasePlan, g: u32, from: u32, to: u32) -> Marker
         requires table { self.old.table ≡ store.now.table }
         requires plan { plan.now ≡ self.old.state.plan }
@@ -169,7 +175,7 @@ impl Writer {
         self.lend_as::<Brand>(store, g, from, to)
     }
 
-    /// Ends a marker of this store. What it marked counts as marked, and what it cleared as cleared.
+    /// Ends a marker of this store. The moves that it marked count as marked, and those that it cleared as cleared.
     pub fn give_back(&mut self, store: &Store, marker: Marker)
         requires table { self.old.table ≡ store.now.table }
         requires marker { marker.table ≡ store.now.table }

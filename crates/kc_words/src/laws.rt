@@ -1,13 +1,13 @@
-//! That packing and unpacking undo each other. The functions do nothing: each has laws as its contract.
+//! Packing and unpacking undo each other. Each function does nothing: its contract is the law.
 
 ghost use Rattle.kc_words.specs.Packed.{UnpackUndoesPack, PackUndoesUnpack};
 
-/// What was packed is unpacked: `unpack(pack(new, label, phase))` has the three numbers.
+/// Unpacking what was packed gives the three numbers: `unpack(pack(new, label, phase))`.
 pub fn unpack_undoes_pack()
     ensures { UnpackUndoesPack }
 {}
 
-/// What was unpacked is packed to the same word.
+/// Packing what was unpacked gives the same word.
 pub fn pack_undoes_unpack()
     ensures { PackUndoesUnpack }
 {}

@@ -1,12 +1,12 @@
-//! A mark as its three numbers, before they are packed into a word.
+//! A mark as its three numbers, before packing.
 
-/// What a vertex is marked with.
+/// The mark of a vertex.
 #[derive(Clone, Copy, Debug, PartialEq, Eq)]
 pub struct Mark {
-    /// The level that the vertex moves to, or is on.
+    /// The level to which the vertex moves, or on which it is.
     pub new: u16,
-    /// The label of the group that it moves with: the least vertex of the group.
+    /// The label of its group: the group's least vertex.
     pub label: u32,
-    /// The phase that it moves in. 0 says that it doesn't move.
+    /// The phase in which it moves, or 0 if it doesn't move.
     pub phase: u32,
 }

@@ -1,10 +1,10 @@
-//! A mark in a word: the phase in bits 0 to 23, the label in bits 24 to 47, the new level in bits 48 to 63.
+//! A mark in a word. From the lowest bit: the phase in 24 bits, the label in 24, the new level in 16.
 ghost use Rattle.std.specs.Prelude.{◌≡◌, ◌<◌, ◌^◌};
 ghost use Rattle.kc_words.specs.Packed.{packed, unpacked};
 
 use crate::Mark;
 
-/// The word of a mark, as `packed` says. Label and phase are below 16,777,216.
+/// Returns the word of a mark (`packed`). Label and phase are below 16,777,216.
 pub fn pack(new: u16, label: u32, phase: u32) -> u64
     requires label { label < 2 ^ 24 }
     requires phase { phase < 2 ^ 24 }
@@ -13,7 +13,7 @@ pub fn pack(new: u16, label: u32, phase: u32) -> u64
     (u64::from(new) << 48) + (u64::from(label) << 24) + u64::from(phase)
 }
 
-/// The mark of a word, as `unpacked` says. Each word is that of one mark.
+/// Returns the mark of a word (`unpacked`). Each word is the word of one mark.
 pub fn unpack(word: u64) -> Mark
     ensures { result ≡ unpacked word }
 {

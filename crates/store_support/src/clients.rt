@@ -18,7 +18,7 @@ const MAX_TURNS: u32 = 100_000_000;
 pub struct Sender<'a> {
     intake: &'a Intake,
     client: Client,
-    // How many items were submitted.
+    // The number of submitted items.
     sent: u32,
     // The items that it submits, in order.
     script: Vec<Item>,
@@ -27,7 +27,7 @@ pub struct Sender<'a> {
 }
 
 impl<'a> Sender<'a> {
-    /// A client that has submitted nothing, and its script.
+    /// Makes a client that has submitted nothing, and its script.
     pub fn new(intake: &'a Intake, client: Client, script: Vec<Item>) -> Sender<'a>
         requires { (client.intake ≡ intake.now) × (client.sent ≡ []) }
     {
@@ -39,7 +39,7 @@ impl<'a> Sender<'a> {
         }
     }
 
-    /// Submits an item, and tries again while the intake is full. Says whether it was submitted.
+    /// Submits an item, and tries again while the intake is full. Returns whether it was submitted.
     pub fn submit<R: Threads + Wait + Sync>(&mut self, rt: &R, item: Item) -> bool {
         for _turn in 0..MAX_TURNS {
             if self.sent == MAX_SENT {
@@ -66,7 +66,7 @@ impl<'a> Sender<'a> {
         }
     }
 
-    /// The items that it submits, in order.
+    /// Returns the items that it submits, in order.
     pub fn script(&self) -> &[Item] {
         self.script.as_slice()
     }
@@ -77,7 +77,7 @@ impl<'a> Sender<'a> {
 pub struct Server<'a> {
     intake: &'a Intake,
     drainer: Drainer,
-    // Whether it keeps what it drained.
+    // Whether it keeps the drained updates.
     keeps: bool,
     updates: Vec<Update>,
     drained: usize,
@@ -85,7 +85,8 @@ pub struct Server<'a> {
 }
 
 impl<'a> Server<'a> {
-    /// A server that has drained nothing. It keeps what it drains if `keeps` is true, for which it has room for `room` updates.
+    /// Makes a server that has drained nothing. It keeps the drained updates if `keeps` is true, and has room for
+    /// `room` of them.
     pub fn new(
         alloc: Global,
         intake: &'a Intake,
@@ -105,7 +106,7 @@ impl<'a> Server<'a> {
         })
     }
 
-    /// Drains a batch, and says whether there was one.
+    /// Drains a batch. Returns whether there was one.
     pub fn drain<R: Threads + Wait + Sync>(&mut self, rt: &R) -> Result<bool, AllocError> {
         if self.intake.drain(rt, &mut self.drainer) == Err(Empty) {
             return Ok(false);
@@ -131,18 +132,18 @@ impl<'a> Server<'a> {
         Ok(())
     }
 
-    /// How many updates were drained.
+    /// Returns how many updates were drained.
     pub fn drained(&self) -> usize {
         self.drained
     }
 
-    /// The updates that it kept, in the order in which they were drained.
+    /// Returns the updates that it kept, in the order in which they were drained.
     pub fn updates(&self) -> &[Update] {
         self.updates.as_slice()
     }
 }
 
-// Each client submits its script in a thread of its own, if one can be made.
+// Lets each client submit its script in a thread of its own, if one can be made.
 fn run_all<R: Threads + Wait + Sync>(rt: &R, senders: &mut [Sender<'_>]) {
     thread::for_each_mut(
         rt,
@@ -154,7 +155,8 @@ fn run_all<R: Threads + Wait + Sync>(rt: &R, senders: &mut [Sender<'_>]) {
     );
 }
 
-/// The clients submit their scripts in threads of their own while the server drains, until it has this many updates.
+/// Lets the clients submit their scripts in threads of their own while the server drains, until it has this many
+/// updates.
 pub fn exchange<R: Threads + Wait + Sync>(
     rt: &R,
     server: &mut Server<'_>,
@@ -173,7 +175,7 @@ pub fn exchange<R: Threads + Wait + Sync>(
     .0
 }
 
-/// An intake, its drainer, and its clients, which have submitted nothing.
+/// Makes an intake, its drainer, and its clients, which have submitted nothing.
 pub fn open(
     alloc: Global,
     capacity: u32,

@@ -1,4 +1,4 @@
-//! Whether items are of vertices that there are.
+//! Tests of items: are their vertices those of a graph?
 ghost use Rattle.std.specs.Prelude.{◌≤◌, All, length};
 ghost use Rattle.std.specs.Bool.{OnTrue};
 ghost use Rattle.kc_graph.specs.declared.limits.TheConstants.{MAX_ITEMS};
@@ -6,7 +6,7 @@ ghost use Rattle.kc_graph.specs.Cleaning.{IsInside};
 
 use kc_graph::{Item, MAX_ITEMS};
 
-// Whether the vertices of the item are below n.
+// Returns whether the vertices of the item are below n.
 fn is_inside(item: Item, n: u32) -> bool
     ensures { OnTrue result (IsInside n item) }
 {
@@ -17,7 +17,8 @@ fn is_inside(item: Item, n: u32) -> bool
     }
 }
 
-/// Whether the items may be a batch of a graph with n vertices: there are at most `MAX_ITEMS`, of vertices below n.
+/// Returns whether the items may be a batch of a graph with n vertices: there are at most `MAX_ITEMS`, of vertices
+/// below n.
 pub fn are_batch(items: &[Item], n: u32) -> bool
     ensures inside { OnTrue result (All (IsInside n) items.now) }
     ensures few { OnTrue result (length items.now ≤ MAX_ITEMS) }

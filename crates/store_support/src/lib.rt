@@ -1,5 +1,9 @@
-//! What tests and benchmarks of the store and of the intake share: an engine whose batches a store shows, readers of that store, and
-//! clients of an intake beside a server that drains it. Nothing here ends a test: what doesn't fit is a `None` or a `false`.
+//! Helpers for tests and benchmarks of the store and of the intake. They are an engine whose batches a store shows,
+//! readers of that store, and clients of an intake beside a server that drains it.
+//!
+//! Nothing here ends a test: a call returns `None` or `false` if something doesn't fit.
+//!
+//! Floor: tests. Called by `store_tests` and `intake_bench`.
 #![tactic(auto)]
 
 pub mod clients;

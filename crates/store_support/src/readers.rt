@@ -3,7 +3,7 @@ ghost use Rattle.std.specs.Prelude.{◌≡◌};
 
 use kc_store::{Pass, Store, Writer};
 
-/// Reads levels, each from a point of the history that isn't before those read.
+/// Reads levels, each at a point of the history that isn't before the earlier ones.
 #[derive(Drop)]
 pub struct Reader<'a> {
     store: &'a Store,
@@ -12,7 +12,7 @@ pub struct Reader<'a> {
 }
 
 impl<'a> Reader<'a> {
-    /// A reader that has seen the whole history of the store's writer.
+    /// Makes a reader that has seen the whole history of the store's writer.
     pub fn new(store: &'a Store, writer: &mut Writer) -> Reader<'a>
         requires { writer.old.table ≡ store.now.table }
         ensures { writer.new ≡ writer.old }
@@ -23,7 +23,7 @@ impl<'a> Reader<'a> {
         }
     }
 
-    /// The level of v, or `None` if there is no such vertex.
+    /// Returns the level of v, or `None` if there is no such vertex.
     pub fn read(&mut self, v: u32) -> Option<u16> {
         if v < self.store.vertices() {
             Some(self.store.read(&mut self.pass, v))

@@ -37,7 +37,7 @@ impl<'a> Model for Trial<'a> {
     ghost invariant = { λ t. (t.writer.table ≡ t.store.now.table) × (t.engine.waits ≡ false) × (t.engine.halted ≡ false → IsAbreast t.writer.state t.engine.state) };
 }
 
-// Plans a cleaned batch, and shows the plan, of which the gate is told.
+// Plans a cleaned batch, and shows the plan, whose spots the gate gets.
 fn plan_and_show<R: Threads + Sync, G: Gate + Sync>(
     rt: &R,
     alloc: Global,
@@ -55,7 +55,7 @@ fn plan_and_show<R: Threads + Sync, G: Gate + Sync>(
     ensures shown { engine.new.waits ≡ false }
     ensures abreast { engine.new.halted ≡ false → IsAbreast writer.new.state engine.new.state }
 {
-    // Its contract says that the state is sound.
+    // Evidence for the check: the state is sound.
     let _graph = engine.graph();
     let plan = engine.plan(rt, alloc, &OpenGate::new(), cleaned)?;
     phases_continue();
@@ -64,8 +64,8 @@ fn plan_and_show<R: Threads + Sync, G: Gate + Sync>(
 }
 
 impl<'a> Trial<'a> {
-    /// An engine without edges, whose phases have up to `workers` workers, beside a store that was just opened for n vertices. `None` if
-    /// memory runs out.
+    /// Makes an engine without edges, whose phases have up to `workers` workers, beside a store that was just opened
+    /// for n vertices. Returns `None` if memory runs out.
     pub fn open(
         alloc: Global,
         n: u32,
@@ -93,8 +93,8 @@ impl<'a> Trial<'a> {
         })
     }
 
-    /// Plans a batch and shows the plan, of which the gate is told. `None` if a vertex isn't one of the graph, if there are too many
-    /// items or edges, or if memory runs out.
+    /// Plans a batch and shows the plan, whose spots the gate gets. Returns `None` if a vertex isn't one of the graph,
+    /// if there are too many items or edges, or if memory runs out.
     pub fn apply<R: Threads + Sync, G: Gate + Sync>(
         &mut self,
         rt: &R,
@@ -112,14 +112,14 @@ impl<'a> Trial<'a> {
         plan_and_show(rt, alloc, gate, engine, self.store, writer, &cleaned).ok()
     }
 
-    /// A reader that has seen all that was shown.
+    /// Returns a reader that has seen all that was shown.
     pub fn reader(&mut self) -> Reader<'a>
         ensures { self.new ≡ self.old }
     {
         Reader::new(self.store, &mut self.writer)
     }
 
-    /// The engine.
+    /// Returns the engine.
     pub fn engine(&self) -> &Engine {
         &self.engine
     }

@@ -29,7 +29,7 @@ impl Holding {
         }
     }
 
-    /// Says whether piece 1 started while piece 0 was held.
+    /// Returns whether piece 1 started while piece 0 was held.
     pub fn have_met(&self) -> bool {
         self.met.load(SeqCst)
     }
@@ -70,7 +70,7 @@ impl Greatest {
         }
     }
 
-    /// Gives the greatest index of a piece so far; 0 before the first.
+    /// Returns the greatest index of a piece so far; 0 before the first.
     pub fn index(&self) -> u64 {
         self.index.load(SeqCst)
     }

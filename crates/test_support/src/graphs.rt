@@ -10,8 +10,10 @@ use kc_graph::{Edge, Graph, Item, MAX_EDGES, MAX_VERTICES};
 use kc_levels::Levels;
 use std::alloc::Global;
 
-/// Gives the edges of the pairs. `None` unless the pairs ascend without repeats, and each has its lesser end first and
-/// both ends below n; also if they are over `MAX_EDGES`, or memory runs out.
+/// Returns the edges of the pairs. The pairs ascend without repeats, and each has its lesser end first and both ends
+/// below n.
+///
+/// Returns `None` if they don't, if they are over `MAX_EDGES`, or if memory runs out.
 pub fn edges_of(alloc: Global, n: u32, pairs: &[(u32, u32)]) -> Option<Vec<Edge>>
     ensures ascending { IfSome result (λ edges. EdgesFrom n 0 0 edges.items) }
     ensures few { IfSome result (λ edges. length edges.items ≤ MAX_EDGES) }
@@ -32,8 +34,10 @@ pub fn edges_of(alloc: Global, n: u32, pairs: &[(u32, u32)]) -> Option<Vec<Edge>
     Some(edges)
 }
 
-/// Makes the graph on n vertices with the edges of the pairs, in any order. `None` unless each pair stands once, with
-/// its lesser end first and both ends below n; also if n is 0, a number is over its limit, or memory runs out.
+/// Makes the graph on n vertices with the edges of the pairs, in any order. Each pair is there once, with its lesser
+/// end first and both ends below n.
+///
+/// Returns `None` if that isn't so, if n is 0, if a number is over its limit, or if memory runs out.
 pub fn graph_of(alloc: Global, n: u32, pairs: &[(u32, u32)]) -> Option<Graph>
     ensures { IfSome result (λ graph. graph.vertices ≡ n) }
 {
@@ -55,7 +59,7 @@ pub fn graph_of(alloc: Global, n: u32, pairs: &[(u32, u32)]) -> Option<Graph>
     Some(graph)
 }
 
-/// Makes the levels by vertex. `None` if they are more than `MAX_VERTICES`, or if memory runs out.
+/// Makes the levels by vertex. Returns `None` if they are more than `MAX_VERTICES`, or if memory runs out.
 pub fn levels_of(alloc: Global, items: &[u16]) -> Option<Levels>
     ensures { IfSome result (λ levels. length levels ≡ length items.now) }
 {
@@ -69,7 +73,7 @@ pub fn levels_of(alloc: Global, items: &[u16]) -> Option<Levels>
     Some(levels)
 }
 
-/// Says whether each of the edges is in the graph.
+/// Returns whether each of the edges is in the graph.
 pub fn are_present(graph: &Graph, edges: &[Edge]) -> bool
     ensures { OnTrue result (AllPresent graph.now edges.now) }
 {
@@ -81,7 +85,7 @@ pub fn are_present(graph: &Graph, edges: &[Edge]) -> bool
     true
 }
 
-/// Says whether each of the edges is between vertices of the graph, and not in it.
+/// Returns whether each of the edges is between vertices of the graph, and not in it.
 pub fn are_absent(graph: &Graph, edges: &[Edge]) -> bool
     ensures { OnTrue result (AllAbsent graph.now edges.now) }
 {
@@ -93,7 +97,7 @@ pub fn are_absent(graph: &Graph, edges: &[Edge]) -> bool
     true
 }
 
-/// Says whether the lists have one length, and no level of x is above that of y.
+/// Returns whether the lists have one length, and no level of x is above that of y.
 pub fn is_below(x: &Levels, y: &Levels) -> bool
     ensures { OnTrue result (IsBelow (length x.now) x.now y.now) }
 {
@@ -119,7 +123,7 @@ fn is_inside(n: u32, item: Item) -> bool
     }
 }
 
-/// Says whether all vertices of the items are below n.
+/// Returns whether all vertices of the items are below n.
 pub fn are_inside(n: u32, items: &[Item]) -> bool
     ensures { IsTrue result ↔ All (IsInside n) items.now }
 {

@@ -1,5 +1,8 @@
-//! What tests of several crates share: graphs from pairs, random numbers, gates, and sources and sinks that fail.
-//! Nothing here ends a test: what doesn't fit is a `None` or a `false`, which the test checks.
+//! Helpers for tests of several crates: graphs from pairs, random numbers and gates.
+//!
+//! Nothing here ends a test: a call returns `None` or `false` if something doesn't fit, and the test checks that.
+//!
+//! Floor: tests. Called by the crates of tests, and by `intake_bench`.
 #![tactic(auto)]
 
 pub mod gates;

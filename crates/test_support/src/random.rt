@@ -4,7 +4,7 @@ ghost use Rattle.std.specs.Prelude.{◌<◌};
 /// Draws numbers by a linear congruence.
 #[derive(Drop)]
 pub struct Random {
-    // What the next number is made of.
+    // The state from which the next number is made.
     state: u64,
 }
 
@@ -14,7 +14,7 @@ impl Random {
         Random { state: seed }
     }
 
-    /// Gives the next number, below the bound.
+    /// Returns the next number, below the bound.
     pub fn below(&mut self, bound: u32) -> u32
         requires { 0 < bound }
         ensures { result < bound }

@@ -14,11 +14,16 @@ use std::sync::ledger::{Blank, Ledger};
 use std::thread::Threads;
 use test_support::graphs::is_below;
 
-// Changes to the graph on 5 vertices without edges, all on level 0: + puts an edge in, - takes it out, ^ lifts a
-// vertex to a level, r lifts it by one level, v lowers it to a level. After the changes: the levels; for each vertex,
-// how many of its neighbours are on its level or above, and how many on the level below or above; and the desired
-// levels. The top level is 6. A vertex stays on a level from 1 to 6 if it has a neighbour on the level below or
-// above.
+// Changes to the graph on 5 vertices without edges, all on level 0, and what holds after them.
+//
+// - The changes: + adds an edge, - removes it, ^ lifts a vertex to a level, r lifts it by one level, v lowers it to a
+//   level.
+// - The levels after the changes.
+// - For each vertex, how many of its neighbours are on its level or above.
+// - For each vertex, how many are on the level below or above.
+// - The desired levels.
+//
+// The top level is 6. A vertex stays on a level from 1 to 6 if it has a neighbour on the level below or above.
 const CHANGES: &[(&[(char, u32, u32)], [u16; 5], [u32; 5], [u32; 5], [u16; 5])] = &[
     (&[], [0; 5], [0; 5], [0; 5], [0; 5]),
     // One edge, of which one end has risen; then without the edge.
@@ -124,7 +129,8 @@ fn apply<L: Ledger>(
     }
 }
 
-// Whether the counts and the desired level of a vertex are these, counted anew too, and whatever level is guessed.
+// Returns whether the counts and the desired level of a vertex are these, also by a fresh count, and for any guess of
+// the level.
 fn is_counted(adj: &LevelAdj, th: &Thresholds, v: u32, own: u32, below: u32, desired: u16) -> bool
     requires scale { th.now.vertices ≡ adj.now.graph.vertices }
     requires vertex { v < adj.now.graph.vertices }
@@ -174,7 +180,7 @@ fn counts_and_desired_levels(rt: HostRuntime) {
     check_changes::<Brand>(&rt, rt.alloc(), Blank::new(1));
 }
 
-// A graph on n vertices with up to six neighbours for each, on the levels 0 to 4.
+// Returns a graph on n vertices with up to six neighbours for each, on the levels 0 to 4.
 fn woven<L: Ledger>(rt: &impl Abort, alloc: Global, n: u32, steps: &mut Steps<L>) -> LevelAdj {
     let mut pairs = Vec::new(alloc);
     let mut items = Vec::new(alloc);
@@ -189,7 +195,7 @@ fn woven<L: Ledger>(rt: &impl Abort, alloc: Global, n: u32, steps: &mut Steps<L>
     levelled(rt, alloc, &pairs, &items, steps)
 }
 
-// Other levels, none of which is lower.
+// Returns other levels, none of which is lower.
 fn raised(rt: &impl Abort, alloc: Global, adj: &LevelAdj) -> Levels {
     let mut items = Vec::new(alloc);
     for v in 0..adj.graph().vertices() {
@@ -200,7 +206,7 @@ fn raised(rt: &impl Abort, alloc: Global, adj: &LevelAdj) -> Levels {
     levels(rt, alloc, &items)
 }
 
-// All vertices of the levels, if there is memory.
+// Returns all vertices of the levels, if there is memory.
 fn try_vertices(alloc: Global, levels: &Levels) -> Result<Vec<u32>, AllocError>
     requires { length levels.now < 2 ^ 32 }
     ensures inside { IfOk result (λ vs. (v : ℕ) → has_number v vs.items ≡ true → v < length levels.now) }
@@ -215,7 +221,7 @@ fn try_vertices(alloc: Global, levels: &Levels) -> Result<Vec<u32>, AllocError>
     Ok(vertices)
 }
 
-// All vertices of the levels.
+// Returns all vertices of the levels.
 fn vertices_of(rt: &impl Abort, alloc: Global, levels: &Levels) -> Vec<u32>
     requires { length levels.now < 2 ^ 32 }
     ensures inside { (v : ℕ) → has_number v result.items ≡ true → v < length levels.now }
@@ -237,7 +243,7 @@ fn have_same_counts(a: &LevelAdj, b: &LevelAdj) -> bool {
     true
 }
 
-// Vertices that are lifted together, alone or by threads, come out as those that are lifted one by one.
+// Checks that vertices that are lifted together, alone or by threads, end as those that are lifted one by one.
 fn check_lifted<R: Abort + Threads + Sync, L: Ledger>(rt: &R, alloc: Global, n: u32, blank: Blank)
     requires name { blank.name ≡ L.name }
     requires parts { blank.parts ≡ L.parts }
@@ -279,7 +285,7 @@ fn lifted_together_as_one_by_one(rt: HostRuntime) {
     }
 }
 
-// The graph is as before where memory for an edge is refused, which a run with few allocations shows.
+// Checks that the graph is as before if memory for an edge is refused, which a run with few allocations shows.
 fn check_link<L: Ledger>(rt: &impl Abort, alloc: Global, blank: Blank)
     requires name { blank.name ≡ L.name }
     requires parts { blank.parts ≡ L.parts }

@@ -11,9 +11,11 @@ use std::process::Abort;
 use test_support::graphs::are_inside;
 use test_support::random::Random;
 
-// The edges of a graph on five vertices; the items of a batch, each an insertion +, a deletion - or an isolation x of
-// its first vertex; the edges that the batch removes, and those that it adds; the numbers of loops, repeats and idle
-// items.
+// A batch on the edges of a graph on five vertices:
+//
+// - the items of the batch, each an insertion +, a deletion - or an isolation x of its first vertex;
+// - the edges that the batch removes, and those that it adds;
+// - the numbers of loops, repeats and idle items.
 const BATCHES: &[(Pairs, &[(char, u32, u32)], Pairs, Pairs, (u32, u32, u32))] = &[
     // No items.
     (&[(0, 1)], &[], &[], &[], (0, 0, 0)),
@@ -58,7 +60,7 @@ const BATCHES: &[(Pairs, &[(char, u32, u32)], Pairs, Pairs, (u32, u32, u32))] = 
         &[(0, 3), (2, 4)],
         (0, 2, 2),
     ),
-    // An isolation takes out all edges at its vertex.
+    // An isolation removes all edges at its vertex.
     (
         &[(0, 1), (0, 2), (1, 2), (1, 4)],
         &[('x', 1, 1)],
@@ -74,8 +76,8 @@ const BATCHES: &[(Pairs, &[(char, u32, u32)], Pairs, Pairs, (u32, u32, u32))] = 
         &[(0, 2)],
         (0, 1, 1),
     ),
-    // Items before an isolation are repeats, those after it decide on their pairs: the one keeps its edge, the other
-    // takes it out in place of the isolation.
+    // Items before an isolation are repeats, and items after it decide on their pairs. One of these keeps its edge, and
+    // the other removes it in place of the isolation.
     (
         &[(0, 1), (0, 2), (0, 3)],
         &[
@@ -123,7 +125,7 @@ const BATCHES: &[(Pairs, &[(char, u32, u32)], Pairs, Pairs, (u32, u32, u32))] = 
     ),
 ];
 
-// The items of a row.
+// Returns the items of a row.
 fn items_of(rt: &impl Abort, alloc: Global, row: &[(char, u32, u32)]) -> Vec<Item> {
     let mut items = Vec::new(alloc);
     for &(kind, u, v) in row {
@@ -145,7 +147,7 @@ fn check_items(rt: &impl Abort, n: u32, items: &[Item])
     assert!(rt; are_inside(n, items) && items.len() <= MAX_ITEMS as usize);
 }
 
-// Whether cleaning gave these edges and counts.
+// Returns whether cleaning gave these edges and counts.
 fn has_given(cleaned: &Cleaned, removed: &[Edge], added: &[Edge], counts: (u32, u32, u32)) -> bool {
     cleaned.removed.as_slice() == removed
         && cleaned.added.as_slice() == added
@@ -172,7 +174,7 @@ fn touches(item: Item, a: u32, b: u32) -> bool {
     }
 }
 
-// The place of the last item that touches the pair.
+// Returns the place of the last item that touches the pair.
 fn deciding_place(items: &[Item], a: u32, b: u32) -> Option<usize>
     ensures { IfSome result (λ place. place < length items.now) }
 {
@@ -193,7 +195,7 @@ enum Part {
     Changes,
 }
 
-// The numbers of loops, of repeats and of idle items.
+// Returns the numbers of loops, of repeats and of idle items.
 fn counts_of(items: &[Item], parts: &[Part]) -> (u32, u32, u32) {
     let mut counts = (0u32, 0u32, 0u32);
     for (item, part) in items.iter().zip(parts) {
@@ -213,7 +215,7 @@ fn counts_of(items: &[Item], parts: &[Part]) -> (u32, u32, u32) {
     counts
 }
 
-// Whether cleaning gave what the definition says: the last item that touches a pair decides on it.
+// Returns whether cleaning gave what the definition says: the last item that touches a pair decides on it.
 fn is_as_defined(
     rt: &impl Abort,
     alloc: Global,
@@ -242,7 +244,7 @@ fn is_as_defined(
     has_given(cleaned, &removed, &added, counts_of(items, &parts))
 }
 
-// About half of the pairs of five vertices.
+// Returns about half of the pairs of five vertices.
 fn random_graph(rt: &impl Abort, alloc: Global, random: &mut Random) -> Graph
     ensures { result.vertices ≡ 5 }
 {
@@ -257,7 +259,7 @@ fn random_graph(rt: &impl Abort, alloc: Global, random: &mut Random) -> Graph
     graph(rt, alloc, 5, &pairs)
 }
 
-// Items on five vertices: half insert, and where they may, an eighth isolate.
+// Returns items on five vertices. Half of them insert, and an eighth isolate if they may.
 fn random_items(
     rt: &impl Abort,
     alloc: Global,
@@ -305,7 +307,7 @@ fn one_worker_and_many_come_to_the_same(rt: HostRuntime) {
     }
 }
 
-// An isolation of the centre of a star takes out all of its edges, which are so many that threads share their sort.
+// An isolation of the centre of a star removes all of its edges, enough for threads to share their sort.
 #[test]
 fn large_star_is_isolated(rt: HostRuntime) {
     let mut pairs = Vec::new(rt.alloc());

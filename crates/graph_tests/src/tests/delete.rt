@@ -25,7 +25,7 @@ use test_support::gates::Holding;
 use test_support::graphs::are_present;
 use test_support::random::Random;
 
-// Whether no vertex is above the top, and each meets the lower invariant.
+// Returns whether no vertex is above the top, and each vertex meets the lower invariant.
 fn can_fall(adj: &LevelAdj, th: &Thresholds) -> bool
     requires scale { th.now.vertices ≡ adj.now.graph.vertices }
     ensures capped { OnTrue result (IsCapped th.now.profile adj.now.graph.vertices adj.now.levels) }
@@ -39,7 +39,7 @@ fn can_fall(adj: &LevelAdj, th: &Thresholds) -> bool
     true
 }
 
-// One phase, with a workspace that is kept.
+// Runs one phase, with a workspace that is kept.
 fn leave_once<R: Threads + Sync + Abort, G: Gate + Sync, L: Ledger>(
     rounds: &Rounds<R, G>,
     alloc: Global,
@@ -63,7 +63,7 @@ fn leave_once<R: Threads + Sync + Abort, G: Gate + Sync, L: Ledger>(
     moves
 }
 
-// What `leave` says, with a counter of its own.
+// Does what `leave` does, with a counter of its own.
 fn leave_counted<R: Threads + Sync + Abort, G: Gate + Sync, L: Ledger>(
     rt: &R,
     alloc: Global,
@@ -93,7 +93,7 @@ fn leave_counted<R: Threads + Sync + Abort, G: Gate + Sync, L: Ledger>(
     }
 }
 
-// Batches leave one after another, by 1 to 64 workers with one workspace. Each gives what the plain body gives.
+// Lets batches leave one after another, by 1 to 64 workers with one workspace. Each gives the levels of the plain body.
 fn leave<R: Threads + Sync + Abort, G: Gate + Sync>(
     rt: &R,
     alloc: Global,
@@ -105,7 +105,7 @@ fn leave<R: Threads + Sync + Abort, G: Gate + Sync>(
     leave_counted::<R, G, Brand>(rt, alloc, Blank::new(1), gate, workers, adj, batches);
 }
 
-// A phase with a workspace of its own, and the number of vertices that it moves.
+// Runs a phase with a workspace of its own. Returns the number of vertices that it moves.
 fn leave_alone<R: Threads + Sync + Abort, G: Gate + Sync, L: Ledger>(
     rt: &R,
     alloc: Global,
@@ -129,7 +129,7 @@ fn leave_alone<R: Threads + Sync + Abort, G: Gate + Sync, L: Ledger>(
     tally.moves
 }
 
-// The graph with the edges of the pairs, and vertices on the greatest levels that meet the lower invariant.
+// Returns the graph with the edges of the pairs, and vertices on the greatest levels that meet the lower invariant.
 fn highest<R: Abort, L: Ledger>(
     rt: &R,
     alloc: Global,
@@ -176,7 +176,7 @@ const CASES: &[(&[(u32, u32)], &[u16], &[(u32, u32)], &[u16], u32)] = &[
     ),
 ];
 
-// Edges leave in a phase with a workspace of its own. The graph is on the levels of an insertion phase.
+// Lets edges leave in a phase with a workspace of its own. The graph is on the levels of an insertion phase.
 fn check<R: Threads + Sync + Abort>(
     rt: &R,
     alloc: Global,

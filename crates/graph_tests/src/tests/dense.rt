@@ -10,7 +10,7 @@ use std::alloc::Global;
 use std::process::Abort;
 use test_support::random::Random;
 
-// How many vertices a graph has, its edges, the members of its dense part, and how many edges are between them.
+// The number of vertices of a graph, its edges, the members of its dense part, and the number of edges between them.
 const GRAPHS: &[(u32, &[(u32, u32)], &[u32], u32)] = &[
     // Four vertices joined each with each, and one alone.
     (
@@ -21,7 +21,7 @@ const GRAPHS: &[(u32, &[(u32, u32)], &[u32], u32)] = &[
     ),
     // Vertex 0 joined with four others.
     (5, &[(0, 1), (0, 2), (0, 3), (0, 4)], &[0, 1, 2, 3, 4], 4),
-    // If no part has an edge all are equally dense, and the longest is the whole.
+    // If no part has an edge, all are equally dense, and the longest is the whole.
     (2, &[], &[0, 1], 0),
     // The vertices 0 to 2 and 3 to 6 joined each with each, with the edge 2 - 3 between the two.
     (
@@ -63,7 +63,7 @@ fn has(set: u32, v: u32) -> bool {
     set.wrapping_shr(v) % 2 == 1
 }
 
-// The set of the neighbours of each vertex.
+// Returns the set of the neighbours of each vertex.
 fn rows<R: Abort>(rt: &R, alloc: Global, graph: &Graph) -> Vec<u32> {
     let mut rows = Vec::new(alloc);
     for v in 0..graph.vertices() {
@@ -90,14 +90,14 @@ fn edges_in(rows: &[u32], set: u32) -> u32 {
     ends / 2
 }
 
-// Whether one set has more edges for each of its vertices than `times` as many as another.
+// Returns whether one set has more edges for each of its vertices than `times` as many as another.
 fn is_denser(rows: &[u32], one: u32, other: u32, times: u64) -> bool {
     let one_over = u64::from(edges_in(rows, one)).wrapping_mul(u64::from(other.count_ones()));
     let other_over = u64::from(edges_in(rows, other)).wrapping_mul(u64::from(one.count_ones()));
     one_over > other_over.wrapping_mul(times)
 }
 
-// The vertex of a set with the fewest neighbours in it, the least of several.
+// Returns the vertex of a set with the fewest neighbours in it, the least of several.
 fn next_of(rows: &[u32], set: u32) -> u32 {
     let mut next = 0;
     let mut fewest = u32::MAX;
@@ -111,7 +111,7 @@ fn next_of(rows: &[u32], set: u32) -> u32 {
     next
 }
 
-// The densest of the sets that are left while a graph is peeled, the first of several.
+// Returns the densest of the sets that are left while a graph is peeled, the first of several.
 fn plainly(rows: &[u32], n: u32) -> u32 {
     let mut left = 1u32.wrapping_shl(n).wrapping_sub(1);
     let mut best = left;

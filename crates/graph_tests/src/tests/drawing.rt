@@ -6,8 +6,8 @@ use std::alloc::Global;
 use std::process::Abort;
 use test_support::random::Random;
 
-// Ascending pairs of n vertices, the lesser first. A lesser end has at most `most` of them, each up to `gap` numbers
-// after the one before.
+// Returns ascending pairs of n vertices, the lesser first. A lesser end has at most `most` of them, each up to `gap`
+// numbers after the one before.
 pub fn drawn_pairs<R: Abort>(
     rt: &R,
     alloc: Global,
@@ -31,7 +31,7 @@ pub fn drawn_pairs<R: Abort>(
     pairs
 }
 
-// All pairs of n vertices.
+// Returns all pairs of n vertices.
 pub fn all_pairs<R: Abort>(rt: &R, alloc: Global, n: u32) -> Vec<(u32, u32)> {
     drawn_pairs(rt, alloc, &mut Random::new(0), n, 1, n)
 }
@@ -44,7 +44,8 @@ pub struct Batches {
     pub third: Vec<(u32, u32)>,
 }
 
-// A pair comes into the first batch once in `parts` times, into the second as often, and else into the third.
+// Deals pairs to batches. A pair goes to the first batch once in `parts` times, to the second as often, and else to the
+// third.
 pub fn dealt<R: Abort>(
     rt: &R,
     alloc: Global,

@@ -24,8 +24,13 @@ fn edges_are_kept_in_order(rt: HostRuntime) {
     );
 }
 
-// The number of vertices and the edges of a graph, a further edge, a vertex, and its neighbours without and with that
-// edge: the complete graph on 0 to 3 in ascending and in descending order, a path, and a star.
+// Graphs, each with a further edge and a vertex:
+//
+// - the number of vertices and the edges of the graph;
+// - the edge and the vertex;
+// - the neighbours of the vertex without and with that edge.
+//
+// They are the complete graph on 0 to 3 in ascending and in descending order, a path, and a star.
 const GRAPHS: &[(u32, Pairs, (u32, u32), u32, &[u32], &[u32])] = &[
     (
         5,
@@ -82,7 +87,7 @@ fn edges_in_and_out(rt: HostRuntime) {
     }
 }
 
-// Whether the graph is on five vertices with these neighbours.
+// Returns whether the graph has five vertices with these neighbours.
 fn has_rows(graph: &Graph, rows: &[&[u32]; 5]) -> bool {
     if graph.vertices() != 5 {
         return false;
@@ -99,7 +104,7 @@ const BEFORE: [&[u32]; 5] = [&[2], &[3], &[0], &[1], &[]];
 
 const AFTER: [&[u32]; 5] = [&[1, 2, 3, 4], &[0, 2, 3], &[0, 1, 3], &[0, 1, 2], &[0]];
 
-// Puts edges into the graph that aren't there, by this number of workers; by the call that has none for 0.
+// Adds edges to the graph that aren't there, by this number of workers; for 0 by the call without workers.
 fn put_in<R: Threads + Sync + Abort>(
     rt: &R,
     alloc: Global,
@@ -121,7 +126,7 @@ fn put_in<R: Threads + Sync + Abort>(
     }
 }
 
-// Takes edges out of the graph that are there.
+// Removes edges from the graph that are there.
 fn take_out<R: Threads + Sync + Abort>(
     rt: &R,
     alloc: Global,
@@ -148,7 +153,7 @@ fn edges_come_and_leave_together(rt: HostRuntime) {
     }
 }
 
-// Each pair of vertices below n that are at most 40 apart.
+// Returns all pairs of vertices below n that are at most 40 apart.
 fn near_pairs(rt: &impl Abort, alloc: Global, n: u32) -> Vec<(u32, u32)> {
     let mut pairs = Vec::new(alloc);
     for a in 0..n {
@@ -171,7 +176,7 @@ fn have_same_rows(g: &Graph, h: &Graph) -> bool {
     true
 }
 
-// Nearly 40,000 edges, which several threads put in and take out: the graph is the one into which they come one by one.
+// Nearly 40,000 edges, which several threads add and remove. The graph is that of edges which come in one by one.
 #[test]
 fn any_number_of_threads(rt: HostRuntime) {
     let far: Pairs = &[(0, 50), (3, 999), (500, 600)];

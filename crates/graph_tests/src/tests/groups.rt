@@ -21,8 +21,8 @@ use test_support::random::Random;
 // The label of a vertex that doesn't move.
 const NONE: u32 = u32::MAX;
 
-// A phase: whether its edges come in (`add`) or leave, its edges, the other edges of its graph, the levels before and
-// after it, and the label of each vertex.
+// A phase: whether its edges come in (`add`) or leave, its edges, and the other edges of its graph. Then the levels
+// before and after it, and the label of each vertex.
 #[derive(Clone, Copy)]
 struct Case<'a> {
     add: bool,
@@ -33,7 +33,7 @@ struct Case<'a> {
     labels: &'a [u32],
 }
 
-// The moves from levels to others.
+// Returns the moves from levels to others.
 fn moves_from<R: Abort>(rt: &R, alloc: Global, before: &[u16], after: &[u16]) -> Moves
     requires small { length before.now ≤ MAX_VERTICES }
     requires same { length after.now ≡ length before.now }
@@ -55,7 +55,7 @@ fn moves_from<R: Abort>(rt: &R, alloc: Global, before: &[u16], after: &[u16]) ->
     moves
 }
 
-// The plan of a phase whose edges the graph lacks, by a workspace that other phases use too.
+// Returns the plan of a phase whose edges the graph lacks, by a workspace that other phases use too.
 fn plan_lacking<R: Threads + Sync + Abort>(
     planners: &Planners<'_, R>,
     case: &Case<'_>,
@@ -81,7 +81,7 @@ fn plan_lacking<R: Threads + Sync + Abort>(
     plan_moves(planners, &phase, graph, edges, work).expect(rt, "memory")
 }
 
-// Lets the lesser label of each pair go to both ends, if both move. Whether a label changed.
+// Spreads the lesser label of each pair to both ends, if both move. Returns whether a label changed.
 fn spread(pairs: &[(u32, u32)], labels: &mut Vec<u32>) -> bool {
     let mut has_changed = false;
     for pair in pairs {
@@ -102,7 +102,7 @@ fn label_of(labels: &[u32], v: u32) -> u32 {
     labels.get(v as usize).copied().unwrap_or(NONE)
 }
 
-// The label of each vertex, from pair to pair until none changes.
+// Returns the label of each vertex, spread from pair to pair until none changes.
 fn labels_plainly<R: Abort>(
     rt: &R,
     alloc: Global,
@@ -129,7 +129,7 @@ fn labels_plainly<R: Abort>(
     labels
 }
 
-// The plan by the labels: vertices and edges are dealt to the entries one after another.
+// Returns the plan by the labels: vertices and edges are dealt to the entries one after another.
 fn plan_plainly<R: Abort>(rt: &R, alloc: Global, case: &Case<'_>) -> PhasePlan {
     let mut quiet = Entry::new(alloc, 7, None, case.add);
     let mut groups: Vec<Entry> = Vec::new(alloc);
@@ -170,7 +170,7 @@ fn plan_plainly<R: Abort>(rt: &R, alloc: Global, case: &Case<'_>) -> PhasePlan {
     }
 }
 
-// The entry of a label: the last one when the vertex of that number was dealt.
+// Returns the entry of a label: the last one when the vertex of that number was dealt.
 fn entry_of<'a>(groups: &'a mut Vec<Entry>, places: &[usize], label: u32) -> Option<&'a mut Entry> {
     let place = *places.get(label as usize)?;
     groups.get_mut(place)
@@ -191,7 +191,7 @@ fn is_same_plan(x: &PhasePlan, y: &PhasePlan) -> bool {
         && xs.iter().zip(ys.iter()).all(|(a, b)| is_same_entry(a, b))
 }
 
-// The plan of a phase from the levels, whose edges the graph has.
+// Returns the plan of a phase from the levels, whose edges the graph has.
 fn plan_having<R: Abort>(
     rt: &R,
     alloc: Global,
@@ -214,7 +214,7 @@ fn plan_having<R: Abort>(
     plan_phase(alloc, 7, case.add, edges, &before, &after, &graph).expect(rt, "memory")
 }
 
-// The plans of a phase are the plain one.
+// Checks that the plans of a phase are the plain one.
 fn check<R: Threads + Sync + Abort>(
     planners: &Planners<'_, R>,
     n: u32,
@@ -238,7 +238,7 @@ fn check<R: Threads + Sync + Abort>(
     }
 }
 
-// Phases of n vertices one after another, with one workspace.
+// Checks phases of n vertices, one after another, with one workspace.
 fn check_all<R: Threads + Sync + Abort>(
     rt: &R,
     alloc: Global,
@@ -274,7 +274,7 @@ const CASES: &[Case] = &[
         after: &[1, 1, 1, 0, 0, 0],
         labels: &[0, 0, 0, NONE, NONE, NONE],
     },
-    // Four vertices joined each with each stay, and the one that comes to them rises by itself.
+    // Four vertices joined each with each stay, and the one that gets an edge to them rises by itself.
     Case {
         add: true,
         edges: &[(3, 4)],
@@ -393,7 +393,7 @@ fn groups_are_the_same_in_any_number_of_pieces(rt: HostRuntime) {
     }
 }
 
-// A random phase of n vertices, most of which move.
+// Checks a random phase of n vertices, most of which move.
 fn check_drawn<R: Threads + Sync + Abort>(
     rt: &R,
     alloc: Global,

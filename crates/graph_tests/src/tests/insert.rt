@@ -22,7 +22,7 @@ use test_support::gates::Holding;
 use test_support::graphs::are_absent;
 use test_support::random::Random;
 
-// Whether no vertex is above the top, and each meets the upper invariant.
+// Returns whether no vertex is above the top, and each vertex meets the upper invariant.
 fn can_rise(adj: &LevelAdj, th: &Thresholds) -> bool
     requires scale { th.now.vertices ≡ adj.now.graph.vertices }
     ensures capped { OnTrue result (IsCapped th.now.profile adj.now.graph.vertices adj.now.levels) }
@@ -36,13 +36,13 @@ fn can_rise(adj: &LevelAdj, th: &Thresholds) -> bool
     true
 }
 
-// A graph without edges.
+// Returns a graph without edges.
 pub fn empty<R: Abort>(rt: &R, alloc: Global, n: u32) -> LevelAdj {
     assert!(rt; n >= 1 && n <= MAX_VERTICES);
     LevelAdj::new(alloc, n).expect(rt, "memory")
 }
 
-// One phase, with a workspace that is kept.
+// Runs one phase, with a workspace that is kept.
 fn come_in_once<R: Threads + Sync + Abort, G: Gate + Sync, L: Ledger>(
     rounds: &Rounds<R, G>,
     alloc: Global,
@@ -67,7 +67,7 @@ fn come_in_once<R: Threads + Sync + Abort, G: Gate + Sync, L: Ledger>(
     moves
 }
 
-// What `come_in` says, with a counter of its own.
+// Does what `come_in` does, with a counter of its own.
 fn come_in_counted<R: Threads + Sync + Abort, G: Gate + Sync, L: Ledger>(
     rt: &R,
     alloc: Global,
@@ -98,7 +98,8 @@ fn come_in_counted<R: Threads + Sync + Abort, G: Gate + Sync, L: Ledger>(
     }
 }
 
-// Batches come in one after another, by 1 to 64 workers with one workspace. Each gives what the plain body gives.
+// Lets batches come in one after another, by 1 to 64 workers with one workspace. Each gives the levels of the plain
+// body.
 pub fn come_in<R: Threads + Sync + Abort, G: Gate + Sync>(
     rt: &R,
     alloc: Global,
@@ -112,7 +113,7 @@ pub fn come_in<R: Threads + Sync + Abort, G: Gate + Sync>(
     come_in_counted::<R, G, Brand>(rt, alloc, blank, gate, workers, &th, adj, batches);
 }
 
-// A phase with a workspace of its own. It begins with the graph without edges, on as many vertices as `want` has
+// Checks a phase with a workspace of its own. It begins with the graph without edges, on as many vertices as `want` has
 // levels.
 fn check_counted<R: Threads + Sync + Abort, G: Gate + Sync, L: Ledger>(
     rt: &R,

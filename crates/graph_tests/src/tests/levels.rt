@@ -1,4 +1,4 @@
-// Thresholds of groups, and a star that meets and breaks the invariants, all worked out by hand.
+// Thresholds of bands, and a star that meets and breaks the invariants, all worked out by hand.
 ghost use Rattle.std.specs.Prelude.{◌≡◌};
 
 use super::support::{check_row, graph, levels};
@@ -43,7 +43,7 @@ fn tops(rt: HostRuntime) {
     }
 }
 
-// A level of 8 vertices, its group, and the low, the high, the est and the lo of the group. The top is 19.
+// A level of 8 vertices, its band, and the low, the high, the est and the lo of the band. The top is 19.
 const EIGHT: &[(u16, u16, u32, u32, u32, u32)] = &[
     (0, 0, 1, 0, 0, 0),
     (1, 1, 1, 2, 2, 1),
@@ -70,8 +70,8 @@ fn groups_of_eight(rt: HostRuntime) {
     }
 }
 
-// The levels of a star with three leaves and of a vertex alone; a vertex, how many of its neighbours stand on its
-// level or above, and whether it meets the upper and the lower invariant. Group 1 allows two neighbours.
+// A star with three leaves and a vertex alone: their levels, a vertex, and how many of its neighbours are on its level
+// or above. Then whether the vertex meets the upper and the lower invariant. Band 1 allows two neighbours.
 const STAR: &[([u16; 5], u32, u32, bool, bool)] = &[
     ([1, 1, 2, 5, 0], 0, 3, false, true),
     ([2, 1, 2, 5, 0], 0, 2, true, true),

@@ -50,12 +50,12 @@ fn small_graphs(rt: HostRuntime) {
     }
 }
 
-// Whether w has this colour.
+// Returns whether w has this colour.
 fn has_colour(colours: &[u32], w: u32, colour: u32) -> bool {
     colours.get(w as usize) == Some(&colour)
 }
 
-// Whether the out-neighbours of v are its neighbours that are above it, ascending.
+// Returns whether the out-neighbours of v are its neighbours that are above it, ascending.
 fn is_oriented(graph: &Graph, levels: &Levels, orientation: &Orientation, v: u32) -> bool
     requires vertex { v < graph.now.vertices }
     requires sized { length levels.now ≡ graph.now.vertices }
@@ -75,13 +75,13 @@ fn is_oriented(graph: &Graph, levels: &Levels, orientation: &Orientation, v: u32
     rest.next().is_none()
 }
 
-// Whether each lesser colour is that of an out-neighbour, and the own one isn't.
+// Returns whether each lesser colour is that of an out-neighbour, and the own one isn't.
 fn is_least_free(out: &[u32], colours: &[u32], own: u32) -> bool {
     (0..own).all(|k| out.iter().any(|w| has_colour(colours, *w, k)))
         && !out.iter().any(|w| has_colour(colours, *w, own))
 }
 
-// Many small graphs with any levels. Out-neighbours are told from the pairs that are edges, and colours by their
+// Many small graphs with any levels. Out-neighbours are found from the pairs that are edges, and colours by their
 // definition.
 #[test]
 fn small_graphs_by_the_definition(rt: HostRuntime) {

@@ -1,4 +1,4 @@
-//! Plain bodies of phases. Vertex after vertex goes to the level that its neighbours ask for, by counting them anew,
+//! Plain bodies of phases. One vertex after another goes to the level that its neighbours require, by a fresh count,
 //! until none moves.
 
 ghost use Rattle.std.specs.Prelude.{◌≡◌, ◌<◌, ◌≤◌};
@@ -8,10 +8,10 @@ use kc_levels::{Move, Thresholds};
 use std::alloc::Global;
 use std::process::Abort;
 
-// The most looks at a vertex until levels have to be settled.
+// The most tests of a vertex until levels have to be settled.
 const LOOKS: u32 = 100_000_000;
 
-// The length of a list that has an item for each vertex.
+// Returns the length of a list that has an item for each vertex.
 pub fn count_of<R: Abort>(rt: &R, len: usize) -> u32
     ensures same { result ≡ len }
     ensures few { result ≤ MAX_VERTICES }
@@ -20,12 +20,12 @@ pub fn count_of<R: Abort>(rt: &R, len: usize) -> u32
     len as u32
 }
 
-// The level of v.
+// Returns the level of v.
 pub fn level_of(levels: &[u16], v: u32) -> u16 {
     levels.get(v as usize).copied().unwrap_or(0)
 }
 
-// How many of the vertices are on this level or above.
+// Returns how many of the vertices are on this level or above.
 fn count_from(vertices: &[u32], levels: &[u16], least: u16) -> u32 {
     let mut count = 0u32;
     for w in vertices {
@@ -36,7 +36,7 @@ fn count_from(vertices: &[u32], levels: &[u16], least: u16) -> u32 {
     count
 }
 
-// The level to which a vertex has to rise from its own, as its neighbours are now.
+// Returns the level to which a vertex has to rise from its own, as its neighbours are now.
 fn risen(neighbours: &[u32], th: &Thresholds, levels: &[u16], own: u16) -> u16 {
     for level in own..th.top() {
         if count_from(neighbours, levels, level) <= th.high(th.group(level)) {
@@ -46,7 +46,7 @@ fn risen(neighbours: &[u32], th: &Thresholds, levels: &[u16], own: u16) -> u16 {
     own.max(th.top())
 }
 
-// The level to which a vertex has to fall from its own, as its neighbours are now.
+// Returns the level to which a vertex has to fall from its own, as its neighbours are now.
 fn fallen(neighbours: &[u32], th: &Thresholds, levels: &[u16], own: u16) -> u16 {
     for down in 0..own {
         let below = own - 1 - down;
@@ -57,7 +57,7 @@ fn fallen(neighbours: &[u32], th: &Thresholds, levels: &[u16], own: u16) -> u16 
     0
 }
 
-// Lets v go to the level that its neighbours ask for. Whether it moved.
+// Lets v go to the level that its neighbours require. Returns whether it moved.
 fn moves(graph: &Graph, th: &Thresholds, rise: bool, levels: &mut Vec<u16>, v: u32) -> bool
     requires { v < graph.now.vertices }
 {
@@ -103,7 +103,7 @@ pub fn settle_plainly<R: Abort>(
     assert!(rt; false, "levels don't settle");
 }
 
-// Whether these are the moves of n vertices from levels to others, ascending.
+// Returns whether these are the moves of n vertices from levels to others, ascending.
 pub fn are_moves(moves: &[Move], n: u32, before: &[u16], after: &[u16]) -> bool {
     let mut rest = moves.iter();
     for v in 0..n {

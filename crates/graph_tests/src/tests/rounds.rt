@@ -16,7 +16,7 @@ use test_support::gates::Holding;
 // The gate and the test of small numbers. Odd ones are kept. Counts are in eight bits for each piece and each number.
 #[derive(Drop)]
 struct Watch {
-    // How many numbers a piece has, where they are those from 0 on.
+    // The number of numbers in a piece of those from 0 on.
     size: u32,
     // How often each piece started; any other spot counts as piece 7.
     pieces: AtomicU64,
@@ -77,7 +77,7 @@ const ROUNDS: &[(u32, u32, u64)] = &[
     (64, 1, 0x01_0101_0101),
 ];
 
-// A round of the numbers below five, of which two are kept.
+// Runs a round of the numbers below five, of which two are kept.
 fn watched<R: Threads + Sync + Abort>(rt: &R, alloc: Global, workers: u32, size: u32) -> Watch {
     assert!(rt; 1 <= workers && workers <= 64 && 1 <= size);
     let watch = Watch::new(size);
@@ -169,9 +169,9 @@ fn later_short_rounds_have_one_piece(rt: HostRuntime) {
 struct Finds {
     // Sees a piece 0 start at the number 0, and a piece 1 at 2,048.
     gate: Option<Holding>,
-    // How many numbers were gathered at.
+    // The number of gathered numbers.
     calls: AtomicU64,
-    // How many of these were the first of a piece.
+    // The number of these that were the first of a piece.
     pieces: AtomicU64,
 }
 
@@ -214,7 +214,7 @@ impl RoundGather for Finds {
     }
 }
 
-// The numbers from 0 on.
+// Returns the numbers from 0 on.
 fn numbers(rt: &impl Abort, alloc: Global, count: u32) -> Vec<u32> {
     let mut numbers = Vec::new(alloc);
     for v in 0..count {
@@ -249,7 +249,7 @@ fn gathered_in_order_by_any_workers(rt: HostRuntime) {
     }
 }
 
-// Workers, a number of vertices, and how many pieces these make.
+// Workers, a number of vertices, and the number of their pieces.
 const GATHERED: &[(u32, u32, u64)] = &[
     (64, 0, 0),
     (64, 1, 1),

@@ -1,4 +1,4 @@
-// What tests begin with. A test ends here where its tables don't fit, or memory runs out.
+// The beginnings of tests. A test ends here if its tables don't fit, or if memory runs out.
 ghost use Rattle.std.specs.Prelude.{◌≡◌, ◌≤◌, length, true};
 ghost use Rattle.kc_graph.specs.Shape.{EdgesFrom};
 
@@ -13,14 +13,14 @@ use test_support::graphs::{edges_of, graph_of, levels_of};
 // Pairs of vertices in a table.
 pub type Pairs = &'static [(u32, u32)];
 
-// The graph on n vertices with the edges of the pairs, in any order.
+// Returns the graph on n vertices with the edges of the pairs, in any order.
 pub fn graph(rt: &impl Abort, alloc: Global, n: u32, pairs: &[(u32, u32)]) -> Graph
     ensures { result.vertices ≡ n }
 {
     graph_of(alloc, n, pairs).expect(rt, "a graph")
 }
 
-// The edges of ascending pairs of vertices below n.
+// Returns the edges of ascending pairs of vertices below n.
 pub fn edges(rt: &impl Abort, alloc: Global, n: u32, pairs: &[(u32, u32)]) -> Vec<Edge>
     ensures ascending { EdgesFrom n 0 0 result.items }
     ensures few { length result.items ≤ MAX_EDGES }
@@ -28,14 +28,14 @@ pub fn edges(rt: &impl Abort, alloc: Global, n: u32, pairs: &[(u32, u32)]) -> Ve
     edges_of(alloc, n, pairs).expect(rt, "ascending edges")
 }
 
-// The levels by vertex.
+// Returns the levels by vertex.
 pub fn levels(rt: &impl Abort, alloc: Global, items: &[u16]) -> Levels
     ensures { length result ≡ length items.now }
 {
     levels_of(alloc, items).expect(rt, "levels")
 }
 
-// The graph with the edges of the pairs, in any order, and each vertex on its level.
+// Returns the graph with the edges of the pairs, in any order, and each vertex on its level.
 pub fn levelled<L: Ledger>(
     rt: &impl Abort,
     alloc: Global,

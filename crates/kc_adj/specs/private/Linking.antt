@@ -4,7 +4,7 @@ use Rattle.kc_graph.specs.Shape.{GraphShape, Pair, IsGraph, with_edges, without_
 use Rattle.kc_graph.specs.Changes.{CanAdd, CanRemove}
 use Rattle.kc_adj.specs.LeveledGraph.{IsAdjacency}
 
--- 1 where w counts at v, which counts from d levels below its own on, else 0
+-- 1 if v counts w, else 0; v counts from d levels below its own level on
 abbrev pub share : List ℕ → ℕ → ℕ → ℕ → ℕ
 share x d v w = cond (nat_le (get_or x v 0 - d) (get_or x w 0)) 1 0
 

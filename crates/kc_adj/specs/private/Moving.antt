@@ -1,15 +1,16 @@
--- What the loops keep that change the counts of a vertex's neighbours when the vertex moves to another level.
+-- The invariants of the loops that change the counts of a vertex's neighbours when the vertex moves to another level.
 use Rattle.std.specs.Prelude.{ℕ, ◌-◌, ◌<◌, ◌≡◌, nat_lt, nat_le, ◌&&◌, Bool, true, false, List, length, get_or, set}
 use Rattle.kc_graph.specs.Numbers.{has_number, RisesFrom}
 use Rattle.kc_graph.specs.Shape.{GraphShape, neighbours_of}
 use Rattle.kc_levels.specs.LevelList.{at_least}
 
--- whether the level r is passed or reached on the way up from the level k to the level l
+-- the level r is passed or reached on the way up from the level k to the level l
 abbrev pub is_passed : ℕ → ℕ → ℕ → Bool
 is_passed k l r = nat_lt k r && nat_le r l
 
--- v goes to the level k: the counts in `rest`, a part of v's neighbours, are those with v on its old level, and all
--- others those with v on k; each vertex counts from its old level less d on
+-- v goes to the level k, and its neighbours in `rest` have their counts with v on its old level
+--
+-- All other counts are with v on k. Each vertex counts from its old level less d on.
 pub record IsMoving (g : GraphShape) (x : List ℕ) (v k d : ℕ) (counts rest : List ℕ) : Type 0 where
   pub sized : length counts ≡ g.vertices
   pub first : ℕ

@@ -1,8 +1,8 @@
--- Where the members of a line begin in a flat list.
+-- The beginning of a line's members in a flat list.
 use Rattle.std.specs.Prelude.{ℕ, List, [], ◌∷◌, zero, suc}
 use Rattle.kc_audit.specs.declared.flat.Head.{Head}
 
--- where the members of line i begin
+-- the place where the members of line i begin
 abbrev pub start_of : ℕ → List Head → ℕ → ℕ
 start_of from [] i = from
 start_of from (h ∷ hs) zero = from

@@ -1,11 +1,11 @@
--- What is told of the form of a line.
+-- What the form of a line says.
 use Rattle.std.specs.Prelude.{ℕ, List, length, ◌≤◌, drop}
 use Rattle.kc_text.specs.Words.{words}
 use Rattle.kc_audit.specs.declared.form.Form.{Form}
 use Rattle.kc_audit.specs.declared.form.Form.TheVariants as form
 use Rattle.kc_audit.specs.Kinds.{Kind, Head, Vertices, Accepted, Refused, Phase, Group, Reader, Vertex, Close, Other, TooLong, Limit, InputEnd}
 
--- what the form of a text tells, where the words of a group or a reader begin at a place of it
+-- the kind of a text by its form, which has the place of the words of a group or a reader
 abbrev pub kind_told : List ℕ → Form → Kind
 kind_told text form.Head = Head
 kind_told text (form.Vertices n) = Vertices n

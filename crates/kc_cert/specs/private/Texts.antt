@@ -2,6 +2,6 @@
 use Rattle.std.specs.Prelude.{ℕ, List, map, filter, nat_lt}
 use Rattle.kc_cert.specs.Texts.{edge_line}
 
--- the edges of v and those of these vertices that are greater
+-- the edges between v and those of these vertices that are greater
 abbrev pub row_lines : ℕ → List ℕ → List (List (List ℕ))
 row_lines v ws = map (λ w. edge_line (v, w)) (filter (λ w. nat_lt v w) ws)

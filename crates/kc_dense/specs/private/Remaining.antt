@@ -13,12 +13,12 @@ is_left degrees u = nat_lt (get_or degrees u TAKEN) TAKEN
 abbrev pub all_but : ℕ → (ℕ → Bool) → ℕ → Bool
 all_but v s u = not (u == v) && s u
 
--- those of the few vertices of the graph that are left have their degrees among them
+-- each vertex that is left has its degree among those left; the graph has at most `MAX_VERTICES` vertices
 pub record AreRemaining (g : GraphShape) (degrees : List ℕ) : Type 0 where
   pub sized : length degrees ≡ g.vertices
   pub few : g.vertices ≤ MAX_VERTICES
   pub counts : (u : ℕ) → is_left degrees u ≡ true → get_or degrees u TAKEN ≡ degree_within g (is_left degrees) u
 
--- one less, but a vertex that was taken stays so
+-- one less, unless the vertex was taken
 abbrev pub lowered : ℕ → ℕ
 lowered degree = cond (nat_lt degree TAKEN) (degree - 1) degree

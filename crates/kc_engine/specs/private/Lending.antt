@@ -17,7 +17,7 @@ IsHeld ms l = (m : MarkerShape) × Contains ms m × (m.state.loan.number ≡ l.n
 abbrev pub IsCovered : List MarkerShape → ℕ → Type 0
 IsCovered ms i = (m : MarkerShape) × Contains ms m × (m.state.loan.from ≤ i) × (i < m.state.loan.to)
 
--- the marker is for moves of the group at place g, and was lent by a writer that knew s
+-- the marker is for moves of the group at place g, and was lent by a writer in the state s
 pub record IsLentBy (table : TableId) (g : ℕ) (s : WriterState) (m : MarkerShape) : Type 0 where
   pub table_is : m.table ≡ table
   pub plan_is : m.state.plan ≡ s.plan

@@ -1,10 +1,10 @@
-//! The runtime and the gate that are handed down to whoever marks or clears a range.
+//! The runtime and the gate for marking and clearing of ranges.
 
-// Who marks and clears the moves of a group: threads, which tell the gate of each range.
+// The threads that mark and clear the moves of a group, and the gate that gets the spot of each range.
 #[derive(Drop)]
 pub(crate) struct Crew<'a, R, G> {
-    // What starts the threads.
+    // The runtime that starts the threads.
     pub(crate) rt: &'a R,
-    // What is told before each range and each publication.
+    // The gate that gets a spot before each range and each publication.
     pub(crate) gate: &'a G,
 }

@@ -1,4 +1,4 @@
-//! The moves of a group are lent in ranges, and given back.
+//! Loans of the moves of a group: they are lent in ranges, and given back.
 ghost use Rattle.std.specs.Prelude.{◌≡◌, ◌≤◌, [], vec_len, vec_capacity, All};
 ghost use Rattle.kc_engine.specs.private.Lending.{AreLent, all_returned};
 

@@ -1,4 +1,4 @@
-//! The phases of a plan are shown in a store in order, and in each phase its groups in order.
+//! Showing of phases: those of a plan in order, and in each phase its groups in order.
 ghost use Rattle.std.specs.Prelude.{◌≡◌, ◌+◌, ◌≤◌, length};
 ghost use Rattle.kc_store.specs.States.{MayBegin};
 ghost use Rattle.kc_store.specs.private.Showing.{HasShown};
@@ -40,13 +40,16 @@ fn show_phase<R: Threads + Sync, G: Gate + Sync>(
 
 // Shows phases, one after another: the writer's history grows by their entries (`AreShown`).
 //
-// The store is the writer's and for n vertices. Each group of the last begun phase is published, each of its moves cleared, and no marker is
-// out; so it is again afterwards. The phases go on from the writer's history (`GoOn`), and the number of the last is at most `MAX_PHASE`.
+// The store is the writer's and for n vertices. Each group of the last begun phase is published, and each of its moves
+// is cleared. No marker is out. All of that holds again afterwards. The phases go on from the writer's history
+// (`GoOn`), and the number of the last is at most `MAX_PHASE`.
 //
-// The moves of a group are cut into ranges of their number divided by the workers, rounded up. Each range is marked and cleared in a thread of
-// its own where one can be made, or all in this thread one after another where the group is short and not the first one shown with
-// these places. The gate is told `Piece` with the range's index at the start of each range, for marking and for clearing, and `Publishing`
-// before each publication. Takes no memory, and never waits.
+// The moves of a group are cut into ranges. A range has the number of moves divided by the workers, rounded up. Each
+// range is marked and cleared in a thread of its own if one can be made. If the group is short and not the first one
+// shown with these places, all ranges are done in this thread, one after another.
+//
+// The gate gets `Piece` with the range's index at the start of each range, for marking and for clearing, and
+// `Publishing` before each publication. Takes no memory, and never waits.
 pub(crate) fn show_phases<R: Threads + Sync, G: Gate + Sync>(
     crew: &Crew<'_, R, G>,
     store: &Store,

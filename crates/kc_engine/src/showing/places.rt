@@ -1,4 +1,4 @@
-//! A group is shown: its moves are marked by several markers, it is published, and the moves are cleared.
+//! Showing of one group: several markers mark its moves, it is published, and the moves are cleared.
 ghost use Rattle.std.specs.Prelude.{◌≡◌, ◌≤◌, ◌<◌, [], IfOk, length};
 ghost use Rattle.kc_store.specs.private.Showing.{HasShownGroup};
 ghost use Rattle.kc_engine.specs.private.Lending.{HasMarkedGroup, HasClearedGroup};
@@ -13,17 +13,19 @@ use std::alloc::{AllocError, Global};
 use std::marker::Model;
 use std::thread::Threads;
 
-// The ranges of a group with fewer moves are marked and cleared one after another in one thread, but those of a first group: to start
-// threads and to join them costs as much as some thousands of moves.
+// The least number of moves whose ranges are worth threads: to start and join them costs as much as some thousands of
+// moves. The ranges of a first group go to threads even so.
 const LEAST_MOVES: u32 = 8_192;
 
-// Room for one marker a worker, and none in it. Contracts see the number of workers, 1 to 64.
+// Room for one marker a worker, and no marker in it. Contracts see the number of workers, 1 to 64.
 //
-// Who shows phases keeps one for as long as it lives. The ranges of the first group that is shown with it go to threads, however few
-// moves it has, so that a gate sees them at the same time; from then on the number of moves decides.
+// An engine keeps one for as long as it lives. The ranges of the first group that is shown with it go to threads,
+// however few moves the group has. So a gate sees these ranges at the same time. From then on the number of moves
+// decides.
 #[derive(Drop)]
 pub(crate) struct MarkerPlaces {
-    // Empty, but while a group is marked or cleared. Has room for one a worker, so that to lend them takes no memory.
+    // Empty, except while a group is marked or cleared. Has room for one marker a worker, so that lending takes no
+    // memory.
     markers: Vec<Marker>,
     // The number of workers, 1 to 64.
     workers: u32,
@@ -41,7 +43,7 @@ impl Model for MarkerPlaces {
     ghost invariant = { λ p. (p.markers.items ≡ []) × (vec_len p.markers ≡ 0) × (p.workers ≤ vec_capacity p.markers) × (1 ≤ p.workers) × (p.workers ≤ 64) };
 }
 
-// Tells the gate that the group is published next.
+// Passes the spot of the group's publication to the gate.
 fn tell_publishing<G: Gate>(gate: &G, group: &PlannedGroup<'_>) {
     let phase = group.plan.quiet.phase;
     if let Some(label) = group.plan.groups.as_slice()[group.g as usize].label {
@@ -50,7 +52,7 @@ fn tell_publishing<G: Gate>(gate: &G, group: &PlannedGroup<'_>) {
 }
 
 impl MarkerPlaces {
-    // Places for the markers of `workers` workers, 1 to 64. Fails only if memory runs out.
+    // Makes places for the markers of `workers` workers, 1 to 64. Fails only if memory runs out.
     pub(crate) fn new(alloc: Global, workers: u32) -> Result<MarkerPlaces, AllocError>
         requires { (1 ≤ workers) × (workers ≤ 64) }
         ensures { IfOk result (λ places. places ≡ workers) }
@@ -62,7 +64,7 @@ impl MarkerPlaces {
         })
     }
 
-    // In how many threads the ranges of a group with `moves` moves are marked and cleared.
+    // Returns in how many threads the ranges of a group with `moves` moves are marked and cleared.
     fn threads_for(&self, moves: u32) -> usize
         ensures { 0 < result }
     {
@@ -73,7 +75,8 @@ impl MarkerPlaces {
         }
     }
 
-    // Marks the moves of a group that isn't published yet, in at most `threads` threads. No marker is out before or afterwards.
+    // Marks the moves of a group that isn't published yet, in at most `threads` threads. No marker is out before or
+    // afterwards.
     fn mark_group<R: Threads + Sync, G: Gate + Sync>(
         &mut self,
         crew: &Crew<'_, R, G>,
@@ -96,7 +99,8 @@ impl MarkerPlaces {
         give_back_all(store, writer, &mut self.markers);
     }
 
-    // Clears the moves of a group that is published, in at most `threads` threads. No marker is out before or afterwards.
+    // Clears the moves of a group that is published, in at most `threads` threads. No marker is out before or
+    // afterwards.
     fn clear_group<R: Threads + Sync, G: Gate + Sync>(
         &mut self,
         crew: &Crew<'_, R, G>,

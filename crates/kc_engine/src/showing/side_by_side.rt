@@ -1,4 +1,4 @@
-//! Markers work at the same time, each on its own range.
+//! Markers that work at the same time, each on its own range.
 ghost use Rattle.std.specs.Prelude.{◌≡◌, ℕ, ◌<◌, ◌≤◌, ◌^◌, length, vec_len, vec_capacity, All, slice_index_or};
 ghost use Rattle.kc_engine.specs.private.Lending.{MayMark, MayClear, HasMarkedRange, HasClearedRange, AreMarked, AreCleared};
 
@@ -9,7 +9,7 @@ use kc_store::{Marker, Store};
 use std::thread;
 use std::thread::Threads;
 
-// Marks the range of the marker with this index. The gate is told the index first.
+// Marks the range of the marker with this index. The gate gets the index first.
 fn mark_range<G: Gate>(gate: &G, store: &Store, plan: &PhasePlan, index: usize, marker: &mut Marker)
     requires few { index < 2 ^ 32 }
     requires may { MayMark store.now.table plan.now marker.old }
@@ -21,7 +21,7 @@ fn mark_range<G: Gate>(gate: &G, store: &Store, plan: &PhasePlan, index: usize, 
     marker.mark_all(store, plan);
 }
 
-// Clears the range of the marker with this index. The gate is told the index first.
+// Clears the range of the marker with this index. The gate gets the index first.
 fn clear_range<G: Gate>(
     gate: &G,
     store: &Store,
@@ -39,7 +39,7 @@ fn clear_range<G: Gate>(
     marker.clear_all(store, plan);
 }
 
-// Each marker marks its range, in at most `threads` threads.
+// Lets each marker mark its range, in at most `threads` threads.
 fn mark_each<R: Threads + Sync, G: Gate + Sync>(
     crew: &Crew<'_, R, G>,
     store: &Store,
@@ -61,7 +61,7 @@ fn mark_each<R: Threads + Sync, G: Gate + Sync>(
     );
 }
 
-// Each marker clears its range, in at most `threads` threads.
+// Lets each marker clear its range, in at most `threads` threads.
 fn clear_each<R: Threads + Sync, G: Gate + Sync>(
     crew: &Crew<'_, R, G>,
     store: &Store,
@@ -83,7 +83,7 @@ fn clear_each<R: Threads + Sync, G: Gate + Sync>(
     );
 }
 
-// Each marker of the list marks its range, in at most `threads` threads.
+// Lets each marker of the list mark its range, in at most `threads` threads.
 pub(crate) fn mark_lent<R: Threads + Sync, G: Gate + Sync>(
     crew: &Crew<'_, R, G>,
     store: &Store,
@@ -100,7 +100,7 @@ pub(crate) fn mark_lent<R: Threads + Sync, G: Gate + Sync>(
     mark_each(crew, store, plan, threads, markers.as_mut_slice());
 }
 
-// Each marker of the list clears its range, in at most `threads` threads.
+// Lets each marker of the list clear its range, in at most `threads` threads.
 pub(crate) fn clear_lent<R: Threads + Sync, G: Gate + Sync>(
     crew: &Crew<'_, R, G>,
     store: &Store,

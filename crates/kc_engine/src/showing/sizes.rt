@@ -1,4 +1,4 @@
-//! Numbers of groups and moves, and how long ranges of moves are.
+//! The numbers of groups and moves, and the sizes of ranges.
 ghost use Rattle.std.specs.Prelude.{◌≡◌, ◌⊎◌, ◌+◌, ◌*◌, ◌<◌, ◌≤◌, length};
 ghost use Rattle.kc_groups.specs.WellFormed.{IsWellFormed};
 ghost use Rattle.kc_store.specs.Plans.{group_at};
@@ -6,7 +6,7 @@ ghost use Rattle.kc_store.specs.Plans.{group_at};
 use kc_groups::PhasePlan;
 use kc_groups::sizes::plans_are_small;
 
-// The number of groups of a plan for n vertices.
+// Returns the number of groups of a plan for n vertices.
 pub(crate) fn groups_of(plan: &PhasePlan, n: u32) -> u32
     requires { IsWellFormed n plan.now }
     ensures { result ≡ length plan.now.groups }
@@ -15,7 +15,7 @@ pub(crate) fn groups_of(plan: &PhasePlan, n: u32) -> u32
     plan.groups.len() as u32
 }
 
-// The number of moves of the group at place g.
+// Returns the number of moves of the group at place g.
 pub(crate) fn moves_of(plan: &PhasePlan, n: u32, g: u32) -> u32
     requires formed { IsWellFormed n plan.now }
     requires inside { g < length plan.now.groups }
@@ -25,7 +25,7 @@ pub(crate) fn moves_of(plan: &PhasePlan, n: u32, g: u32) -> u32
     plan.groups.as_slice()[g as usize].moves.len() as u32
 }
 
-// How long the ranges are: the number of moves divided by the workers, rounded up.
+// Returns the size of the ranges: the number of moves divided by the workers, rounded up.
 pub(crate) fn range_size(moves: u32, workers: u32) -> u32
     requires { 1 ≤ workers }
     ensures { moves ≤ workers * result }
@@ -33,7 +33,7 @@ pub(crate) fn range_size(moves: u32, workers: u32) -> u32
     moves.div_ceil(workers)
 }
 
-// Where the range ends that begins at `from`: it has `size` moves, or those that are left.
+// Returns the end of the range from `from`, which has `size` moves, or as many as are left.
 pub(crate) fn range_end(from: u32, size: u32, moves: u32) -> u32
     requires { from ≤ moves }
     ensures later { from ≤ result }

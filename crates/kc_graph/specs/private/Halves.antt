@@ -1,4 +1,4 @@
--- Edges seen from their ends: the half-edge (v, w) says that w is to be in the row of v.
+-- Edges seen from their ends: the half-edge (v, w) puts w into the row of v.
 use Rattle.std.specs.Prelude.{ℕ, ◌+◌, ◌/◌, ◌<◌, ◌≤◌, ◌≡◌, ◌==◌, Bool, true, false, not, ◌||◌, ◌&&◌, List, [], ◌∷◌, length, get_or, take, drop, All}
 use Rattle.kc_graph.specs.Numbers.{has_number, RisesFrom}
 use Rattle.kc_graph.specs.Shape.{Pair, has_edge}
@@ -16,18 +16,20 @@ SecondsRise hs = (k : ℕ) → k + 1 < length hs → (get_or hs k (0, 0)).1 < (g
 abbrev pub AreOf : ℕ → List Pair → Type 0
 AreOf v hs = (k : ℕ) → k < length hs → (get_or hs k (0, 0)).0 ≡ v
 
--- the vertices of all half-edges have rows, of which the first is that of a vertex and the others are of those that follow
+-- all vertices of half-edges have rows, which begin with that of `first` and follow one another
 abbrev pub AreInside : ℕ → ℕ → List Pair → Type 0
 AreInside first rows hs = (v x : ℕ) → has_edge (v, x) hs ≡ true → (first ≤ v) × (v < first + rows)
 
--- a place in a list of half-edges: those before it are of vertices below v, and the others are of v, of which the one in the middle is, or of greater ones
+-- a cut of a list of half-edges: those before it are of vertices below v, and those after it of v or greater ones
+--
+-- The half-edge in the middle is of v.
 pub record IsCut (halves : List Pair) (place v : ℕ) : Type 0 where
   pub some : length halves / 2 < length halves
   pub of : v ≡ (get_or halves (length halves / 2) (0, 0)).0
   pub low : All (λ h. h.0 < v) (take place halves)
   pub high : All (λ h. v ≤ h.0) (drop place halves)
 
--- the rows of vertices from the first on after the half-edges came in
+-- the rows, from that of `first` on, after the half-edges came in
 pub record AreGiven (first : ℕ) (old new : List (List ℕ)) (halves : List Pair) : Type 0 where
   pub sized : length new ≡ length old
   pub rise : (v : ℕ) → v < length old → RisesFrom 0 (get_or old v []) → RisesFrom 0 (get_or new v [])

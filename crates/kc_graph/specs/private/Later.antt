@@ -1,4 +1,4 @@
--- What is known of the later items of a batch, in a walk from its last item to its first.
+-- What a walk from the last item of a batch to the first knows of the later items.
 use Rattle.std.specs.Prelude.{ℕ, ◌≡◌, ◌+◌, ◌≤◌, Bool, not, ◌&&◌, ◌||◌, cond, List, [], ◌∷◌, ◌++◌, filter, count_by}
 use Rattle.std.specs.Ordering.{nat_cmp}
 use Rattle.std.specs.BTreeSet.{contains}
@@ -11,7 +11,7 @@ use Rattle.kc_graph.specs.Shape.{Pair, same_edge, has_edge}
 use Rattle.kc_graph.specs.private.EdgeLists.{pair_cmp}
 use Rattle.kc_graph.specs.Cleaning.{holds, pair_of, is_loop, proper_items, is_touched, deciding_item, takes_out, is_insertion, is_repeat, is_idle, count_with_later}
 
--- whether the pair e is noted as touched, by itself or by one of its vertices
+-- whether the pair e is noted as touched, itself or by one of its vertices
 abbrev pub is_noted : Touched → Pair → Bool
 is_noted t e = contains pair_cmp t.pairs e || (contains nat_cmp t.isolated e.0 || contains nat_cmp t.isolated e.1)
 
@@ -19,7 +19,7 @@ is_noted t e = contains pair_cmp t.pairs e || (contains nat_cmp t.isolated e.0 |
 abbrev pub is_free_at : Touched → ℕ → Pair → Bool
 is_free_at t v e = holds v e && not (is_noted t e)
 
--- what the items come to after one more, an isolation of v
+-- the net effect after one more item, an isolation of v
 abbrev pub isolated : List Pair → Touched → ℕ → Cleaned → Cleaned
 isolated edges t v c =
     record c {
@@ -36,7 +36,7 @@ untouched_at t v (w ∷ ws) = cond (is_noted t (pair_of v w)) (untouched_at t v 
 abbrev pub IsOnce : List Pair → Type 0
 IsOnce es = (e : Pair) → count_by (same_edge e) es ≤ 1
 
--- what is known is what items that are no loops come to, but that the two lists are in any order
+-- what is known is the net effect of items that are no loops, with both lists in any order
 pub record Settles (edges : List Pair) (items : List Item) (l : Later) : Type 0 where
   pub noted : (e : Pair) → is_noted l.touched e ≡ is_touched e items
   pub removed : (e : Pair) → has_edge e l.cleaned.removed ≡ (takes_out (deciding_item e items) && has_edge e edges)
@@ -46,7 +46,7 @@ pub record Settles (edges : List Pair) (items : List Item) (l : Later) : Type 0 
   pub repeats : l.cleaned.repeats ≡ count_with_later is_repeat items
   pub idle : l.cleaned.idle ≡ count_with_later (is_idle edges) items
 
--- the same of any items, whose loops are counted
+-- the same for any items, with a count of their loops
 pub record ComesTo (edges : List Pair) (items : List Item) (l : Later) : Type 0 where
   pub loops : l.cleaned.loops ≡ count_by is_loop items
   pub others : Settles edges (proper_items items) l

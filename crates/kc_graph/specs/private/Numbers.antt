@@ -11,7 +11,7 @@ put x (y ∷ ys) = cond (nat_lt x y) (x ∷ y ∷ ys) (cond (x == y) (y ∷ ys) 
 abbrev pub without : ℕ → List ℕ → List ℕ
 without x xs = filter (λ y. not (y == x)) xs
 
--- where x stands in a rising list, or where it is to be put
+-- the place of x in a rising list, or where it belongs
 abbrev pub Found : List ℕ → ℕ → Result ℕ ℕ → Type 0
 Found xs x r =
     MatchResult r (λ i. (i < length xs) × (get_or xs i 0 ≡ x))

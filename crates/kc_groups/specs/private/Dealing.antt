@@ -5,11 +5,12 @@ use Rattle.kc_levels.specs.declared.moves.Move.{Move}
 use Rattle.kc_history.specs.declared.entries.Entry.{Entry}
 use Rattle.kc_groups.specs.Entries.{ends_at}
 
--- an entry of the label l that nothing was dealt to
+-- an entry of the label l without moves and edges
 abbrev pub empty_entry : ℕ → Bool → ℕ → Entry
 empty_entry phase add l = record { phase = phase; label = Some l; add = add; moves = []; edges = [] }
 
--- where the label of each vertex below k stands in the list of the labels below k; the others still have their labels
+-- for each vertex below k, the place of its label in the list of the labels below k; the other vertices still have
+-- their labels
 pub record ArePlaces (n : ℕ) (labels roots places : List ℕ) (k : ℕ) : Type 0 where
   pub sized : length places ≡ n
   pub few : length roots ≤ k
@@ -19,7 +20,7 @@ pub record ArePlaces (n : ℕ) (labels roots places : List ℕ) (k : ℕ) : Type
   pub back : (i : ℕ) → i < length roots → get_or places (get_or roots i 0) 0 ≡ i
   pub rest : (v : ℕ) → k ≤ v → v < n → get_or places v 0 ≡ get_or labels v 0
 
--- something was done to each entry, by its place in the list
+-- each entry changed by f, which gets its place in the list
 pub record AreDealt (f : ℕ → Entry → Entry) (old new : List Entry) : Type 0 where
   pub sized : length new ≡ length old
   pub each : (p : ℕ) (d : Entry) → p < length old → get_or new p d ≡ f p (get_or old p d)
@@ -36,7 +37,9 @@ with_moves places ms p e = record e { moves = filter (λ (m : Move). get_or plac
 abbrev pub with_edges : List ℕ → List Pair → ℕ → Entry → Entry
 with_edges places edges p e = record e { edges = filter (ends_at places p) edges }
 
--- each end of the edge has one of m places or n for none, and both have the same if both have one
+-- an edge of which each end has one of m places, or n for none
+--
+-- If both ends have a place, they have the same one.
 pub record IsPlacedEdge (n m : ℕ) (places : List ℕ) (e : Pair) : Type 0 where
   pub order : e.0 < e.1
   pub inside : e.1 < n
@@ -44,10 +47,10 @@ pub record IsPlacedEdge (n m : ℕ) (places : List ℕ) (e : Pair) : Type 0 wher
   pub second : (get_or places e.1 0 < m) ⊎ (get_or places e.1 0 ≡ n)
   pub one : get_or places e.0 0 < n → get_or places e.1 0 < n → get_or places e.1 0 ≡ get_or places e.0 0
 
--- the place of an end that has one, if there is one
+-- the place of an end that has one, if an end does
 abbrev pub edge_place : ℕ → List ℕ → Pair → ℕ
 edge_place n places e = cond (get_or places e.0 0 == n) (get_or places e.1 0) (get_or places e.0 0)
 
--- whether no end of the edge has a place
+-- no end of the edge has a place
 abbrev pub is_unplaced : ℕ → List ℕ → Pair → Bool
 is_unplaced n places e = (get_or places e.0 0 == n) && (get_or places e.1 0 == n)

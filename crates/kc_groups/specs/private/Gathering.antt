@@ -1,11 +1,11 @@
--- How vertices that move are numbered, joined and labelled.
+-- Numbers, trees and labels of vertices that move.
 use Rattle.std.specs.Prelude.{ℕ, ◌<◌, ◌≡◌, ◌==◌, nat_le, nat_lt, Bool, false, ◌&&◌, List, length, get_or, All}
 use Rattle.kc_graph.specs.Numbers.{RisesFrom, AllBelow, has_number}
 use Rattle.kc_graph.specs.Shape.{GraphShape, Pair, neighbours_of, has_edge}
 use Rattle.kc_levels.specs.declared.moves.Move.{Move}
 use Rattle.kc_groups.specs.Gathering.{vertices}
 
--- whether v is the vertex of a move
+-- v is the vertex of a move
 abbrev pub is_mover : List Move → ℕ → Bool
 is_mover ms v = has_number v (vertices ms)
 
@@ -21,32 +21,32 @@ pub record AreNumbered (n : ℕ) (movers places : List ℕ) : Type 0 where
   pub at : (i : ℕ) → i < length movers → get_or places (get_or movers i 0) 0 ≡ i
   pub none : HaveNone n movers places
 
--- whether the vertex at place j comes before the one at place i and is in a list of its neighbours
+-- the vertex at place j comes before the one at place i and is in a list of its neighbours
 abbrev pub is_near : List ℕ → List ℕ → ℕ → ℕ → Bool
 is_near movers items i j = nat_lt j i && has_number (get_or movers j 0) items
 
--- whether the movers at places i and j, of which i is below k, are joined in the graph, j being the lesser place
+-- the movers at places i and j are joined in the graph; i is below k, and j is the lesser place
 abbrev pub in_rows : GraphShape → List ℕ → ℕ → ℕ → ℕ → Bool
 in_rows g movers k i j = nat_lt i k && is_near movers (neighbours_of (get_or movers i 0) g.edges) i j
 
--- the same of the movers at place k alone
+-- the same for the movers at place k alone
 abbrev pub in_row : GraphShape → List ℕ → ℕ → ℕ → ℕ → Bool
 in_row g movers k i j = (i == k) && is_near movers (neighbours_of (get_or movers k 0) g.edges) i j
 
--- the same of the movers from place `from` on
+-- the same for the movers from place `from` on
 abbrev pub in_piece : GraphShape → List ℕ → ℕ → ℕ → ℕ → ℕ → Bool
 in_piece g movers from k i j = nat_le from i && in_rows g movers k i j
 
--- the list has those of m places that are linked, of each two the lesser place first
+-- the list has the pairs of linked places among m places, each with the lesser place first
 pub record AreLinks (m : ℕ) (linked : ℕ → ℕ → Bool) (links : List Pair) : Type 0 where
   pub inside : All (λ (e : Pair). (e.0 < m) × (e.1 < m)) links
   pub same : (i j : ℕ) → i < m → j < m → has_edge (j, i) links ≡ linked i j
 
--- whether an edge leads from the mover at place i to the one at place j
+-- an edge leads from the mover at place i to the one at place j
 abbrev pub in_edges : List Pair → List ℕ → ℕ → ℕ → Bool
 in_edges edges movers i j = has_edge (get_or movers i 0, get_or movers j 0) edges
 
--- the label of each mover is that of its root, and no other vertex has one
+-- the label of each mover is the vertex of its root, and no other vertex has a label
 pub record AreLabelled (n : ℕ) (movers roots labels : List ℕ) : Type 0 where
   pub sized : length labels ≡ n
   pub at : (i : ℕ) → i < length movers → get_or labels (get_or movers i 0) 0 ≡ get_or movers (get_or roots i 0) 0

@@ -1,14 +1,15 @@
--- The store's rule: what holds between any two steps, of the words and of what each seat knows.
+-- The store's rule: what holds between any two steps, of the words and of the state of each seat.
 --
 -- For n vertices the table has 3 * n + 1 words:
---   0           the number of phases begun
---   v + 1       the mark of vertex v, packed: its new level, and the label and the phase of the group that it moves with; phase
---               0 where it doesn't move
---   n + 1 + g   the stamp of label g: the phase in which a group of this label was published last, or 0
---   2 * n + 1 + v   the old level of vertex v
 --
--- `history` is the writer's, `rest` the groups of the open phase that aren't published yet, p the number of the open phase and ws
--- the words.
+--     0               the number of phases begun
+--     v + 1           the mark of vertex v, packed: its new level, and label and phase of the group with which
+--                     it moves; the phase is 0 if v doesn't move
+--     n + 1 + g       the stamp of label g: the phase in which a group of this label was published last, or 0
+--     2 * n + 1 + v   the old level of vertex v
+--
+-- `history` is the writer's, and `rest` the groups of the open phase that aren't published yet. The number of the open
+-- phase is p, and ws are the words.
 use Rattle.std.specs.Prelude.{◌≡◌, ◌≢◌, ◌⊎◌, ℕ, ◌+◌, ◌*◌, ◌^◌, ◌<◌, ◌≤◌, true, false, List, [], ◌∷◌, ◌++◌, length, drop, take, slice_index, Option, Some, None, Contains}
 use Rattle.std.specs.List.{slice_get}
 use mathlib.Core.Option.{some}
@@ -60,7 +61,9 @@ abbrev pub AllApart : List Entry → Type 0
 AllApart [] = Unit {0}
 AllApart (e ∷ es) = ApartFrom e es × AllApart es
 
--- the mark u of v is of a move of a group that is not published yet, v is on this move's old level, and so is its old-level word o
+-- the mark u of v is of a move of a group that is not published yet
+--
+-- v is on the old level of this move, and its old-level word o has that level.
 pub record IsUnpublished (history rest : List Entry) (p v : ℕ) (u : Mark) (o : ℕ) : Type 0 where
   pub phase_is : u.phase ≡ p
   pub group : Entry
@@ -71,8 +74,9 @@ pub record IsUnpublished (history rest : List Entry) (p v : ℕ) (u : Mark) (o :
   pub level_is : level_of 0 history v ≡ move.old
   pub old_is : o ≡ move.old
 
--- v has the mark u and the old-level word o. Where the stamp is at least the mark's phase, v is on the new level: always so where
--- this phase is 0.
+-- v has the mark u and the old-level word o
+--
+-- If the stamp is at least the mark's phase, v is on the new level. That is always so if the mark's phase is 0.
 pub record Fits (n : ℕ) (history rest : List Entry) (p v : ℕ) (u : Mark) (o : ℕ) : Type 0 where
   pub label_in : u.label < n
   pub shown : u.phase ≤ stamp_of 0 history u.label → level_of 0 history v ≡ u.new
@@ -103,7 +107,7 @@ AllCleared n rest ws vs = (v : ℕ) → Contains vs v → (v < n) × IsSettled r
 abbrev pub AreMarkedNoted : List ℕ → List ℕ → Type 0
 AreMarkedNoted marked noted = (v : ℕ) → Contains marked v → Contains noted v
 
--- what holds of the words
+-- the facts that hold of the words
 pub record Facts (n : ℕ) (history rest : List Entry) (p : ℕ) (ws : List ℕ) : Type 0 where
   pub sized : length ws ≡ 3 * n + 1
   pub small : n ≤ MAX_VERTICES
@@ -116,13 +120,13 @@ pub record Facts (n : ℕ) (history rest : List Entry) (p : ℕ) (ws : List ℕ)
   pub vertices : (v : ℕ) → v < n → Fits n history rest p v (unpacked (slice_index ws (v + 1))) (slice_index ws (2 * n + 1 + v))
   pub olds : (v : ℕ) → v < n → slice_index ws (2 * n + 1 + v) < 2 ^ 16
 
--- a packed word that may be stored for v beside its old-level word o, whoever stores it
+-- a packed word that any seat may store for v beside its old-level word o
 pub record IsSoundMark (n : ℕ) (history rest : List Entry) (p v w o : ℕ) : Type 0 where
   pub fits : Fits n history rest p v (unpacked w) o
   pub marked : IsMarked rest p v w
   pub cleared : IsSettled rest v → (unpacked w).phase ≡ 0
 
--- an old level that may be stored for v, whoever stores it
+-- an old level that any seat may store for v
 pub record IsSoundOld (history : List Entry) (v o : ℕ) : Type 0 where
   pub level_is : level_of 0 history v ≡ o
   pub short : o < 2 ^ 16
@@ -134,7 +138,7 @@ pub record Reaches (from history : List Entry) (v l : ℕ) : Type 0 where
   pub within : IsPrefix point history
   pub level_is : level_of 0 point v ≡ l
 
--- what a pass knows after its first load
+-- the facts that a pass has after its first load
 pub record LookHolds (n : ℕ) (history rest : List Entry) (p : ℕ) (ws : List ℕ) (q : Pending) : Type 0 where
   pub seen_in : IsPrefix q.seen q.from
   pub from_in : IsPrefix q.from history
@@ -145,7 +149,9 @@ pub record LookHolds (n : ℕ) (history rest : List Entry) (p : ℕ) (ws : List 
   pub shown : (unpacked q.word).phase ≤ stamp_of 0 history (unpacked q.word).label → Reaches q.from history q.vertex (unpacked q.word).new
   pub unpublished : stamp_of 0 history (unpacked q.word).label < (unpacked q.word).phase → IsUnpublished history rest p q.vertex (unpacked q.word) (slice_index ws (2 * n + 1 + q.vertex))
 
--- what a pass knows that found the stamp below the word's phase: the old-level word is the level at some point since its first load
+-- the facts of a pass that found the stamp below the word's phase
+--
+-- The old-level word is the level of the vertex at some point since the pass's first load.
 pub record BelowHolds (n : ℕ) (history : List Entry) (ws : List ℕ) (q : Pending) : Type 0 where
   pub seen_in : IsPrefix q.seen q.from
   pub from_in : IsPrefix q.from history
@@ -171,14 +177,15 @@ abbrev pub AllFormed : ℕ → ℕ → List PhasePlan → Type 0
 AllFormed n before [] = Unit {0}
 AllFormed n before (plan ∷ plans) = IsFormed n (before + 1) plan × AllFormed n (before + 1) plans
 
--- a history is whole phases, and then the quiet entry and the first groups of the open phase, if there is one: the phases are
--- consecutive, and their plans well formed
+-- a history is whole phases, and then the quiet entry and the first groups of the open phase, if there is one
+--
+-- The phases are consecutive, and their plans well formed.
 abbrev pub IsGrown : ℕ → ℕ → List Entry → PhasePlan → ℕ → Type 0
 IsGrown n before history plan count =
     ((history ≡ []) × (plan ≡ empty_plan before) × (count ≡ 0))
     ⊎ ((whole : List PhasePlan) × AllFormed n before (whole ++ plan ∷ []) × (history ≡ entries_in whole ++ take (count + 1) (entries_of plan)))
 
--- what holds of the words and of the writer's state
+-- the facts that hold of the words and of the writer's state
 pub record WriterHolds (n : ℕ) (s : WriterState) (ws : List ℕ) : Type 0 where
   pub vertices_is : s.vertices ≡ n
   pub phases_are : s.phase ≡ s.before + phases_in s.history
@@ -193,7 +200,7 @@ pub record WriterHolds (n : ℕ) (s : WriterState) (ws : List ℕ) : Type 0 wher
   pub clears : AllCleared n (rest_of s) ws s.cleared
   pub begin : AllBegin s.history s.joined
 
--- what holds of a marker that is out, where the writer has these loans, plan and number of published groups
+-- the facts that hold of a marker that is out, if the writer has these loans, plan and number of published groups
 pub record MarkerHolds (n : ℕ) (loans : List Loan) (lent phase : ℕ) (plan : PhasePlan) (published : ℕ) (ws : List ℕ) (m : MarkerState) : Type 0 where
   pub listed : Contains loans m.loan
   pub number_in : m.loan.number < lent
@@ -207,7 +214,7 @@ pub record MarkerHolds (n : ℕ) (loans : List Loan) (lent phase : ℕ) (plan : 
   pub marks_noted : AreMarkedNoted m.marked m.noted
   pub clears : AllCleared n (drop published plan.groups) ws m.cleared
 
--- what holds of the seat j, where the writer has seat `writer` and the state s
+-- the facts that hold of the seat j, if the writer has seat `writer` and the state s
 abbrev pub SeatHolds : ℕ → WriterState → ℕ → List ℕ → ℕ → Role → Type 0
 SeatHolds n s writer ws j Spent = Unit {0}
 SeatHolds n s writer ws j (Writes t) = (j ≡ writer) × (t ≡ s)

@@ -13,7 +13,7 @@ pub record HasMarked (g count : ℕ) (old new : WriterState) : Type 0 where
   pub loans : new.loans ≡ old.loans
   pub each : (i : ℕ) → i < count → Contains new.marked (vertex_at old.plan g i)
 
--- the first `count` moves of the group at place g are cleared, and those that were cleared before
+-- the first `count` moves of the group at place g are cleared, and so are the moves that were cleared before
 pub record HasCleared (g count : ℕ) (old new : WriterState) : Type 0 where
   pub same : new ≡ record old { cleared = new.cleared }
   pub kept : (v : ℕ) → Contains old.cleared v → Contains new.cleared v

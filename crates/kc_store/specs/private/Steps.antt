@@ -1,4 +1,4 @@
--- What each step of the table tells its caller: how the seat's role changes.
+-- What the caller learns of each step of the table: how the role of its seat changes.
 use Rattle.std.specs.Prelude.{◌≡◌, ◌≢◌, ℕ, pred, ◌+◌, ◌-◌, ◌*◌, ◌^◌, ◌<◌, ◌≤◌, List, length}
 use mathlib.Core.List.{IsPrefix}
 use Rattle.atomic_table.specs.Table.{Step}
@@ -65,20 +65,20 @@ lent_marks st m found m' = m' ≡ (at_marker (marker_mark (marked_at st.word)) m
 abbrev pub lent_clears : Step ℕ → Sat → ℕ → Sat → Type 0
 lent_clears st m found m' = m' ≡ (at_marker (marker_cleared (marked_at st.word)) m.0, m.1)
 
--- the pass has seen this, and may read again
+-- the pass has seen this part of the history, and may read again
 abbrev pub has_read : Role → List Entry → Role
 has_read v now = Reads (vertices_of v) now (made_of v)
 
--- the pass has loaded the packed word of a vertex, when the history was `from`
+-- the pass has loaded the packed word of a vertex when the history was `from`
 abbrev pub pending : Role → ℕ → ℕ → List Entry → Pending
 pending v vertex word from = record { vertices = vertices_of v; seen = seen_of v; made = made_of v; vertex = vertex; word = word; from = from }
 
--- v has the level l at the end of `now`, which begins with what was seen before
+-- v has the level l at the end of `now`, which begins with the part of the history that was seen before
 pub record HasSeen (before now : List Entry) (v l : ℕ) : Type 0 where
   pub later : IsPrefix before now
   pub level_is : level_of 0 now v ≡ l
 
--- the first load of a read: where the phase is 0 the level is known, and else the pass keeps the word
+-- the first load of a read: if the phase is 0, the level is known; otherwise the pass keeps the word
 abbrev pub first_load : Step ℕ → Sat → ℕ → Sat → Type 0
 first_load st m found m' =
     ((unpacked found).label < vertices_of m.0)
@@ -90,17 +90,18 @@ pending_of (Looks q) = q
 pending_of (FoundBelow q) = q
 pending_of v = pending v 0 0 (seen_of v)
 
--- the second load: where the stamp is at least the word's phase the new level is known, and else the pass keeps that it is not
+-- the second load: if the stamp is at least the word's phase, the new level is known; otherwise the pass keeps that it
+-- isn't
 abbrev pub second_load : Step ℕ → Sat → ℕ → Sat → Type 0
 second_load st m found m' =
     ((unpacked (pending_of m.0).word).phase ≤ found → (now : List Entry) × (m' ≡ (has_read m.0 now, m.1)) × HasSeen (seen_of m.0) now (pending_of m.0).vertex (unpacked (pending_of m.0).word).new)
     × (found < (unpacked (pending_of m.0).word).phase → m' ≡ (FoundBelow (pending_of m.0), m.1))
 
--- the third load: the level is the word found
+-- the third load: the level is the word that was found
 abbrev pub third_load : Step ℕ → Sat → ℕ → Sat → Type 0
 third_load st m found m' = (found < 2 ^ 16) × ((now : List Entry) × (m' ≡ (has_read m.0 now, m.1)) × HasSeen (seen_of m.0) now (pending_of m.0).vertex found)
 
--- each list that the writer keeps from a pass begins the history
+-- each list that the writer keeps of a pass is a beginning of the history
 abbrev pub told : Step ℕ → Sat → ℕ → Sat → Type 0
 told st m found m' = (m' ≡ m) × AllBegin (writer_of m.0).history (writer_of m.0).joined
 
@@ -109,7 +110,7 @@ abbrev pub new_pass : Role → Role
 new_pass (Writes s) = Reads s.vertices s.history (length s.history)
 new_pass _ = Spent
 
--- the writer keeps what a pass had seen
+-- the writer keeps the part of the history that a pass had seen
 abbrev pub took_in : Role → Role → Role
 took_in (Writes s) (Reads n seen made) = Writes (with_joined seen s)
 took_in v _ = v
