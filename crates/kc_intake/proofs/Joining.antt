@@ -14,6 +14,7 @@ use Rattle.kc_intake.specs.declared.roles.Role.{Role}
 use Rattle.kc_intake.specs.declared.roles.Role.TheVariants.{Spent, Submits, Drains}
 use Rattle.kc_intake.specs.Updates.{updates_of, all_updates}
 use Rattle.kc_intake.specs.Views.{submitted_of, drained_of}
+use Rattle.kc_intake.specs.Causes.{Holds}
 use Rattle.kc_intake.specs.Rule.{PassHolds, IsKept}
 use Rattle.kc_intake.specs.private.Steps.{first_role, with_client, client_of, took_in}
 use Rattle.kc_intake.proofs.Lists.{changed, changed_here, changed_else}
@@ -22,8 +23,8 @@ use Rattle.kc_intake.proofs.Passes.{views_set, same_pass}
 none_in : {A : Type 0} (x : A) → Contains [] x → ⊥
 none_in x on = omega (arith, on.1)
 
-pub opens : IsKept [] (first_role ∷ [])
-opens = record {
+pub opens : (holds : Holds) → holds [] [] → IsKept holds [] (first_role ∷ [])
+opens holds begun = record {
   drainer = 0;
   state = record { clients = 0; taken = []; joined = [] };
   pass = λ c. None;
@@ -31,6 +32,7 @@ opens = record {
   whole = λ c. refl;
   later = λ c le. (refl, refl);
   joined = λ s on. absurd (none_in s on);
+  invariant = begun;
   passes = first;
 }
   where
@@ -50,8 +52,8 @@ coming_stays drainer d new pass sent c j n none mine k Spent other so = so
 coming_stays drainer d new pass sent c j n none mine k (Submits s) other so = (changed_else pass c (Some n) s.client (λ e. let t : Some k ≡ None = sym so.0 ∙ ap pass e ∙ none in cc) ∙ so.0, so.1)
 coming_stays drainer d new pass sent c j n none mine k (Drains e) other so = absurd (other (so.0 ∙ sym mine))
 
-forks_one : (j : ℕ) (d : Drained) → Forks IsKept j (Drains d) (with_client (Drains d)) (client_of (Drains d))
-forks_one j d items views r at =
+forks_one : (holds : Holds) (j : ℕ) (d : Drained) → Forks (IsKept holds) j (Drains d) (with_client (Drains d)) (client_of (Drains d))
+forks_one holds j d items views r at =
     let mine = r.passes j (Drains d) at in
     let clients : d.clients ≡ r.state.clients = ap (λ (z : Drained). z.clients) mine.1 in
     let next = r.later d.clients (subst (λ (n : ℕ). n ≤ d.clients) clients (le_refl d.clients)) in
@@ -67,14 +69,15 @@ forks_one j d items views r at =
       later = λ c le. let was = r.later c (omega (arith, clients, le)) in (changed_else r.pass d.clients (Some (length vs)) c (λ e. omega (arith, e, le)) ∙ was.0, was.1);
       joined = λ s on. let was = r.joined s (subst (λ (z : Drained). Contains z.joined s) mine.1 on) in let lt = was.0 in
           (omega (arith, clients, lt), changed_else r.pass d.clients (Some (length vs)) s.client (λ e. omega (arith, e, clients, lt)) ∙ was.1, was.2);
+      invariant = subst (λ (z : Drained). holds (all_updates z.taken) items) (sym mine.1) r.invariant;
       passes = λ k v e. ⊎_elim
           (λ (t : get_elem? vs k ≡ some v). views_set (PassHolds r.drainer r.state r.pass r.sent) (PassHolds r.drainer new pass r.sent) views j (Drains new) (mine.0, refl) (coming_stays r.drainer r.state new r.pass r.sent d.clients j (length vs) next.0 mine.0) r.passes k v t)
           (λ (t : (k ≡ length vs) × (comes ≡ v)). subst (λ (x : ℕ × Role). PassHolds r.drainer new pass r.sent x.0 x.1) (λ i. (sym t.0 i, t.1 i)) (changed_here r.pass d.clients (Some (length vs)) d.clients refl, sym next.1))
           (at_end vs comes v k e);
     }
 
-pub forks_from : (j : ℕ) (v : Role) → v ≡ Drains (drained_of v) → Forks IsKept j v (with_client v) (client_of v)
-forks_from j v is = subst (λ (z : Role). Forks IsKept j z (with_client z) (client_of z)) (sym is) (forks_one j (drained_of v))
+pub forks_from : (holds : Holds) (j : ℕ) (v : Role) → v ≡ Drains (drained_of v) → Forks (IsKept holds) j v (with_client v) (client_of v)
+forks_from holds j v is = subst (λ (z : Role). Forks (IsKept holds) j z (with_client z) (client_of z)) (sym is) (forks_one holds j (drained_of v))
 
 -- a client without a pass has none after client k is taken in
 none_stays : (pass : ℕ → Option ℕ) (k c : ℕ) → pass c ≡ None → changed pass k None c ≡ None
@@ -85,8 +88,8 @@ leaving_stays drainer d new pass sent c j gone theirs mine k Spent other so apar
 leaving_stays drainer d new pass sent c j gone theirs mine k (Submits s) other so apart = (changed_else pass c None s.client (λ e. apart (same_pass pass s.client c k gone so.0 theirs e)) ∙ so.0, so.1)
 leaving_stays drainer d new pass sent c j gone theirs mine k (Drains e) other so apart = absurd (other (so.0 ∙ sym mine))
 
-merges_one : (j : ℕ) (d : Drained) (gone : ℕ) (s : Submitted) → Merges IsKept j (Drains d) gone (Submits s) (took_in (Drains d) (Submits s)) Spent
-merges_one j d gone s items views r at two at' =
+merges_one : (holds : Holds) (j : ℕ) (d : Drained) (gone : ℕ) (s : Submitted) → Merges (IsKept holds) j (Drains d) gone (Submits s) (took_in (Drains d) (Submits s)) Spent
+merges_one holds j d gone s items views r at two at' =
     let mine = r.passes j (Drains d) at in
     let new : Drained = record d { joined = d.joined ++ s ∷ [] } in
     let was : get_elem? views gone ≡ some (Submits s) = ⊎_elim (λ x. absurd (two x.0)) (λ x. x.1) (at_set views j gone (Drains new) (Submits s) at') in
@@ -106,9 +109,10 @@ merges_one j d gone s items views r at two at' =
           (λ (before : Contains d.joined t). let was = r.joined t (subst (λ (z : Drained). Contains z.joined t) mine.1 before) in let lt = was.0 in (omega (arith, clients, lt), none_stays r.pass s.client t.client was.1, was.2))
           (λ (e : s ≡ t). subst (λ (z : Submitted). (z.client < d.clients) × (pass z.client ≡ None) × (z.items ≡ r.sent z.client)) e (known, changed_here r.pass s.client None s.client refl, theirs.1))
           (Contains-push_cases d.joined s t on);
+      invariant = subst (λ (z : Drained). holds (all_updates z.taken) items) (sym mine.1) r.invariant;
       passes = views_set Now (PassHolds r.drainer new pass r.sent) vs gone Spent tt (λ k v other now. now other)
           (views_set (PassHolds r.drainer r.state r.pass r.sent) Now views j (Drains new) (λ apart. (mine.0, refl)) (leaving_stays r.drainer r.state new r.pass r.sent s.client j gone theirs.0 mine.0) r.passes);
     }
 
-pub merges_from : (j : ℕ) (v : Role) (gone : ℕ) (w : Role) → v ≡ Drains (drained_of v) → w ≡ Submits (submitted_of w) → Merges IsKept j v gone w (took_in v w) Spent
-merges_from j v gone w is theirs = subst (λ (z : Role × Role). Merges IsKept j z.0 gone z.1 (took_in z.0 z.1) Spent) (λ i. (sym is i, sym theirs i)) (merges_one j (drained_of v) gone (submitted_of w))
+pub merges_from : (holds : Holds) (j : ℕ) (v : Role) (gone : ℕ) (w : Role) → v ≡ Drains (drained_of v) → w ≡ Submits (submitted_of w) → Merges (IsKept holds) j v gone w (took_in v w) Spent
+merges_from holds j v gone w is theirs = subst (λ (z : Role × Role). Merges (IsKept holds) j z.0 gone z.1 (took_in z.0 z.1) Spent) (λ i. (sym is i, sym theirs i)) (merges_one holds j (drained_of v) gone (submitted_of w))

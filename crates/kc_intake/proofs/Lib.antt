@@ -4,3 +4,4 @@ mod Sending
 mod Draining
 mod Joining
 mod Shapes
+mod Alone

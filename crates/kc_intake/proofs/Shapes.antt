@@ -7,30 +7,38 @@ use Rattle.std.specs.List.{range_with_len}
 use mathlib.Core.List.{IsPrefix}
 use Rattle.crossbeam_queue.specs.Fifo.{Held}
 use Rattle.crossbeam_queue.specs.Passes.{Pass, view, IsSamePass}
+use Rattle.kc_graph.specs.declared.items.Item.{Item}
 use Rattle.kc_intake.specs.declared.updates.Update.{Update}
 use Rattle.kc_intake.specs.declared.roles.Submitted.{Submitted}
 use Rattle.kc_intake.specs.declared.roles.Drained.{Drained}
 use Rattle.kc_intake.specs.declared.roles.Role.{Role}
 use Rattle.kc_intake.specs.declared.roles.Role.TheVariants.{Submits, Drains}
-use Rattle.kc_intake.specs.Causes.{HeldAtStep}
+use Rattle.kc_intake.specs.Causes.{Holds, HoldsOf, HeldAtStep, StaysAtSubmit}
 use Rattle.kc_intake.specs.private.Steps.{with_client, client_of, with_last, with_added, adds, at_drainer, took_in, drain_learns}
 use Rattle.kc_intake.specs.Updates.{updates_of, updates_in, all_updates, AreNumbered}
 use Rattle.kc_intake.specs.Views.{IntakeShape, ClientShape, DrainerShape, intake_of, submitted_of, drained_of, client_shape, drainer_shape, IsClient, IsDrainer, AreAllDrained, submitted, new_client}
 use Rattle.kc_intake.proofs.Lists.{of_append, last_added}
 
 -- a cause that a pass was told of, in the words of what callers see
-pub held_as : (n m : ℕ) (v w : Role) → n ≡ m → v ≡ w → HeldAtStep n v → HeldAtStep m w
-held_as n m v w e f h = subst (λ (z : ℕ × Role). HeldAtStep z.0 z.1) (λ i. (e i, f i)) h
+pub held_as : (holds : Holds) (n m : ℕ) (v w : Role) → n ≡ m → v ≡ w → HeldAtStep holds n v → HeldAtStep holds m w
+held_as holds n m v w e f h = subst (λ (z : ℕ × Role). HeldAtStep holds z.0 z.1) (λ i. (e i, f i)) h
 
-pub held_told : (n : ℕ) (v : Role) → Held n (drain_learns v) → HeldAtStep n v
-held_told n v h = (h.0, h.1, h.2.0)
+pub held_told : (holds : Holds) (n : ℕ) (v : Role) → Held n (drain_learns holds v) → HeldAtStep holds n v
+held_told holds n v h = (h.0, h.1, h.2.0)
 
-pub held_whole : (p : Pass Update Role) (batch : List Update) (v : Role) → view p ≡ v → Held 0 (drain_learns v) → AreAllDrained (drainer_shape p batch)
-held_whole p batch v same h = subst (λ (z : Role). All (λ s. updates_of s.client (all_updates (drained_of z).taken) ≡ updates_in s) (drained_of z).joined) (sym same)
+pub held_whole : (holds : Holds) (p : Pass Update Role) (batch : List Update) (v : Role) → view p ≡ v → Held 0 (drain_learns holds v) → AreAllDrained (drainer_shape p batch)
+held_whole holds p batch v same h = subst (λ (z : Role). All (λ s. updates_of s.client (all_updates (drained_of z).taken) ≡ updates_in s) (drained_of z).joined) (sym same)
     (λ k d lt.
     let s : Submitted = get_or (drained_of v).joined k d in
     let none : h.0 ≡ [] = nil_from_length h.0 h.1 in
     ap (λ us. updates_of s.client us) (sym (append-nil (all_updates (drained_of v).taken)) ∙ ap (λ us. all_updates (drained_of v).taken ++ us) (sym none)) ∙ h.2.1 s (Contains-get_or (drained_of v).joined k d lt))
+
+pub held_empty : (holds : Holds) (p : Pass Update Role) (v : Role) → view p ≡ v → Held 0 (drain_learns holds v) → holds (all_updates (drained_of (view p)).taken) []
+held_empty holds p v same h = subst (λ (z : Role). holds (all_updates (drained_of z).taken) []) (sym same) (subst (λ (us : List Update). holds (all_updates (drained_of v).taken) us) (nil_from_length h.0 h.1) h.2.2)
+
+-- the invariant stays, in the words of the pass
+pub stays_as : (holds : Holds) (n m : ℕ) (s t : Submitted) (item : Item) → n ≡ m → s ≡ t → StaysAtSubmit holds m t item → StaysAtSubmit holds n s item
+stays_as holds n m s t item e f stays = subst (λ (z : ℕ × Submitted). StaysAtSubmit holds z.0 z.1 item) (λ i. (sym e i, sym f i)) stays
 
 pub client_stays : (old new : Pass Update Role) (c : ClientShape) → client_shape old ≡ c → new.table_id ≡ old.table_id → view new ≡ view old → client_shape new ≡ c
 client_stays old new c is table same = (λ i. record { intake = intake_of (table i); number = (submitted_of (same i)).client; sent = (submitted_of (same i)).items }) ∙ is
@@ -48,9 +56,9 @@ drainer_stays old new before batch d is table same none =
     ∙ ap (λ (z : DrainerShape). record z { batch = [] }) is
 
 -- an update was added to the batch that was begun last
-pub added : (old new : Pass Update Role) (batch more : List Update) (u : Update) (d : DrainerShape) → IsDrainer old → drainer_shape old batch ≡ record d { batch = batch; taken = d.taken ++ batch ∷ [] } → IsSamePass old new → adds (view old) u (view new) → more ≡ batch ++ u ∷ [] → All (λ v. v.client < d.clients) batch
-    → (drainer_shape new more ≡ record d { batch = more; taken = d.taken ++ more ∷ [] }) × IsDrainer new × All (λ v. v.client < d.clients) more × AreNumbered (d.taken ++ more ∷ [])
-added old new batch more u d is look same went all_are all =
+pub added : (holds : Holds) (old new : Pass Update Role) (batch more : List Update) (u : Update) (d : DrainerShape) → IsDrainer old → drainer_shape old batch ≡ record d { batch = batch; taken = d.taken ++ batch ∷ [] } → IsSamePass old new → adds holds (view old) u (view new) → more ≡ batch ++ u ∷ [] → All (λ v. v.client < d.clients) batch
+    → (drainer_shape new more ≡ record d { batch = more; taken = d.taken ++ more ∷ [] }) × IsDrainer new × All (λ v. v.client < d.clients) more × AreNumbered (d.taken ++ more ∷ []) × HoldsOf holds (all_updates (d.taken ++ more ∷ []))
+added holds old new batch more u d is look same went all_are all =
     let now = drainer_went (with_added u) old new is same went.0 in
     let clients : (drained_of (view old)).clients ≡ d.clients = ap (λ (z : DrainerShape). z.clients) look in
     let taken : (drained_of (view new)).taken ≡ d.taken ++ more ∷ [] = ap (λ (z : Drained). z.taken) now.1 ∙ ap (λ (z : DrainerShape). with_last u z.taken) look ∙ last_added d.taken batch u ∙ ap (λ us. d.taken ++ us ∷ []) (sym all_are) in (
@@ -58,6 +66,7 @@ added old new batch more u d is look same went all_are all =
       now.0,
       subst (λ (us : List Update). All (λ v. v.client < d.clients) us) (sym all_are) (All-push (λ v. v.client < d.clients) batch u all (subst (λ (n : ℕ). u.client < n) clients went.1.client_in)),
       subst AreNumbered taken went.1.numbers,
+      subst (λ (batches : List (List Update)). HoldsOf holds (all_updates batches)) taken went.1.invariant,
     )
 
 -- client n was split off, and is put at the end of those that were split off before
@@ -81,9 +90,9 @@ pub joined_now : (old new client : Pass Update Role) → IsDrainer old → IsSam
 joined_now old new client is same went = drainer_went (λ d. record d { joined = d.joined ++ submitted_of (view client) ∷ [] }) old new is same went
 
 -- what was drained of the client that was taken in
-pub joined_prefix : (old now new client : Pass Update Role) (c : ClientShape) → drained_of (view now) ≡ record (drained_of (view old)) { joined = (drained_of (view old)).joined ++ submitted_of (view client) ∷ [] } → client_shape client ≡ c → view new ≡ view now → (items : List Update) → drain_learns (view now) items
+pub joined_prefix : (holds : Holds) (old now new client : Pass Update Role) (c : ClientShape) → drained_of (view now) ≡ record (drained_of (view old)) { joined = (drained_of (view old)).joined ++ submitted_of (view client) ∷ [] } → client_shape client ≡ c → view new ≡ view now → (items : List Update) → drain_learns holds (view now) items
     → IsPrefix (updates_of c.number (all_updates (drained_of (view new)).taken)) (updates_in (submitted c))
-joined_prefix old now new client c state is same items learned =
+joined_prefix holds old now new client c state is same items learned =
     let s : Submitted = submitted_of (view client) in
     let on : Contains (drained_of (view now)).joined s = subst (λ (z : Drained). Contains z.joined s) (sym state) (Contains-push (drained_of (view old)).joined s) in
     let taken : List (List Update) = (drained_of (view new)).taken in

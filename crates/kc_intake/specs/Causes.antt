@@ -1,15 +1,43 @@
--- When a queue counts as full or empty.
-use Rattle.std.specs.Prelude.{◌≡◌, ℕ, Bool, true, List}
-use Rattle.crossbeam_queue.specs.Fifo.{Learns, Held}
+-- When a queue counts as full or empty, and what a user's invariant has to bear.
+use Rattle.std.specs.Prelude.{◌≡◌, ℕ, ◌<◌, List, [], ◌∷◌, ◌++◌, length}
+use mathlib.Core.Option.{some}
+use lib.ListN.{get_elem?}
+use Rattle.crossbeam_queue.specs.Fifo.{Held}
+use Rattle.kc_graph.specs.declared.items.Item.{Item}
 use Rattle.kc_intake.specs.declared.updates.Update.{Update}
+use Rattle.kc_intake.specs.declared.roles.Submitted.{Submitted}
 use Rattle.kc_intake.specs.declared.roles.Role.{Role}
 use Rattle.kc_intake.specs.Rule.{IsKept}
+use Rattle.kc_intake.specs.Updates.{updates_of, updates_in}
 
--- each test that is true of all that the queue may hold beside a pass with this role is true of these updates
-abbrev pub IsTold : Role → List Update → Type 0
-IsTold role items = (test : List Update → Bool) → ((pass : ℕ) → Learns IsKept pass role (λ held. test held ≡ true)) → test items ≡ true
+-- of what was drained of an intake, and what waits in it, both oldest first
+abbrev pub Holds : Type 1
+Holds = List Update → List Update → Type 0
 
--- as far as the rule tells it, the queue held n updates at a step of the call in which the pass had this role: n updates pass each test
--- that is true of all that it may have held
-abbrev pub HeldAtStep : ℕ → Role → Type 0
-HeldAtStep n role = Held n (IsTold role)
+-- the next update of a client
+abbrev pub next_update : Submitted → Item → Update
+next_update s item = record { client = s.client; serial = length s.items; item = item }
+
+-- the invariant stays where a client that submitted s submits one more item, while fewer than n updates wait
+abbrev pub StaysAtSubmit : Holds → ℕ → Submitted → Item → Type 0
+StaysAtSubmit holds n s item = (drained waiting : List Update) → length waiting < n → updates_of s.client (drained ++ waiting) ≡ updates_in s → holds drained waiting → holds drained (waiting ++ next_update s item ∷ [])
+
+-- the invariant stays where the update that waits longest is drained
+abbrev pub StaysAtDrain : Holds → Type 0
+StaysAtDrain holds = (drained waiting : List Update) (u : Update) → holds drained (u ∷ waiting) → holds (drained ++ u ∷ []) waiting
+
+-- the invariant holds of what was drained and of what waits
+pub record HoldsOf (holds : Holds) (drained : List Update) : Type 0 where
+  pub waiting : List Update
+  pub invariant : holds drained waiting
+
+-- the queue may hold these updates beside a pass that knows `role`: there are views of all passes with which the rule is kept
+pub record MayWait (holds : Holds) (role : Role) (items : List Update) : Type 0 where
+  pub views : List Role
+  pub pass : ℕ
+  pub kept : IsKept holds items views
+  pub at : get_elem? views pass ≡ some role
+
+-- the queue held n updates at a step at which the pass had this role
+abbrev pub HeldAtStep : Holds → ℕ → Role → Type 0
+HeldAtStep holds n role = Held n (MayWait holds role)

@@ -16,8 +16,8 @@ PassHolds drainer state pass sent j Spent = Unit {0}
 PassHolds drainer state pass sent j (Submits s) = (pass s.client ≡ Some j) × (s.items ≡ sent s.client)
 PassHolds drainer state pass sent j (Drains d) = (j ≡ drainer) × (d ≡ state)
 
--- `items` are the updates in the queue, oldest first
-pub record IsKept (items : List Update) (views : List Role) : Type 0 where
+-- `items` are the updates in the queue, oldest first; `holds` is the invariant of the intake's user, of what was drained and what waits
+pub record IsKept (holds : List Update → List Update → Type 0) (items : List Update) (views : List Role) : Type 0 where
   pub drainer : ℕ
   pub state : Drained
   pub pass : ℕ → Option ℕ
@@ -28,4 +28,5 @@ pub record IsKept (items : List Update) (views : List Role) : Type 0 where
   pub later : (c : ℕ) → state.clients ≤ c → (pass c ≡ None) × (sent c ≡ [])
   -- clients that were taken in send nothing more
   pub joined : (s : Submitted) → Contains state.joined s → (s.client < state.clients) × (pass s.client ≡ None) × (s.items ≡ sent s.client)
+  pub invariant : holds (all_updates state.taken) items
   pub passes : (j : ℕ) (v : Role) → get_elem? views j ≡ some v → PassHolds drainer state pass sent j v

@@ -5,8 +5,8 @@ use crate::rule::Pass;
 use crate::updates::Update;
 use std::marker::Model;
 
-/// The one that takes updates out of an intake. Contracts see its intake, the last `batch`, how many clients there are, `taken`, the
-/// drained batches, and `joined`, what each client that was taken in had sent.
+/// The one that takes updates out of an intake. Contracts see its intake, the last `batch`, how many clients there are,
+/// `taken`, the drained batches, and `joined`, what each client that was taken in had sent.
 #[derive(Drop)]
 pub struct Drainer {
     // What it may do to the queue, and all that was drained and who was taken in.
@@ -27,7 +27,8 @@ impl Model for Drainer {
 }
 
 impl Drainer {
-    /// The updates of the last drain, oldest first. It is empty before the first drain, and after one that found the intake empty.
+    /// The updates of the last drain, oldest first. It is empty before the first drain, and after one that found the
+    /// intake empty.
     pub fn batch(&self) -> &[Update]
         ensures { result.now ≡ self.now.batch }
     {

@@ -2,12 +2,13 @@
 ghost use Rattle.std.specs.Prelude.{◌≡◌, ◌≤◌, ◌<◌, [], ◌∷◌, ◌++◌, length, map, All, IfOk, OnOk, OnErr};
 ghost use Rattle.std.specs.List.{range_with_len};
 ghost use mathlib.Core.List.{IsPrefix};
-ghost use Rattle.kc_intake.specs.Causes.{HeldAtStep};
+ghost use Rattle.kc_intake.specs.Causes.{HeldAtStep, HoldsOf, StaysAtSubmit, StaysAtDrain};
 ghost use Rattle.kc_intake.specs.Updates.{updates_of, updates_in, all_updates, AreNumbered};
 ghost use Rattle.kc_intake.specs.Views.{client_role, drainer_role, new_client, submitted, AreAllDrained};
 
 use crate::client::Client;
 use crate::drainer::Drainer;
+use crate::invariant::{Anything, Invariant};
 use crate::limits::{MAX_CAPACITY, MAX_CLIENTS, MAX_SENT};
 use crate::rule::{Adds, Begins, Compares, NewClient, Queue, Sends, TakesIn};
 use crate::updates::{Empty, Full, Update};
@@ -17,14 +18,16 @@ use std::marker::Model;
 use std::sync::Wait;
 use std::thread::Threads;
 
-/// The queue between clients and their server. Contracts see which queue it is, and its capacity.
+/// The queue between clients and their server. Contracts see which queue it is, and its capacity. `I` is an invariant
+/// of its updates that its user picks.
 #[derive(Drop)]
-pub struct Intake {
-    // Holds at most as many updates as its capacity, 1 to `MAX_CAPACITY`, and keeps `Rule` whatever clients and drainer do.
-    queue: Queue,
+pub struct Intake<I: Invariant = Anything> {
+    // Holds at most as many updates as its capacity, 1 to `MAX_CAPACITY`, and keeps `Rule` whatever clients and drainer
+    // do.
+    queue: Queue<I>,
 }
 
-impl Model for Intake {
+impl<I: Invariant> Model for Intake<I> {
     ghost use Rattle.std.specs.Prelude.{◌≡◌, ◌≤◌, ◌<◌};
     ghost use Rattle.kc_intake.specs.Views.{IntakeShape, intake_of};
     ghost use Rattle.kc_intake.specs.declared.limits.TheConstants.{MAX_CAPACITY};
@@ -37,11 +40,7 @@ impl Model for Intake {
 }
 
 impl Intake {
-    /// An intake that holds up to `capacity` updates, its drainer, and its clients, numbered from 0 (`new_client`). The capacity is 1 to
-    /// `MAX_CAPACITY`, and there are 1 to `MAX_CLIENTS` clients.
-    ///
-    /// This takes all memory that the intake, its drainer and its clients ever need: room for `capacity` updates in the queue, and as
-    /// much in the drainer's batch. No other call takes memory.
+    /// Opens an intake as `open_with` does, with the invariant that holds of all updates (`Anything`).
     pub fn open(
         alloc: Global,
         capacity: u32,
@@ -53,9 +52,32 @@ impl Intake {
         ensures drainer { IfOk result (λ r. r.1 ≡ record { intake = r.0; batch = []; clients = clients; taken = []; joined = [] }) }
         ensures clients { IfOk result (λ r. r.2.items ≡ map (new_client r.0) (range_with_len 0 clients)) }
     {
+        Intake::<Anything>::open_with(alloc, capacity, clients)
+    }
+}
+
+impl<I: Invariant> Intake<I> {
+    /// Opens an intake that holds up to `capacity` updates, its drainer, and its clients, numbered from 0
+    /// (`new_client`). The capacity is 1 to `MAX_CAPACITY`, and there are 1 to `MAX_CLIENTS` clients. The invariant
+    /// holds where nothing was drained and nothing waits.
+    ///
+    /// This takes all memory that the intake, its drainer and its clients ever need: room for `capacity` updates in the
+    /// queue, and as much in the drainer's batch. No other call takes memory.
+    pub fn open_with(
+        alloc: Global,
+        capacity: u32,
+        clients: u32,
+    ) -> Result<(Intake<I>, Drainer, Vec<Client>), AllocError>
+        requires capacity { (1 ≤ capacity) × (capacity ≤ MAX_CAPACITY) }
+        requires clients { (1 ≤ clients) × (clients ≤ MAX_CLIENTS) }
+        requires invariant { I.holds [] [] }
+        ensures capacity { IfOk result (λ r. r.0.capacity ≡ capacity) }
+        ensures drainer { IfOk result (λ r. r.1 ≡ record { intake = r.0; batch = []; clients = clients; taken = []; joined = [] }) }
+        ensures clients { IfOk result (λ r. r.2.items ≡ map (new_client r.0) (range_with_len 0 clients)) }
+    {
         let batch = Vec::with_capacity(alloc, capacity as usize)?;
         let mut opened = Vec::with_capacity(alloc, clients as usize)?;
-        let (queue, mut pass) = Queue::ruled(alloc, capacity as usize)?;
+        let (queue, mut pass) = Queue::<I>::ruled(alloc, capacity as usize)?;
         for number in 0..clients {
             let client = Client {
                 pass: queue.another::<NewClient>(&mut pass),
@@ -67,12 +89,16 @@ impl Intake {
         Ok((Intake { queue }, Drainer { pass, batch }, opened))
     }
 
-    /// Submits an item: it is queued as an update with the client's number, and with the number of items that the client sent before as
-    /// its serial. The client is of this intake, and has sent fewer than `MAX_SENT` items.
+    /// Submits an item: it is queued as an update with the client's number, and with the number of items that the
+    /// client sent before as its serial. The client is of this intake, and has sent fewer than `MAX_SENT` items. The
+    /// invariant stays where the item is queued (`StaysAtSubmit`).
     ///
-    /// `Full` comes only where, as far as the rule tells it, the queue held its capacity at a step of this call (`HeldAtStep`); then
-    /// nothing was queued, and the client is as it was. The call takes constant time, but that it tries again while other threads are at
-    /// the same place of the queue.
+    /// `Full` comes only where the queue held its capacity at a step since the client's last `Ok` (`HeldAtStep`); then
+    /// nothing was queued, and the client is as it was. The invariant holds of the updates that waited at this step
+    /// (`MayWait`). No body answers `Full` without such a step: it is proved for every invariant, and can't show of
+    /// updates which it made up that an invariant holds of them.
+    ///
+    /// The call takes constant time, but that it tries again while other threads are at the same place of the queue.
     pub fn submit<R: Threads + Wait + Sync>(
         &self,
         rt: &R,
@@ -81,15 +107,19 @@ impl Intake {
     ) -> Result<(), Full>
         requires intake { client.old.intake ≡ self.now }
         requires few { length client.old.sent < MAX_SENT }
+        requires invariant { StaysAtSubmit I.holds self.now.capacity (submitted client.old) item }
         ensures ok { OnOk result (client.new ≡ record client.old { sent = client.old.sent ++ item ∷ [] }) }
-        ensures full { OnErr result ((client.new ≡ client.old) × HeldAtStep self.now.capacity (client_role client.old)) }
+        ensures full { OnErr result ((client.new ≡ client.old) × HeldAtStep I.holds self.now.capacity (client_role client.old)) }
     {
         let update = Update {
             client: client.number,
             serial: client.serial,
             item,
         };
-        match self.queue.push_as::<Sends, R>(rt, &mut client.pass, update) {
+        match self
+            .queue
+            .push_as::<Sends<I>, R>(rt, &mut client.pass, update)
+        {
             Ok(()) => {
                 client.serial += 1;
                 Ok(())
@@ -98,33 +128,38 @@ impl Intake {
         }
     }
 
-    /// Drains a batch of 1 to `capacity` updates, oldest first, which the drainer then has as its `batch`. The updates of each client
-    /// are numbered from 0 over all batches (`AreNumbered`). The drainer is of this intake.
+    /// Drains a batch of 1 to `capacity` updates, oldest first, which the drainer then has as its `batch`. The updates
+    /// of each client are numbered from 0 over all batches (`AreNumbered`), and the invariant holds of all that was
+    /// drained, with what then waited (`HoldsOf`). The drainer is of this intake. The invariant stays where an update
+    /// is drained (`StaysAtDrain`).
     ///
-    /// The batch is shorter than `capacity` only where, as far as the rule tells it, the queue was empty at a step of this call
-    /// (`HeldAtStep`). `Empty` comes only there too; then the batch is empty, and nothing was drained. In both cases all is drained that
-    /// the clients sent that were taken in (`AreAllDrained`). The call takes time in proportion to the batch, but that it tries again
-    /// while other threads are at the same place of the queue.
+    /// The batch is shorter than `capacity` only where the queue was empty at a step after the last update was drained
+    /// (`HeldAtStep`). `Empty` comes only there too; then the batch is empty, and nothing was drained. In both cases
+    /// the invariant held of what was drained with nothing that waits, and all is drained that the clients sent that
+    /// were taken in (`AreAllDrained`). The call takes time in proportion to the batch, but that it tries again while
+    /// other threads are at the same place of the queue.
     pub fn drain<R: Threads + Wait + Sync>(
         &self,
         rt: &R,
         drainer: &mut Drainer,
     ) -> Result<(), Empty>
         requires intake { drainer.old.intake ≡ self.now }
+        requires invariant { StaysAtDrain I.holds }
         ensures ok { OnOk result (drainer.new ≡ record drainer.old { batch = drainer.new.batch; taken = drainer.old.taken ++ drainer.new.batch ∷ [] }) }
         ensures size { OnOk result ((1 ≤ length drainer.new.batch) × (length drainer.new.batch ≤ self.now.capacity)) }
         ensures clients { OnOk result (All (λ u. u.client < drainer.new.clients) drainer.new.batch) }
         ensures serials { OnOk result (AreNumbered drainer.new.taken) }
-        ensures short { OnOk result (length drainer.new.batch < self.now.capacity → HeldAtStep 0 (drainer_role drainer.new) × AreAllDrained drainer.new) }
-        ensures empty { OnErr result ((drainer.new ≡ record drainer.old { batch = [] }) × HeldAtStep 0 (drainer_role drainer.new) × AreAllDrained drainer.new) }
+        ensures invariant { OnOk result (HoldsOf I.holds (all_updates drainer.new.taken)) }
+        ensures short { OnOk result (length drainer.new.batch < self.now.capacity → HeldAtStep I.holds 0 (drainer_role drainer.new) × AreAllDrained drainer.new × I.holds (all_updates drainer.new.taken) []) }
+        ensures empty { OnErr result ((drainer.new ≡ record drainer.old { batch = [] }) × HeldAtStep I.holds 0 (drainer_role drainer.new) × AreAllDrained drainer.new × I.holds (all_updates drainer.new.taken) []) }
     {
         drainer.batch.clear();
-        let Some(first) = self.queue.pop_as::<Begins, R>(rt, &mut drainer.pass) else {
+        let Some(first) = self.queue.pop_as::<Begins<I>, R>(rt, &mut drainer.pass) else {
             return Err(Empty);
         };
         drainer.batch.push(first).unwrap();
         while drainer.batch.len() < self.queue.capacity() {
-            let Some(next) = self.queue.pop_as::<Adds, R>(rt, &mut drainer.pass) else {
+            let Some(next) = self.queue.pop_as::<Adds<I>, R>(rt, &mut drainer.pass) else {
                 break;
             };
             drainer.batch.push(next).unwrap();
@@ -132,15 +167,15 @@ impl Intake {
         Ok(())
     }
 
-    /// Takes in a client that has ended. The updates that were drained of it (`updates_of`) are the first ones of those that it sent
-    /// (`updates_in`), in its order, each once. Where a later drain finds the intake empty, they are all of them (`AreAllDrained`). The
-    /// drainer and the client are of this intake. The call takes constant time.
+    /// Takes in a client that has ended. The updates that were drained of it (`updates_of`) are the first ones of those
+    /// that it sent (`updates_in`), in its order, each once. Where a later drain finds the intake empty, they are all
+    /// of them (`AreAllDrained`). The drainer and the client are of this intake. The call takes constant time.
     pub fn take_in<R: Threads + Wait + Sync>(&self, _rt: &R, drainer: &mut Drainer, client: Client)
         requires intake { (drainer.old.intake ≡ self.now) × (client.intake ≡ self.now) }
         ensures same { drainer.new ≡ record drainer.old { joined = drainer.old.joined ++ submitted client ∷ [] } }
         ensures prefix { IsPrefix (updates_of client.number (all_updates drainer.new.taken)) (updates_in (submitted client)) }
     {
         self.queue.absorb::<TakesIn>(&mut drainer.pass, client.pass);
-        self.queue.learn_as::<Compares>(&mut drainer.pass);
+        self.queue.learn_as::<Compares<I>>(&mut drainer.pass);
     }
 }

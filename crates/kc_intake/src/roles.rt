@@ -1,4 +1,5 @@
-//! What each pass of the queue knows. No value of these types is made: they are what contracts and the queue's rule speak of.
+//! What each pass of the queue knows. No value of these types is made: they are what contracts and the queue's rule
+//! speak of.
 use crate::updates::Update;
 use kc_graph::Item;
 use std::collections::LinkedList;

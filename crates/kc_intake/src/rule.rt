@@ -1,20 +1,24 @@
 //! The rule of the queue, and what each kind of step tells.
+use crate::invariant::Invariant;
 use crate::roles::Role;
 use crate::updates::Update;
 use crossbeam_queue::RuledArrayQueue;
 use crossbeam_queue::protocol::{Join, Lesson, Outcome, Protocol, Split};
+use std::marker::PhantomData;
 
-pub(crate) type Queue = RuledArrayQueue<Update, Role, Rule>;
+pub(crate) type Queue<I> = RuledArrayQueue<Update, Role, Rule<I>>;
 
 pub(crate) type Pass = crossbeam_queue::Pass<Update, Role>;
 
-pub(crate) struct Rule;
+pub(crate) struct Rule<I> {
+    invariant: PhantomData<I>,
+}
 
-impl Protocol<Update, Role> for Rule {
+impl<I: Invariant> Protocol<Update, Role> for Rule<I> {
     ghost use Rattle.kc_intake.specs.Rule.{IsKept};
     ghost use Rattle.kc_intake.specs.private.Steps.{first_role};
 
-    ghost holds = { IsKept };
+    ghost holds = { IsKept I.holds };
 
     ghost first = { first_role };
 }
@@ -31,48 +35,54 @@ impl Split<Role> for NewClient {
 }
 
 // A client pushes an update, or finds the queue full.
-pub(crate) struct Sends;
+pub(crate) struct Sends<I> {
+    invariant: PhantomData<I>,
+}
 
-impl Outcome<Update, Role> for Sends {
+impl<I: Invariant> Outcome<Update, Role> for Sends<I> {
     ghost use Rattle.kc_intake.specs.private.Steps.{sends};
 
     ghost then = { sends };
 }
 
-impl Lesson<Update, Role> for Sends {
-    ghost use Rattle.kc_intake.specs.Causes.{IsTold};
+impl<I: Invariant> Lesson<Update, Role> for Sends<I> {
+    ghost use Rattle.kc_intake.specs.Causes.{MayWait};
 
-    ghost fact = { IsTold };
+    ghost fact = { MayWait I.holds };
 }
 
 // The drainer pops the first update of a batch, or finds the queue empty.
-pub(crate) struct Begins;
-
-impl Outcome<Update, Role> for Begins {
-    ghost use Rattle.kc_intake.specs.private.Steps.{begins};
-
-    ghost then = { begins };
+pub(crate) struct Begins<I> {
+    invariant: PhantomData<I>,
 }
 
-impl Lesson<Update, Role> for Begins {
+impl<I: Invariant> Outcome<Update, Role> for Begins<I> {
+    ghost use Rattle.kc_intake.specs.private.Steps.{begins};
+
+    ghost then = { begins I.holds };
+}
+
+impl<I: Invariant> Lesson<Update, Role> for Begins<I> {
     ghost use Rattle.kc_intake.specs.private.Steps.{drain_learns};
 
-    ghost fact = { drain_learns };
+    ghost fact = { drain_learns I.holds };
 }
 
 // The drainer pops a further update of the batch, or finds the queue empty.
-pub(crate) struct Adds;
-
-impl Outcome<Update, Role> for Adds {
-    ghost use Rattle.kc_intake.specs.private.Steps.{adds};
-
-    ghost then = { adds };
+pub(crate) struct Adds<I> {
+    invariant: PhantomData<I>,
 }
 
-impl Lesson<Update, Role> for Adds {
+impl<I: Invariant> Outcome<Update, Role> for Adds<I> {
+    ghost use Rattle.kc_intake.specs.private.Steps.{adds};
+
+    ghost then = { adds I.holds };
+}
+
+impl<I: Invariant> Lesson<Update, Role> for Adds<I> {
     ghost use Rattle.kc_intake.specs.private.Steps.{drain_learns};
 
-    ghost fact = { drain_learns };
+    ghost fact = { drain_learns I.holds };
 }
 
 // A client is taken in.
@@ -88,10 +98,12 @@ impl Join<Role> for TakesIn {
 }
 
 // What the clients that were taken in had sent.
-pub(crate) struct Compares;
+pub(crate) struct Compares<I> {
+    invariant: PhantomData<I>,
+}
 
-impl Lesson<Update, Role> for Compares {
+impl<I: Invariant> Lesson<Update, Role> for Compares<I> {
     ghost use Rattle.kc_intake.specs.private.Steps.{drain_learns};
 
-    ghost fact = { drain_learns };
+    ghost fact = { drain_learns I.holds };
 }

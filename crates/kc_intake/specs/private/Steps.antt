@@ -7,7 +7,7 @@ use Rattle.kc_intake.specs.declared.roles.Role.{Role}
 use Rattle.kc_intake.specs.declared.roles.Role.TheVariants.{Submits, Drains}
 use Rattle.kc_intake.specs.Updates.{updates_of, updates_in, all_updates, AreNumbered}
 use Rattle.kc_intake.specs.Views.{submitted_of, drained_of}
-use Rattle.kc_intake.specs.Causes.{IsTold}
+use Rattle.kc_intake.specs.Causes.{Holds, HoldsOf, MayWait}
 
 -- the drainer of a queue that was just made
 abbrev pub first_role : Role
@@ -50,23 +50,24 @@ with_begun u d = record d { taken = d.taken ++ (u ∷ []) ∷ [] }
 abbrev pub with_added : Update → Drained → Drained
 with_added u d = record d { taken = with_last u d.taken }
 
--- the update is of a client of the intake, and what was drained is numbered
-pub record IsSound (u : Update) (v w : Role) : Type 0 where
+-- the update is of a client of the intake, what was drained is numbered, and the invariant holds of it and of what still waits
+pub record IsSound (holds : Holds) (u : Update) (v w : Role) : Type 0 where
   pub client_in : u.client < (drained_of v).clients
   pub numbers : AreNumbered (drained_of w).taken
+  pub invariant : HoldsOf holds (all_updates (drained_of w).taken)
 
-abbrev pub begins : Role → Update → Role → Type 0
-begins v u w = (w ≡ at_drainer (with_begun u) v) × IsSound u v w
+abbrev pub begins : Holds → Role → Update → Role → Type 0
+begins holds v u w = (w ≡ at_drainer (with_begun u) v) × IsSound holds u v w
 
-abbrev pub adds : Role → Update → Role → Type 0
-adds v u w = (w ≡ at_drainer (with_added u) v) × IsSound u v w
+abbrev pub adds : Holds → Role → Update → Role → Type 0
+adds holds v u w = (w ≡ at_drainer (with_added u) v) × IsSound holds u v w
 
 -- what each client that was taken in had sent is what was drained of it, and then what the queue holds of it
 abbrev pub AreWhole : Drained → List Update → Type 0
 AreWhole d items = (s : Submitted) → Contains d.joined s → updates_of s.client (all_updates d.taken ++ items) ≡ updates_in s
 
-abbrev pub drain_learns : Role → List Update → Type 0
-drain_learns v items = IsTold v items × AreWhole (drained_of v) items
+abbrev pub drain_learns : Holds → Role → List Update → Type 0
+drain_learns holds v items = MayWait holds v items × AreWhole (drained_of v) items × holds (all_updates (drained_of v).taken) items
 
 -- a client is taken in
 abbrev pub took_in : Role → Role → Role

@@ -1,6 +1,7 @@
 use Rattle.std.proofs.Common.{◌≡◌, ◌≤◌, ◌<◌, ◌-◌, [], ◌∷◌, ◌++◌, All}
 use Rattle.std.specs.Prelude.{vec_len, vec_capacity}
-use Rattle.kc_intake.specs.Updates.{AreNumbered}
+use Rattle.kc_intake.specs.Causes.{HoldsOf}
+use Rattle.kc_intake.specs.Updates.{AreNumbered, all_updates}
 use Rattle.kc_intake.specs.Views.{drainer_shape, IsDrainer}
 use Rattle.kc_intake.proofs.intake.Intake.drain.Given as goal
 
@@ -13,6 +14,7 @@ invariant-loop-self g l =
     × (l.self.capacity ≤ vec_capacity l.drainer-inside.batch)
     × All (λ u. u.client < l.fn.drainer.clients) l.drainer-inside.batch.items
     × AreNumbered (l.fn.drainer.taken ++ l.drainer-inside.batch.items ∷ [])
+    × HoldsOf g.I.Invariant.holds (all_updates (l.fn.drainer.taken ++ l.drainer-inside.batch.items ∷ []))
 
 abbrev pub decreases-loop-self : goal.decreases-loop-self
 decreases-loop-self g l = l.self.capacity - vec_len l.drainer-inside.batch

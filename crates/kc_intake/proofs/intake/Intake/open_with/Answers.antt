@@ -3,16 +3,16 @@ use Rattle.std.proofs.lemmas.Grind.{common_steps}
 use Rattle.kc_intake.specs.Views.{intake_of, client_shape}
 use Rattle.kc_intake.proofs.Joining.{opens, forks_from}
 use Rattle.kc_intake.proofs.Shapes.{client_came}
-use Rattle.kc_intake.proofs.intake.Intake.open.Goals as goal
+use Rattle.kc_intake.proofs.intake.Intake.open_with.Goals as goal
 
 pub ruled-requires-clause-rule : goal.ruled-requires-clause-rule
-ruled-requires-clause-rule c = opens
+ruled-requires-clause-rule g c = opens _ c.requires.invariant
 
 pub another-requires-clause-rule : goal.another-requires-clause-rule
-another-requires-clause-rule c = forks_from _ _ c.loop-number.invariant.0.role_is
+another-requires-clause-rule g c = forks_from _ _ _ c.loop-number.invariant.0.role_is
 
 pub loop-number-preserved : goal.loop-number-preserved
-loop-number-preserved c =
+loop-number-preserved g c =
     let i = c.loop-number.invariant in
     let is_ok = c.unwrap.ensures in
     let pushed = c.push.ensures.items in
