@@ -5,6 +5,7 @@ mod FaultDecides
 mod Following
 mod HeaderEnds
 mod InputLemmas
+mod LineEnds
 mod NumberLines
 mod Saying
 mod Stepping

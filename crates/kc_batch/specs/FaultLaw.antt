@@ -9,7 +9,7 @@ use Rattle.kc_batch.specs.declared.token.Kind.TheVariants as kind
 use Rattle.kc_batch.specs.declared.turn.Turn.TheVariants.{Pass, Stop}
 use Rattle.kc_batch.specs.declared.batch.Next.TheVariants.{Refused}
 use Rattle.kc_batch.specs.Turns.{turn_of, IsItemOf}
-use Rattle.kc_batch.specs.Batches.{whole, after_end, batch_of}
+use Rattle.kc_batch.specs.Batches.{whole, after_end, batch_of, batches, behind_batch}
 
 abbrev pub line_at : ℕ → Kind → Token
 line_at number kind = record { number = number; kind = kind }
@@ -42,3 +42,7 @@ pub record FirstFaultDecides : Type 0 where
       → batch_of rules (line_at first kind.BatchStart ∷ item_lines ls ++ line_at last k ∷ rest) ≡ (Refused last reason, line_at last k ∷ [])
   -- all lines go up to the next `end`, and with it
   pub passed : (ts rest : List Token) (last : ℕ) → All (λ t. is_passed t.kind ≡ true) ts → after_end (ts ++ line_at last kind.BatchEnd ∷ rest) ≡ rest
+
+-- the batches of lines, as a command applies them, are the one to which the first-fault law leads, and then those of the lines after it
+abbrev pub BatchesFollow : Type 0
+BatchesFollow = (rules : Rules) (ts : List Token) → batches rules ts ≡ behind_batch (batch_of rules ts).0 (batches rules (batch_of rules ts).1)

@@ -6,6 +6,7 @@ pub mod HeaderLaw
 pub mod HeaderShape
 pub mod Headers
 pub mod Laws
+pub mod LineLaw
 pub mod RangeLaw
 pub mod Tokens
 pub mod Turns
