@@ -14,4 +14,5 @@ mod Pieces
 mod PrintedText
 mod Ranges
 mod Runs
+mod Telling
 mod Wording

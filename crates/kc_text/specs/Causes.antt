@@ -1,5 +1,5 @@
 -- When a fault may be answered: causes, on the count of faults of a source or sink before a call and after it.
-use Rattle.std.specs.Prelude.{Bool, ℕ, ◌+◌, ◌-◌, ◌^◌, ◌≤◌, ◌≡◌, min, Result, Ok, Err}
+use Rattle.std.specs.Prelude.{Bool, ℕ, ◌+◌, ◌-◌, ◌^◌, ◌≤◌, ◌≡◌, min, List, Option, Result, Ok, Err}
 use Rattle.kc_text.specs.declared.line.LineFault.{LineFault}
 use Rattle.kc_text.specs.declared.line.LineFault.TheVariants.{ReadFault, Memory}
 
@@ -19,7 +19,14 @@ OnReadFault (Err ReadFault) P = P
 OnReadFault (Err (Memory _)) P = Unit {0}
 OnReadFault (Ok _) P = Unit {0}
 
--- what contracts see of a sink over a writer: its count of faults, and whether the writer was flushed since the last write
+-- what contracts see of a source over a reader: the bytes not yet read, where they are told, and its count of faults
+pub record Inlet : Type 0 where
+  pub left : Option (List ℕ)
+  pub faults : ℕ
+
+-- what contracts see of a sink over a writer: the bytes taken so far, where they are told, its count of faults, and whether the writer was
+-- flushed since the last write
 pub record Outlet : Type 0 where
+  pub taken : Option (List ℕ)
   pub faults : ℕ
   pub is_flushed : Bool

@@ -11,6 +11,7 @@ pub mod ReadBack
 pub mod Reading
 pub mod Reasons
 pub mod Scanning
+pub mod Telling
 pub mod Words
 pub mod Writing
 pub mod private

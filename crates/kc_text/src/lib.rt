@@ -23,6 +23,7 @@ mod sink;
 mod source;
 mod std_sink;
 mod std_source;
+mod told;
 mod window;
 mod word;
 
@@ -43,4 +44,5 @@ pub use sink::{Sink, put_all};
 pub use source::{Failed, Source};
 pub use std_sink::StdSink;
 pub use std_source::StdSource;
+pub use told::{Told, Untold};
 pub use word::{is_named, is_skipped, next_word};

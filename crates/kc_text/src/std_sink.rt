@@ -1,58 +1,94 @@
 //! A writer of std as a sink.
-ghost use Rattle.std.specs.Prelude.{◌≡◌, ◌<◌, ◌≤◌, length, IfOk, OnErr, OnOk, true, false};
+ghost use Rattle.std.specs.Prelude.{◌≡◌, ◌<◌, ◌≤◌, length, take, None, IfOk, OnErr, OnOk, true, false};
+ghost use Rattle.std.specs.Io.KnownBytes.{append_known};
 ghost use Rattle.kc_text.specs.Causes.{Rose};
+ghost use Rattle.kc_text.specs.Telling.{IsTold, told_of};
 
-use crate::{Failed, Sink};
+use crate::{Failed, Sink, Told, Untold};
 use std::io::{ErrorKind, Write};
-use std::marker::Model;
+use std::marker::{Model, PhantomData};
 
-/// A writer as a sink, as the program's standard output. It doesn't tell its bytes.
+/// A writer as a sink, as the program's standard output. It tells the bytes that its writer tells, if `K` says so; by itself it tells
+/// none.
 ///
 /// Each error of the writer is a fault, but that a signal interrupted a write: it is made again. A write that takes nothing is a fault too.
-/// A contract sees it as an `Outlet`: its count of faults, and whether it was flushed since the last write.
+/// A contract sees it as an `Outlet`: what it took, where that is told, its count of faults, and whether it was flushed since the last
+/// write.
 #[derive(Drop)]
-pub struct StdSink<W> {
+pub struct StdSink<W: Write, K: Told = Untold> {
     // What the bytes go to.
     writer: W,
     // How many calls have failed, interrupted ones not counted.
     faults: u64,
     // Whether the writer was flushed since the last write.
     is_flushed: bool,
+    // Whether the bytes are told.
+    told: PhantomData<K>,
 }
 
-impl<W> Model for StdSink<W> {
+impl<W: Write, K: Told> Model for StdSink<W, K> {
+    ghost use Rattle.std.specs.Prelude.{◌≡◌, true};
     ghost use Rattle.kc_text.specs.Causes.{Outlet};
+    ghost use Rattle.kc_text.specs.Telling.{IsTold, told_of};
 
     ghost Value = { Outlet };
 
-    ghost view = { λ s. record { faults = s.faults; is_flushed = s.is_flushed } };
+    ghost view = { λ s. record { taken = told_of K.told (W.contents s.writer); faults = s.faults; is_flushed = s.is_flushed } };
+
+    ghost invariant = { λ s. K.told ≡ true → IsTold (W.contents s.writer) };
 }
 
-impl<W: Write + Drop> StdSink<W> {
-    /// A sink that writes to `writer`.
+impl<W: Write + Drop> StdSink<W, Untold> {
+    /// Returns a sink that writes to `writer` and tells no bytes.
     pub fn new(writer: W) -> Self
-        ensures { result ≡ record { faults = 0; is_flushed = true } }
+        ensures { result ≡ record { taken = None; faults = 0; is_flushed = true } }
     {
         StdSink {
             writer,
             faults: 0,
             is_flushed: true,
+            told: PhantomData,
         }
     }
 }
 
-impl<W: Write + Drop> Sink for StdSink<W> {
-    ghost use Rattle.std.specs.Prelude.{None};
+impl<W: Write + Drop, K: Told> StdSink<W, K> {
+    /// Returns a sink that writes to `writer`. If `K` says that bytes are told, the writer has to tell them, and the sink tells the same.
+    pub fn telling(writer: W) -> Self
+        requires { K.told ≡ true → IsTold (W.contents writer) }
+        ensures { result ≡ record { taken = told_of K.told (W.contents writer); faults = 0; is_flushed = true } }
+    {
+        StdSink {
+            writer,
+            faults: 0,
+            is_flushed: true,
+            told: PhantomData,
+        }
+    }
 
-    ghost taken = { λ _. None };
+    /// Returns the writer, with what the sink took. What the writer holds back isn't flushed.
+    pub fn into_writer(self) -> W
+        ensures tells { K.told ≡ true → IsTold (W.contents result) }
+        ensures taken { told_of K.told (W.contents result) ≡ self.taken }
+    {
+        let StdSink { writer, .. } = self;
+        writer
+    }
+}
+
+impl<W: Write + Drop, K: Told> Sink for StdSink<W, K> {
+    ghost taken = { λ s. s.taken };
 
     ghost faults = { λ s. s.faults };
 
     /// Hands bytes to the writer. Afterwards the sink isn't flushed, whatever the answer.
+    #[tactic(auto, using(crate::proofs::Telling::written, crate::proofs::Telling::written_tells, crate::proofs::Telling::kept, crate::proofs::Telling::kept_tells))]
     fn write(&mut self, bytes: &[u8]) -> Result<usize, Failed>
         // As the trait has them.
         ensures some { IfOk result (λ k. 0 < k) }
         ensures bound { IfOk result (λ k. k ≤ length bytes.now) }
+        ensures taken { IfOk result (λ k. self.new.taken ≡ append_known self.old.taken (take k bytes.now)) }
+        ensures failed { OnErr result (self.new.taken ≡ self.old.taken) }
         ensures cause { OnErr result (Rose self.old.faults self.new.faults) }
         ensures quiet { OnOk result (self.new.faults ≡ self.old.faults) }
 
@@ -77,7 +113,8 @@ impl<W: Write + Drop> Sink for StdSink<W> {
     /// A program calls this before it waits and after its last write, and reads `Failed` as a
     /// write that failed: bytes may be lost.
     fn flush(&mut self) -> Result<(), Failed>
-        // As the trait has it.
+        // As the trait has them.
+        ensures taken { self.new.taken ≡ self.old.taken }
         ensures cause { OnErr result (Rose self.old.faults self.new.faults) }
 
         // And whether it is flushed afterwards.

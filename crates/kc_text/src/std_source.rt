@@ -1,43 +1,72 @@
 //! A reader of std as a source.
-ghost use Rattle.std.specs.Prelude.{◌≡◌, None};
+ghost use Rattle.std.specs.Prelude.{◌≡◌, None, true};
+ghost use Rattle.kc_text.specs.Telling.{IsTold, told_of};
 
-use crate::{Failed, Source};
+use crate::{Failed, Source, Told, Untold};
 use std::io::{ErrorKind, Read};
-use std::marker::Model;
+use std::marker::{Model, PhantomData};
 
-/// A reader as a source, as the program's standard input. It tells no bytes.
+/// A reader as a source, as the program's standard input. It tells the bytes that its reader tells, if `K` says so; by itself it
+/// tells none.
 ///
-/// Each error of the reader is a fault, but that a signal interrupted a read: it is made again. A contract sees it as its count of faults.
+/// Each error of the reader is a fault, but that a signal interrupted a read: it is made again. A contract sees it as an `Inlet`: what
+/// is left, where that is told, and its count of faults.
 #[derive(Drop)]
-pub struct StdSource<R> {
+pub struct StdSource<R: Read, K: Told = Untold> {
     // What the bytes come from.
     reader: R,
     // How many calls have failed, interrupted ones not counted.
     faults: u64,
+    // Whether the bytes are told.
+    told: PhantomData<K>,
 }
 
-impl<R> Model for StdSource<R> {
-    ghost use Rattle.std.specs.Prelude.{ℕ};
+impl<R: Read, K: Told> Model for StdSource<R, K> {
+    ghost use Rattle.std.specs.Prelude.{◌≡◌, true};
+    ghost use Rattle.kc_text.specs.Causes.{Inlet};
+    ghost use Rattle.kc_text.specs.Telling.{IsTold, told_of};
 
-    ghost Value = { ℕ };
+    ghost Value = { Inlet };
 
-    ghost view = { λ s. s.faults };
+    ghost view = { λ s. record { left = told_of K.told (R.remaining s.reader); faults = s.faults } };
+
+    ghost invariant = { λ s. K.told ≡ true → IsTold (R.remaining s.reader) };
 }
 
-impl<R: Read + Drop> StdSource<R> {
-    /// A source that reads from `reader`.
+impl<R: Read + Drop> StdSource<R, Untold> {
+    /// Returns a source that reads from `reader` and tells no bytes.
     pub fn new(reader: R) -> Self
-        ensures { result ≡ 0 }
+        ensures { result ≡ record { left = None; faults = 0 } }
     {
-        StdSource { reader, faults: 0 }
+        StdSource {
+            reader,
+            faults: 0,
+            told: PhantomData,
+        }
     }
 }
 
-impl<R: Read + Drop> Source for StdSource<R> {
-    ghost left = { λ _. None };
+impl<R: Read + Drop, K: Told> StdSource<R, K> {
+    /// Returns a source that reads from `reader`. If `K` says that bytes are told, the reader has to tell them, and the source tells
+    /// the same.
+    pub fn telling(reader: R) -> Self
+        requires { K.told ≡ true → IsTold (R.remaining reader) }
+        ensures { result ≡ record { left = told_of K.told (R.remaining reader); faults = 0 } }
+    {
+        StdSource {
+            reader,
+            faults: 0,
+            told: PhantomData,
+        }
+    }
+}
 
-    ghost faults = { λ s. s };
+impl<R: Read + Drop, K: Told> Source for StdSource<R, K> {
+    ghost left = { λ s. s.left };
 
+    ghost faults = { λ s. s.faults };
+
+    #[tactic(auto, using(crate::proofs::Telling::read_left, crate::proofs::Telling::read_tells, crate::proofs::Telling::kept, crate::proofs::Telling::kept_tells, crate::proofs::Telling::at_end))]
     fn read(&mut self, buf: &mut [u8]) -> Result<usize, Failed> {
         for _turn in 0..u64::MAX {
             match self.reader.read(buf) {

@@ -1,15 +1,15 @@
-// Run texts, whole, changed and broken. What is told of them was worked out by hand.
+// Run texts, whole, changed and broken. Their answers were worked out by hand.
 
 use crate::tests::support::{Bench, LIMITS, Lines, check, input_of, joined, sides};
 use kc_audit::{AuditFault, AuditVerdict, RunText, audit, read_run};
 
-// Runs that no text tells.
+// Runs that aren't read from a text.
 mod runs;
 
 // The limits of a line and of the input of the command that audits.
 const RUN_LIMITS: (u32, u32) = (LIMITS.1, LIMITS.1);
 
-// Tells a verdict.
+// Adds a verdict.
 fn tell(rt: &impl Bench, out: &mut Lines, run: &RunText) {
     assert!(rt; run.is_auditable());
     match audit(rt.alloc(), run).expect(rt, "memory") {
@@ -21,7 +21,7 @@ fn tell(rt: &impl Bench, out: &mut Lines, run: &RunText) {
     }
 }
 
-// Tells what the audit of a text says: the verdict, the refused line and why, or `?` for a read fault.
+// Returns the answer of the audit of a text: the verdict, the refused line and why, or `?` for a read fault.
 fn told(rt: &impl Bench, text: &[u8], piece: u32, failing: &[u32], limits: (u32, u32)) -> Vec<u8> {
     let mut input = input_of(rt, text, piece, failing, limits);
     let mut out = Lines::new(rt);
@@ -35,7 +35,8 @@ fn told(rt: &impl Bench, text: &[u8], piece: u32, failing: &[u32], limits: (u32,
     out.done(rt)
 }
 
-// Texts that begin with `before`, have the first side of a row and end with `after`: its second side is told of them.
+// Checks texts that begin with `before`, have the first side of a row and end with `after`. The second side is the
+// answer.
 fn check_rows(rt: &impl Bench, before: &'static str, rows: &[&'static str], after: &'static str) {
     for row in rows {
         let (part, want) = sides(rt, row);
@@ -188,7 +189,7 @@ const HEADS: &[&str] = &[
 
 const ONE: &str = "kcore-run 1\nvertices 1\n";
 
-// What follows `ONE`.
+// Ends after `ONE`.
 const ENDS: &[&str] = &[
     "vertex 0 level 0 est 0 low 0 high 0 up 0 down 0\nend => explained\n",
     "vertex 0 level 0 est 0 low 0 high 0 up 0 down 0\nend\n#\n => explained\n",
@@ -217,7 +218,7 @@ fn whole_texts(rt: HostRuntime) {
     }
 }
 
-// Limits of a line and of the input, and what is told of `SHORT`.
+// Limits of a line and of the input, and the answer to `SHORT`.
 const LIMITED: &[((u32, u32), &str)] = &[
     ((47, 1000), "explained\n"),
     ((46, 1000), "3 line-long\n"),
@@ -244,7 +245,7 @@ fn limits_and_faults(rt: HostRuntime) {
     }
 }
 
-// What is told of a run with as many readers.
+// Returns the answer to a run with this many readers.
 fn told_of_readers(rt: &impl Bench, count: u32) -> Vec<u8> {
     let mut lines = Lines::new(rt);
     for reader in 0..count {

@@ -1,4 +1,4 @@
-// Headers and batches of inputs. What is told of them was worked out by hand.
+// Headers and batches of inputs. Their answers were worked out by hand.
 
 use crate::tests::support::{Bench, Input, LIMITS, Lines, check, input_of, joined, sides};
 use kc_batch::{
@@ -10,7 +10,7 @@ use kc_levels::Profile;
 // The program's limit of the items of a batch.
 const ITEM_LIMIT: u32 = 1_048_576;
 
-// Tells a header: `n`, and each ask as its times and vertices.
+// Adds a header: `n`, and each ask as its times and vertices.
 fn tell_header(rt: &impl Bench, out: &mut Lines, header: &Header) {
     out.number(rt, header.n);
     for ask in header.asks.as_slice() {
@@ -22,7 +22,7 @@ fn tell_header(rt: &impl Bench, out: &mut Lines, header: &Header) {
     out.end(rt);
 }
 
-// Tells a batch: the line of its `end`, and each item.
+// Adds a batch: the line of its `end`, and each item.
 fn tell_batch(rt: &impl Bench, out: &mut Lines, batch: &Batch) {
     out.number(rt, batch.line);
     for item in batch.items.as_slice() {
@@ -38,8 +38,8 @@ fn tell_batch(rt: &impl Bench, out: &mut Lines, batch: &Batch) {
     }
 }
 
-// Tells what comes next, and whether more may come: a refused batch by its line and reason, `.` for the end, `?` for a
-// read fault.
+// Adds the next batch, and returns whether more may come. A refused batch is added as its line and reason, the end as
+// `.`, and a read fault as `?`.
 fn tell_next(rt: &impl Bench, out: &mut Lines, next: Result<Next, BatchFault>) -> bool {
     let goes_on = matches!(next, Ok(Next::Items(_) | Next::Refused { .. }));
     match next {
@@ -53,7 +53,7 @@ fn tell_next(rt: &impl Bench, out: &mut Lines, next: Result<Next, BatchFault>) -
     goes_on
 }
 
-// Tells up to four batches.
+// Adds up to four batches.
 fn tell_batches(
     rt: &impl Bench,
     out: &mut Lines,
@@ -71,7 +71,7 @@ fn tell_batches(
     }
 }
 
-// Tells what an input says: the header, or `!` and the line at which it is refused, and up to four batches.
+// Returns the answer to an input: the header, or `!` and the line at which it is refused, and up to four batches.
 fn told(rt: &impl Bench, mut input: Input, item_limit: u32) -> Vec<u8> {
     let mut out = Lines::new(rt);
     match Header::read(rt.alloc(), &mut input.reader, &mut input.source) {
@@ -89,7 +89,7 @@ fn told(rt: &impl Bench, mut input: Input, item_limit: u32) -> Vec<u8> {
     out.done(rt)
 }
 
-// Inputs that begin with `before` and end with the first side of a row: its second side is told of them.
+// Checks inputs that begin with `before` and end with the first side of a row. The second side is the answer.
 fn check_rows(rt: &impl Bench, before: &'static str, rows: &[&'static str], piece: u32) {
     for row in rows {
         let (text, want) = sides(rt, row);
@@ -135,7 +135,7 @@ const HEADERS: &[&str] = &[
 
 const HEAD: &str = "kcore 1\nvertices 5\n";
 
-// What is told of a header with as many asks.
+// Returns the answer to a header with this many asks.
 fn told_of_asks(rt: &impl Bench, count: usize) -> Vec<u8> {
     let mut text = joined(rt, &[HEAD]);
     for _ in 0..count {
@@ -174,7 +174,7 @@ fn faults_of_batches(rt: HostRuntime) {
     check_rows(&rt, HEAD, BATCHES, 3);
 }
 
-// An input that ends before one of its lines, and what is told of it.
+// An input that ends before one of its lines, and the answer to it.
 const CUT: &[&str] = &[
     "kcore 1 => !1\n",
     "vertices 5 => !2\n",
@@ -230,7 +230,7 @@ fn lists_from_a_vec(rt: HostRuntime) {
     assert!(rt; asks[0].times == 3 && asks[0].vertices.as_slice() == [7u32, 7].as_slice());
 }
 
-// The limits of a line, of the input and of the items of a batch, an input, and what is told of it.
+// The limits of a line, of the input and of the items of a batch, an input, and the answer to it.
 const LIMITED: &[((u32, u32, u32), &str)] = &[
     (
         (99, 26, 9),
@@ -260,7 +260,7 @@ const LIMITED: &[((u32, u32, u32), &str)] = &[
     ((99, 7, 9), "kcore 1\nvertices 2\n => !1\n"),
 ];
 
-// A comment of as many bytes, at the program's limits.
+// Returns the answer to a comment of this many bytes, at the program's limits.
 fn told_of_comment(rt: &impl Bench, len: usize) -> Vec<u8> {
     let mut text = joined(rt, &[HEAD, "batch\n#"]);
     for _ in 1..len {
@@ -291,7 +291,7 @@ fn limits_of_lines_and_items(rt: HostRuntime) {
     );
 }
 
-// The call of the source that fails, where it gives 7 bytes a call.
+// The call of the source that fails, if it gives 7 bytes a call.
 const FAILING: &[(u32, &str)] = &[
     (1, "?\n"),
     (4, "?\n"),

@@ -1,4 +1,4 @@
-// Certificates, read, judged and written. What is told of them was worked out by hand.
+// Certificates, read, judged and written. Their answers were worked out by hand.
 ghost use Rattle.kc_cert.specs.Texts.{IsCertificate};
 
 use crate::tests::support::{Bench, LIMITS, Lines, check, input_of, joined, sides, sink_of};
@@ -15,7 +15,7 @@ const PATH: &str = "kcore-cert 1\nprofile 1\nvertices 5\nedges 2\nedge 0 1\nedge
 const FINE_PATH: &str = "kcore-cert 1\nprofile 2\nvertices 5\nedges 2\nedge 0 1\nedge 1 2\n\
     level 0 1\nlevel 1 2\nlevel 2 1\nlevel 3 0\nlevel 4 0\nend\n";
 
-// Tells the verdict of a certificate.
+// Adds the verdict of a certificate.
 fn tell_verdict(rt: &impl Bench, out: &mut Lines, cert: &Certificate)
     requires { IsCertificate cert.now }
 {
@@ -30,8 +30,8 @@ fn tell_verdict(rt: &impl Bench, out: &mut Lines, cert: &Certificate)
     out.field(rt, b" of ", cert.graph.edge_count());
 }
 
-// Tells what a text says: the verdict of the certificate, and of how many edges; the refused line and why; or `?` for a read
-// fault.
+// Returns the answer to a text: the verdict of the certificate and its number of edges, or the refused line and why. A
+// read fault is `?`.
 fn told(rt: &impl Bench, text: &[u8], piece: u32, failing: &[u32], limits: (u32, u32)) -> Vec<u8> {
     let mut input = input_of(rt, text, piece, failing, limits);
     let mut out = Lines::new(rt);
@@ -60,7 +60,7 @@ const WHOLE: &[&str] = &[
     "kcore-cert 1\nprofile 1\nvertices 4\nedges 6\nedge 0 1\nedge 0 2\nedge 0 3\nedge 1 2\nedge 1 3\nedge 2 3\n\
             level 0 5\nlevel 1 5\nlevel 2 5\nlevel 3 5\nend\n => certified 4 of 6\n",
     "kcore-cert 1\nprofile 1\nvertices 1\nedges 0\nlevel 0 0\nend\n => certified 1 of 0\n",
-    // Comments, empty lines, tabs, zeros ahead, carriage returns, and no last line feed.
+    // Comments, empty lines, tabs, leading zeros, carriage returns, and no last line feed.
     "# batch 2 refused line 9 bad-vertex\r\n\r\nkcore-cert\t1\r\n profile  1 \r\nvertices 002\r\nedges 1\r\nedge 0 0000000001\r\n\
             #\nlevel 00 1\r\nlevel 1 1\r\nend\r\n# more\r\n => certified 2 of 1\n",
     "kcore-cert 1\nprofile 1\nvertices 2\nedges 0\nlevel 0 0\nlevel 1 0\nend => certified 2 of 0\n",
@@ -85,7 +85,7 @@ fn whole_certificates(rt: HostRuntime) {
     }
 }
 
-// A line, the line that stands in its place, and what is told then.
+// A line, the line in its place, and the answer then.
 const MISFITS: &[(&str, &str, &str)] = &[
     ("kcore-cert 1\n", "kcore-cert 1 1\n", "1 bad-line\n"),
     ("vertices 5\n", "vertices 1\n", "5 bad-vertex\n"),
@@ -114,7 +114,7 @@ fn misfits(rt: HostRuntime) {
     }
 }
 
-// Where the lines of the path begin.
+// The beginnings of the lines of the path.
 const STARTS: &[usize] = &[0, 13, 23, 34, 42, 51, 60, 70, 80, 90, 100, 110];
 
 // Limits of a line and of the input.
@@ -177,7 +177,7 @@ fn written_certificates(rt: HostRuntime) {
     }
 }
 
-// Each line is one call of a sink that takes it whole: where a call fails, the lines before it were taken.
+// Each line is one call of a sink that takes it whole: if a call fails, the lines before it were taken.
 #[test]
 fn each_line_is_one_call(rt: HostRuntime) {
     let mut call = 0u32;

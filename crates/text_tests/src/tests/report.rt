@@ -1,4 +1,4 @@
-// The lines that are written of runs, of exact texts and of readers, beside lines that were worked out by hand.
+// The lines of runs, of exact texts and of readers, beside lines that were worked out by hand.
 ghost use Rattle.std.specs.Prelude.{◌≤◌, length};
 
 use crate::tests::support::{Bench, check, sink_of};
@@ -16,7 +16,7 @@ use test_support::graphs::edges_of;
 // The lines of batches with phases.
 mod phases;
 
-// What cleaning gives for these edges, and three different counts.
+// Returns a cleaning with these edges, and three different counts.
 fn cleaned_of(rt: &impl Bench, removed: &[(u32, u32)], added: &[(u32, u32)]) -> Cleaned {
     let removed = edges_of(rt.alloc(), 9, removed).expect(rt, "edges");
     let added = edges_of(rt.alloc(), 9, added).expect(rt, "edges");
@@ -79,7 +79,7 @@ fn write_part(
     }
 }
 
-// What these calls write to a sink that takes pieces.
+// Checks what these calls write to a sink that takes pieces.
 fn check_parts(rt: &impl Bench, parts: &[Part], piece: u32, want: &str) {
     let mut sink = sink_of(rt, piece, &[]);
     let mut buf = LineBuf::new(rt.alloc());
@@ -110,7 +110,7 @@ fn lines_of_a_run(rt: HostRuntime) {
     }
 }
 
-// Each line is one call of a sink that takes it whole: where a call but the first fails, its line alone is gone.
+// Each line is one call of a sink that takes it whole: if a call but the first fails, its line alone is gone.
 #[test]
 fn each_line_is_one_call(rt: HostRuntime) {
     // Call 2 is the second of the head. There is no call 7.
@@ -128,7 +128,7 @@ fn each_line_is_one_call(rt: HostRuntime) {
     }
 }
 
-// A text without one of its lines, counted from 1.
+// Returns a text without one of its lines, counted from 1.
 fn without(rt: &impl Bench, text: &str, line: u32) -> Vec<u8> {
     let mut left = Vec::new(rt.alloc());
     let mut at = 1u32;
@@ -164,7 +164,7 @@ fn line_of_a_refused_header(rt: HostRuntime) {
     );
 }
 
-// Four vertices joined each with each, and one alone: of the four the level says 1 to 4, and 2 for an estimate.
+// Four vertices joined each with each, and one alone: the level of the four says 1 to 4, and 2 for an estimate.
 #[test]
 fn lines_of_an_exact_text(rt: HostRuntime) {
     let parts = [
@@ -270,7 +270,7 @@ fn each_vertex_has_its_line(rt: HostRuntime) {
     check(&rt, "no vertex", sink.bytes(), "end\n");
 }
 
-// Each line is one call of a sink that takes it whole: nothing is written behind the one that fails.
+// Each line is one call of a sink that takes it whole: nothing is written after the one that fails.
 #[test]
 fn the_end_stops_at_its_first_fault(rt: HostRuntime) {
     let texts = [

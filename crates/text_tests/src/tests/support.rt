@@ -3,7 +3,7 @@
 use kc_text::{LineBuf, LineReader, MemSink, MemSource, Reason};
 use std::process::Abort;
 
-/// What a test has: memory, and the leave to end itself.
+/// The means of a test: memory, and the right to end itself.
 pub trait Bench: Abort + AllocGlobal {}
 
 impl<R: Abort + AllocGlobal> Bench for R {}
@@ -18,8 +18,8 @@ pub struct Input {
     pub reader: LineReader,
 }
 
-/// A source of a text that gives pieces and fails at some calls, and a reader with these limits of a line and of the
-/// input.
+/// Makes a source of a text that gives pieces and fails at some calls. Makes a reader with these limits of a line and
+/// of the input.
 pub fn input_of(
     rt: &impl Bench,
     text: &[u8],
@@ -34,7 +34,7 @@ pub fn input_of(
     }
 }
 
-/// A sink of at most 2,000 bytes that takes pieces and fails at some calls.
+/// Returns a sink of at most 2,000 bytes that takes pieces and fails at some calls.
 pub fn sink_of(rt: &impl Bench, piece: u32, failing: &[u32]) -> MemSink {
     assert!(rt; piece > 0);
     MemSink::new(rt.alloc(), 2000, piece, failing).expect(rt, "memory")
@@ -73,7 +73,7 @@ impl Lines {
         self.number(rt, number);
     }
 
-    /// Appends the first line that doesn't fit, and why.
+    /// Appends the first line that doesn't fit, with the reason.
     pub fn refused(&mut self, rt: &impl Bench, line: u32, reason: Reason) {
         self.number(rt, line);
         self.text(rt, b" ");
@@ -93,13 +93,13 @@ impl Lines {
         self.end(rt);
     }
 
-    /// The lines that have ended.
+    /// Returns the lines that have ended.
     pub fn done(&self, rt: &impl Bench) -> Vec<u8> {
         Vec::from_slice(rt.alloc(), self.sink.bytes()).expect(rt, "memory")
     }
 }
 
-/// Several texts as one.
+/// Returns several texts as one.
 pub fn joined(rt: &impl Bench, parts: &[&str]) -> Vec<u8> {
     let mut all = Vec::new(rt.alloc());
     for part in parts {
@@ -108,12 +108,12 @@ pub fn joined(rt: &impl Bench, parts: &[&str]) -> Vec<u8> {
     all
 }
 
-/// The two sides of a row, which ` => ` parts.
+/// Returns the two sides of a row, which ` => ` parts.
 pub fn sides(rt: &impl Bench, row: &'static str) -> (&'static str, &'static str) {
     row.split_once(" => ").expect(rt, "two sides")
 }
 
-/// Ends the test unless it got what is wanted, and says of what.
+/// Ends the test unless it got what is wanted, and prints of what.
 pub fn check(rt: &impl Bench, of: &str, got: &[u8], want: &str) {
     let got = str::from_utf8(got).unwrap_or("bytes that are no text");
     assert!(rt; got == want, "of {of:?} it got {got:?}, not {want:?}");

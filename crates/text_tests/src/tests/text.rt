@@ -19,8 +19,10 @@ fn mark_of(body: &Body) -> &'static [u8] {
     }
 }
 
-// Adds what a reader gave: the line's number and text; `*` for a line that is too long, `!` for the limit, `.` for the
-// end; `?` for a read fault. Returns whether it was the last. The memory of every second line is given back.
+// Adds an answer of a reader, and returns whether it was the last. The memory of every second line is given back.
+//
+// The answer is the line's number and text, `*` for a line that is too long, or `!` for the limit. The end is `.`, and
+// a read fault is `?`.
 fn add_line(
     rt: &impl Bench,
     reader: &mut LineReader,
@@ -41,14 +43,14 @@ fn add_line(
     last
 }
 
-// What a reader gives next, which is a line.
+// Returns the next answer of a reader, which is a line.
 fn next_of<S: Source>(rt: &impl Bench, reader: &mut LineReader, source: &mut S) -> Line
     ensures { reader.new.held ≡ None }
 {
     reader.next_line(rt.alloc(), source).expect(rt, "a line")
 }
 
-// Adds what a reader gives next.
+// Adds the next answer of a reader.
 fn tell<S: Source>(
     rt: &impl Bench,
     reader: &mut LineReader,
@@ -59,7 +61,7 @@ fn tell<S: Source>(
     add_line(rt, reader, given, out)
 }
 
-// The same of a line that lies whole in the reader's memory. Returns whether there was one.
+// Adds the next line if it lies whole in the reader's memory. Returns whether there was one.
 fn tell_whole(rt: &impl Bench, reader: &mut LineReader, out: &mut Lines) -> bool {
     let Some((text, len)) = reader.whole_line() else {
         return false;
@@ -71,8 +73,8 @@ fn tell_whole(rt: &impl Bench, reader: &mut LineReader, out: &mut Lines) -> bool
     true
 }
 
-// All that a reader with a line limit of 8 and an input limit of 20 gives, the last line twice. Lines that lie whole in
-// its memory are passed there, if `whole`.
+// Returns all answers of a reader with a line limit of 8 and an input limit of 20, the last one twice. If `whole`,
+// lines that lie whole in its memory are passed there.
 fn told(rt: &impl Bench, text: &str, piece: u32, failing: &[u32], whole: bool) -> Vec<u8> {
     let mut input = input_of(rt, text.as_bytes(), piece, failing, (8, 20));
     let mut out = Lines::new(rt);
@@ -93,7 +95,7 @@ fn check_told(rt: &impl Bench, text: &str, piece: u32, failing: &[u32], want: &s
     check(rt, text, &told(rt, text, piece, failing, true), want);
 }
 
-// Inputs, and what a reader gives of them.
+// Inputs, and the answers of a reader.
 const LINES: &[(&str, &str)] = &[
     ("", "1.\n1.\n"),
     ("\r", "1:\n2.\n2.\n"),
@@ -136,7 +138,7 @@ fn sign_of(sign: Option<Sign>) -> &'static [u8] {
     }
 }
 
-// Tells a line of numbers, and its length.
+// Adds a line of numbers, and its length.
 fn add_numbers(rt: &impl Bench, out: &mut Lines, first: u32, second: u32, len: usize) {
     out.number(rt, first);
     out.field(rt, b" ", second);
@@ -144,7 +146,7 @@ fn add_numbers(rt: &impl Bench, out: &mut Lines, first: u32, second: u32, len: u
     out.end(rt);
 }
 
-// What is told of the second line of an input, if it is two numbers, or `ab` and two numbers if `named`.
+// Returns the answer to the second line of an input: two numbers, or `ab` and two numbers if `named`.
 fn second_line(rt: &impl Bench, limits: (u32, u32), text: &str, named: bool) -> Vec<u8> {
     let mut input = input_of(rt, text.as_bytes(), 1000, &[], limits);
     let mut out = Lines::new(rt);
@@ -163,7 +165,7 @@ fn second_line(rt: &impl Bench, limits: (u32, u32), text: &str, named: bool) -> 
     out.done(rt)
 }
 
-// The limits of a line and of the input, the input, and what is told of its second line.
+// The limits of a line and of the input, the input, and the answer to its second line.
 type NumberRow = ((u32, u32), &'static str, &'static str);
 
 const WIDE: (u32, u32) = (99, 99);
@@ -219,7 +221,7 @@ fn lines_of_a_name_and_two_numbers(rt: HostRuntime) {
     }
 }
 
-// The input, the failing reads, and what the first four calls give.
+// The input, the failing reads, and the first four answers.
 const KEPT: &[(&str, &[u32], &str)] = &[
     ("#\n\na\n \t\n #x\nb #\n", &[], "3:a\n6:b #\n7.\n7.\n"),
     ("#23456789\na", &[], "1*\n2:a\n3.\n3.\n"),
@@ -295,7 +297,7 @@ fn lines_at_the_programs_limit(rt: HostRuntime) {
 
 const WORDS: &[u8] = b" +  10\t20";
 
-// Where the next word stands in it, and which number the next word says.
+// The place of the next word in it, and the number of the next word.
 const PLACES: &[(usize, Option<(usize, usize)>, Option<(u32, usize)>)] = &[
     (0, Some((1, 2)), None),
     (2, Some((4, 6)), Some((10, 6))),

@@ -2,7 +2,7 @@
 
 use kc_words::{Mark, pack, unpack};
 
-// Whether each is the other.
+// Returns whether each is the other.
 fn are_one(new: u16, label: u32, phase: u32, word: u64) -> bool {
     label < 1 << 24
         && phase < 1 << 24

@@ -6,7 +6,7 @@ use kc_audit::{AuditVerdict, GroupLine, GroupLines, Readers, RunText, audit};
 use kc_history::{Replies, Reply};
 use test_support::random::Random;
 
-// A vertex and a level, of one digit each, as `4:1`.
+// Returns a vertex and a level, of one digit each, as `4:1`.
 fn reply_of(word: &str) -> Reply {
     let bytes = word.as_bytes();
     let digit = |at: usize| bytes.get(at).map_or(0, |b| b.wrapping_sub(b'0'));
@@ -33,7 +33,7 @@ fn push_group(rt: &impl Bench, groups: &mut GroupLines, phase: u32, members: Rep
     groups.push(&line).expect(rt, "memory");
 }
 
-// A run of ten vertices with these groups, one in a phase, and these readers. A `/` stands between two of them.
+// Returns a run of ten vertices with these groups, one in a phase, and these readers. A `/` stands between two of them.
 fn run_of(rt: &impl Bench, groups: &str, readers: &str) -> RunText {
     let mut run = RunText {
         vertices: 10,
@@ -85,7 +85,7 @@ fn verdicts(rt: HostRuntime) {
     }
 }
 
-// Whether line i of the groups has this phase, this label and these members.
+// Returns whether line i of the groups has this phase, this label and these members.
 fn is_line(groups: &GroupLines, i: usize, phase: u32, members: &Replies) -> bool {
     i < groups.len()
         && groups.phase(i) == phase
@@ -124,7 +124,7 @@ fn auditable_runs(rt: HostRuntime) {
     }
 }
 
-// Up to `most` pairs of a vertex below 3 and a level below 3.
+// Returns up to `most` pairs of a vertex below 3 and a level below 3.
 fn random_replies(rt: &impl Bench, random: &mut Random, most: u32) -> Replies {
     let mut replies = Vec::new(rt.alloc());
     for _ in 0..random.below(most.saturating_add(1)) {
@@ -151,7 +151,7 @@ fn random_run(rt: &impl Bench, random: &mut Random) -> RunText {
     run
 }
 
-// The level of a vertex at point p.
+// Returns the level of a vertex at point p.
 fn level_at(groups: &GroupLines, p: usize, vertex: u32) -> u16 {
     let mut level = 0;
     for i in 0..groups.len().min(p) {
@@ -164,7 +164,8 @@ fn level_at(groups: &GroupLines, p: usize, vertex: u32) -> u16 {
     level
 }
 
-// The number of the first reply up to which they aren't explained, counted from 1: by all points that each may have.
+// Returns the number of the first reply up to which the replies aren't explained, counted from 1. It tries all points
+// that each reply may have.
 fn first_unexplained(rt: &impl Bench, groups: &GroupLines, replies: &[Reply]) -> Option<u32> {
     let points = groups.len().saturating_add(1);
     let mut may_be = vec![in rt.alloc(); true; points].expect(rt, "memory");

@@ -13,7 +13,7 @@ use test_support::graphs::{are_present, edges_of, graph_of, is_below, levels_of}
 
 type Pairs = &'static [(u32, u32)];
 
-// A phase: its number, whether its edges come in (`add`) or leave, its edges, other edges, and the levels before it and
+// A phase: its number, whether its edges come in (`add`) or leave, its edges, other edges, and the levels before and
 // after it.
 struct Step {
     phase: u32,
@@ -24,7 +24,7 @@ struct Step {
     after: &'static [u16],
 }
 
-// The plan of a phase, in a graph with its edges.
+// Returns the plan of a phase, in a graph with its edges.
 fn plan_in(rt: &impl Bench, step: &Step, graph: &Graph, edges: &[Edge]) -> PhasePlan
     requires { EdgesFrom graph.now.vertices 0 0 edges.now }
     ensures { (n : ℕ) × IsWellFormed n result }
@@ -105,7 +105,7 @@ const TWO_GROUPS: Step = Step {
     after: &[1, 1, 1, 1, 0, 0],
 };
 
-// What is written of batch 2 with an edge that leaves, one that comes in, and these phases.
+// Returns the text of batch 2 with an edge that leaves, one that comes in, and these phases.
 fn written(rt: &impl Bench, plans: &[PhasePlan]) -> MemSink
     requires { All (λ plan. (n : ℕ) × IsWellFormed n plan) plans.now }
 {
@@ -120,7 +120,7 @@ fn written(rt: &impl Bench, plans: &[PhasePlan]) -> MemSink
 
 const BATCH_LINE: &str = "batch 2 loops 3 repeats 40 idle 4294967295 removed 1 added 1\n";
 
-// What is written of a batch with this phase.
+// Checks the text of a batch with this phase.
 fn check_phase(rt: &impl Bench, step: &Step, lines: &str) {
     let sink = written(rt, &[plan_of(rt, step)]);
     assert!(rt; sink.bytes() == joined(rt, &[BATCH_LINE, lines]).as_slice());

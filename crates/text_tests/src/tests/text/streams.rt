@@ -10,7 +10,8 @@ use kc_text::{
 use std::io;
 use std::io::{Read, Write};
 
-// The capacity, the most of a call, and the failing calls; what five writes of three bytes answer, and what was taken.
+// The capacity, the most of a call, and the failing calls; then the answers to five writes of three bytes, and what was
+// taken.
 const SINKS: &[((u32, u32), &[u32], &str, &str)] = &[
     ((99, 99), &[], "33333", "abcabcabcabcabc"),
     ((99, 2), &[5], "2222F", "abababab"),
@@ -38,25 +39,25 @@ fn sinks_in_memory(rt: HostRuntime) {
     }
 }
 
-// What a call of a device does.
+// The outcome of a call of a device.
 #[derive(Clone, Copy)]
 enum Call {
     // A signal interrupts it.
     Interrupted,
     // It fails.
     Failed,
-    // It gives or takes at most as many bytes.
+    // It gives or takes at most this many bytes.
     Most(usize),
 }
 
 // A device that gives `a`, and keeps what it takes.
 #[derive(Drop)]
 struct Device {
-    // What each call does; the later ones give or take all.
+    // The outcome of each call; the later ones give or take all.
     calls: &'static [Call],
-    // How many calls there were.
+    // The number of calls so far.
     count: usize,
-    // What it took.
+    // The bytes that it took.
     taken: Vec<u8>,
 }
 
@@ -69,7 +70,7 @@ impl Device {
         }
     }
 
-    // How many of so many bytes the next call gives or takes.
+    // Returns how many of `len` bytes the next call gives or takes.
     fn next(&mut self, len: usize) -> io::Result<usize>
         ensures { IfOk result (λ k. k ≤ len) }
     {
@@ -111,7 +112,7 @@ const HINDERED: &[Call] = &[Call::Interrupted; 5];
 
 #[test]
 fn reads_no_more_at_the_end(rt: HostRuntime) {
-    // The device tells of an end, and gives more when it is read once more.
+    // The device reports an end, and gives more if it is read once more.
     let resumed = Device::new(&rt, &[Call::Most(1), Call::Most(0), Call::Most(1)]);
     let mut source = StdSource::new(resumed);
     let mut reader = LineReader::new(rt.alloc(), 8, 20).expect(&rt, "memory");
@@ -159,7 +160,7 @@ fn refused_writes_of_std(rt: HostRuntime) {
     assert!(rt; gone.write(b"z") == Err(Failed) && gone.flush() == Err(Failed));
 }
 
-// Bytes of which no two pieces that lie a multiple of 4,096 bytes apart are the same.
+// Returns bytes of which no two pieces that lie a multiple of 4,096 bytes apart are the same.
 fn many_bytes(rt: &impl Bench, count: u32) -> Vec<u8> {
     let mut bytes = Vec::new(rt.alloc());
     for i in 0..count {
@@ -188,7 +189,7 @@ fn large_reads_and_writes(rt: HostRuntime) {
     assert!(rt; narrow.taken == bytes);
 }
 
-// Pieces and failing calls; what two sends of `v 4294967295` and then `w` answer, and what was taken.
+// Pieces and failing calls; then the answers to two sends of `v 4294967295` and `w`, and what was taken.
 const SENDS: &[(u32, &[u32], &str, &str)] = &[
     (1000, &[], "oo", "v 4294967295\nw\n"),
     (1, &[], "oo", "v 4294967295\nw\n"),
