@@ -6,6 +6,7 @@ ghost use Rattle.kc_store.specs.States.{with_joined};
 ghost use Rattle.kc_session.specs.Agents.{questions, repeated, agent_for, given};
 ghost use Rattle.kc_session.specs.Asking.{HasRun};
 
+use crate::progress::{Pace, Progress};
 use kc_batch::Ask;
 use kc_history::Reply;
 use kc_rounds::{Gate, Spot};
@@ -79,8 +80,15 @@ fn given(has_run: bool, kept: Vec<Reply>) -> Vec<Reply>
     replies
 }
 
-// Asks the store for the level of each vertex in turn.
-fn ask_all<G: Gate>(gate: &G, store: &Store, pass: &mut Pass, reader: u32, replies: &mut Vec<Reply>)
+// Asks the store for the level of each vertex in turn, at this pace.
+fn ask_all<G: Gate>(
+    gate: &G,
+    store: &Store,
+    pace: Pace<'_>,
+    pass: &mut Pass,
+    reader: u32,
+    replies: &mut Vec<Reply>,
+)
     requires table { pass.old.table ≡ store.now.table }
     requires made { pass.old.made ≤ length pass.old.seen }
     requires vertices { All (λ r. r.vertex < store.now.vertices) replies.old.items }
@@ -90,7 +98,9 @@ fn ask_all<G: Gate>(gate: &G, store: &Store, pass: &mut Pass, reader: u32, repli
     ensures vertices { vertices_of replies.new.items ≡ vertices_of replies.old.items }
     ensures explained { AreExplained store.now.vertices pass.new.seen pass.old.made replies.new.items }
 {
+    let mut pace = pace;
     for i in 0..replies.len() {
+        pace.keep(i);
         let ask = i as u32;
         gate.at(Spot::Asking { reader, ask });
         let vertex = replies[i].vertex;
@@ -138,8 +148,22 @@ impl Agent {
         requires first { self.old.has_run ≡ false }
         ensures { HasRun self.old self.new }
     {
+        self.run_beside(gate, store, &Progress::new(0));
+    }
+
+    /// Puts the questions as `run` does, but spreads them over the batches that are applied meanwhile.
+    ///
+    /// Between two repetitions of the list it looks whether a batch was shown since the last one began, at most as
+    /// often as `progress` says, and lets other threads run after each look. After the last batch it goes on at once.
+    /// It ends in any case: a progress that never changes costs it its looks. A look is one load of a word.
+    pub fn run_beside<G: Gate + Sync>(&mut self, gate: &G, store: &Store, progress: &Progress)
+        requires store { self.old.store ≡ store.now }
+        requires first { self.old.has_run ≡ false }
+        ensures { HasRun self.old self.new }
+    {
         let reader = self.reader;
-        ask_all(gate, store, &mut self.pass, reader, &mut self.replies);
+        let pace = Pace::begin(progress, self.ask.vertices.as_slice().len());
+        ask_all(gate, store, pace, &mut self.pass, reader, &mut self.replies);
         self.has_run = true;
     }
 

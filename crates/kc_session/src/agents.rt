@@ -5,6 +5,7 @@ ghost use Rattle.kc_batch.specs.Headers.{IsAsk};
 ghost use Rattle.kc_session.specs.Asking.{HasRun, HaveRun, agents_for, AreClosed};
 
 use crate::agent::Agent;
+use crate::progress::Progress;
 use kc_batch::Asks;
 use kc_history::Replies;
 use kc_rounds::Gate;
@@ -45,6 +46,7 @@ fn run_each<R: Threads + Sync, G: Gate + Sync>(
     rt: &R,
     gate: &G,
     store: &Store,
+    progress: &Progress,
     agents: &mut [Agent],
 )
     requires { All (λ a. (a.store ≡ store.now) × (a.has_run ≡ false)) agents.old }
@@ -56,23 +58,25 @@ fn run_each<R: Threads + Sync, G: Gate + Sync>(
         MAX_THREADS,
         &|_, agent: &mut Agent|
             requires { IsSync G.row × (agent.old.store ≡ store.now) × (agent.old.has_run ≡ false) }
-        { agent.run(gate, store) },
+        { agent.run_beside(gate, store, progress) },
     );
 }
 
-/// Runs each agent, in up to 64 threads (`HaveRun`). Takes no memory.
+/// Runs each agent, in up to 64 threads, over the batches of this progress (`Agent::run_beside`, `HaveRun`). Takes no
+/// memory.
 ///
 /// The store is the one that the agents were opened with, and none of them has run.
 pub fn run_agents<R: Threads + Sync, G: Gate + Sync>(
     rt: &R,
     gate: &G,
     store: &Store,
+    progress: &Progress,
     agents: &mut Vec<Agent>,
 )
     requires { All (λ a. (a.store ≡ store.now) × (a.has_run ≡ false)) agents.old.items }
     ensures { HaveRun agents.old.items agents.new.items }
 {
-    run_each(rt, gate, store, agents.as_mut_slice());
+    run_each(rt, gate, store, progress, agents.as_mut_slice());
 }
 
 /// Takes the passes of agents in that have run, one after another, and gives their replies in the same order (`AreClosed`): the writer's

@@ -46,6 +46,7 @@ fn run_batch<R: Threads + Sync, K: Sink, G: Gate + Sync>(
         rt,
         alloc,
         gate,
+        progress,
         ..
     } = context;
     let alloc = *alloc;
@@ -61,6 +62,7 @@ fn run_batch<R: Threads + Sync, K: Sink, G: Gate + Sync>(
             batch.items.as_slice(),
         )? {
             Outcome::Accepted(cleaned, plan) => {
+                progress.advance(plan.moves);
                 let phases = plan.phases.as_slice();
                 reporter.write_accepted(alloc, sink, number, &cleaned, phases)?;
                 Ok(counts.with_accepted(phases))

@@ -26,6 +26,7 @@ use crate::counts::Counts;
 use crate::ended::{Ended, count_replies};
 use crate::fault::SessionFault;
 use crate::last_pass::read_all;
+use crate::progress::Progress;
 use crate::readers::write_readers;
 use crate::report::Report;
 use crate::vertices::write_tail;
@@ -41,6 +42,10 @@ use kc_text::{LineBuf, LineReader, SendFault, Sink, Source};
 use std::alloc::Global;
 use std::thread;
 use std::thread::Threads;
+
+// How often a reader looks at most between two repetitions of its ask. A look takes 0.3 to 1 µs on
+// a processor that has nothing else to run, so these bridge 10 to 30 ms. A batch of 1,000 edges takes about 3 ms.
+const LOOKS: u32 = 32_768;
 
 // The agents of a session, and the store that they ask.
 #[derive(Drop)]
@@ -60,6 +65,31 @@ struct Opened<'a> {
     store: &'a Store,
     // The writer of this store, whose history is empty.
     writer: Writer,
+}
+
+// The batches are applied, and readers are told when they begin and when they have ended, also after a fault.
+fn run_told<R: Threads + Sync, S: Source, K: Sink, G: Gate + Sync>(
+    context: &SessionContext<'_, R, G>,
+    watched: &mut Watched<'_>,
+    reader: &mut LineReader,
+    src: &mut S,
+    sink: &mut K,
+) -> Result<Counts, SessionFault>
+    requires abreast { IsAbreast watched.old.audience watched.old.engine.state }
+    requires open { IsOpen watched.old.engine }
+    requires vertices { watched.old.engine.state.graph.vertices ≡ context.now.n }
+    ensures text { RunsBatches Report.Lines watched.old.engine.state watched.new.engine.state (batches_left (record { n = context.now.n; profile = context.now.profile; item_limit = MAX_ITEMS }) reader.old (S.left src.old)) (K.taken sink.old) (K.taken sink.new) (shown_to watched.old.audience) (shown_to watched.new.audience) result }
+    ensures store { store_of watched.new.audience ≡ store_of watched.old.audience }
+    ensures abreast { OnOk result (IsAbreast watched.new.audience watched.new.engine.state) }
+    ensures open { OnOk result (IsOpen watched.new.engine) }
+    ensures vertices { OnOk result (watched.new.engine.state.graph.vertices ≡ context.now.n) }
+    ensures profile { OnOk result (watched.new.engine.state.profile ≡ watched.old.engine.state.profile) }
+    ensures cause { FaultCause (S.faults src.old) (S.faults src.new) (K.faults sink.old) (K.faults sink.new) result }
+{
+    context.progress.begin();
+    let counts = run_batches(context, watched, reader, src, sink, Report::Lines);
+    context.progress.end();
+    counts
 }
 
 // The batches are applied while the agents ask, who are the audience.
@@ -87,15 +117,16 @@ fn side_by_side<R: Threads + Sync, S: Source + Send, K: Sink + Send, G: Gate + S
     let rt = context.rt;
     let gate = context.gate;
     let store = askers.store;
+    let progress = &context.progress;
     let agents = &mut askers.agents;
     thread::join_mut(
         rt,
         &mut ||
             requires { IsSync R.row × IsSync G.row × IsAbreast watched.now.audience watched.now.engine.state × IsOpen watched.now.engine × (watched.now.engine.state.graph.vertices ≡ context.now.n) }
-        { run_batches(context, watched, reader, src, sink, Report::Lines) },
+        { run_told(context, watched, reader, src, sink) },
         &mut ||
             requires { IsSync R.row × IsSync G.row × All (λ a. (a.store ≡ store.now) × (a.has_run ≡ false)) agents.now.items }
-        { run_agents(rt, gate, store, agents) },
+        { run_agents(rt, gate, store, progress, agents) },
     )
     .0
 }
@@ -239,11 +270,12 @@ fn run_without_readers<R: Threads + Sync, S: Source, K: Sink, G: Gate + Sync>(
 /// Runs what is after a header, its batches beside its readers, and writes the text of the session (`session_text`). A phase uses up to
 /// `workers` threads, 1 to 64, a long batch is cleaned as `clean_by` says, and each reader has a thread of its own where one can be made.
 ///
-/// The head is written first. Then two branches run side by side: one reads batch after batch, applies it, shows it in a store and
-/// tells it; the other lets an agent for each ask put its questions. Afterwards a line for each reader is written, a last pass reads each
-/// vertex, and the lines of the vertices and the last line are written. The replies fit the asks, and the history of the batches explains
-/// those of each reader from its start (`IsSession`). Where nobody asks, no level is shown: no store is opened, and the levels of the
-/// vertices are the engine's.
+/// The head is written first. Then two branches run side by side: one reads batch after batch, applies it, shows it in
+/// a store and tells it; the other lets an agent for each ask put its questions, spread over the batches
+/// (`Agent::run_beside`). Afterwards a line for each reader is written, a last pass reads each vertex, and the lines of
+/// the vertices and the last line are written. The replies fit the asks, and the history of the batches explains those
+/// of each reader from its start (`IsSession`). Where nobody asks, no level is shown: no store is opened, and the
+/// levels of the vertices are the engine's.
 ///
 /// `ReadFault` and `WriteFault` come only where a read of the source, or a write to the sink, failed in this call. After either, and
 /// after `Memory`, both branches have ended, and the sink took a prefix of such a text.
@@ -271,6 +303,7 @@ pub fn run_session<R: Threads + Sync, S: Source + Send, K: Sink + Send, G: Gate 
         workers,
         n,
         profile,
+        progress: Progress::new(LOOKS),
     };
     if asks.as_slice().is_empty() {
         run_without_readers(&context, reader, src, sink)

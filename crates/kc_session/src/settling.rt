@@ -10,6 +10,7 @@ use crate::audience::Audience;
 use crate::batches::run_batches;
 use crate::context::SessionContext;
 use crate::fault::SessionFault;
+use crate::progress::Progress;
 use crate::report::Report;
 use crate::watched::Watched;
 use kc_batch::Header;
@@ -62,6 +63,7 @@ pub fn settle<R: Threads + Sync, S: Source, K: Sink, G: Gate + Sync>(
         workers,
         n,
         profile,
+        progress: Progress::new(0),
     };
     let engine = open(alloc, profile, n, workers)?;
     let mut watched = Watched {

@@ -4,7 +4,7 @@ use Rattle.kc_history.specs.declared.replies.Reply.{Reply}
 use Rattle.kc_store.specs.Seats.{StoreShape}
 use Rattle.kc_session.specs.Agents.{AgentShape}
 use Rattle.kc_session.proofs.AskingLemmas.{replies_below, replies_few}
-use Rattle.kc_session.proofs.agent.Agent.run.Goals as goal
+use Rattle.kc_session.proofs.agent.Agent.run_beside.Goals as goal
 
 pub ask_all-requires-clause-vertices : goal.ask_all-requires-clause-vertices
 ask_all-requires-clause-vertices g c =
