@@ -27,3 +27,4 @@ mod RunVertices
 mod Explained
 mod Audits
 mod Completeness
+mod Processes

@@ -36,7 +36,7 @@ use Rattle.kcore.specs.declared.limits.TheConstants.{LINE_LIMIT, INPUT_LIMIT}
 use Rattle.kcore.specs.RunText.{IsRun, IsRunOf}
 use Rattle.kcore.specs.private.InputTexts.{HasTexts}
 use Rattle.kcore.specs.private.Writing.{WritesAfter}
-use Rattle.kcore.specs.Laws.{InputHasText, TakesReplies, RepliesHaveText, HasTextsAlike, TextsAreAlike}
+use Rattle.kcore.specs.Laws.{HasHistory, InputHasOneHistory, InputHasText, TakesReplies, RepliesHaveText, HasTextsAlike, TextsAreAlike}
 use Rattle.kcore.proofs.Points.{are_near}
 use Rattle.kcore.proofs.InputTexts.{some_text}
 
@@ -113,6 +113,20 @@ has_texts header ls =
 
 pub input_has_text : InputHasText
 input_has_text bytes = some_text IsRunOf has_texts (header_of (kept (lines LINE_LIMIT INPUT_LIMIT bytes)))
+
+-- one list of steps, and no other
+one_history : (text : HeaderText) → HasHistory (behind_header MAX_ITEMS text)
+one_history (Refused line) = tt
+one_history (Accepted header rest) =
+    let there = start_states header (tokens rest) in
+    record {
+      steps = there.0;
+      are_steps = there.1;
+      only = λ others a. one_run header (start header.profile header.n) (said_batches header (tokens rest)) others there.0 (sound_start header.profile header.n) refl (batches_keep_ranges (rules_of header MAX_ITEMS) (tokens rest)) a there.1;
+    }
+
+pub input_has_one_history : InputHasOneHistory
+input_has_one_history bytes = one_history (header_of (kept (lines LINE_LIMIT INPUT_LIMIT bytes)))
 
 -- replies that fit have a text
 takes : (text : HeaderText) → TakesReplies (behind_header MAX_ITEMS text)

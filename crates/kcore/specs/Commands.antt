@@ -1,7 +1,7 @@
 -- The command lines, and what each command writes for the bytes that it reads.
 use Rattle.std.specs.Prelude.{ℕ, ◌≡◌, ◌*◌, nat_le, Bool, true, false, ◌&&◌, List, [], ◌∷◌, Option, Some, None, if◌then◌else◌, codes, ◌⊎◌}
 use Rattle.std.specs.Str.{bytes_eq}
-use Rattle.kc_text.specs.Causes.{Rose, Outlet}
+use Rattle.kc_text.specs.Causes.{Rose}
 use Rattle.kc_text.specs.Numbers.{number_of}
 use Rattle.kc_graph.specs.declared.limits.TheConstants.{MAX_VERTICES, MAX_ITEMS}
 use Rattle.kc_session.specs.Generated.{generated}
@@ -157,14 +157,3 @@ exit_number Usage = 2
 exit_number ReadFault = 3
 exit_number WriteFault = 4
 exit_number Memory = 5
-
--- what becomes of a status where the output can't be flushed: a command that came to its end has failed to write
-abbrev pub unflushed : Status → Status
-unflushed Done = WriteFault
-unflushed Refused = WriteFault
-unflushed status = status
-
--- the program ends as its command did where the output was flushed and its count of faults is as it was; else the count rose
-abbrev pub EndsAs : Status → Status → Outlet → Outlet → Type 0
-EndsAs status ended before now =
-    ((ended ≡ status) × (now ≡ record before { is_flushed = true })) ⊎ ((ended ≡ unflushed status) × Rose before.faults now.faults)

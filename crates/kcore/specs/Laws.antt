@@ -8,6 +8,8 @@ use Rattle.kc_history.specs.declared.replies.Reply.{Reply}
 use Rattle.kc_history.specs.Replies.{AreExplained}
 use Rattle.kc_bound.specs.Cores.{IsCoreness}
 use Rattle.kc_dense.specs.Dense.{IsHalfAsDenseAsAny}
+use Rattle.kc_batch.specs.declared.batch.Next.{Next}
+use Rattle.kc_batch.specs.HeaderShape.{HeaderShape}
 use Rattle.kc_batch.specs.BatchInputs.{BatchInput, WithBatches, HeaderRefused}
 use Rattle.kc_engine.specs.States.{State}
 use Rattle.kc_session.specs.States.{start, Step, AreSteps, last_state, history_of}
@@ -23,6 +25,20 @@ use Rattle.kcore.specs.Points.{AreNearAtEachPoint, ArePoints}
 -- each input has a text of a run
 abbrev pub InputHasText : Type 0
 InputHasText = (bytes : List ℕ) → (text : List ℕ) × ((refused : Bool) × IsRunText (input_said bytes) text refused)
+
+-- a header with batches leads to exactly one list of steps, one for each batch; so it has one history, that of these steps
+pub record HasOneHistory (header : HeaderShape) (batches : List Next) : Type 0 where
+  pub steps : List Step
+  pub are_steps : AreSteps (start header.profile header.n) batches steps
+  pub only : (others : List Step) → AreSteps (start header.profile header.n) batches others → others ≡ steps
+
+abbrev pub HasHistory : BatchInput → Type 0
+HasHistory (HeaderRefused line) = Unit {0}
+HasHistory (WithBatches header batches) = HasOneHistory header batches
+
+-- so does each input
+abbrev pub InputHasOneHistory : Type 0
+InputHasOneHistory = (bytes : List ℕ) → HasHistory (input_said bytes)
 
 -- each list of replies that fits the asks of an input, and that the history of its batches explains, has a text
 abbrev pub TakesReplies : BatchInput → Type 0

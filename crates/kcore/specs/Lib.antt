@@ -14,6 +14,7 @@ pub mod DenseText
 pub mod LoadText
 pub mod Texts
 pub mod Commands
+pub mod Process
 pub mod Laws
 pub mod OrientLines
 pub mod OrientText

@@ -5,4 +5,5 @@ pub mod Commands
 pub mod Documents
 pub mod InputTexts
 pub mod Opening
+pub mod Process
 pub mod Writing

@@ -1,5 +1,9 @@
 //! What the definitions of the texts of `kcore` come to. Each function does nothing; its contract is a law.
-ghost use Rattle.kcore.specs.Laws.{InputHasText, RepliesHaveText, TextsAreAlike, HasOneText, StatesArePoints, EachPointIsNear, EachStateHolds};
+ghost use Rattle.std.specs.Prelude.{◌≡◌};
+ghost use Rattle.kc_graph.specs.declared.limits.TheConstants.{MAX_VERTICES, MAX_EDGES, MAX_ITEMS};
+ghost use Rattle.kc_history.specs.declared.limits.TheConstants.{MAX_PHASE};
+ghost use Rattle.kcore.specs.declared.limits.TheConstants.{LINE_LIMIT, RUN_LINE_LIMIT, INPUT_LIMIT};
+ghost use Rattle.kcore.specs.Laws.{InputHasOneHistory, InputHasText, RepliesHaveText, TextsAreAlike, HasOneText, StatesArePoints, EachPointIsNear, EachStateHolds};
 ghost use Rattle.kcore.specs.AuditLaw.{RunIsExplained};
 ghost use Rattle.kcore.specs.CertificateLaw.{FinalIsCertified};
 ghost use Rattle.kcore.specs.ExactText.{IsExactText};
@@ -7,6 +11,23 @@ ghost use Rattle.kcore.specs.FinalText.{IsFinalText};
 ghost use Rattle.kcore.specs.OrientText.{IsOrientText};
 ghost use Rattle.kcore.specs.DenseText.{IsDenseText};
 ghost use Rattle.kcore.specs.LoadText.{IsLoadText};
+
+/// The limits that the definitions name, each as its number. The others stand there as numbers: 64 asks and 65,536 questions of
+/// each (`kc_batch`'s `Headers`), 64 workers and the sizes of a load (`Commands`), levels up to 65,535 in a run text (`kc_audit`).
+pub fn limits_are()
+    ensures line { LINE_LIMIT ≡ 65536 }
+    ensures run_line { RUN_LINE_LIMIT ≡ 1073741824 }
+    ensures input { INPUT_LIMIT ≡ 1073741824 }
+    ensures vertices { MAX_VERTICES ≡ 16777216 }
+    ensures edges { MAX_EDGES ≡ 16777216 }
+    ensures items { MAX_ITEMS ≡ 1048576 }
+    ensures phases { MAX_PHASE ≡ 16777215 }
+{}
+
+/// Each input has exactly one list of steps, what each of its batches leads to; so it has exactly one history.
+pub fn input_has_one_history()
+    ensures { InputHasOneHistory }
+{}
 
 /// Each input has a text of a run, and so have all replies that fit its asks and that the history of its batches explains.
 pub fn input_has_text()

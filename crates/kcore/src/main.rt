@@ -1,15 +1,13 @@
 //! The program `kcore`: an approximate k-core decomposition of a graph, from bytes to bytes.
 //!
-//! [`top::run_command`] is the program; `main` only hands it the words of the command line, the standard input and
-//! output, and ends with its exit number. Each command reads a header first ([`inputs`]). Then `run` hands the batches and the readers
+//! [`top::run_command`] is the program. [`process::program`] runs it from a reader to a writer; `main` hands that the words of the
+//! command line and the standard streams, and ends with its exit number. Each command reads a header first ([`inputs`]). Then `run` hands the batches and the readers
 //! over to `kc_session`, and `final`, `orient`, `exact` and `dense` write a document of what the batches lead to ([`documents`]). `check`
 //! reads such a certificate instead ([`check`]), `audit` reads what a run wrote ([`audit`]), and `gen` makes an input itself ([`load`]).
 #![tactic(auto)]
 
 ghost use Rattle.std.specs.Prelude.{◌≡◌, drop, map, string_bytes, IfOk};
 ghost use Rattle.std.specs.Vec.Iter.{into_iter_items};
-ghost use Rattle.kcore.specs.declared.status.Status.{Status};
-ghost use Rattle.kcore.specs.Commands.{EndsAs, exit_number};
 
 mod audit;
 mod check;
@@ -27,21 +25,21 @@ mod load;
 mod load_line;
 mod orient;
 mod orient_lines;
+pub mod process;
 mod run;
 mod status;
 #[cfg(test)]
 mod tests;
 pub mod top;
 
-use kc_rounds::OpenGate;
-use kc_text::{Sink, StdSink, StdSource, Words};
+use kc_text::Words;
+use process::program;
 use status::Status;
 use std::alloc::{AllocError, Global};
 use std::env::{self, Args};
-use std::io::{BufWriter, ErrorKind, Write};
+use std::io::{BufWriter, ErrorKind};
 use std::process::ExitCode;
 use std::rt::Env;
-use top::run_command;
 
 // The bytes of the output that are kept back at most.
 const BUFFER: usize = 65_536;
@@ -78,36 +76,6 @@ fn main(rt: HostRuntime) -> ExitCode {
     let Ok(writer) = BufWriter::with_capacity(rt.alloc(), BUFFER, rt.stdout()) else {
         return ExitCode::from(Status::Memory.exit_number());
     };
-    let mut input = StdSource::new(rt.stdin());
-    let mut output = StdSink::new(writer);
-    let status = run_command(
-        &rt,
-        rt.alloc(),
-        &words,
-        &mut input,
-        &mut output,
-        &OpenGate::new(),
-    );
-    ExitCode::from(exit_number_of(status, &mut output))
-}
-
-// The exit number of the program, where its command ended so. The output is flushed.
-fn exit_number_of<W: Write + Drop>(status: Status, output: &mut StdSink<W>) -> u8
-    ensures { (last : Status) × (EndsAs status last output.old output.new × (result ≡ exit_number last)) }
-{
-    ended(status, output).exit_number()
-}
-
-// The status of the program. What the writer still holds goes out now; where that fails, a command that came to its
-// end has failed to write.
-fn ended<W: Write + Drop>(status: Status, output: &mut StdSink<W>) -> Status
-    ensures { EndsAs status result output.old output.new }
-{
-    match output.flush() {
-        Ok(()) => status,
-        Err(_) => match status {
-            Status::Done | Status::Refused => Status::WriteFault,
-            _ => status,
-        },
-    }
+    let (status, _stdout) = program(&rt, &words, rt.stdin(), writer);
+    ExitCode::from(status.exit_number())
 }

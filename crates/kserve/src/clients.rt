@@ -27,7 +27,8 @@ fn submit<R: Threads + Wait + Sync>(rt: &R, intake: &Intake, client: &mut Client
     unreachable!()
 }
 
-// Submits the items of a script in order. The gate is told `Asking` before the first try of each, and `Replied` once it is submitted.
+// Submits the items of a script in order. The gate is told `Asking` before the first try of each, and `Replied` once it
+// is submitted.
 fn submit_script<R: Threads + Wait + Sync, G: Gate + Sync>(
     rt: &R,
     gate: &G,
@@ -78,8 +79,9 @@ fn run_each<R: Threads + Wait + Sync, G: Gate + Sync>(
     );
 }
 
-/// Runs the clients of an intake that was just opened, each in a thread of its own where one can be made. Client i submits script i
-/// (`HaveEnded`), and the gate is told of it as reader i. There are as many scripts as clients, each of at most `MAX_ITEMS` items.
+/// Runs the clients of an intake that was just opened, each in a thread of its own where one can be made. Client i
+/// submits script i (`HaveEnded`), and the gate is told of it as reader i. There are as many scripts as clients, each
+/// of at most `MAX_ITEMS` items.
 ///
 /// A client that finds the intake full tries again, so the call may wait.
 pub fn run_clients<R: Threads + Wait + Sync, G: Gate + Sync>(
@@ -97,8 +99,9 @@ pub fn run_clients<R: Threads + Wait + Sync, G: Gate + Sync>(
     run_each(rt, gate, intake, clients.as_mut_slice(), scripts);
 }
 
-/// Takes in clients that have ended, one after another. The updates that were drained of each are the first ones of those that it sent, in
-/// its order, each once (`AreTakenIn`). The drainer and the clients are of this intake. Takes constant time a client.
+/// Takes in clients that have ended, one after another. The updates that were drained of each are the first ones of
+/// those that it sent, in its order, each once (`AreTakenIn`). The drainer and the clients are of this intake. Takes
+/// constant time a client.
 pub fn take_in_all<R: Threads + Wait + Sync>(
     rt: &R,
     intake: &Intake,

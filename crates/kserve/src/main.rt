@@ -1,8 +1,9 @@
-//! The program `kserve`: clients submit updates of a graph all at once, and one server applies them in batches as they come.
+//! The program `kserve`: clients submit updates of a graph all at once, and one server applies them in batches as they
+//! come.
 //!
-//! [`serve::serve`] is the program; `main` only hands it the words of the command line, the standard input and output, and ends with its
-//! exit number. All scripts are read first ([`reading`]). Then each client submits its script to an intake (`clients`) while the server
-//! drains it, and applies and prints batch after batch (`server`).
+//! [`serve::serve`] is the program; `main` only hands it the words of the command line, the standard input and output,
+//! and ends with its exit number. All scripts are read first ([`reading`]). Then each client submits its script to an
+//! intake (`clients`) while the server drains it, and applies and prints batch after batch (`server`).
 #![tactic(auto)]
 
 ghost use Rattle.std.specs.Prelude.{◌≡◌, drop, map, string_bytes, IfOk};
@@ -15,6 +16,7 @@ mod clients;
 mod context;
 mod fault;
 mod head;
+pub mod laws;
 mod limits;
 mod lines;
 mod reading;
@@ -92,8 +94,8 @@ fn exit_number_of<W: Write + Drop>(status: ServeStatus, output: &mut StdSink<W>)
     ended(status, output).exit_number()
 }
 
-// The status of the program. What the writer still holds goes out now; where that fails, a call that came to its end has failed to
-// write.
+// The status of the program. What the writer still holds goes out now; where that fails, a call that came to its end
+// has failed to write.
 fn ended<W: Write + Drop>(status: ServeStatus, output: &mut StdSink<W>) -> ServeStatus
     ensures { EndsAs status result output.old output.new }
 {

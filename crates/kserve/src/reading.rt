@@ -75,8 +75,8 @@ fn read_scripts<S: Source>(
     }
 }
 
-/// Reads an input of scripts whole, as `input_said` of `specs/Inputs` says: the script of each client, or the first line for which it is
-/// refused, and why. After that line nothing is read but the rest of its block.
+/// Reads an input of scripts whole, as `input_said` of `specs/Inputs` says: the script of each client, or the first
+/// line for which it is refused, and why. After that line nothing is read but the rest of its block.
 ///
 /// `ReadFault` comes only where the source's count of faults rose, and `Memory` where a line or the items found none.
 pub fn read_input<S: Source>(alloc: Global, src: &mut S) -> Result<Said, ServeFault>

@@ -10,7 +10,8 @@ use kc_batch::Items;
 pub struct Scripts {
     /// The number of vertices, 1 to `MAX_VERTICES`.
     pub n: u32,
-    /// The script of each client, in the order of their numbers: at most `MAX_CLIENTS`. Their items are due (`AreScripts`).
+    /// The script of each client, in the order of their numbers: at most `MAX_CLIENTS`. Their items are due
+    /// (`AreScripts`).
     pub scripts: Vec<Items>,
     /// How many items they have together: at most `MAX_ITEMS`.
     pub count: u32,

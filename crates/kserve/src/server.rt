@@ -57,10 +57,12 @@ impl Server {
         }
     }
 
-    /// Applies the updates of a drained batch to the graph of the scripts, and prints them as the batch with this number.
+    /// Applies the updates of a drained batch to the graph of the scripts, and prints them as the batch with this
+    /// number.
     ///
-    /// `Stray` comes exactly where one of the items isn't due; then nothing is applied or printed. After `WriteFault`, which only a
-    /// failed write gives, and after `Memory` the sink took a prefix of the lines, and the engine isn't used again.
+    /// `Stray` comes exactly where one of the items isn't due; then nothing is applied or printed. After `WriteFault`,
+    /// which only a failed write gives, and after `Memory` the sink took a prefix of the lines, and the engine isn't
+    /// used again.
     pub fn take_batch<R: Threads + Sync, K: Sink, G: Gate + Sync>(
         &mut self,
         context: &ServeContext<'_, R, G>,
@@ -110,13 +112,13 @@ impl Server {
         }
     }
 
-    /// Drains an intake until at least as many updates were drained as the scripts have items, and tries again while it is empty: then
-    /// what was printed is flushed first. Each batch is applied to the graph of the scripts and printed before the next one is drained
-    /// (`Serves`). Once one of them can't be,
-    /// whose fault is answered at the end, the rest are only drained, so that no client waits for room.
+    /// Drains an intake until at least as many updates were drained as the scripts have items, and tries again while it
+    /// is empty: then what was printed is flushed first. Each batch is applied to the graph of the scripts and printed
+    /// before the next one is drained (`Serves`). Once a batch can't be, the fault is answered at the end, and the rest
+    /// are only drained, so that no client waits for room.
     ///
-    /// The engine and the drainer were just opened. `WriteFault` comes only where a write to the sink failed in this call; after it, and
-    /// after the others, the engine isn't used again. The call may wait.
+    /// The engine and the drainer were just opened. `WriteFault` comes only where a write to the sink failed in this
+    /// call; after it, and after the others, the engine isn't used again. The call may wait.
     pub fn run<R: Threads + Wait + Sync, K: Sink, G: Gate + Sync>(
         &mut self,
         context: &ServeContext<'_, R, G>,

@@ -30,7 +30,8 @@ pub fn in_pieces<'a>(line: &'a str, input: &'a [u8], piece: u32) -> Call<'a> {
     }
 }
 
-fn words_of<R: AllocGlobal + Abort>(rt: &R, line: &str) -> Words {
+// The words of a command line.
+pub fn words_of<R: AllocGlobal + Abort>(rt: &R, line: &str) -> Words {
     let mut words = Words::new(rt.alloc());
     for word in line.split_whitespace() {
         words

@@ -1,6 +1,8 @@
 // Inputs in pieces.
-use super::support::{answers, in_pieces};
+use super::support::{answers, in_pieces, words_of};
+use crate::process::program;
 use crate::status::Status;
+use std::io::BufWriter;
 use std::test::Fail;
 
 // A command line, an input, how the call ends, and its text.
@@ -48,6 +50,20 @@ fn runs_in_any_pieces(rt: HostRuntime) -> Result<(), Fail> {
         for piece in [1, 2, 7] {
             assert!(rt; answers(&rt, in_pieces(row.0, row.1, piece), row.2, row.3));
         }
+    }
+    Ok(())
+}
+
+// The same from a reader in memory to a writer in memory, of which 16 bytes are kept back.
+#[test]
+fn a_process_leaves_its_text(rt: HostRuntime) -> Result<(), Fail> {
+    for row in ROWS {
+        let words = words_of(&rt, row.0);
+        let writer = BufWriter::with_capacity(rt.alloc(), 16, Vec::new(rt.alloc()))
+            .ok()
+            .expect(&rt, "memory for a buffer");
+        let (status, written) = program(&rt, &words, row.1, writer);
+        assert!(rt; status == row.2 && written.as_slice() == row.3);
     }
     Ok(())
 }

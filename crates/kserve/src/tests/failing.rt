@@ -3,8 +3,8 @@ use super::support::{Call, WHOLE, answer, answers, at_once, equal_scripts};
 use crate::status::ServeStatus;
 use std::test::Fail;
 
-// The number of the write that fails, and what was written. The third write is that of the first line of the first batch; the fourth that of
-// its first update.
+// The number of the write that fails, and what was written. The third write is that of the first line of the first
+// batch; the fourth that of its first update.
 const WRITES: &[(u32, &[u8])] = &[
     (2, b"kserve-run 1\n"),
     (3, b"kserve-run 1\nvertices 2\n"),

@@ -1,5 +1,5 @@
-// Gates that hold a client, and a sink that holds the server, until another thread has come to a place, for a bounded number of turns. A
-// turn is one look and one yield.
+// Gates that hold a client, and a sink that holds the server, until another thread has come to a place, for a bounded
+// number of turns. A turn is one look and one yield.
 ghost use Rattle.std.specs.Prelude.{None};
 
 use super::outputs::are_served;
@@ -74,8 +74,8 @@ fn a_long_script_of_one_client(rt: HostRuntime) -> Result<(), Fail> {
     Ok(())
 }
 
-// How many updates clients have begun and ended to submit, how many were printed, and how many pieces of rounds were told; and whether a
-// thread waited in vain or found something out of turn.
+// How many updates clients have begun and ended to submit, how many were printed, and how many pieces of rounds were
+// told; and whether a thread waited in vain or found something out of turn.
 #[derive(Drop)]
 pub struct Counts {
     pub asking: AtomicU64,
@@ -108,8 +108,8 @@ impl Counts {
     }
 }
 
-// Takes every piece whole and counts the lines of updates in it. The first of them is held until so many updates were begun to be
-// submitted. It doesn't tell what it took.
+// Takes every piece whole and counts the lines of updates in it. The first of them is held until so many updates were
+// begun to be submitted. It doesn't tell what it took.
 #[derive(Drop)]
 struct Counting<'a> {
     counts: &'a Counts,
@@ -134,8 +134,8 @@ impl Sink for Counting<'_> {
     }
 }
 
-// Whether this many updates, all there are, are submitted and printed, the first of them once `wanted` were begun to be submitted, and no thread
-// waits in vain.
+// Whether this many updates, all there are, are submitted and printed, the first of them once `wanted` were begun to be
+// submitted, and no thread waits in vain.
 pub fn all_pass<R: Threads + Wait + Sync + AllocGlobal + Abort, G: Gate + Sync>(
     rt: &R,
     gate: &G,
@@ -216,7 +216,8 @@ fn updates_are_printed_while_no_others_come(rt: HostRuntime) -> Result<(), Fail>
     Ok(())
 }
 
-// Looks whether one client tells of its updates in turn. The first is held, once it was submitted, until it was printed.
+// Looks whether one client tells of its updates in turn. The first is held, once it was submitted, until it was
+// printed.
 #[derive(Drop)]
 struct InTurn<'a> {
     counts: &'a Counts,
@@ -245,8 +246,8 @@ impl Gate for InTurn<'_> {
     }
 }
 
-// The first batch is the first update alone. While the line of it is held, the intake has room for 1,024 more, and so the one after these
-// is told of before it is submitted.
+// The first batch is the first update alone. While the line of it is held, the intake has room for 1,024 more, and so
+// the one after these is told of before it is submitted.
 #[test]
 fn updates_are_told_before_and_after_they_are_submitted(rt: HostRuntime) -> Result<(), Fail> {
     let counts = Counts::new();

@@ -32,8 +32,8 @@ const EDGES: &[u8] = b"kserve 1\nvertices 128\nbatch\n0 0\n\
 // A number of workers, and the greatest index of a piece.
 const WORKERS: &[(&str, u64)] = &[("1", 0), ("2", 1), ("3", 2), ("5", 4), ("64", 63)];
 
-// The first batch is the first loop alone. While the line of it is held, all edges are submitted, and so they are in the second
-// batch. Its first round has 128 candidates, so each worker gets a piece.
+// The first batch is the first loop alone. While the line of it is held, all edges are submitted, and so they are in
+// the second batch. Its first round has 128 candidates, so each worker gets a piece.
 #[test]
 fn a_first_round_has_a_piece_for_each_worker(rt: HostRuntime) -> Result<(), Fail> {
     for (workers, greatest) in WORKERS {

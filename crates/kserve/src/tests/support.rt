@@ -10,7 +10,8 @@ use std::thread::Threads;
 // What one read gives, or one write takes, where all goes at once.
 pub const WHOLE: u32 = 65_536;
 
-// A number of workers and an input; how many bytes are read and taken at a time; and the numbers of the reads and of the writes that fail.
+// A number of workers and an input; how many bytes are read and taken at a time; and the numbers of the reads and of
+// the writes that fail.
 #[derive(Clone, Copy)]
 pub struct Call<'a> {
     pub workers: &'a str,

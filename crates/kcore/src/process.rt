@@ -1,0 +1,88 @@
+//! The program from a reader to a writer, as a process runs it over its standard streams.
+ghost use Rattle.std.specs.Prelude.{◌≡◌, ◌↔◌, None, is_some};
+ghost use Rattle.std.specs.Io.Buffered.{writer_contents, writer_buffer};
+ghost use Rattle.kc_text.specs.Telling.{IsTold, told_of};
+ghost use Rattle.kcore.specs.Commands.{command_of};
+ghost use Rattle.kcore.specs.Process.{ProcessAnswers};
+ghost use Rattle.kcore.specs.private.Process.{HandsOn, last_status};
+
+use crate::status::Status;
+use crate::top::run_command;
+use kc_rounds::OpenGate;
+use kc_text::{StdSink, StdSource, Told, Words};
+use std::io::{BufWriter, Read, Write};
+use std::marker::Brand;
+use std::thread::Threads;
+
+/// Carries out the command that the words ask for, from `reader` to `writer`, and flushes the writer. Returns how it ended, and the
+/// writer without its buffer.
+///
+/// The contract is that of [`run_command`] at the process's own streams. It speaks where std's contracts tell what the reader has to
+/// give and what the writer holds, as of those in memory. Then the writer holds the whole text of the command with `Done` and `Refused`,
+/// and else a prefix. If the writer can't be flushed, `WriteFault` takes the place of `Done` and `Refused`.
+///
+/// The same body runs over the standard streams, of which nothing is told: whether bytes are told leaves no trace at run time.
+pub fn program<T: Threads + Sync + AllocGlobal, R: Read + Drop + Send, W: Write + Drop + Send>(
+    rt: &T,
+    words: &Words,
+    reader: R,
+    writer: BufWriter<W>,
+) -> (Status, W)
+    ensures answer { ProcessAnswers (command_of words.now) (R.remaining reader) (writer_contents W.contents writer) (W.contents result.1) result.0 }
+    ensures usage { (result.0 ≡ Status.Usage) ↔ (command_of words.now ≡ None) }
+{
+    told::<T, R, W, Brand, Brand>(rt, words, reader, writer)
+}
+
+// The same, with what is told of the reader and of the writer picked.
+#[tactic(auto, using(crate::proofs::Processes::tells))]
+fn told<
+    T: Threads + Sync + AllocGlobal,
+    R: Read + Drop + Send,
+    W: Write + Drop + Send,
+    J: Told + Send,
+    K: Told + Send,
+>(rt: &T, words: &Words, reader: R, writer: BufWriter<W>) -> (Status, W)
+    requires left { J.told ≡ is_some (R.remaining reader) }
+    requires taken { K.told ≡ is_some (writer_contents W.contents writer) }
+    ensures answer { ProcessAnswers (command_of words.now) (R.remaining reader) (writer_contents W.contents writer) (W.contents result.1) result.0 }
+    ensures usage { (result.0 ≡ Status.Usage) ↔ (command_of words.now ≡ None) }
+{
+    let mut input = StdSource::<R, J>::telling(reader);
+    let mut output = StdSink::<BufWriter<W>, K>::telling(writer);
+    let status = run_command(
+        rt,
+        rt.alloc(),
+        words,
+        &mut input,
+        &mut output,
+        &OpenGate::new(),
+    );
+    let (done, writer) = handed_on(output.into_writer());
+    (last_status(status, done), writer)
+}
+
+// The writer without its buffer, after what it held back went out, and whether all of it did.
+#[tactic(auto, using(crate::proofs::Processes::all_on, crate::proofs::Processes::some_on))]
+fn handed_on<W: Write + Drop>(writer: BufWriter<W>) -> (bool, W)
+    ensures { HandsOn result.0 (writer_contents W.contents writer) (W.contents result.1) }
+{
+    let mut writer = writer;
+    let done = writer.flush().is_ok();
+    let (inner, _rest) = writer.into_parts();
+    (done, inner)
+}
+
+// How the program ends, after its command ended so, and its output was flushed or couldn't be: a command that came to its end has
+// failed to write then.
+fn last_status(status: Status, done: bool) -> Status
+    ensures { result ≡ last_status done status }
+{
+    if done {
+        return status;
+    }
+    match status {
+        Status::Done | Status::Refused => Status::WriteFault,
+        _ => status,
+    }
+}
