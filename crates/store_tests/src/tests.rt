@@ -4,6 +4,7 @@ mod engine;
 mod intake;
 mod loads;
 mod readers;
+mod service;
 mod session;
 mod showing;
 mod store;

@@ -1,104 +1,122 @@
-//! A first program over the library: five vertices and two batches. A writer shows each batch in a store, from which any number of
-//! threads could read, and a pass reads the levels at the end. `docs/LIBRARY.md` goes through it.
+//! A first program over the library: a service of five vertices, three batches, and two readers in threads of their own that ask while
+//! the batches are applied.
 #![tactic(auto)]
 
-ghost use Rattle.std.specs.Prelude.{◌≡◌, ◌<◌, ◌≤◌, false, All, OnOk, length};
-ghost use Rattle.kc_graph.specs.declared.limits.TheConstants.{MAX_ITEMS};
-ghost use Rattle.std.specs.Bool.{OnTrue};
-ghost use Rattle.kc_graph.specs.Cleaning.{IsInside};
-ghost use Rattle.kc_engine.specs.Showing.{IsAbreast};
+// That other threads may use the runtime, which the closures of threads ask.
+ghost use Rattle.std.specs.Thread.{IsSync};
 
-use anyhow::ensure;
-use kc_engine::laws::phases_continue;
-use kc_engine::{BatchPlan, Engine, Shape};
-use kc_graph::{Item, MAX_EDGES, MAX_ITEMS, clean};
-use kc_levels::Profile;
-use kc_rounds::OpenGate;
-use kc_store::{Pass, Store, Writer};
-use std::alloc::Global;
-use std::io;
+use anyhow::bail;
+use kc_service::{Applied, Item, Options, Reader, Service};
+use std::alloc::{AllocError, Global};
+use std::sync::atomic::AtomicU64;
+use std::sync::atomic::Ordering::SeqCst;
 use std::thread::Threads;
+use std::{io, thread};
 
-// Whether the vertices of the item are below n.
-fn is_inside(item: Item, n: u32) -> bool
-    ensures { OnTrue result (IsInside n item) }
-{
-    match item {
-        Item::Insert { u, v } => u < n && v < n,
-        Item::Delete { u, v } => u < n && v < n,
-        Item::Isolate { v } => v < n,
+// The number of vertices.
+const VERTICES: u32 = 5;
+
+// The vertices that the two readers ask for.
+const WATCHED: [u32; 2] = [0, 4];
+
+// A triangle with a tail, two edges that make it a clique of four with a tail, and the tail is cut off.
+const BATCHES: [&[Item]; 3] = [
+    &[
+        Item::Insert { u: 0, v: 1 },
+        Item::Insert { u: 0, v: 2 },
+        Item::Insert { u: 1, v: 2 },
+        Item::Insert { u: 2, v: 3 },
+        Item::Insert { u: 3, v: 4 },
+    ],
+    &[Item::Insert { u: 1, v: 3 }, Item::Insert { u: 0, v: 3 }],
+    &[Item::Delete { u: 3, v: 4 }],
+];
+
+// How often a thread looks for the others at most.
+const TURNS: u32 = 100_000_000;
+
+// How far batches and readers are, so that each reader asks at least once between two batches. A program needs no such thing: readers
+// ask when they like. Here it makes what is printed the same each time.
+#[derive(Drop)]
+struct Pace {
+    // How many batches were applied.
+    applied: AtomicU64,
+    // How often a reader asked for the first time after a batch, or before the first one.
+    asked: AtomicU64,
+}
+
+impl Pace {
+    // Waits until readers have asked so often for the first time after a batch.
+    fn wait(&self, times: u64) -> anyhow::Result<()> {
+        for _turn in 0..TURNS {
+            if self.asked.load(SeqCst) >= times {
+                return Ok(());
+            }
+            thread::yield_now();
+        }
+        bail!("a reader doesn't ask")
     }
 }
 
-// Whether the vertices of all the items are below n.
-fn are_inside(items: &[Item], n: u32) -> bool
-    ensures { OnTrue result (All (IsInside n) items.now) }
-{
-    items.iter().all(|item| is_inside(*item, n))
+// A reader that asks for one vertex, and what it saw.
+#[derive(Drop)]
+struct Watch {
+    reader: Reader,
+    vertex: u32,
+    // The levels that it saw, one after another.
+    levels: Vec<u16>,
 }
 
-// Applies a batch of items that were tested to an engine that hasn't halted, shows in the store what it did, and gives it. The history
-// of the writer leads to the graph and levels of the engine, before and afterwards. After an error neither is used again.
-fn show_batch<R: Threads + Sync>(
-    rt: &R,
-    alloc: Global,
-    engine: &mut Engine,
-    store: &Store,
-    writer: &mut Writer,
-    items: &[Item],
-) -> anyhow::Result<BatchPlan>
-    requires running { engine.old.halted ≡ false }
-    requires shown { engine.old.waits ≡ false }
-    requires table { writer.old.table ≡ store.now.table }
-    requires abreast { IsAbreast writer.old.state engine.old.state }
-    requires inside { All (IsInside engine.old.state.graph.vertices) items.now }
-    requires few { length items.now ≤ MAX_ITEMS }
-    ensures running { OnOk result (engine.new.halted ≡ false) }
-    ensures shown { OnOk result (engine.new.waits ≡ false) }
-    ensures table { OnOk result (writer.new.table ≡ writer.old.table) }
-    ensures abreast { OnOk result (IsAbreast writer.new.state engine.new.state) }
-    ensures vertices { OnOk result (engine.new.state.graph.vertices ≡ engine.old.state.graph.vertices) }
-{
-    let cleaned = clean(rt, alloc, engine.graph(), items)?;
-    let plan = engine.plan(rt, alloc, &OpenGate::new(), &cleaned)?;
-    phases_continue();
-    engine.show(rt, &OpenGate::new(), store, writer, &plan);
-    Ok(plan)
-}
+impl Watch {
+    // A reader of the service that is to ask for a vertex.
+    fn open<R: Threads + Sync>(
+        alloc: Global,
+        service: &mut Service<'_, R>,
+        vertex: u32,
+    ) -> Result<Watch, AllocError> {
+        Ok(Watch {
+            reader: service.reader()?,
+            vertex,
+            levels: Vec::new(alloc),
+        })
+    }
 
-// The same of any items: those that `show_batch` doesn't take are an error.
-fn apply<R: Threads + Sync>(
-    rt: &R,
-    alloc: Global,
-    engine: &mut Engine,
-    store: &Store,
-    writer: &mut Writer,
-    items: &[Item],
-) -> anyhow::Result<BatchPlan>
-    requires running { engine.old.halted ≡ false }
-    requires shown { engine.old.waits ≡ false }
-    requires table { writer.old.table ≡ store.now.table }
-    requires abreast { IsAbreast writer.old.state engine.old.state }
-    ensures running { OnOk result (engine.new.halted ≡ false) }
-    ensures shown { OnOk result (engine.new.waits ≡ false) }
-    ensures table { OnOk result (writer.new.table ≡ writer.old.table) }
-    ensures abreast { OnOk result (IsAbreast writer.new.state engine.new.state) }
-    ensures vertices { OnOk result (engine.new.state.graph.vertices ≡ engine.old.state.graph.vertices) }
-{
-    ensure!(
-        items.len() <= MAX_ITEMS as usize,
-        "too many items for a batch"
-    );
-    ensure!(
-        are_inside(items, engine.graph().vertices()),
-        "there is no such vertex"
-    );
-    show_batch(rt, alloc, engine, store, writer, items)
+    // Asks until all batches were applied.
+    fn run(&mut self, pace: &Pace) -> Result<(), AllocError> {
+        let mut told = None;
+        for _turn in 0..TURNS {
+            let applied = pace.applied.load(SeqCst);
+            let Some(level) = self.reader.level(self.vertex) else {
+                return Ok(());
+            };
+            if self.levels.last() != Some(&level) {
+                self.levels.push(level)?;
+            }
+            if told != Some(applied) {
+                pace.asked.fetch_add(1, SeqCst);
+                told = Some(applied);
+            }
+            if applied >= BATCHES.len() as u64 {
+                return Ok(());
+            }
+            thread::yield_now();
+        }
+        Ok(())
+    }
+
+    fn print(&self, rt: &impl Print) -> io::Result<()> {
+        print!(rt; "a reader saw vertex {} on level", self.vertex)?;
+        for level in &self.levels {
+            print!(rt; " {level}")?;
+        }
+        println!(rt; "")
+    }
 }
 
 // Prints the groups of vertices that moved together in the phases of a batch.
-fn print_moves(rt: &impl Print, plan: &BatchPlan) -> io::Result<()> {
-    for phase in plan.phases.as_slice() {
+fn print_moves(rt: &impl Print, applied: &Applied) -> io::Result<()> {
+    println!(rt; "{} edges came in, {} left", applied.added, applied.removed)?;
+    for phase in applied.phases.as_slice() {
         for group in phase.groups.as_slice() {
             for m in group.moves.as_slice() {
                 println!(rt;
@@ -111,75 +129,109 @@ fn print_moves(rt: &impl Print, plan: &BatchPlan) -> io::Result<()> {
     Ok(())
 }
 
-// Reads the level of each vertex from the store, and prints what it says of its coreness.
-fn print_bounds(
-    rt: &impl Print,
-    store: &Store,
-    pass: &mut Pass,
-    engine: &Engine,
-) -> anyhow::Result<()>
-    requires running { engine.now.halted ≡ false }
-    requires table { pass.old.table ≡ store.now.table }
-    requires vertices { store.now.vertices ≡ engine.now.state.graph.vertices }
-{
-    for v in 0..engine.graph().vertices() {
-        let level = store.read(pass, v);
-        // Each plan was shown, so the store has the levels of the engine.
-        ensure!(level == engine.levels().get(v), "a plan isn't shown");
-        let bounds = engine.thresholds().estimate(level);
+// Applies the batches one after another, and prints what each did. Between two batches each reader asks.
+fn apply_each<R: Threads + Sync + Print>(
+    rt: &R,
+    service: &mut Service<'_, R>,
+    pace: &Pace,
+) -> anyhow::Result<()> {
+    let readers = WATCHED.len() as u64;
+    let mut times = readers;
+    pace.wait(times)?;
+    for items in BATCHES {
+        let applied = service.apply(items)?;
+        print_moves(rt, &applied)?;
+        pace.applied.fetch_add(1, SeqCst);
+        times = times.saturating_add(readers);
+        pace.wait(times)?;
+    }
+    Ok(())
+}
+
+// The same, after which the readers end, also after a fault.
+fn apply_all<R: Threads + Sync + Print>(
+    rt: &R,
+    service: &mut Service<'_, R>,
+    pace: &Pace,
+) -> anyhow::Result<()> {
+    let outcome = apply_each(rt, service, pace);
+    pace.applied.store(BATCHES.len() as u64, SeqCst);
+    outcome
+}
+
+// Prints what the level of each vertex says of its coreness, and the coreness itself.
+fn print_bounds<R: Threads + Sync + Print>(
+    rt: &R,
+    service: &mut Service<'_, R>,
+) -> anyhow::Result<()> {
+    let coreness = service.coreness()?;
+    let mut reader = service.reader()?;
+    for (v, coreness) in (0..VERTICES).zip(coreness) {
+        let Some(bounds) = reader.bounds(v) else {
+            bail!("there is no such vertex");
+        };
         println!(rt;
-            "vertex {v}: level {level}, coreness {} to {}, about {}",
-            bounds.lo, bounds.hi, bounds.est
+            "vertex {v}: level {}, coreness {} to {}, about {}: {coreness}",
+            bounds.level, bounds.low, bounds.high, bounds.est
         )?;
     }
     Ok(())
 }
 
-// Applies the two batches one after another, and prints what each did and what the levels come to.
+// Applies the batches beside the readers, and prints what the readers saw, and the bounds.
 fn run<R: Threads + Sync + Print>(
     rt: &R,
-    alloc: Global,
-    engine: &mut Engine,
-    store: &Store,
-    writer: &mut Writer,
-    pass: &mut Pass,
-) -> anyhow::Result<()>
-    requires running { engine.old.halted ≡ false }
-    requires shown { engine.old.waits ≡ false }
-    requires table { writer.old.table ≡ store.now.table }
-    requires abreast { IsAbreast writer.old.state engine.old.state }
-    requires pass { pass.old.table ≡ store.now.table }
-    requires vertices { store.now.vertices ≡ engine.old.state.graph.vertices }
-{
-    let triangle_with_tail = [
-        Item::Insert { u: 0, v: 1 },
-        Item::Insert { u: 0, v: 2 },
-        Item::Insert { u: 1, v: 2 },
-        Item::Insert { u: 2, v: 3 },
-        Item::Insert { u: 3, v: 4 },
-    ];
-    let plan = apply(rt, alloc, engine, store, writer, &triangle_with_tail)?;
-    print_moves(rt, &plan)?;
-    let tail_to_triangle = [
-        Item::Delete { u: 3, v: 4 },
-        Item::Insert { u: 1, v: 3 },
-        Item::Insert { u: 0, v: 3 },
-    ];
-    let plan = apply(rt, alloc, engine, store, writer, &tail_to_triangle)?;
-    print_moves(rt, &plan)?;
-    print_bounds(rt, store, pass, engine)
+    service: &mut Service<'_, R>,
+    one: &mut Watch,
+    other: &mut Watch,
+) -> anyhow::Result<()> {
+    let pace = Pace {
+        applied: AtomicU64::new(0),
+        asked: AtomicU64::new(0),
+    };
+    let (seen, applied) = run_beside(rt, service, one, other, &pace);
+    applied?;
+    seen?;
+    one.print(rt)?;
+    other.print(rt)?;
+    print_bounds(rt, service)
+}
+
+// Both readers ask, each in a thread of its own if one can be made.
+fn read_both<R: Threads + Sync>(
+    rt: &R,
+    one: &mut Watch,
+    other: &mut Watch,
+    pace: &Pace,
+) -> Result<(), AllocError> {
+    let (first, second) = thread::join_mut(rt, &mut || one.run(pace), &mut || other.run(pace));
+    first.and(second)
+}
+
+// The readers ask while the batches are applied.
+fn run_beside<R: Threads + Sync + Print>(
+    rt: &R,
+    service: &mut Service<'_, R>,
+    one: &mut Watch,
+    other: &mut Watch,
+    pace: &Pace,
+) -> (Result<(), AllocError>, anyhow::Result<()>) {
+    thread::join_mut(
+        rt,
+        &mut ||
+            requires { IsSync R.row }
+        { read_both(rt, one, other, pace) },
+        &mut ||
+            requires { IsSync R.row }
+        { apply_all(rt, service, pace) },
+    )
 }
 
 fn main(rt: HostRuntime) -> anyhow::Result<()> {
-    let shape = Shape {
-        profile: Profile::One,
-        n: 5,
-        workers: 1,
-        phases_before: 0,
-        edge_limit: MAX_EDGES,
-    };
-    let mut engine = Engine::open(rt.alloc(), shape)?;
-    let (store, mut writer) = Store::open(rt.alloc(), 5, 0)?;
-    let mut pass = writer.pass(&store);
-    run(&rt, rt.alloc(), &mut engine, &store, &mut writer, &mut pass)
+    let alloc = rt.alloc();
+    let mut service = Service::open(&rt, alloc, Options::for_vertices(VERTICES))?;
+    let [first, second] = WATCHED;
+    let mut one = Watch::open(alloc, &mut service, first)?;
+    let mut other = Watch::open(alloc, &mut service, second)?;
+    run(&rt, &mut service, &mut one, &mut other)
 }

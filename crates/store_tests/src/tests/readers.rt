@@ -1,4 +1,5 @@
-//! Readers of sessions: that they run at once, and for what they are given replies. And how many workers a batch has beside them.
+//! Readers of sessions: that they run at once and follow the batches, and for what they are given replies. And how many
+//! workers a batch has beside them.
 ghost use Rattle.std.specs.Prelude.{◌≤◌};
 
 use crate::tests::session::{run, run_settled};
@@ -10,7 +11,9 @@ use std::process::Abort;
 use std::sync::atomic::Ordering::SeqCst;
 use std::sync::atomic::{AtomicBool, AtomicU64};
 use std::test::Fail;
+use std::thread;
 use std::thread::Threads;
+use std::time::{Clock, Duration};
 use test_support::gates::Greatest;
 
 // Holds the first question of each reader until the last reader has come to its own.
@@ -60,6 +63,82 @@ fn readers_run_at_once(rt: HostRuntime) -> Result<(), Fail> {
         assert!(rt; gate.all_here.load(SeqCst));
         assert!(rt; !gate.ran_out.load(SeqCst));
     }
+    Ok(())
+}
+
+// A reader that asks as often as it may, and two batches of one group each. They take its vertex to level 1, and then
+// to level 2.
+const TWO_BATCHES: &[u8] =
+    b"kcore 1\nvertices 4\nask 65536 0\nbatch\n0 1\nend\nbatch\n0 2\n0 3\nend\n";
+
+// The question at which a reader is in a rush, if it comes to it before the second batch. One that looks between its
+// repetitions takes half a minute to come so far, where nothing is shown meanwhile.
+const RUSHED: u32 = 8_192;
+
+// For how many milliseconds the second batch is held. A reader in a rush puts that many questions in some of them.
+const SHORT: u32 = 200;
+
+// Holds the first batch until the first reply was told, and the second one until question `RUSHED` was told, for at
+// most `SHORT` milliseconds.
+#[derive(Drop)]
+struct Lagging<'a, R> {
+    rt: &'a R,
+    replied: AtomicBool,
+    ran_out: AtomicBool,
+    // Whether question `RUSHED` was told.
+    is_far: AtomicBool,
+    // Whether it was told before the second batch was published.
+    has_rushed: AtomicBool,
+}
+
+impl<R: Clock> Lagging<'_, R> {
+    fn hold_second(&self) {
+        for _turn in 0..SHORT {
+            if self.is_far.load(SeqCst) {
+                self.has_rushed.store(true, SeqCst);
+                return;
+            }
+            thread::sleep(self.rt, Duration::from_millis(1));
+        }
+    }
+}
+
+impl<R: Clock> Gate for Lagging<'_, R> {
+    fn at(&self, spot: Spot) {
+        match spot {
+            Spot::Publishing { phase: 1, .. } => hold(&self.replied, &self.ran_out),
+            Spot::Publishing { .. } => self.hold_second(),
+            Spot::Asking { ask, .. } => {
+                if ask == RUSHED {
+                    self.is_far.store(true, SeqCst);
+                }
+            }
+            Spot::Replied { .. } => self.replied.store(true, SeqCst),
+            Spot::Piece { .. } => {}
+        }
+    }
+}
+
+// Whether the first reply of the reader is level 0, and the last one level 2.
+fn has_followed(text: &[u8]) -> bool {
+    text.split(|b| *b == b'\n').any(|line| {
+        line.starts_with(b"reader 0 0=0 ".as_slice()) && line.ends_with(b" 0=2".as_slice())
+    })
+}
+
+// The reader has put few of its questions when the second batch is shown, and has its last reply from afterwards.
+#[test]
+fn a_reader_follows_the_batches(rt: HostRuntime) -> Result<(), Fail> {
+    let gate = Lagging {
+        rt: &rt,
+        replied: AtomicBool::new(false),
+        ran_out: AtomicBool::new(false),
+        is_far: AtomicBool::new(false),
+        has_rushed: AtomicBool::new(false),
+    };
+    let (ended, text) = run(&rt, rt.alloc(), &gate, 1, TWO_BATCHES);
+    assert!(rt; !gate.ran_out.load(SeqCst) && !gate.has_rushed.load(SeqCst));
+    assert!(rt; ended.replies == 65_536 && has_followed(text.as_slice()));
     Ok(())
 }
 

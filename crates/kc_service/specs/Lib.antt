@@ -1,0 +1,6 @@
+pub mod Services
+pub mod Opening
+pub mod Readers
+pub mod Keeping
+pub mod Faults
+pub mod private

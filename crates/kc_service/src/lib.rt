@@ -1,0 +1,37 @@
+//! A service: a graph with levels that batches change, and readers in threads of their own that ask for levels meanwhile.
+//!
+//! [`Service::open`] takes [`Options`]; [`Service::apply`] applies a batch of items whole, or refuses it with a cause and changes
+//! nothing. [`Service::reader`] gives a [`Reader`], which any thread may own: [`Reader::level`] and [`Reader::bounds`] answer while
+//! batches are applied. No call asks its caller for a proof: what a caller could get wrong is tested when it runs.
+//!
+//! ```text
+//! let mut service = Service::open(&rt, rt.alloc(), Options::for_vertices(5))?;
+//! let mut reader = service.reader()?;
+//! let applied = service.apply(&[Item::Insert { u: 0, v: 1 }])?;
+//! let bounds = reader.bounds(1);
+//! ```
+//!
+//! `specs/` has the definitions: `Services` says what becomes of a service, `Readers` what a reader answers.
+#![tactic(auto)]
+
+mod applied;
+mod board;
+mod faults;
+mod items;
+mod options;
+mod planning;
+mod reader;
+mod service;
+
+pub use applied::Applied;
+pub use board::Board;
+pub use faults::{ApplyFault, CertificateFault, CorenessFault, Halted, OpenFault};
+pub use kc_engine::PhasePlans;
+pub use kc_graph::{Edge, Edges, Graph, Item, MAX_EDGES, MAX_ITEMS, MAX_VERTICES};
+pub use kc_groups::PhasePlan;
+pub use kc_history::{Entries, Entry, MAX_PHASE, Move, Moves};
+pub use kc_levels::{Levels, Profile};
+pub use kc_text::{MemSink, Sink, StdSink};
+pub use options::{MAX_WORKERS, Options};
+pub use reader::{Bounds, Reader};
+pub use service::{Parts, Service};

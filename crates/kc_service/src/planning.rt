@@ -1,0 +1,42 @@
+//! A cleaned batch is planned and shown.
+ghost use Rattle.std.specs.Prelude.{◌≡◌, false, OnOk};
+ghost use Rattle.kc_levels.specs.LevelList.{MeetsBoth};
+ghost use Rattle.kc_engine.specs.Batches.{IsCleaning};
+ghost use Rattle.kc_engine.specs.Showing.{IsAbreast};
+ghost use Rattle.kc_service.specs.private.Planning.{PlansAndShows};
+
+use kc_engine::laws::phases_continue;
+use kc_engine::{BatchPlan, Engine, EngineFault};
+use kc_graph::Cleaned;
+use kc_rounds::OpenGate;
+use kc_store::{Store, Writer};
+use std::alloc::Global;
+use std::thread::Threads;
+
+/// Plans a cleaned batch, and shows the plan in the store. The writer's history leads to the engine's state, before and, unless the
+/// engine has halted, afterwards.
+pub(crate) fn plan_and_show<R: Threads + Sync>(
+    rt: &R,
+    alloc: Global,
+    engine: &mut Engine,
+    store: &Store,
+    writer: &mut Writer,
+    cleaned: &Cleaned,
+) -> Result<BatchPlan, EngineFault>
+    requires running { engine.old.halted ≡ false }
+    requires shown { engine.old.waits ≡ false }
+    requires table { writer.old.table ≡ store.now.table }
+    requires abreast { IsAbreast writer.old.state engine.old.state }
+    requires cleaning { IsCleaning engine.old.state.graph cleaned.now }
+    ensures table { writer.new.table ≡ writer.old.table }
+    ensures answer { PlansAndShows engine.old writer.old.state cleaned.now result engine.new writer.new.state }
+    ensures abreast { OnOk result (IsAbreast writer.new.state engine.new.state) }
+    ensures both { OnOk result (MeetsBoth engine.new.state.profile engine.new.state.graph engine.new.state.levels) }
+{
+    // Its contract says that the state is sound.
+    let _graph = engine.graph();
+    let plan = engine.plan(rt, alloc, &OpenGate::new(), cleaned)?;
+    phases_continue();
+    engine.show(rt, &OpenGate::new(), store, writer, &plan);
+    Ok(plan)
+}
