@@ -1,5 +1,6 @@
 #!/usr/bin/env python3
-"""How near the numbers of a vertex line are to the coreness, and how well they rank: the table of docs/READING_THE_OUTPUT.md.
+"""How near the numbers of a vertex line are to the coreness, and how well they rank: the table of docs/GUIDE.md.
+Runs by hand.
 
     bench/accuracy.py KCORE [NAME=EDGES ..]
 

@@ -1,5 +1,5 @@
 #!/usr/bin/env python3
-"""Time and memory of `kcore run 1` and `kcore exact`, beside another program with the same command line.
+"""Time and memory of `kcore run 1` and `kcore exact`, beside another program with the same command line. Runs by hand.
 
     bench/bench.py [--program PATH] [--other PATH] [--runs N] [--keep DIR] [--only NAME,NAME] [--workers W,W]
 

@@ -1,5 +1,6 @@
 #!/usr/bin/env python3
 """What certificates cost: `kcore final 1` beside `run 1`, and `check` beside reading as many lines of edges.
+Runs by hand.
 
     bench/certificates.py [--program PATH] [--runs N] [--edges M]
 

@@ -1,5 +1,5 @@
 #!/usr/bin/env python3
-"""How many updates a second eight clients get through an intake to a server that only drains.
+"""How many updates a second eight clients get through an intake to a server that only drains. Runs by hand.
 
     bench/intake.py [--program PATH] [--runs N]
 

@@ -1,5 +1,5 @@
 #!/usr/bin/env python3
-"""What a small batch costs, maintained by kcore and computed again by igraph and networkx.
+"""What a small batch costs, maintained by kcore and computed again by igraph and networkx. Runs by hand.
 
     bench/others.py [--program PATH] [--runs N] [--batches N] [--keep DIR]
 

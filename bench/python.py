@@ -1,20 +1,19 @@
 #!/usr/bin/env python3
-"""Time of the Python package beside that of the program alone.
+"""Time of the Python package beside that of the program alone. Runs by hand.
 
     bench/python.py [--program PATH] [--runs N] [--edges M] [--batches N] [--only core_number|apply]
 
 It makes its own graphs from fixed seeds, and prints the best of several runs (5), by turns. It judges nothing: times
 on a shared machine are ratios at best.
 
-- core_number   M (1,000,000) edges between M / 10 nodes: `kcore.core_number` of pairs in a list, and of a graph of
-networkx
+- core_number   M (1,000,000) edges between M / 10 nodes: `kcore.core_number` of pairs in a list, and of a graph of networkx
                 where there is one; beside plain code that writes the edges into a file, runs `kcore exact` on it, and
                 reads its text into a dict. Seconds of processor time, of Python and the program together, and that
                 pass; and the ratios of the two.
-- apply         batches of ten edges, among 16,384 nodes with 65,536 edges: `Stream.apply` beside the same bytes by
-plain
-                writes and reads of the pipes. Milliseconds a batch, of N (2,000), and the difference. Insertions
-                alone, and a window: ten edges leave and ten come in.
+- apply         batches of ten edges, among 16,384 nodes with 65,536 edges: `Stream.apply` beside the same bytes by plain
+                writes and reads of the pipes, and those beside the same bytes in a file. Milliseconds a batch, of N (2,000), and the
+                differences: what the package takes beyond the pipes, and what taking turns over them takes beyond the batch itself.
+                Insertions alone, and a window: ten edges leave and ten come in.
 """
 import argparse
 import os
@@ -126,11 +125,30 @@ def by_stream(program, first, batches):
         return timed(lambda: [stream.apply(add=coming, remove=leaving) for leaving, coming in batches])[0]
 
 
-def by_pipes(program, first, batches):
-    """The same bytes, ready beforehand: each batch is written, and read up to the line of its marker."""
+def pieces_of(first, batches):
+    """The bytes of each batch and of the empty one after it."""
     texts = ["".join(f"- {a} {b}\n" for a, b in leaving) + "".join(f"{a} {b}\n" for a, b in coming) for leaving, coming in batches]
     texts.insert(0, "".join(f"{a} {b}\n" for a, b in first))
-    pieces = [f"batch\n{text}end\nbatch\nend\n".encode() for text in texts]
+    return [f"batch\n{text}end\nbatch\nend\n".encode() for text in texts]
+
+
+def from_file(program, first, batches):
+    """The same bytes in a file: the time of the batches is that of the whole run less that of one with the first batch alone."""
+    pieces, seconds = pieces_of(first, batches), []
+    with tempfile.TemporaryFile() as given, tempfile.TemporaryFile() as taken:
+        given.write(f"kcore 2\nvertices {AMONG}\n".encode() + pieces[0])
+        for rest in b"", b"".join(pieces[1:]):
+            given.write(rest)
+            given.flush()
+            given.seek(0)
+            seconds.append(timed(lambda: subprocess.run([program, "run", "1"], stdin=given, stdout=taken, check=True))[0])
+            given.seek(0, os.SEEK_END)
+    return seconds[1] - seconds[0]
+
+
+def by_pipes(program, first, batches):
+    """The same bytes, ready beforehand: each batch is written, and read up to the line of its marker."""
+    pieces = pieces_of(first, batches)
     marks = [b"\nbatch %d loops 0 repeats 0 idle 0 removed 0 added 0\n" % (2 * i) for i in range(1, len(pieces) + 1)]
     process = subprocess.Popen([program, "run", "1"], stdin=subprocess.PIPE, stdout=subprocess.PIPE, bufsize=0)
     source, sink = process.stdin.fileno(), process.stdout.fileno()
@@ -162,12 +180,14 @@ def apply(program, count, runs):
     edges = distinct_edges(AMONG, FIRST + count * SMALL, 17)
     for row in "insert", "window":
         batches = list(batches_of(row, edges, count))
-        mine = theirs = float("inf")
+        mine = theirs = alone = float("inf")
         for _ in range(runs):
+            alone = min(alone, from_file(program, edges[:FIRST], batches))
             theirs = min(theirs, by_pipes(program, edges[:FIRST], batches))
             mine = min(mine, by_stream(program, edges[:FIRST], batches))
-        mine, theirs = 1000 * mine / count, 1000 * theirs / count
-        print(f"apply, {row:<10}{count:>10,} batches{mine:>8.3f} ms{theirs:>11.3f} ms by pipes{mine - theirs:>9.3f} ms beyond", flush=True)
+        mine, theirs, alone = (1000 * seconds / count for seconds in (mine, theirs, alone))
+        print(f"apply, {row:<8}{count:>8,} batches{mine:>8.3f} ms, {theirs:.3f} ms by pipes, {alone:.3f} ms from a file: {mine - theirs:.3f} ms beyond the "
+              f"pipes, which take {theirs - alone:.3f} ms beyond the file", flush=True)
 
 
 def main():

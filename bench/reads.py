@@ -1,5 +1,5 @@
 #!/usr/bin/env python3
-"""Times of reads of a store beside plain loads from memory, of a writer's moves, and of opening a store.
+"""Times of reads of a store beside plain loads from memory, of a writer's moves, and of opening a store. Runs by hand.
 
     bench/reads.py [--program PATH] [--runs N]
 

@@ -1,5 +1,5 @@
 #!/usr/bin/env python3
-"""Time of `kserve 4` on eight scripts, beside `kcore run 4` on the same updates in batches of 1,024.
+"""Time of `kserve 4` on eight scripts, beside `kcore run 4` on the same updates in batches of 1,024. Runs by hand.
 
     bench/serve.py [--kserve PATH] [--kcore PATH] [--runs N] [--items N] [--keep DIR]
 

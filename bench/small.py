@@ -1,5 +1,5 @@
 #!/usr/bin/env python3
-"""Time of a small batch in graphs of several sizes, beside another program with the same command line.
+"""Time of a small batch in graphs of several sizes, beside another program with the same command line. Runs by hand.
 
     bench/small.py [--program PATH] [--other PATH] [--runs N] [--batches N] [--keep DIR]
 

@@ -1,8 +1,9 @@
 #!/usr/bin/env bash
-# Runs kcore on each example, and on each small input in `cases`: it has to write the text beside it, and to exit with 1 if it
-# refuses something. Tries each exit number, of kserve too, each limit (`limits.sh`), answers over a pipe that stays open (`live.sh`) and inputs
-# in pieces (`pieces.py`). Then tries the converter and `check.sql`, compares corenesses and levels with those of plain programs, and tries
-# `draw.py`, if there is matplotlib. Silent if all is well.
+# Runs in the gate, after the static checks. Runs kcore on each example, and on each small input in `cases`: it has to
+# write the text beside it, and to exit with 1 if it refuses something. Tries each exit number, of kserve too, each
+# limit (`limits.sh`), answers over a pipe that stays open (`live.sh`) and inputs in pieces (`pieces.py`). Then tries
+# the converter and `check.sql`, compares corenesses and levels with those of plain programs, and tries `draw.py`, if
+# there is matplotlib. Silent if all is well.
 #     examples/check.sh KCORE KSERVE
 set -u
 program=$(realpath "$1") || exit 1
@@ -202,11 +203,16 @@ fi
 # Each limit, and one past it.
 ./limits.sh "$program" "$kserve" || failed=1
 
-# A run with one worker starts no thread. With four it starts as many each time, and fewer where some list isn't cut for them.
+# A run with one worker starts no thread. With four it starts as many each time, fewer where some list isn't cut for them or where there
+# are fewer processors.
 if command -v strace >/dev/null && strace -f -qq -o "$err" true 2>"$out"; then
   for threads in 1:0 4:41; do
     strace -f -qq -e trace=clone,clone3 -e signal=none -o "$err" "$program" run ${threads%:*} <"$strip" >"$out"
     started=$(grep -c 'clone3\?(.*CLONE_THREAD' "$err")
+    if [ ${threads%:*} -gt "$(nproc)" ]; then
+      echo "threads of run ${threads%:*} aren't counted: there are $(nproc) processors" >&2
+      continue
+    fi
     [ "$started" = ${threads#*:} ] || wrong "the strip: run ${threads%:*} starts $started threads and not ${threads#*:}"
   done
 else
@@ -227,6 +233,11 @@ python3 -B levels.py "$program" || wrong "levels.py: other levels"
 # The converter: each format, good and bad; and certificates in SQL beside `check`.
 python3 -B test_to_kcore.py 2>"$err" || { cat "$err"; wrong "test_to_kcore.py"; }
 python3 -B test_check_sql.py "$program" || wrong "test_check_sql.py"
+for words in "" x 0 "5 3" "5 1 1"; do
+  python3 -B thresholds.py $words >"$out" 2>"$err"
+  exited=$?
+  [ $exited = 2 ] && [ ! -s "$out" ] && [ "$(grep -c '^thresholds.py: ' "$err") $(wc -l <"$err")" = "1 1" ] || wrong "thresholds.py $words: exit number $exited"
+done
 python3 -B to_kcore.py --batch 20 <karate.snap 2>"$err" | cmp -s - karate_batches.kc || wrong "karate_batches.kc: another text"
 
 # The text of a load, put through `run`, comes to what `gen` writes.
@@ -263,13 +274,14 @@ if [ -z "$python" ]; then
   exit $failed
 fi
 
-# draws NUMBER WORDS..: the script exits with this number, and makes the picture only where that is 0.
+# draws NUMBER WORDS..: the script exits with this number, and makes the picture only where that is 0. If not, it says why in one line.
 draws() {
   rm -f "$out.svg"
   "$python" draw.py "${@:2}" "$out.svg" 2>"$err"
   exited=$?
   if [ -s "$out.svg" ]; then made=0; else made=1; fi
   [ $exited = "$1" ] && [ $made = "$1" ] || wrong "draw.py ${*:2}: exit number $exited"
+  [ $exited = 0 ] || [ "$(grep -c '^draw.py: ' "$err") $(wc -l <"$err")" = "1 1" ] || wrong "draw.py ${*:2}: $(cat "$err")"
 }
 draws 0 run karate_batches.txt
 draws 0 run refused.txt
@@ -280,11 +292,24 @@ draws 0 graph cases/batch_within_a_batch.kc cases/batch_within_a_batch.txt
 draws 0 graph karate.kc karate_exact.txt
 draws 0 run --exact karate_exact.txt karate_batches.txt
 draws 0 heat karate_batches.txt
+draws 0 readers cases/ask.txt
+draws 0 readers --reader 1 cases/ask.txt
+draws 1 readers --reader 2 cases/ask.txt
+draws 1 readers karate.txt
 draws 1 run karate.kc
 draws 1 heat karate.kc
 draws 1 heat path.kc
 draws 1 graph karate.kc path.kc
 draws 1 run --exact clique.txt karate_batches.txt
+# Files of two graphs, with other numbers of vertices or with the same.
+draws 1 graph karate.kc clique.txt
+draws 1 graph clique.kc karate_exact.txt
+draws 1 graph triangle.kc path.txt
+draws 1 graph refused.kc counts.txt
+draws 1 run --exact karate_exact.txt clique.txt
+draws 1 run --exact triangle_exact.txt isolate.txt
+"$python" draw.py run karate.txt "$out.gif" 2>"$err"
+[ $? = 2 ] && grep -q '\.gif: a picture ends with \.svg, \.png or \.pdf$' "$err" || wrong "draw.py run karate.txt X.gif: $(cat "$err")"
 # A circle for each of the 34 vertices, and as many numbers.
 draws 0 graph karate.kc karate.txt
 for v in $(seq 0 33); do

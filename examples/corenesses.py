@@ -43,6 +43,8 @@ def corenesses(rows):
 
 
 def main():
+    if len(sys.argv) != 2:
+        sys.exit(__doc__)
     wanted = corenesses(neighbours_in(sys.argv[1]))
     told = {int(words[1]): int(words[3]) for words in map(str.split, sys.stdin) if words[0] == "vertex"}
     differing = [v for v in wanted if told.get(v) != wanted[v]]

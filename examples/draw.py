@@ -3,17 +3,21 @@
 
     draw.py run [--exact EXACT] TEXT PICTURE      bounds by rank of vertex, and moves and groups by batch
     draw.py heat TEXT PICTURE                     how many vertices stand on each level after each batch
+    draw.py readers [--reader R] TEXT PICTURE     the replies to a reader by batch, and how many of them it had by then
     draw.py graph INPUT TEXT PICTURE              the last graph of an input, its vertices coloured by `high` or by coreness
 
 TEXT is what `kcore run` printed, INPUT what it read. For `graph` TEXT may be a text of `kcore exact`, and then colours are corenesses;
 --exact draws the corenesses of such a text over the band from `low` to `high`. Vertices without edges are left out of curves and of
 large graphs. A graph of up to 150 vertices has numbers on its vertices, one of up to 2,000 has dots, larger ones for higher degrees.
+For `readers` a reply is a dot at the batch of the earliest point of the history that explains it, on the line of its vertex's
+levels; --reader picks another reader than 0.
 PICTURE ends with .svg, .png or .pdf. Needs matplotlib and numpy (on Debian and Ubuntu: apt install python3-matplotlib).
 
-Exit number: 0 the picture is written, 1 a file can't be read, written or used, 2 the words of the command line are wrong,
-3 matplotlib isn't there.
+The files of one picture have to be of one graph. Exit number: 0 the picture is written, 1 a file can't be read, written or used,
+2 the words of the command line are wrong, 3 matplotlib isn't there.
 """
 import argparse
+import collections
 import sys
 
 try:
@@ -25,12 +29,17 @@ except ImportError as missing:
     print(f"draw.py: {missing}; on Debian and Ubuntu: apt install python3-matplotlib", file=sys.stderr)
     sys.exit(3)
 
+ENDINGS = (".svg", ".png", ".pdf")
+
 # Up to this vertices have numbers, and up to the second a drawing of a graph shows something.
 MOST_NUMBERS = 150
 MOST_VERTICES = 2_000
 
 # Above this a bar for each batch is too thin to see.
 MOST_BARS = 60
+
+# A picture of a reader has the lines of at most so many vertices.
+MOST_ASKED = 6
 
 # An axis whose values span this factor is logarithmic.
 DECADES = 100
@@ -44,8 +53,10 @@ class Unusable(Exception):
 
 def words_of(path, kind):
     """The words of each line of a text of this kind, but for comments."""
-    with open(path, encoding="ascii") as file:
+    with open(path, encoding="utf-8", errors="replace") as file:
         lines = [line.split() for line in file if line.strip() and not line.startswith("#")]
+    if lines and lines[0][0] == "refused":
+        raise Unusable(f"{path}: the program refused its input, `{' '.join(lines[0])}`")
     if not lines or lines[0] != [f"kcore-{kind}", "1"]:
         raise Unusable(f"{path} isn't a text of `kcore {kind}`: its first line isn't `kcore-{kind} 1`")
     if lines[-1] != ["end"]:
@@ -56,32 +67,46 @@ def words_of(path, kind):
 def columns_of(lines):
     """The numbers of the vertex lines, by name."""
     rows = [words for words in lines if words[0] == "vertex"]
-    names = rows[0][2::2] if rows else []
-    return dict(zip(names, np.array([[int(word) for word in words[3::2]] for words in rows], dtype=int).T))
+    return dict(zip(rows[0][2::2], np.array([[int(word) for word in words[3::2]] for words in rows], dtype=int).T))
 
 
 class RunText:
-    """What a run text says: a row of numbers for each vertex, and for each batch its moves and groups and the levels that changed."""
+    """What a run text says: a row of numbers for each vertex; for each batch its moves and groups, and the levels that changed;
+    for each group its batch and these levels; for each reader its replies."""
 
     def __init__(self, path):
         lines = words_of(path, "run")
-        self.moves, self.groups, self.changes = [], [], []
+        self.moves, self.groups, self.changes, self.history, self.replies = [], [], [], [], []
         for words in lines:
             if words[0] == "batch":
                 self.moves.append(0)
                 self.groups.append(0)
                 self.changes.append([])
             elif words[0] == "group":
+                if not words[2].isdigit():
+                    raise Unusable(f"{path} has names in place of numbers: take the text that the program printed")
                 self.moves[-1] += len(words) - 3
                 self.groups[-1] += 1
-                self.changes[-1] += [[int(it) for it in word.split(":")] for word in words[3:]]
+                moved = [[int(it) for it in word.split(":")] for word in words[3:]]
+                self.changes[-1] += moved
+                self.history.append((len(self.moves), moved))
+            elif words[0] == "reader":
+                self.replies.append([tuple(int(it) for it in word.split("=")) for word in words[2:]])
         self.columns = columns_of(lines)
 
 
 def edges_of(path, refused):
-    """The edges after the last batch of an input, in which the batches with these numbers are refused."""
-    edges, batch, number = set(), None, 0
-    for words in lines_after_header(path):
+    """The number of vertices of an input, and its edges after the last batch, where the batches with these numbers are refused."""
+    lines = lines_of_input(path)
+    if next(lines, [""])[0] != "kcore":
+        raise Unusable(f"{path} isn't an input of `kcore`: its first line isn't `kcore 1` or `kcore 2`")
+    words = next(lines, [])
+    if words[:1] != ["vertices"] or not words[-1].isdigit():
+        raise Unusable(f"{path} isn't an input of `kcore`: its second line isn't `vertices N`")
+    edges, batch, number, count = set(), None, 0, int(words[-1])
+    for words in lines:
+        if batch is None and not number and words[0] == "ask":
+            continue
         if batch is None:
             # Any line begins a batch; one that isn't `batch` is a fault of it.
             batch, number = set(edges), number + 1
@@ -90,26 +115,28 @@ def edges_of(path, refused):
         if words == ["end"]:
             edges, batch = edges if number in refused else batch, None
         elif number not in refused:
-            change(batch, words)
-    return edges
+            try:
+                change(batch, words, count)
+            except ValueError:
+                raise Unusable(f"{path}: batch {number} has the line `{' '.join(words)[:40]}`, for which it would be refused, and the text doesn't"
+                               " say so: is the text of this input?") from None
+    return count, edges
 
 
-def lines_after_header(path):
-    """The words of each line after the header of an input, but for empty lines and comments."""
-    in_header = True
-    with open(path, encoding="ascii") as file:
+def lines_of_input(path):
+    """The words of each line of an input, but for empty lines and comments."""
+    with open(path, encoding="utf-8", errors="replace") as file:
         for line in file:
             words = line.split()
-            if not words or words[0].startswith("#"):
-                continue
-            in_header = in_header and words[0] in ("kcore", "vertices", "ask")
-            if not in_header:
+            if words and not words[0].startswith("#"):
                 yield words
 
 
-def change(edges, words):
-    """What one item does to a set of edges."""
-    ends = tuple(sorted(int(word) for word in words[-2:] if word.isdigit()))
+def change(edges, words, count):
+    """What one item does to a set of edges between this many vertices. Raises ValueError for a line that is no item."""
+    ends = tuple(sorted(int(word) for word in words[words[0] in ("+", "-", "x"):]))
+    if len(ends) != 2 - (words[0] == "x") or not 0 <= ends[0] <= ends[-1] < count:
+        raise ValueError
     if words[0] == "x":
         edges -= {edge for edge in edges if ends[0] in edge}
     elif words[0] == "-":
@@ -119,7 +146,7 @@ def change(edges, words):
 
 
 def refused_batches(path):
-    with open(path, encoding="ascii") as file:
+    with open(path, encoding="utf-8", errors="replace") as file:
         rows = (line.split() for line in file)
         # (`exact` has them as notes)
         rows = (words[words[:1] == ["#"]:] for words in rows)
@@ -182,9 +209,25 @@ def draw_batches(axes, text):
     axes.legend(frameon=False, loc="lower center", bbox_to_anchor=(0.5, 1), ncol=2, fontsize="small")
 
 
+def corenesses_beside(path, text_path, columns):
+    """The corenesses of a text of `exact`, whose bounds have to be those of the run text with these columns."""
+    exact = columns_of(words_of(path, "exact"))
+    check_count(path, len(exact["coreness"]), text_path, len(columns["level"]))
+    for name in "low", "est", "high":
+        differ = np.flatnonzero(exact[name] != columns[name])
+        if len(differ):
+            v = differ[0]
+            raise Unusable(f"{path} and {text_path} are of two different inputs: vertex {v} has {name} {exact[name][v]} in the first and"
+                           f" {columns[name][v]} in the second")
+    return exact["coreness"]
+
+
+def check_count(path, count, other, others):
+    if count != others:
+        raise Unusable(f"{path} and {other} are of two different graphs: {count:,} vertices and {others:,}")
+
+
 def draw_run(text, coreness, picture):
-    if coreness is not None and len(coreness) != len(text.columns["level"]):
-        raise Unusable("the two texts have other numbers of vertices")
     figure, (left, right) = plt.subplots(1, 2, figsize=(11, 4.2))
     draw_bounds(left, text.columns, coreness)
     draw_batches(right, text)
@@ -213,6 +256,56 @@ def draw_heat(text, picture):
     axes.xaxis.get_major_locator().set_params(integer=True, min_n_ticks=1)
     axes.yaxis.get_major_locator().set_params(integer=True)
     figure.colorbar(mesh, ax=axes, label="vertices on this level after the batch")
+    save(figure, picture)
+
+
+def batches_of(history, replies):
+    """The batch of the earliest point that explains each reply, 0 at the start."""
+    levels, at, batch = {}, 0, 0
+    for vertex, level in replies:
+        while levels.get(vertex, 0) != level:
+            if at == len(history):
+                raise Unusable(f"no point of the history explains {vertex}={level}; ask `kcore audit`")
+            batch, moved = history[at]
+            levels.update(moved)
+            at += 1
+        yield batch
+
+
+def draw_levels(axes, text, replies, batches):
+    """The levels of the vertices that a reader asks for, by batch, and its replies."""
+    asked = list(dict.fromkeys(vertex for vertex, _ in replies))
+    # (those that change most show most)
+    changes = collections.Counter(vertex for change in text.changes for vertex, _ in change)
+    shown = sorted(asked, key=lambda vertex: -changes[vertex])[:MOST_ASKED]
+    for vertex, colour in zip(shown, matplotlib.colormaps["tab10"].colors):
+        at, levels = [0], [0]
+        for batch, change in enumerate(text.changes, 1):
+            for level in (level for moved, level in change if moved == vertex):
+                at.append(batch)
+                levels.append(level)
+        axes.step([*at, len(text.changes)], [*levels, levels[-1]], where="post", color=colour, linewidth=1, alpha=0.6)
+        dots = [(batch, level) for batch, (v, level) in zip(batches, replies) if v == vertex]
+        axes.plot(*np.array(dots).T, ".", color=colour, markersize=4, rasterized=len(dots) > 500, label=f"vertex {vertex}")
+    title = None if len(shown) == len(asked) else f"{len(shown)} of {len(asked)} vertices, those that move most"
+    axes.set(xlabel="batch", ylabel="level", ylim=(-0.3, None))
+    axes.legend(frameon=False, loc="lower center", bbox_to_anchor=(0.5, 1), ncol=3, fontsize="small", title=title, title_fontsize="small")
+
+
+def draw_readers(text, reader, picture):
+    if reader not in range(len(text.replies)):
+        raise Unusable(f"{len(text.replies)} readers, counted from 0, and {reader} isn't one of them")
+    batches = [list(batches_of(text.history, replies)) for replies in text.replies]
+    figure, (left, right) = plt.subplots(1, 2, figsize=(11, 4.2), gridspec_kw={"width_ratios": (2, 1)})
+    draw_levels(left, text, text.replies[reader], batches[reader])
+    for number, at in enumerate(batches):
+        colour = BLUE if number == reader else GREY
+        right.step(at, 100 * np.arange(1, len(at) + 1) / len(at), where="post", color=colour, linewidth=1, zorder=2 + (number == reader))
+    right.set(xlabel="batch", ylabel="replies so far, per cent", xlim=left.get_xlim(), ylim=(0, 102))
+    for axes in left, right:
+        axes.xaxis.get_major_locator().set_params(integer=True, min_n_ticks=1)
+        axes.spines[["top", "right"]].set_visible(False)
+    left.yaxis.get_major_locator().set_params(integer=True)
     save(figure, picture)
 
 
@@ -290,11 +383,22 @@ def draw_graph(edges, colours, label, picture):
     save(figure, picture)
 
 
-def colours_of(path):
-    """A number for each vertex and what it is: its coreness in a text of `exact`, `high` in one of `run`."""
-    with open(path, encoding="ascii") as file:
+def colours_of(path, source, count, edges):
+    """A number for each vertex and what it is: its coreness in a text of `exact`, `high` in one of `run`.
+
+    The text has to be of the graph of the input `source`, which has this many vertices and these edges.
+    """
+    with open(path, encoding="utf-8", errors="replace") as file:
         is_exact = any(line.startswith("kcore-exact ") for line in file)
     columns = columns_of(words_of(path, "exact" if is_exact else "run"))
+    check_count(source, count, path, len(columns["low"]))
+    degrees = np.bincount(np.array(list(edges), dtype=int).ravel(), minlength=count)
+    # (a text has a coreness, or a number of neighbours from a level on: neither is above the degree, and both are 0 only without edges)
+    numbers = columns["coreness" if is_exact else "down"]
+    differ = np.flatnonzero((numbers > degrees) | ((numbers == 0) != (degrees == 0)))
+    if len(differ):
+        raise Unusable(f"{source} and {path} are of two different graphs: vertex {differ[0]} has {degrees[differ[0]]} neighbours in the first, and"
+                       f" {'coreness' if is_exact else 'down'} {numbers[differ[0]]} in the second")
     return (columns["coreness"], "coreness") if is_exact else (columns["high"], "high: the coreness is at most this")
 
 
@@ -307,25 +411,33 @@ def save(figure, picture):
 
 
 def main():
-    parser = argparse.ArgumentParser(usage="draw.py run [--exact EXACT] TEXT PICTURE | draw.py heat TEXT PICTURE | draw.py graph INPUT TEXT PICTURE",
+    parser = argparse.ArgumentParser(usage="draw.py run [--exact EXACT] TEXT PICTURE | draw.py heat TEXT PICTURE | draw.py readers [--reader R] TEXT PICTURE"
+                                           " | draw.py graph INPUT TEXT PICTURE",
                                      description=__doc__, formatter_class=argparse.RawDescriptionHelpFormatter)
     kinds = parser.add_subparsers(dest="kind", required=True)
-    for kind, names in ("run", ("text", "picture")), ("heat", ("text", "picture")), ("graph", ("input", "text", "picture")):
+    both = ("text", "picture")
+    for kind, names in ("run", both), ("heat", both), ("readers", both), ("graph", ("input", *both)):
         words = kinds.add_parser(kind)
         for name in names:
             words.add_argument(name)
         if kind == "run":
             words.add_argument("--exact")
+        if kind == "readers":
+            words.add_argument("--reader", type=int, default=0)
     chosen = parser.parse_args()
+    if not chosen.picture.lower().endswith(ENDINGS):
+        parser.error(f"{chosen.picture}: a picture ends with {', '.join(ENDINGS[:-1])} or {ENDINGS[-1]}")
     try:
         if chosen.kind == "run":
-            coreness = columns_of(words_of(chosen.exact, "exact"))["coreness"] if chosen.exact else None
-            draw_run(RunText(chosen.text), coreness, chosen.picture)
+            text = RunText(chosen.text)
+            draw_run(text, corenesses_beside(chosen.exact, chosen.text, text.columns) if chosen.exact else None, chosen.picture)
         elif chosen.kind == "heat":
             draw_heat(RunText(chosen.text), chosen.picture)
+        elif chosen.kind == "readers":
+            draw_readers(RunText(chosen.text), chosen.reader, chosen.picture)
         else:
-            colours = colours_of(chosen.text)
-            draw_graph(edges_of(chosen.input, refused_batches(chosen.text)), *colours, chosen.picture)
+            count, edges = edges_of(chosen.input, refused_batches(chosen.text))
+            draw_graph(edges, *colours_of(chosen.text, chosen.input, count, edges), chosen.picture)
     except (Unusable, OSError, ValueError) as fault:
         sys.exit(f"draw.py: {fault}")
 

@@ -2,10 +2,14 @@
 """Says whether the readers of a run text were told levels of its history.
 
     kcore run 4 < readers.kc | python3 explained.py
+    kcore run 4 < readers.kc | python3 explained.py --points
     kcore run 4 < readers.kc | python3 explained.py --changed kcore
 
 Each reply `V=L` has to be the level of V at a point of the history: before the first line `group`, or after one of them. The points of
 one reader never go back. Exits with 0 if that is so, and else with 1 and the first reply for which there is no point.
+
+With --points it also prints a line for each reader: how many different points its replies meet, of how many there are. A
+reply may fit several points; the earliest one is taken that isn't before that of the reply before it.
 
 With --changed the text is changed at one reply in turn, to the next level up and down, and `PROGRAM audit` has to name the same reply
 of each changed text, or `explained`. Exits with 1 and the first text of which it doesn't.
@@ -14,24 +18,45 @@ import subprocess
 import sys
 
 
+def history_of(text):
+    """Per group line, what it moves."""
+    rows = (line.split() for line in text.splitlines())
+    return [{int(v): int(l) for v, l in (word.split(":") for word in words[3:])} for words in rows if words[:1] == ["group"]]
+
+
+def replies_of(text):
+    """Per reader line, its number and the replies, as (vertex, level)."""
+    for words in map(str.split, text.splitlines()):
+        if words[:1] == ["reader"]:
+            yield int(words[1]), [tuple(map(int, word.split("="))) for word in words[2:]]
+
+
+def points_of(moves, replies):
+    """The earliest point for each reply, which leaves most to the replies after it, up to the first without a point."""
+    point, levels = 0, {}
+    for vertex, level in replies:
+        while levels.get(vertex, 0) != level:
+            if point == len(moves):
+                return
+            levels.update(moves[point])
+            point += 1
+        yield point
+
+
 def first_misfit(text):
     """The first reply without a point, as (reader, number of the question from 1), or None."""
-    moves = []  # per group line, what it moves
-    for line in text.splitlines():
-        words = line.split()
-        if words[:1] == ["group"]:
-            moves.append({int(v): int(l) for v, l in (word.split(":") for word in words[3:])})
-        if words[:1] == ["reader"]:
-            point, levels = 0, {}
-            for number, word in enumerate(words[2:], 1):
-                vertex, level = map(int, word.split("="))
-                # The earliest point that fits leaves most to the replies after it.
-                while levels.get(vertex, 0) != level:
-                    if point == len(moves):
-                        return int(words[1]), number
-                    levels.update(moves[point])
-                    point += 1
+    moves = history_of(text)
+    for reader, replies in replies_of(text):
+        explained = sum(1 for _ in points_of(moves, replies))
+        if explained < len(replies):
+            return reader, explained + 1
     return None
+
+
+def points_met(text):
+    """Per reader its number and how many different points its replies meet at least, and how many points there are."""
+    moves = history_of(text)
+    return [(reader, len(set(points_of(moves, replies)))) for reader, replies in replies_of(text)], len(moves) + 1
 
 
 def changed(text):
@@ -65,7 +90,12 @@ if __name__ == "__main__":
         if other:
             sys.exit("another verdict by audit of:\n" + other)
         sys.exit()
-    misfit = first_misfit(sys.stdin.read())
+    text = sys.stdin.read()
+    if sys.argv[1:2] == ["--points"]:
+        met, points = points_met(text)
+        for reader, count in met:
+            print(f"reader {reader} meets {count} of {points} points")
+    misfit = first_misfit(text)
     if misfit:
         print("reader %d, question %d: no point of the history fits" % misfit, file=sys.stderr)
         sys.exit(1)

@@ -105,6 +105,8 @@ def phases_in(text, n):
 
 
 def main():
+    if len(sys.argv) != 2:
+        sys.exit(__doc__)
     for numbers, profile in itertools.product(LOADS, (1, 2)):
         lines = [f"kcore {profile}", *list(load(*numbers))[1:]]
         text = subprocess.run([sys.argv[1], "run", "2"], input="\n".join(lines) + "\n", capture_output=True, text=True, check=False).stdout

@@ -1,5 +1,6 @@
 #!/usr/bin/env bash
-# Runs kcore and kserve on inputs at each of their limits, and one past it. Silent where all is well.
+# Runs in the gate, from check.sh: kcore and kserve on inputs at each of their limits, and one past it. Silent where
+# all is well.
 #     examples/limits.sh KCORE KSERVE
 set -u
 kcore=$(realpath "$1") && kserve=$(realpath "$2") && out=$(mktemp) || exit 1

@@ -1,6 +1,6 @@
 #!/usr/bin/env bash
-# Feeds kcore over a pipe that stays open: the lines of each batch have to come before the next batch is sent. Silent
-# where all is well.
+# Runs in the gate, from check.sh. Feeds kcore over a pipe that stays open: the lines of each batch have to come
+# before the next batch is sent. Silent where all is well.
 #     examples/live.sh KCORE
 set -u
 program=$(realpath "$1") || exit 1

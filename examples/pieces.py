@@ -46,6 +46,8 @@ def cases(kcore, kserve):
 
 
 def main():
+    if len(sys.argv) != 3:
+        sys.exit(__doc__)
     kcore, kserve = map(os.path.abspath, sys.argv[1:])
     os.chdir(os.path.dirname(os.path.abspath(__file__)))
     failed = False

@@ -42,6 +42,8 @@ def changed(text, draw):
 
 
 def main():
+    if len(sys.argv) != 2:
+        sys.exit(__doc__)
     program, draw, failed, met = os.path.abspath(sys.argv[1]), random.Random(1), False, set()
     for path in sorted(glob.glob(f"{HERE}/*_final.txt") + glob.glob(f"{HERE}/cases/*_final.txt")):
         with open(path, encoding="utf-8") as file:

@@ -43,6 +43,11 @@ GOOD = {
     "csv without a header": ("0,1\n", "", "vertices 2\nbatch\n0 1\nend\n"),
     "csv with quotes and a weight": ('"0","1","x, y"\n', "--ignore-columns", "vertices 2\nbatch\n0 1\nend\n"),
     "csv with names and a header": ("from,to\nAda,Bob\nBob,\"Cy, Jr\"\n", "--names --header", "vertices 3\nbatch\n0 1\n1 2\nend\n"),
+    "a heading with tabs": ("# c\nsource\ttarget\n1\t0\n", "--header", "vertices 2\nbatch\n1 0\nend\n"),
+    "names with a heading and tabs": ("from\tto\nada\tbob\n", "--names --header", "vertices 2\nbatch\n0 1\nend\n"),
+    "names like the first line of an input": ("kcore 1\n1 cy\n", "--names --format edges", "vertices 3\nbatch\n0 1\n1 2\nend\n"),
+    "names with blanks between tabs": ("# a\tb\nAda L\tBob\t7\nBob\tAda L\t8\n", "--names --ignore-columns",
+                                       "vertices 2\nbatch\n0 1\n1 0\nend\n"),
     "names": ("ada bob\nbob cy\n", "--names", "vertices 3\nbatch\n0 1\n1 2\nend\n"),
     "METIS": ("% c\n4 3\n2 3\n1\n1 4\n3\n", "--format metis", "vertices 4\nbatch\n0 1\n0 2\n2 3\nend\n"),
     "METIS with an isolated vertex": ("3 1\n2\n1\n\n", "--format metis", "vertices 3\nbatch\n0 1\nend\n"),
@@ -72,9 +77,15 @@ BAD = {
     "a third column": ("0 1 5\n", "", "line 1: 3 columns .* --ignore-columns"),
     "too large to keep": ("0 16777216\n", "--keep", "leave out --keep"),
     "UTF-16": (b"\xff\xfe0\0 \x001\0\n\0", "", "line 1: the text is UTF-16; use `iconv"),
+    "an input": ("# c\nkcore 2\nvertices 3\n", "--names", "an input of kcore already"),
+    "a text": ("kcore-run 1\nvertices 3\nend\n", "", "a text that kcore printed"),
     "a zip archive": (b"PK\x03\x04xx", "", "zip archive; use `unzip"),
     "no text": (b"0 1\n\0\1\2\n", "", "line 2: a zero byte"),
-    "a cut gzip file": (gzip.compress(b"0 1\n" * 1000)[:-12], "", "end-of-stream|ended"),
+    "a cut gzip file": (gzip.compress(b"0 1\n" * 1000)[:-12], "", "standard input: the gzip file ends too early"),
+    "a damaged gzip file": (gzip.compress(b"0 1\n" * 1000)[:-5] + b"xxxxx", "", "standard input: the gzip file is damaged .*CRC"),
+    "a heading": ("source\ttarget\n0\t1\n", "", "line 1: 'source' isn't a decimal number .* --names .* --header"),
+    "a heading of times": ("# c\nfrom to time\nada bob 5\n", "--names --window 1", "line 2: 'time' isn't a time.* --header"),
+    "a heading alone": ("source,target\n", "", "no edge in the input"),
     "csv of another code": (b"a,b\n\xe9,1\n", "--names", "line 2: the text isn't UTF-8; use `iconv"),
     "bipartite": ("% bip unweighted\n1 1\n", "", "line 1: a bipartite graph"),
     "METIS without its first line": ("1\n", "--format metis", "line 1: the first line of a METIS file"),
@@ -89,8 +100,14 @@ BAD = {
     "a window by time without times": ("0 1\n", "--window-time 5", "no times in the input; --window N"),
     "a time that is none": ("0 1 x\n", "--window-time 5", "line 1: 'x' isn't a time"),
     "a time that is missing": ("0 1 5\n1 2\n", "--window 5", "line 2: no time"),
-    "a window over METIS": ("2 1\n2\n1\n", "--format metis --window 3", "a window, where metis"),
-    "names in METIS": ("2 1\n2\n1\n", "--format metis --names", "--names, where metis"),
+    "a window over METIS": ("2 1\n2\n1\n", "--format metis --window 3", "a metis file lists edges in no order .* leave out --window"),
+    "names in METIS": ("2 1\n2\n1\n", "--format metis --names", "a metis file has numbers alone; leave out --names"),
+    "a heading of Matrix Market": ("%%MatrixMarket matrix coordinate pattern general\n2 2 1\n1 2\n", "--header", "numbers alone; .* --header"),
+    "row numbers of pandas": (",source,target\n0,7,8\n", "--ignore-columns", "line 1: the first column has no name, .*`index=False`"),
+    "an empty name": ("ada,bob\ncy,\n", "--names", "line 2: an id is empty"),
+    "an empty name between tabs": ("ada\tbob\n\tcy\n", "--names", "line 2: an id is empty"),
+    "semicolons": ("0;1\n", "", "line 1: one id where two are wanted; for semicolons"),
+    "times that are left out": ("0 1 5\n", "--window-time 5 --ignore-columns", "--ignore-columns leaves out the times too"),
 }
 
 # Words that the command line can't have.
@@ -133,13 +150,46 @@ class Converter(unittest.TestCase):
                             file.write(packed(text))
                         out, err, status = run("to_kcore.py", [path])
                         self.assertEqual((out, status), ("kcore 1\nvertices 2\nbatch\n0 1\nend\n", 0), err)
+            with open(f"{room}/cut.gz", "wb") as file:
+                file.write(gzip.compress(b"0 1\n" * 1000)[:-12])
+            self.assertEqual(run("to_kcore.py", [f"{room}/cut.gz"]),
+                             ("", f"to_kcore.py: {room}/cut.gz: the gzip file ends too early; copy or fetch it again\n", 1))
             self.assertRegex(run("to_kcore.py", [f"{room}/none"])[1], "No such file")
 
     def test_what_is_said(self):
         self.assertEqual(run("to_kcore.py", [], "5 9\n9 70\n")[1],
-                         "to_kcore.py: edges: 2 edges between 3 vertices, 1 batch; ids 5 to 70 renumbered in ascending order\n")
+                         "to_kcore.py: edges: 2 edges between 3 vertices, 1 batch; ids 5 to 70 renumbered in ascending order;"
+                         " --map FILE writes down which vertex is which\n")
         self.assertIn("ids kept, so there are 5 vertices", run("to_kcore.py", [], "1 2\n3 4\n")[1])
         self.assertIn("line 1 taken for the names of columns", run("to_kcore.py", [], "a,b\n1,2\n")[1])
+        self.assertIn("line 2 taken for the names of columns", run("to_kcore.py", ["--header"], "# c\na b\n1 2\n")[1])
+
+    def test_a_heading_that_was_taken_for_an_edge(self):
+        note = "line 1 taken for an edge (use --header if it is a heading)"
+        for text in "from,to\nada,bob\nbob,cy\n", "from,to\n7,8\n8,9\n":
+            self.assertIn(note, run("to_kcore.py", ["--names"], text)[1])
+        # A name that comes again, a number, a loop, one edge alone, and a heading that is none of the edges.
+        for text in "ada,bob\nbob,cy\n", "ada,bob\ncy,ada\n", "1,ada\nbob,cy\n", "ada,ada\nbob,cy\n", "ada,bob\n":
+            self.assertNotIn("heading", run("to_kcore.py", ["--names"], text)[1])
+        self.assertNotIn("heading", run("to_kcore.py", ["--names", "--header"], "from,to\nada,bob\ncy,dee\n")[1])
+        self.assertNotIn("heading", run("to_kcore.py", [], "0,1\n2,3\n")[1])
+
+    def test_a_window_that_does_not_move(self):
+        note = "the window doesn't move: one batch holds all edges"
+        text = "0 1 10\n1 2 20\n2 3 30\n"
+        for words in ["--window", "2"], ["--window-time", "20"]:
+            self.assertIn(note, run("to_kcore.py", words, text)[1])
+            self.assertNotIn("the window", run("to_kcore.py", words + ["--batch", "2"], text)[1])
+        for words in ["--window", "3"], ["--window-time", "20.5"]:
+            for batch in "2", "3":
+                self.assertIn("the window doesn't move: it holds all edges", run("to_kcore.py", words + ["--batch", batch], text)[1])
+        self.assertNotIn("the window", run("to_kcore.py", [], "0 1\n")[1])
+
+    def test_a_reader_that_closes_its_end(self):
+        for script, words, given in ("to_kcore.py", "", "0 1\n" * 200_000), ("with_names.py", os.devnull, "edge 0 1\n" * 200_000):
+            shell = f"{sys.executable} {HERE}/{script} {words} | head -1 >/dev/null"
+            ran = subprocess.run(["sh", "-c", shell], input=given.encode(), stderr=subprocess.PIPE)
+            self.assertNotIn(b"pipe", ran.stderr.lower())
 
     def test_a_long_batch_of_a_window_is_cut(self):
         graph = to_kcore.Graph()
@@ -161,7 +211,7 @@ class Converter(unittest.TestCase):
                 ("vertex 1 coreness 3 low 1 est 2 high 4", "vertex bob coreness 3 low 1 est 2 high 4"),
                 ("vertex 0 colour 2 out 1 2", r'vertex ada colour 2 out bob "cy\u003dx"'),
                 ("vertex 3 colour 0 out", r'vertex "d\u0020e" colour 0 out'),
-                ("group 1 0 0:1 1:2 7:0", "group 1 ada ada:1 bob:2 7:0"),
+                ("group 1 0 0:1 1:2", "group 1 ada ada:1 bob:2"),
                 ("reader 0 1=1 0=2", "reader 0 bob=1 ada=2"),
                 ("member 1", "member bob"),
                 ("edge 0 3", r'edge ada "d\u0020e"'),
@@ -171,17 +221,37 @@ class Converter(unittest.TestCase):
                 ("batch 1 loops 0 repeats 0 idle 0 removed 0 added 1", None),
                 ("phase 1 insert quiet 0", None),
                 ("# batch 1 refused line 2 bad-line", None),
-                ("vertices 1", None),
+                ("vertices 4", None),
                 ("end", None),
             ]
             out, err, status = run("with_names.py", [ids], "".join(row + "\n" for row, _ in rows))
-            self.assertEqual((out.splitlines(), status), ([wanted or row for row, wanted in rows], 0), err)
+            self.assertEqual((out.splitlines(), err, status), ([wanted or row for row, wanted in rows], "", 0))
+
+    def test_a_map_of_another_graph(self):
+        with tempfile.TemporaryDirectory() as room:
+            ids = f"{room}/map"
+            # Ids that stay as they are, with gaps; that are renumbered; and of formats that number vertices from 1.
+            for words, given, n in [["--keep"], "0 1\n1 4\n", 5], [["--renumber"], "7 5\n5 9\n", 3], [["--format", "metis"], "4 1\n2\n1\n\n\n", 4]:
+                run("to_kcore.py", [*words, "--map", ids], given)
+                for count in n - 1, n, n + 1:
+                    out, err, status = run("with_names.py", [ids], f"vertices {count}\n")
+                    self.assertEqual((out, status), (f"vertices {count}\n", 0))
+                    self.assertEqual(err, "" if count == n else f"with_names.py: {ids} is the map of a graph with {n} vertices, and the text has {count}:"
+                                     " is it of another graph?\n")
+            # Lines that were taken out of a text.
+            self.assertEqual(run("with_names.py", [ids], "edge 0 3\n"), ("edge 1 4\n", "", 0))
+            self.assertEqual(run("with_names.py", [ids], "edge 0 17\nedge 8 1\n")[:2],
+                             ("edge 1 17\nedge 8 2\n", f"with_names.py: {ids} is the map of a graph with 4 vertices, and the text names vertex 17:"
+                              " is it of another graph?\n"))
 
     def test_map_of_numbers(self):
         with tempfile.TemporaryDirectory() as room:
             run("to_kcore.py", ["--map", f"{room}/map"], "70 5\n5 9\n")
             with open(f"{room}/map", encoding="utf-8") as file:
                 self.assertEqual(file.read(), "0\t5\n1\t9\n2\t70\n")
+            run("to_kcore.py", ["--map", f"{room}/map", "--format", "metis"], "4 1\n2\n1\n\n\n")
+            with open(f"{room}/map", encoding="utf-8") as file:
+                self.assertEqual(file.read(), "0\t1\n1\t2\n2\t3\n3\t4\n")
             with open(f"{room}/map", "w", encoding="utf-8") as file:
                 file.write("0 5\n")
             self.assertRegex(run("with_names.py", [f"{room}/map"])[1], "line 1 isn't")

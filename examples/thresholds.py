@@ -1,12 +1,13 @@
 #!/usr/bin/env python3
-"""Writes the thresholds of each level, as CSV, for whoever checks levels with a tool of their own, such as `check.sql`.
+"""Writes the thresholds of each level, as CSV, for checks of levels by other tools, such as `check.sql`.
 
     thresholds.py VERTICES [PROFILE]
 
-VERTICES is the number of vertices, 1 to 16777216 or more; PROFILE is 1 or 2, 1 if not given. One line for each level from 0 to
+VERTICES is the number of vertices, 1 or more; PROFILE is 1 or 2, 1 if not given. One line for each level from 0 to
 the top level: `level,band,most,least,low,est,high`. A vertex of this level may have at most `most` neighbours on its level or
 above, and needs at least `least` on the level before it or above; then its coreness is at least `low` and at most `high`, and
-`est` is the estimate. Defined in docs/DEFINITIONS.md, "Thresholds".
+`est` is the estimate. Defined in docs/DEFINITIONS.md, "Thresholds". Exit number: 0 all is written, 1 a write failed, 2 the words
+of the command line are wrong.
 """
 import sys
 
@@ -38,14 +39,32 @@ def thresholds(n, profile):
         yield level, band, most_of(band), least, low, most_of(band)
 
 
+def stop(why):
+    print(f"thresholds.py: {why}", file=sys.stderr)
+    sys.exit(2)
+
+
 def main():
     words = sys.argv[1:]
-    if len(words) not in (1, 2) or not words[0].isdigit() or int(words[0]) < 1 or words[1:] not in ([], ["1"], ["2"]):
-        print(__doc__, file=sys.stderr)
-        sys.exit(2)
-    print("level,band,most,least,low,est,high")
-    for level, band, most, least, low, high in thresholds(int(words[0]), int((words + ["1"])[1])):
-        print(f"{level},{band},{most},{least},{low},{2 * low},{high}")
+    if words in (["-h"], ["--help"]):
+        sys.exit(print(__doc__))
+    if len(words) not in (1, 2):
+        stop(f"{len(words)} words where VERTICES [PROFILE] are wanted; --help says what they are")
+    if not (words[0].isascii() and words[0].isdigit() and int(words[0])):
+        stop(f"{words[0]!r} isn't a number of vertices, 1 or more")
+    if words[1:] not in ([], ["1"], ["2"]):
+        stop(f"{words[1]!r} isn't a profile, 1 or 2")
+    rows = thresholds(int(words[0]), int((words + ["1"])[1]))
+    try:
+        with open(1, "w", closefd=False) as out:
+            out.write("level,band,most,least,low,est,high\n")
+            for level, band, most, least, low, high in rows:
+                out.write(f"{level},{band},{most},{least},{low},{2 * low},{high}\n")
+    except BrokenPipeError:
+        # (nothing reads on, as after `| head`)
+        sys.exit(1)
+    except OSError as fault:
+        sys.exit(f"thresholds.py: {fault}")
 
 
 if __name__ == "__main__":

@@ -6,7 +6,7 @@
 Reads FILE, or standard input, plain or compressed by gzip, bzip2 or xz. Formats, found by the file's name and first lines:
 
     edges          two ids a line, with blanks or tabs between them, as SNAP and KONECT have them; # and % begin comments
-    csv            the same with commas, with or without a line that names the columns
+    csv            the same with commas; a first line that names the columns is found if ids are numbers (else: --header)
     metis          the k-th line has the neighbours of vertex k (`.graph`, `.metis`, or --format metis)
     matrix-market  a square matrix in coordinates; each entry is an edge, whatever its value
 
@@ -15,7 +15,8 @@ in both directions are passed on; `kcore` takes care of them, and its batch line
 
 Ids are numbers. They stay as they are, unless the greatest is more than twice the count of different ones; then they are
 renumbered in ascending order: the least becomes vertex 0, the next one vertex 1. --keep and --renumber decide it by hand.
-With --names an id is any text, and vertices are numbered in the order in which the names come. --map FILE writes a line
+With --names an id is any text, with blanks where commas or tabs part the columns, and vertices are numbered in the order in
+which the names come. --map FILE writes a line
 `VERTEX<tab>ID` for each vertex with an id; `with_names.py FILE < text` puts the ids back into whatever `kcore` prints.
 
 A sliding window over edges with times: --window N keeps the last N edges, --window-time T those of the last T units of
@@ -28,6 +29,7 @@ the command line are wrong. `kcore` holds at most 16777216 edges, and refuses ea
 """
 import argparse
 import bz2
+import contextlib
 import csv
 import gzip
 import io
@@ -66,7 +68,7 @@ class Graph:
     def __init__(self):
         self.places, self.ends, self.times = {}, array("I"), []
         # the vertices of a format that numbers them itself, and what was passed over
-        self.vertices, self.columns, self.header = None, 0, False
+        self.vertices, self.columns, self.header, self.first_line = None, 0, False, 0
 
     def add(self, u, v, time=None):
         places = self.places
@@ -76,6 +78,10 @@ class Graph:
             raise Unusable(f"more than {MAX_VERTICES} different ids; kcore takes no more vertices")
         if time is not None:
             self.times.append(time)
+
+
+def is_window(chosen):
+    return chosen.window is not None or chosen.window_time is not None
 
 
 def unpacked(file):
@@ -106,42 +112,55 @@ def lines_of(file):
         yield number, line
 
 
-def number_from(word, what):
+def number_from(word, what, hint=""):
     """The number that the word is."""
     if not word.isdigit() or len(word) > MAX_DIGITS:
-        hint = "; --names takes ids of any text" if what == "an id" else ""
+        hint = f"; --names takes ids of any text{hint}" if what == "an id" else ""
         raise Unusable(f"{shown(word)} isn't a decimal number of at most {MAX_DIGITS} digits, as {what} is{hint}")
     return int(word)
 
 
-def time_from(word):
+def time_from(word, hint):
     try:
         time = float(word)
     except ValueError:
         time = float("nan")
     if time != time:
-        raise Unusable(f"{shown(word)} isn't a time, which is a number; --time-column K names the column with times")
+        raise Unusable(f"{shown(word)} isn't a time, which is a number; --time-column K names the column with times{hint}")
     return int(time) if time == int(time) else time
 
 
 class Rows:
-    """Turns the words of a line into an edge."""
+    """Turns the words of a line into an edge, but for a heading."""
 
-    def __init__(self, graph, chosen):
+    def __init__(self, graph, chosen, finds_heading):
         self.graph, self.names, self.ignores = graph, chosen.names, chosen.ignore_columns
-        is_window = chosen.window is not None or chosen.window_time is not None
-        self.has_times = is_window and not chosen.ignore_columns
+        self.header, self.finds_heading = chosen.header, finds_heading and not chosen.names
+        # what helps if the first line is a heading
+        self.hint = "" if chosen.header else ", --header passes over a line that names the columns"
+        self.has_times = is_window(chosen) and not chosen.ignore_columns
         self.column = chosen.time_column
 
-    def take(self, words):
+    def take(self, number, words):
         graph, count = self.graph, len(words)
+        if not graph.first_line:
+            graph.first_line = number
+            if self.header or self.finds_heading and not any(word.isdigit() for word in words[:2]):
+                if not words[0]:
+                    raise Unusable("the first column has no name, as the row numbers that pandas writes; leave it out (`index=False`,"
+                                   " or `cut -d, -f2- FILE | to_kcore.py --format csv`)")
+                graph.header = True
+                return
+        else:
+            self.hint = ""
         if count < 2:
-            raise Unusable("one id where two are wanted")
+            hint = "; for semicolons between columns use `tr ';' , < FILE | to_kcore.py --format csv`" if b";" in words[0] else ""
+            raise Unusable(f"one id where two are wanted{hint}")
         time = None
         if count > 2 and self.has_times:
             if self.column is not None and self.column > count:
                 raise Unusable(f"{count} columns, and no column {self.column} for the time")
-            time = time_from(words[self.column - 1 if self.column else count - 1])
+            time = time_from(words[self.column - 1 if self.column else count - 1], self.hint)
         elif count > 2 and not self.ignores:
             raise Unusable(f"{count} columns where two are wanted; --ignore-columns leaves out the others,"
                            " --window and --window-time take the last for a time")
@@ -149,8 +168,10 @@ class Rows:
             graph.columns = max(graph.columns, count)
         if self.names:
             u, v = words[0], words[1]
+            if not u or not v:
+                raise Unusable("an id is empty")
         else:
-            u, v = number_from(words[0], "an id"), number_from(words[1], "an id")
+            u, v = number_from(words[0], "an id", self.hint), number_from(words[1], "an id", self.hint)
         if time is None and graph.times:
             raise Unusable("no time, which the lines before it have")
         if time is not None and 2 * len(graph.times) != len(graph.ends):
@@ -159,20 +180,23 @@ class Rows:
 
 
 def read_edges(lines, graph, chosen):
-    rows = Rows(graph, chosen)
+    rows = Rows(graph, chosen, finds_heading=False)
     for number, line in lines:
         words = line.split()
+        if chosen.names and b"\t" in line and words:
+            # (names may hold blanks where tabs stand between them)
+            words = [word.strip() for word in line.rstrip().split(b"\t")]
         if not words or words[0][:1] in (b"#", b"%"):
             if words[:2] == [b"%", b"bip"]:
                 raise Unusable(f"line {number}: a bipartite graph, whose two sides have the same ids; make them differ, as by"
                                " `awk '!/^%/ {print \"a\" $1, \"b\" $2}'`, and use --names")
             continue
         with at_line(number):
-            rows.take(words)
+            rows.take(number, words)
 
 
 def read_csv(lines, graph, chosen):
-    rows, is_first = Rows(graph, chosen), True
+    rows = Rows(graph, chosen, finds_heading=True)
     for number, line in lines:
         with at_line(number):
             try:
@@ -183,12 +207,7 @@ def read_csv(lines, graph, chosen):
             words = [word.strip().encode() for word in found]
             if not any(words) or words[0][:1] in (b"#", b"%"):
                 continue
-            is_head = chosen.header or not chosen.names and not any(word.isdigit() for word in words[:2])
-            if is_first and is_head:
-                graph.header = True
-            else:
-                rows.take(words)
-            is_first = False
+            rows.take(number, words)
 
 
 def read_metis(lines, graph, chosen):
@@ -279,6 +298,20 @@ class at_line:
             raise Unusable(f"line {self.number}: {fault}") from None
 
 
+@contextlib.contextmanager
+def of_file(path, packed):
+    """Says which file it is that ends too early or is damaged, where that is found as it is unpacked."""
+    name = path or "standard input"
+    try:
+        yield
+    except EOFError:
+        raise Unusable(f"{name}: the {packed} file ends too early; copy or fetch it again") from None
+    except (OSError, zlib.error, lzma.LZMAError) as fault:
+        if not packed or isinstance(fault, OSError) and fault.errno:
+            raise
+        raise Unusable(f"{name}: the {packed} file is damaged ({fault}); copy or fetch it again") from None
+
+
 def format_of(path, file):
     """The format, by the file's name or its first lines."""
     name = os.path.basename(path or "")
@@ -292,6 +325,9 @@ def format_of(path, file):
     if name.endswith(".csv"):
         return "csv"
     rows = [it for it in without_mark(head).splitlines() if it.strip() and it.lstrip()[:1] not in (b"#", b"%")]
+    if rows and (rows[0].split() in ([b"kcore", b"1"], [b"kcore", b"2"], [b"kserve", b"1"]) or rows[0].startswith((b"kcore-", b"kserve-"))):
+        what = "an input of kcore already" if b"-" not in rows[0] else "a text that kcore printed"
+        raise Unusable(f"the first line is `{rows[0].decode('utf-8', 'replace')}`, so this is {what}; --format edges takes it for edges")
     return "csv" if rows and b"," in rows[0] else "edges"
 
 
@@ -365,8 +401,24 @@ def text_of(one):
     return one.decode("utf-8", "backslashreplace") if isinstance(one, bytes) else str(one)
 
 
-def write_map(path, graph, vertices):
-    pairs = sorted(zip(vertices, graph.places))
+def is_like_heading(graph, chosen):
+    """Whether the first edge may be a heading that was taken for names: neither of its ends is a number or is in another edge."""
+    ends = graph.ends
+    if not chosen.names or graph.header or len(ends) < 4:
+        return False
+    named = zip(graph.places, range(2))
+    return ends[0] != ends[1] and not any(word.isdigit() for word, _ in named) and min(ends[2:]) > 1
+
+
+def holds_all(graph, chosen):
+    """Whether no edge ever leaves the window."""
+    if chosen.window_time is not None:
+        return max(graph.times) - min(graph.times) < chosen.window_time
+    return chosen.window is not None and chosen.window >= len(graph.ends) // 2
+
+
+def write_map(path, graph, vertices, n):
+    pairs = sorted(zip(vertices, graph.places)) if graph.vertices is None else ((vertex, vertex + 1) for vertex in range(n))
     with open(path, "w", encoding="utf-8") as file:
         file.writelines(f"{vertex}\t{text_of(one)}\n" for vertex, one in pairs)
 
@@ -384,33 +436,43 @@ def summary(graph, chosen, kind, packed, n, renumbered, batches):
     else:
         parts.append(f"ids kept, so there are {n:,} vertices")
     if graph.header:
-        parts.append("line 1 taken for the names of columns")
+        parts.append(f"line {graph.first_line} taken for the names of columns")
+    if is_like_heading(graph, chosen):
+        parts.append(f"line {graph.first_line} taken for an edge (use --header if it is a heading)")
     if graph.columns > 2:
         parts.append("times in the last column" if graph.times and chosen.time_column is None else f"times in column {chosen.time_column}"
                      if graph.times else "columns after the second left out")
     if chosen.map:
         parts.append(f"ids in {chosen.map}")
+    elif renumbered or chosen.names:
+        parts.append("--map FILE writes down which vertex is which")
+    if holds_all(graph, chosen):
+        parts.append("the window doesn't move: it holds all edges of the file, so choose a smaller one")
+    elif is_window(chosen) and batches == 1:
+        parts.append("the window doesn't move: one batch holds all edges, so choose a smaller --batch")
     return "; ".join(parts)
 
 
 def convert(chosen):
     with open(chosen.file or 0, "rb", closefd=bool(chosen.file)) as plain:
         file, packed = unpacked(plain)
-        kind = chosen.format or format_of(chosen.file, file)
-        if chosen.names and kind in ("metis", "matrix-market"):
-            raise Unusable(f"--names, where {kind} has numbers alone")
-        if (chosen.window is not None or chosen.window_time is not None) and kind in ("metis", "matrix-market"):
-            raise Unusable(f"a window, where {kind} has no order of edges")
+        with of_file(chosen.file, packed):
+            kind = chosen.format or format_of(chosen.file, file)
+        if (chosen.names or chosen.header) and kind in ("metis", "matrix-market"):
+            raise Unusable(f"a {kind} file has numbers alone; leave out --names and --header")
+        if is_window(chosen) and kind in ("metis", "matrix-market"):
+            raise Unusable(f"a {kind} file lists edges in no order of time, so no window can slide over it; leave out --window and --window-time")
         graph = Graph()
-        READERS[kind](lines_of(file), graph, chosen)
+        with of_file(chosen.file, packed):
+            READERS[kind](lines_of(file), graph, chosen)
     if not graph.ends:
         raise Unusable("no edge in the input, so there is nothing to convert")
     if chosen.window_time is not None and not graph.times:
-        raise Unusable("no times in the input; --window N slides by the count of edges")
+        raise Unusable("--ignore-columns leaves out the times too; leave it out" if chosen.ignore_columns and graph.columns > 2 else
+                       "no times in the input; --window N slides by the count of edges")
     n, vertices, renumbered = number_vertices(graph, chosen)
     head = f"kcore {chosen.profile}\nvertices {n}\n"
-    is_window = chosen.window is not None or chosen.window_time is not None
-    made = (lambda: window_batches(graph, vertices, chosen)) if is_window else (lambda: plain_batches(graph.ends, vertices, chosen.batch))
+    made = (lambda: window_batches(graph, vertices, chosen)) if is_window(chosen) else (lambda: plain_batches(graph.ends, vertices, chosen.batch))
     batches, size = 0, len(head)
     for text in made():
         batches, size = batches + 1, size + len(text)
@@ -419,7 +481,7 @@ def convert(chosen):
     if batches > MAX_BATCHES:
         raise Unusable(f"{batches} batches; kcore takes at most {MAX_BATCHES}: choose a greater --batch")
     if chosen.map:
-        write_map(chosen.map, graph, vertices)
+        write_map(chosen.map, graph, vertices, n)
     with open(1, "wb", closefd=False) as out:
         out.write(head.encode())
         for text in made():
@@ -455,7 +517,7 @@ def main():
     count = whole(1, MAX_ITEMS, "a whole number")
     parser.add_argument("file", metavar="FILE", nargs="?", help="the graph; standard input if not given")
     parser.add_argument("--format", choices=FORMATS, help="found by the file's name and first lines if not given")
-    parser.add_argument("--header", action="store_true", help="the first line of a csv file names the columns, even with --names")
+    parser.add_argument("--header", action="store_true", help="the first line names the columns: it is passed over")
     parser.add_argument("--ignore-columns", action="store_true", help="leave out all columns after the second")
     parser.add_argument("--batch", metavar="ITEMS", type=count, default=100_000, help=f"items a batch, 1 to {MAX_ITEMS}; 100000 if not given")
     parser.add_argument("--profile", choices=("1", "2"), default="1", help="how fine the levels are; 1 if not given")
@@ -471,7 +533,10 @@ def main():
     chosen = parser.parse_args()
     try:
         convert(chosen)
-    except (Unusable, OSError, EOFError, zlib.error, lzma.LZMAError) as fault:
+    except BrokenPipeError:
+        # (nothing reads on, as after `| head`)
+        sys.exit(1)
+    except (Unusable, OSError) as fault:
         sys.exit(f"{NAME}: {fault}")
 
 

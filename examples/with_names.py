@@ -6,8 +6,9 @@
 MAP is the file that `to_kcore.py --map MAP` wrote: a line `VERTEX<tab>ID` for each vertex. Each number of a vertex in the
 text becomes its id: in lines `vertex`, `group`, `reader`, `member`, `edge`, `level`, `take`, `upper` and `lower`. A vertex
 without an id keeps its number. An id with white space, a colon, an equals sign or quotes is written as a JSON string in which
-these stand as `\\u0020` and the like, so that lines can still be cut at blanks. All other lines stay as they are. Names come last:
-a text with names is for people, and `kcore check` and `kcore audit` don't read it.
+these stand as `\\u0020` and the like, so that lines can still be cut at blanks. All other lines stay as they are. A line on
+standard error says so if the map is of another graph than the text. Names come last: a text with names is for people, and
+`kcore check` and `kcore audit` don't read it.
 
 Exit number: 0 all is written, 1 the map can't be used or a read or a write failed, 2 the command line is wrong.
 """
@@ -25,15 +26,27 @@ def quoted(one):
     return '"' + re.sub(r"[\s:=]", lambda it: f"\\u{ord(it[0]):04x}", text) + '"'
 
 
+class Ids(dict):
+    """The id of each vertex, as it is written. A vertex without one keeps its number, and the greatest of these is noted."""
+
+    def __init__(self):
+        self.count, self.greatest = 0, -1
+
+    def __missing__(self, vertex):
+        if vertex.isdigit():
+            self.greatest = max(self.greatest, int(vertex))
+        return vertex
+
+
 def read_map(path):
-    """The id of each vertex, as it is written."""
-    ids = {}
+    ids = Ids()
     with open(path, encoding="utf-8") as file:
         for number, line in enumerate(file, 1):
             vertex, tab, one = line.rstrip("\n").partition("\t")
             if not tab or not vertex.isascii() or not vertex.isdigit():
                 raise ValueError(f"{path}: line {number} isn't `VERTEX<tab>ID`")
             ids[vertex] = quoted(one) if not one or ODD.search(one) else one
+            ids.count = max(ids.count, int(vertex) + 1)
     return ids
 
 
@@ -41,28 +54,36 @@ def pairs(words, mark, ids):
     """Words `V:L` or `V=L` with the ids of their vertices."""
     for word in words:
         vertex, at, level = word.partition(mark)
-        yield ids.get(vertex, vertex) + at + level
+        yield ids[vertex] + at + level
 
 
 def renamed(words, ids):
     """The words of a line with the ids of its vertices."""
-    named = [ids.get(word, word) for word in words]
-    kind = words[0]
+    kind, count = words[0], len(words)
     if kind == "vertex":
         # (after `out` come the out-neighbours; all other numbers are none of vertices)
-        past = words.index("out") + 1 if "out" in words else len(words)
-        return [kind, named[1], *words[2:past], *named[past:]]
-    if kind in ("member", "upper", "lower") and len(words) == 2 or kind == "edge" and len(words) == 3:
-        return [kind, *named[1:]]
-    if kind == "level" and len(words) == 3:
-        return [kind, named[1], words[2]]
-    if kind == "group" and len(words) > 3:
-        return [kind, words[1], named[2], *pairs(words[3:], ":", ids)]
-    if kind == "reader" and len(words) > 2:
+        past = words.index("out") + 1 if "out" in words else count
+        return [kind, ids[words[1]], *words[2:past], *map(ids.__getitem__, words[past:])]
+    if kind in ("member", "upper", "lower") and count == 2 or kind == "edge" and count == 3:
+        return [kind, *map(ids.__getitem__, words[1:])]
+    if kind == "level" and count == 3:
+        return [kind, ids[words[1]], words[2]]
+    if kind == "group" and count > 3:
+        return [kind, words[1], ids[words[2]], *pairs(words[3:], ":", ids)]
+    if kind == "reader" and count > 2:
         return [kind, words[1], *pairs(words[2:], "=", ids)]
-    if kind == "take" and len(words) == 5:
-        return [*words[:3], *named[3:]]
+    if kind == "take" and count == 5:
+        return [*words[:3], *map(ids.__getitem__, words[3:])]
     return words
+
+
+def other_graph(path, ids, vertices):
+    """What shows that the map is of another graph than the text, or None. The text says how many vertices there are, or not (None)."""
+    if vertices is not None and vertices != ids.count:
+        return f"{path} is the map of a graph with {ids.count:,} vertices, and the text has {vertices:,}: is it of another graph?"
+    if ids.greatest >= ids.count:
+        return f"{path} is the map of a graph with {ids.count:,} vertices, and the text names vertex {ids.greatest}: is it of another graph?"
+    return None
 
 
 def main():
@@ -70,12 +91,20 @@ def main():
         print(__doc__, file=sys.stdout if sys.argv[1:] in (["-h"], ["--help"]) else sys.stderr)
         sys.exit(0 if sys.argv[1:] in (["-h"], ["--help"]) else 2)
     try:
-        ids = read_map(sys.argv[1])
+        ids, vertices = read_map(sys.argv[1]), None
         with open(0, encoding="utf-8", errors="surrogateescape", newline="\n", closefd=False) as text, \
                 open(1, "w", encoding="utf-8", errors="surrogateescape", newline="\n", closefd=False) as out:
             for line in text:
                 words = line.rstrip("\n").split(" ")
+                if words[0] == "vertices" and len(words) == 2 and words[1].isdigit():
+                    vertices = int(words[1])
                 out.write(line if words[0] == "#" or len(words) < 2 else " ".join(renamed(words, ids)) + "\n")
+        doubt = other_graph(sys.argv[1], ids, vertices)
+        if doubt:
+            print(f"with_names.py: {doubt}", file=sys.stderr)
+    except BrokenPipeError:
+        # (nothing reads on, as after `| head`)
+        sys.exit(1)
     except (OSError, ValueError) as fault:
         sys.exit(f"with_names.py: {fault}")
 

@@ -18,16 +18,20 @@ draw graph ../../examples/karate.kc ../../examples/karate_exact.txt karate.svg
 PYTHONDONTWRITEBYTECODE=1 PYTHONPATH=../../bench "$python" - "$scratch" <<'MAKE'
 import random
 import sys
-from bench import in_window, power_edges, snap, write_input
+from bench import in_batches, in_window, power_edges, snap, write_input
 edges = power_edges(12, 40_000, 7)
 random.Random(11).shuffle(edges)
 write_input(sys.argv[1], "window", 4_096, list(in_window(edges, 1_000, 2_000)))
 write_input(sys.argv[1], "power", 2_048, [snap(power_edges(11, 10_000, 7))])
+write_input(sys.argv[1], "readers", 4_096, in_batches(edges, 200))
 MAKE
-for name in window power; do
+# These edges in 200 batches, beside a reader. What it is told depends on how the threads run, and so does its picture.
+sed -i '2a ask 1000 0 1 3 7 15 31' "$scratch/readers.kc"
+for name in window power readers; do
   "$program" run 1 <"$scratch/$name.kc" >"$scratch/$name.txt"
   "$program" exact <"$scratch/$name.kc" >"$scratch/${name}_exact.txt"
 done
 draw run --exact "$scratch/window_exact.txt" "$scratch/window.txt" window.svg
 draw heat "$scratch/window.txt" heat.svg
+draw readers "$scratch/readers.txt" readers.svg
 draw graph "$scratch/power.kc" "$scratch/power_exact.txt" power.png

@@ -69,6 +69,10 @@ class Finding(unittest.TestCase):
 
 
 class Endings(unittest.TestCase):
+    def test_words_are_shown_apart(self):
+        with self.assertRaisesRegex(kcore.ProgramEnded, "^`kcore 'run 1'` ended with 2"):
+            kcore.command("run 1")
+
     def test_numbers_in_words(self):
         for number, words in (2, "name no command"), (3, "a read failed"), (4, "a write failed"), (5, "memory"), (77, "never gives"):
             with fake(f"head -c 1 >/dev/null; exit {number}") as path:
@@ -87,7 +91,7 @@ class Endings(unittest.TestCase):
         stream = kcore.Stream(nodes=10)
         stream.apply(add=[(0, 1)])
         os.kill(stream._process.popen.pid, signal.SIGKILL)
-        with self.assertRaisesRegex(kcore.ProgramEnded, "SIGKILL.*after 1 batches") as caught:
+        with self.assertRaisesRegex(kcore.ProgramEnded, r"SIGKILL \(9\), after 1 batch; the system may have run out of memory$") as caught:
             stream.apply(add=[(1, 2)])
         self.assertEqual(caught.exception.status, -signal.SIGKILL)
         self.assertEqual(stream.level(0), 1)
@@ -198,15 +202,25 @@ class OtherTexts(unittest.TestCase):
         with fake("cat >/dev/null; echo '# batch 17 refused line 9 edge-limit'; echo kcore-exact 1; echo vertices 2; echo end; exit 1") as path:
             with self.assertRaisesRegex(kcore.BatchRefused, "16,777,216 edges") as caught:
                 kcore.core_number([(0, 1)], program=path)
-        self.assertEqual((caught.exception.line, caught.exception.reason), (9, "edge-limit"))
+        self.assertEqual((caught.exception.number, caught.exception.line, caught.exception.reason), (17, None, "edge-limit"))
 
-    def stream(self, script, call):
+    def test_batch_refused_at_its_end(self):
+        with fake(self.START + f"read batch; echo batch 2 refused line 7 edge-limit; {self.MARK} cat >/dev/null") as path:
+            stream = kcore.Stream(nodes=2, program=path)
+            with self.assertRaisesRegex(kcore.BatchRefused, "^batch 1 is refused as a whole: edge-limit") as caught:
+                stream.apply(add=[(0, 1)])
+            self.assertEqual((caught.exception.line, caught.exception.item, caught.exception.sent), (None, None, True))
+            stream._give_up("the test is over")
+
+    def stream(self, script, call, said="can't read: .* `python -m kcore program` says which"):
         with fake(self.START + script) as path:
             stream = kcore.Stream(nodes=2, program=path)
-            with self.assertRaises(kcore.Mismatch):
+            with self.assertRaisesRegex(kcore.Mismatch, said) as caught:
                 call(stream)
-            with self.assertRaises(kcore.StreamClosed):
+            # The reason stays, and says what to do.
+            with self.assertRaises(kcore.StreamClosed) as closed:
                 stream.apply()
+            self.assertIn(str(caught.exception), str(closed.exception))
 
     def test_batch(self):
         for line in "batch 5 loops 0 repeats 0 idle 0 removed 0 added 0", "nothing", "":
@@ -217,9 +231,11 @@ class OtherTexts(unittest.TestCase):
 
     def test_bounds(self):
         good = "vertex {} level 0 est 0 low 0 high 0 up 0 down 0".format
-        for level, bounds in (1, "est 2 low 1 high 1"), (0, "est 2 low 0 high 0"), (0, "est 0 low 1 high 0"), (0, "est 0 low 0 high 1"):
+        for level, bounds, said in [(1, "est 2 low 1 high 1", "node number 1, .* on level 1 by the program, .* kept 0: .* `record`"),
+                                    (0, "est 2 low 0 high 0", "may be wrong"), (0, "est 0 low 1 high 0", "may be wrong"),
+                                    (0, "est 0 low 0 high 1", "may be wrong")]:
             row = f"vertex 1 level {level} {bounds} up 0 down 0"
-            self.stream(f"cat >/dev/null; echo {good(0)}; echo {row}; echo end", lambda stream: stream.close())
+            self.stream(f"cat >/dev/null; echo {good(0)}; echo {row}; echo end", lambda stream: stream.close(), said)
         self.stream(f"cat >/dev/null; echo {good(0)}; echo {good(2)}; echo end", lambda stream: stream.close())
         self.stream(f"cat >/dev/null; echo {good(0)}; echo {good(1)}; echo end; echo end", lambda stream: stream.close())
 

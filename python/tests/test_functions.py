@@ -1,5 +1,7 @@
 """Each function over a graph that stands still, beside plain answers and beside networkx."""
+import contextlib
 import gzip
+import io
 import os
 import tempfile
 import unittest
@@ -166,8 +168,9 @@ class Forms(unittest.TestCase):
         for wrong in [(1, 2, 3)], [1], [(1,)], ["ab"], ["a", "b"], [(1, 2), b"ab"], [(nan, 1)], 5:
             with self.assertRaises((ValueError, TypeError)):
                 kcore.core_number(wrong)
-        with self.assertRaises(TypeError):
-            kcore.core_number([([], 1)])
+        for wrong in [([], 1)], None:
+            with self.assertRaises(TypeError):
+                kcore.core_number(wrong)
 
     def test_files(self):
         text = b"# a comment\n% another\n\n0\t1\r\n1 2 0.5\n2 0\n2 3\nx 3\n"
@@ -180,6 +183,18 @@ class Forms(unittest.TestCase):
                 file.write(text)
             self.assertEqual(kcore.core_number(path), cores)
             self.assertEqual(kcore.core_number(path + ".gz"), cores)
+            # Whatever its name is; and with the mark that some editors put ahead.
+            with open(path, "wb") as file:
+                file.write(gzip.compress(b"\xef\xbb\xbf" + text[12:]))
+            self.assertEqual(kcore.core_number(path), cores)
+            packed = gzip.compress(text * 100)
+            for wrong, said in (packed[:-12], "ends too early"), (packed[:-5] + b"xxxxx", "is damaged"), (b"0 1\n\0\1\n", "another format"):
+                with open(path, "wb") as file:
+                    file.write(wrong)
+                with self.assertRaisesRegex(ValueError, f"{path}.* {said}"):
+                    kcore.core_number(path)
+            with open(path, "wb") as file:
+                file.write(text)
             with open(path, "ab") as file:
                 file.write(b"alone\n")
             with self.assertRaisesRegex(ValueError, "line 9"):
@@ -187,6 +202,10 @@ class Forms(unittest.TestCase):
             with open(path, "wb") as file:
                 file.write(b"kcore 1\nvertices 3\n")
             with self.assertRaisesRegex(ValueError, "an input of the program"):
+                kcore.core_number(path)
+            with open(path, "wb") as file:
+                file.write(b"kcore-run 1\nvertices 3\n")
+            with self.assertRaisesRegex(ValueError, "a text that the program printed"):
                 kcore.core_number(path)
             with self.assertRaises(FileNotFoundError):
                 kcore.core_number(path + ".none")
@@ -199,6 +218,11 @@ class Forms(unittest.TestCase):
         for wrong in numpy.zeros((2, 3)), numpy.arange(4), numpy.array([[numpy.nan, 1.0]]):
             with self.assertRaises(ValueError):
                 kcore.core_number(wrong)
+        matrix = numpy.zeros((4, 4))
+        matrix[tuple(zip(*self.EDGES))] = 1
+        with self.assertRaisesRegex(ValueError, r"numpy\.argwhere\(array\)"):
+            kcore.core_number(matrix)
+        self.assertEqual(kcore.core_number(numpy.argwhere(matrix)), self.CORES)
 
     @unittest.skipUnless(pandas, "pandas isn't there")
     def test_pandas(self):
@@ -206,6 +230,9 @@ class Forms(unittest.TestCase):
         named = pandas.DataFrame([(1.5, b, a) for a, b in self.EDGES], columns=["weight", "target", "source"])
         self.assertEqual(kcore.core_number(plain), self.CORES)
         self.assertEqual(kcore.core_number(named), self.CORES)
+        numbered = pandas.read_csv(io.StringIO(pandas.DataFrame(self.EDGES, columns=["from", "to"]).to_csv()))
+        with self.assertRaisesRegex(ValueError, r"row numbers are: pass .* frame\[\['from', 'to'\]\]"):
+            kcore.core_number(numbered)
         for wrong in plain[[0]], pandas.DataFrame([(1, None), (1, 2)]):
             with self.assertRaises(ValueError):
                 kcore.core_number(wrong)
@@ -298,8 +325,6 @@ class Pieces(unittest.TestCase):
         return sizes
 
     def test_progress(self):
-        import contextlib
-        import io
         shown = io.StringIO()
         with contextlib.redirect_stderr(shown):
             kcore.core_number(random_edges(100, 2000, 1), progress=True)

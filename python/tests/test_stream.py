@@ -9,7 +9,7 @@ from unittest import mock
 
 import kcore
 
-from .plain import corenesses, networkx, numpy, random_edges
+from .plain import corenesses, networkx, numpy, pandas, random_edges
 
 
 class RandomGraphs(unittest.TestCase):
@@ -120,7 +120,7 @@ class Batches(unittest.TestCase):
     def test_more_nodes_than_there_may_be(self):
         with kcore.Stream(nodes=3) as stream:
             stream.apply(add=[("a", "b")])
-            with self.assertRaises(kcore.TooManyNodes):
+            with self.assertRaisesRegex(kcore.TooManyNodes, "4 nodes in a stream that was opened for 3: .* open one with more"):
                 stream.apply(add=[("b", "c"), ("c", "d")])
             with self.assertRaises(TypeError):
                 stream.apply(add=[("b", "c"), ("c", [])])
@@ -133,7 +133,7 @@ class Batches(unittest.TestCase):
 
     def test_arguments(self):
         for words in dict(nodes=0), dict(nodes=16_777_217), dict(nodes=5, workers=0), dict(nodes=5, workers=65), \
-                dict(nodes=5, profile=3), dict(nodes=[]), dict(nodes=[float("nan")]):
+                dict(nodes=5, profile=3), dict(nodes=[]), dict(nodes=[float("nan")]), dict(nodes="abc"):
             with self.assertRaises(ValueError):
                 kcore.Stream(**words)
         with kcore.Stream(nodes=2, profile=1) as stream:
@@ -141,6 +141,15 @@ class Batches(unittest.TestCase):
                 stream.isolate(0)
             with self.assertRaisesRegex(ValueError, "list of nodes"):
                 stream.apply(isolate="ann")
+
+    @unittest.skipUnless(pandas and numpy, "pandas or numpy isn't there")
+    def test_nodes_in_columns(self):
+        frame = pandas.DataFrame([(1, 2), (2, 3)], columns=["u", "v"])
+        for wrong in frame, frame.to_numpy():
+            with self.assertRaisesRegex(ValueError, "not a text, a table or a matrix"):
+                kcore.Stream(nodes=wrong)
+        with kcore.Stream(nodes=numpy.unique(frame)) as stream:
+            self.assertEqual((stream.nodes, stream.apply(add=frame).added), ([1, 2, 3], 2))
 
     def test_large_batch(self):
         # More is printed than a pipe holds, and the items of the batch are more than that too.
@@ -154,11 +163,11 @@ class Batches(unittest.TestCase):
 
     def test_result_comes_when_closed(self):
         stream = kcore.Stream(nodes=2)
-        with self.assertRaises(kcore.StreamClosed):
+        with self.assertRaisesRegex(kcore.StreamClosed, "is open.* call `close`"):
             stream.result
         self.assertEqual(stream.close(), stream.close())
         self.assertEqual(stream.result, {})
-        with self.assertRaises(kcore.StreamClosed):
+        with self.assertRaisesRegex(kcore.StreamClosed, "no more batches, since `close` was called, .* open another one"):
             stream.apply(add=[(0, 1)])
         self.assertIn("closed", repr(stream))
 
@@ -179,14 +188,14 @@ class RefusedBatches(unittest.TestCase):
         with kcore.Stream(nodes=range(4)) as stream:
             stream.apply_lines(b"0 1\n")
             before = stream.levels()
-            # The stream's lines: two of its head, two of a marker, three of the first batch, two of its marker; `batch` is line 10.
-            for data, line, reason, item in [(b"1 2\n2 4\n", 12, "bad-vertex", 1), (b"1 2 3\n", 17, "bad-line", 0),
-                                             (b"# c\n\nbatch\n1 2", 24, "bad-line", 2), (b"x" * 70_000, 30, "line-long", 0)]:
+            # Lines are those of the batch that was given, whatever the stream has sent before it; comments and empty ones are no items.
+            for data, line, reason, item in [(b"1 2\n2 4\n", 2, "bad-vertex", 1), (b"1 2 3\n", 1, "bad-line", 0),
+                                             (b"# c\n \t\r\n1 2\nbatch\n1 2", 4, "bad-line", 1), (b"x" * 70_000, 1, "line-long", 0)]:
                 with self.assertRaises(kcore.BatchRefused) as caught:
                     stream.apply_lines(data)
                 self.assertEqual((caught.exception.line, caught.exception.reason, caught.exception.item), (line, reason, item))
                 self.assertTrue(caught.exception.sent)
-                self.assertIn(reason, str(caught.exception))
+                self.assertIn(f"is refused at line {line} of its items: {reason}, ", str(caught.exception))
                 self.assertEqual(stream.levels(), before)
             self.assertEqual(stream.apply_lines(b"x 0\n1 2").number, 6)
             self.assertEqual(stream.edge_count, 1)
@@ -209,7 +218,8 @@ class RefusedBatches(unittest.TestCase):
             with self.assertRaises(kcore.BatchRefused) as caught:
                 stream.apply(add=[(1, v) for v in range(2, 20)])
             refusal = caught.exception
-            self.assertEqual((refusal.reason, refusal.sent, refusal.line), ("input-limit", False, 10))
+            self.assertEqual((refusal.reason, refusal.sent, refusal.line, refusal.item), ("input-limit", False, None, None))
+            self.assertRegex(str(refusal), "^batch 2 is refused as a whole: input-limit, .*; close the stream, and put its edges into a new one$")
             self.assertEqual((stream.nodes, stream.batches), ([0, 1], 1))
         self.assertEqual(set(stream.result), {0, 1})
 
@@ -221,7 +231,8 @@ class RefusedBatches(unittest.TestCase):
                 stream.apply(add=edges)
             refusal = caught.exception
             self.assertEqual((refusal.reason, refusal.item, refusal.sent, refusal.number), ("too-many", most, False, 1))
-            self.assertEqual(refusal.line, 4 + 2 + most)
+            self.assertEqual(refusal.line, most + 1)
+            self.assertRegex(str(refusal), "too-many, .*; `cut=True` cuts it into several$")
             self.assertEqual(stream.nodes, [])
             batch = stream.apply(add=edges, cut=True)
             self.assertEqual([piece.added for piece in batch.pieces], [1, 2])

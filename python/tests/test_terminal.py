@@ -164,6 +164,11 @@ class Pages(unittest.TestCase):
                 _view.page(data, wrong, "")
         with self.assertRaises(ValueError):
             _view.page(text, text, "")
+        # Graphs that aren't drawn, so that their edges aren't compared: with other numbers of vertices, or of batches.
+        for vertices, batches in (2002, 1), (2001, 2):
+            other = b"kcore 2\nvertices %d\n" % vertices + b"batch\n0 1\nend\n" * batches
+            with self.assertRaisesRegex(kcore.Mismatch, "is the text that of this input"):
+                _view.page(b"kcore 2\nvertices 2001\nbatch\n0 1\nend\n", kcore.command("run", 1, input=other), "")
 
     def test_cleaning(self):
         # Blanks, comments, a carriage return, an isolation, and a batch that is refused at its first line.
@@ -182,7 +187,7 @@ class Pages(unittest.TestCase):
                 b"vertex 1 level 0 est 0 low 0 high 0 up 0 down 0\nend\n")
         run = Run(text)
         self.assertEqual([point for _, _, point in run.explained(0)], [0, 1, 1, 2, 2])
-        with self.assertRaisesRegex(kcore.Mismatch, "reader 1 isn't explained at its reply 3"):
+        with self.assertRaisesRegex(kcore.Mismatch, "doesn't explain reply 3 of reader 1"):
             run.explained(1)
 
     def test_many_replies_are_thinned(self):

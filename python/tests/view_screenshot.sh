@@ -43,7 +43,15 @@ draw = random.Random(4)
 for _ in range(9000):
     print(int(3000 * draw.random() ** 2.5), int(3000 * draw.random() ** 2.5))
 MAKE
-python3 -m kcore view "$scratch/readers.kc" -o "$scratch/readers.html" --title "Three readers" --workers 4 || exit 1
+# What readers are told is up to the schedule: of 30 runs the one is shown that told them most. (On a busy machine that may be little.)
+program=$(python3 -c 'import kcore; print(kcore.program().path)') || exit 1
+most=0
+for _ in $(seq 30); do
+  "$program" run 4 <"$scratch/readers.kc" >"$scratch/run.txt" || exit 1
+  told=$(grep '^reader' "$scratch/run.txt" | awk '{ for (i = 3; i <= NF; i++) if (!seen[$2, $i]++) n++ } END { print n }')
+  if [ "$told" -gt $most ]; then most=$told && mv "$scratch/run.txt" "$scratch/readers.txt"; fi
+done
+python3 -m kcore view "$scratch/readers.kc" -o "$scratch/readers.html" --title "Three readers" --text "$scratch/readers.txt" || exit 1
 python3 -m kcore view "$scratch/levels.txt" -o "$scratch/levels.html" --batch 500 || exit 1
 
 # The keys go through the page of a run whose levels docs/READING_THE_OUTPUT.md tells, and a script in a copy of it says what stands there.

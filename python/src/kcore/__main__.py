@@ -42,7 +42,7 @@ def _parser() -> argparse.ArgumentParser:
     parser = argparse.ArgumentParser(
         prog="python -m kcore", description="Runs the proved program `kcore` over files.",
         epilog="FILE is an input of the program (its first line is `kcore 1` or `kcore 2`), or has the two names of an "
-               "edge on each line, as the files of SNAP; .gz is unpacked, and - is the standard input.")
+               "edge on each line, as the files of SNAP; what gzip compressed is unpacked, and - is the standard input.")
     parser.add_argument("--version", action="version", version=f"kcore {__version__}")
     parser.add_argument("--program", help="the program; else as docs/PYTHON.md says")
     commands = parser.add_subparsers(dest="command", required=True, metavar="COMMAND")
@@ -94,8 +94,6 @@ def _path(name: str) -> Iterator[str]:
 
 def is_input(path: str) -> bool:
     """Says whether a file is an input of the program: its first line that isn't skipped begins with `kcore`."""
-    if path.endswith(".gz"):
-        return False
     with open(path, "rb") as file:
         for line in file:
             words = line.split(None, 1)

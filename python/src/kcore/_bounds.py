@@ -49,7 +49,7 @@ class Thresholds:
     Attributes
     ----------
     height : int
-        The number of levels of a group of levels.
+        The number of levels of a band.
     top : int
         The greatest level.
 
@@ -78,17 +78,17 @@ class Thresholds:
             low.append(following)
             high.append(2 * following if profile == 1 else following + following // 2)
         self.top = 1 + (len(high) - 2) * self.height
-        self._groups = [(least, 2 * least, most) for least, most in zip(lo, high)]
+        self._bands = [(least, 2 * least, most) for least, most in zip(lo, high)]
 
-    def group(self, level: int) -> int:
-        """Returns the group of levels of a level. Level 0 alone is group 0."""
+    def band(self, level: int) -> int:
+        """Returns the band of a level: consecutive levels that stand for the same bounds. Level 0 alone is band 0."""
         if not 0 <= level <= self.top:
             raise ValueError(f"there is no level {level}: levels are 0 to {self.top}")
         return 0 if level == 0 else 1 + (level - 1) // self.height
 
     def bounds(self, level: int) -> Bounds:
         """Returns the bounds for which a level stands."""
-        return Bounds(*self._groups[self.group(level)], level)
+        return Bounds(*self._bands[self.band(level)], level)
 
 
 @lru_cache(maxsize=16)

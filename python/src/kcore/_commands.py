@@ -5,7 +5,7 @@ from typing import Any, Dict, List, NamedTuple, Optional, Set, Tuple, Union
 
 from ._bounds import Bounds, check_profile, check_workers
 from ._edges import Numbered, is_graph
-from ._errors import BatchRefused, Mismatch
+from ._errors import BatchRefused, unlike
 from ._program import PathLike, command, converse, find
 from ._progress import Progress
 from ._text import Lines, Rows
@@ -96,7 +96,7 @@ class _Text:
             line, _, lines = lines.partition(b"\n")
             self._head(line.split())
         if self.ended and lines:
-            raise Mismatch("the program prints on after its last line")
+            raise unlike(f"{lines[:60]!r} after the line `end`")
         if lines == b"end\n" or lines.endswith(b"\nend\n"):
             self.ended, lines = True, lines[:-4]
         if lines:
@@ -107,7 +107,7 @@ class _Text:
             self.refusal = self.refusal or words[1:]
         elif not self.kept and words != [self.head, b"1"]:
             said = b" ".join(words)
-            raise Mismatch(f"the first line of the program's text is {said!r}, and not `{self.head.decode()} 1`")
+            raise unlike(f"the first line {said!r}, and not `{self.head.decode()} 1`")
         else:
             self.kept.append(words)
             self.left -= 1
@@ -115,10 +115,10 @@ class _Text:
     def check(self, rest):
         """Refuses a text that isn't whole, or that says that a batch was refused."""
         if rest or not self.ended:
-            raise Mismatch("the program's text breaks off")
+            raise unlike("a text that breaks off before its line `end`")
         if self.refusal:
-            _, number, _, _, line, reason = self.refusal
-            raise BatchRefused(int(line), reason.decode(), int(number))
+            _, number, _, _, _, reason = self.refusal
+            raise BatchRefused(reason.decode(), int(number))
 
 
 def _run(graph, words, head, heads, rows, profile, progress, program):
@@ -196,7 +196,7 @@ def _core_number(graph, program, progress):
 
 def _by_node(names, values):
     if len(names) != len(values):
-        raise Mismatch(f"the program's text has {len(values)} vertices, and not {len(names)}")
+        raise unlike(f"lines of {len(values)} vertices, and not of {len(names)}")
     return dict(zip(names, values))
 
 
@@ -294,7 +294,7 @@ class _AfterBatches:
             for line in lines[:begin].splitlines():
                 words = line[:80].split()
                 if words[0] == b"batch" and words[2] == b"refused":
-                    raise BatchRefused(int(words[4]), words[5].decode(), int(words[1]))
+                    raise BatchRefused(words[5].decode(), int(words[1]))
             self.began, lines = begin < len(lines), lines[begin:]
         if lines:
             self.rows(lines)
@@ -362,7 +362,7 @@ def _orient(G, profile, workers, program, progress):
         for line in lines.splitlines():
             words = line.split()
             if words[0] != b"vertex" or int(words[1]) != len(out):
-                raise Mismatch(f"a line of the program's text isn't what is due: {line[:100]!r}")
+                raise unlike(f"the line {line[:100]!r}, where that of vertex {len(out)} is due")
             colours.append(int(words[3]))
             out.append(list(map(name, map(int, words[5:]))))
 
@@ -403,7 +403,7 @@ def densest(G: Any, *, program: Optional[PathLike] = None, progress: Optional[bo
     head = _run(graph, ["dense"], b"kcore-dense", 3, rows, 2, progress, program)
     _, size, _, edges = head[2]
     if int(size) != len(members):
-        raise Mismatch(f"the program's text has {len(members)} members, and not {int(size)}")
+        raise unlike(f"{len(members)} members of a part of {int(size)}")
     return Densest(set(map(graph.names.__getitem__, members)), int(edges))
 
 
@@ -468,6 +468,6 @@ def check(c: Union[Certificate, bytes, PathLike], *, program: Optional[PathLike]
     line = command("check", input=text, program=program).decode("ascii").rstrip("\n")
     words = line.split()
     if words[0] not in ("certified", "upper", "lower", "refused"):
-        raise Mismatch(f"the program says of the certificate: {line[:100]!r}")
+        raise unlike(f"the line {line[:100]!r} of a certificate")
     node = int(words[1]) if words[0] in ("upper", "lower") else None
     return Verdict(words[0] == "certified", line, node if names is None or node is None else names[node])

@@ -4,6 +4,7 @@ from __future__ import annotations
 import gzip
 import operator
 import os
+import zlib
 from collections import defaultdict
 from itertools import chain, count, repeat
 
@@ -50,6 +51,8 @@ def ends_of(source):
         return [], read_edges(source)
     if hasattr(source, "iloc") and hasattr(source, "columns"):
         return [], _of_frame(source)
+    if hasattr(source, "tocoo"):
+        raise ValueError("a sparse matrix is no list of edges: pass numpy.column_stack(matrix.nonzero())")
     if hasattr(source, "ndim") and hasattr(source, "tolist"):
         return [], _of_array(source)
     if hasattr(source, "keys") and hasattr(source, "items"):
@@ -74,7 +77,8 @@ def _of_array(array):
         return array.reshape(-1).tolist()
     if array.size == 0:
         return []
-    raise ValueError(f"an array of edges has two columns, and not the shape {tuple(array.shape)}")
+    hint = ": pass array[:, :2] for the first two columns, or numpy.argwhere(array) of a matrix" if array.ndim == 2 else ""
+    raise ValueError(f"an array of edges has two columns, and not the shape {tuple(array.shape)}{hint}")
 
 
 def _of_frame(frame):
@@ -82,6 +86,9 @@ def _of_frame(frame):
     if "source" in names and "target" in names:
         columns = frame["source"], frame["target"]
     elif len(names) >= 2:
+        if str(names[0]).startswith("Unnamed: "):
+            # (so pandas calls a column without a name, as the row numbers that `to_csv` writes)
+            raise ValueError(f"the first column is {names[0]!r}, as row numbers are: pass the two with the edges, frame[{names[1:3]}]")
         columns = frame.iloc[:, 0], frame.iloc[:, 1]
     else:
         raise ValueError("a frame of edges has two columns, or the columns `source` and `target`")
@@ -92,7 +99,7 @@ def read_edges(path):
     """Returns the ends of the edges of a file: two words a line, and after them whatever there is.
 
     A word of digits is a number, and any other word a text. Empty lines, and lines that begin with # or %, are passed
-    over. A file whose name ends with .gz is unpacked. Files of other formats are refused, as far as they can be told.
+    over. What gzip compressed is unpacked. Files of other formats are refused, as far as they can be told.
     """
     ends = []
     other = f"{path} looks like a file of another format: `examples/to_kcore.py` makes an input of the program of it"
@@ -103,22 +110,31 @@ def read_edges(path):
     try:
         return _ends_in(path, ends, other)
     except EOFError:
-        raise ValueError(f"{path}: the compressed file ends too early") from None
+        raise ValueError(f"{path}: the gzip file ends too early; copy or fetch it again") from None
+    except (gzip.BadGzipFile, zlib.error) as fault:
+        raise ValueError(f"{path}: the gzip file is damaged ({fault}); copy or fetch it again") from None
 
 
 def _ends_in(path, ends, other):
-    with (gzip.open if os.fspath(path).endswith(".gz") else open)(path, "rb") as file:
+    with open(path, "rb") as plain, (gzip.open(plain) if plain.peek(2)[:2] == b"\x1f\x8b" else plain) as file:
         for number, line in enumerate(file, 1):
-            words = line.split(None, 2)
-            if number == 1 and line[:14].lower() == b"%%matrixmarket":
+            if number == 1:
+                if line[:14].lower() == b"%%matrixmarket":
+                    raise ValueError(other)
+                # (some editors put a mark ahead of UTF-8)
+                line = line[3:] if line.startswith(b"\xef\xbb\xbf") else line
+            if b"\0" in line:
                 raise ValueError(other)
+            words = line.split(None, 2)
             if not words or words[0][:1] in b"#%":
                 continue
             if b"," in words[0] and not ends:
                 raise ValueError(other)
             if words[0] == b"kcore" and not ends:
                 raise ValueError(f"{path} is an input of the program, and no file of edges: `kcore.command` and "
-                                 "`python -m kcore` take it")
+                                 "`python -m kcore` take it" + ("" if file is plain else ", once it is unpacked"))
+            if words[0].startswith(b"kcore-") and not ends:
+                raise ValueError(f"{path} is a text that the program printed, and no file of edges: pass the input that it was printed for")
             if len(words) == 1:
                 raise ValueError(f"{path}, line {number}: one word where the two ends of an edge are wanted")
             ends += words[:2]
@@ -166,6 +182,8 @@ class Numbered:
 
     def __init__(self, source, may_skip=False):
         self.all_named = True
+        if source is None:
+            raise TypeError("a graph is wanted, and not None")
         if is_graph(source):
             check_graph(source)
             self.names = list(source.nodes)

@@ -5,7 +5,7 @@ import signal
 from typing import Any, Optional
 
 __all__ = ["KcoreError", "ProgramNotFound", "ProgramEnded", "BatchRefused", "Mismatch", "StreamClosed", "TooManyNodes",
-           "REASONS", "ending_in_words"]
+           "REASONS", "ending_in_words", "unlike"]
 
 #: What each exit number of the program says.
 STATUSES = {
@@ -29,6 +29,13 @@ REASONS = {
     "input-limit": "the input has more than 1,073,741,824 bytes",
     "edge-limit": "the graph would have more than 16,777,216 edges",
     "phase-limit": "there would be more than 16,777,215 phases",
+}
+
+#: What helps against some of them.
+REMEDIES = {
+    "too-many": "; `cut=True` cuts it into several",
+    "input-limit": "; close the stream, and put its edges into a new one",
+    "phase-limit": "; close the stream, and put its edges into a new one",
 }
 
 
@@ -88,35 +95,48 @@ class BatchRefused(KcoreError):
 
     Attributes
     ----------
-    line : int
-        The line of the stream's input that decides, counted from 1.
     reason : str
         One of the reasons of ``docs/FORMATS.md``: ``too-many``, ``edge-limit``, ``phase-limit``, ``input-limit``, and
         for `Stream.apply_lines` also ``bad-line``, ``bad-vertex`` and ``line-long``.
     number : int
         The number of the batch, as `Batch.number` counts them.
+    line : int or None
+        The line of the batch at which it is refused, counted from 1: of the lines that `Stream.apply_lines` was given,
+        or, as `Stream.apply` writes a line for each item, of its items: first those of `isolate`, then of `remove`,
+        then of `add`. None where the batch is refused as a whole.
     item : int or None
-        The place of the item on that line among the items of the batch, counted from 0. None where the line is no item.
+        The item of the batch at which it is refused, counted from 0. Comments and empty lines are no items.
     sent : bool
         Whether the program refused it. If not, the module did and sent nothing.
     applied : Batch or None
         What took effect of a batch that was cut (``cut=True``) before the refused piece.
     """
 
-    def __init__(self, line: int, reason: str, number: int, item: Optional[int] = None, sent: bool = True,
-                 applied: Any = None) -> None:
+    def __init__(self, reason: str, number: int, line: Optional[int] = None, item: Optional[int] = None,
+                 sent: bool = True, applied: Any = None) -> None:
         meaning = REASONS.get(reason, "for a reason that this package doesn't know")
-        super().__init__(f"batch {number} is refused at line {line}: {reason}, {meaning}")
-        self.line, self.reason, self.number = line, reason, number
+        at = "as a whole" if line is None else f"at line {line} of its items"
+        super().__init__(f"batch {number} is refused {at}: {reason}, {meaning}{REMEDIES.get(reason, '')}")
+        self.reason, self.number, self.line = reason, number, line
         self.item, self.sent, self.applied = item, sent, applied
 
 
 class Mismatch(KcoreError):
-    """Says that a text of the program differs from what this module kept or can read."""
+    """Says that a text differs from what it has to be, and that no value of it was returned.
+
+    It is a text of the program, beside what this package kept or can read; or, for ``python -m kcore view``, a text
+    that isn't that of the input.
+    """
+
+
+def unlike(what: str) -> Mismatch:
+    """Returns the exception for a text of the program that this package can't read."""
+    return Mismatch(f"the program prints what this package can't read: {what}. Is it of another version? "
+                    "`python -m kcore program` says which program is taken, and `program=` or KCORE names another")
 
 
 class StreamClosed(KcoreError):
-    """Says that a call needs an open stream, or one that has ended."""
+    """Says that a call needs a stream that is open, or one that is closed."""
 
 
 class TooManyNodes(KcoreError, ValueError):

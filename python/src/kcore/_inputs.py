@@ -24,7 +24,7 @@ class Input:
     """
 
     def __init__(self, data: bytes) -> None:
-        self.lines = list(_kept(data))
+        self.lines = list(kept(data))
         head = [words for words in self.lines[:2]]
         if len(head) < 2 or head[0] not in ([b"kcore", b"1"], [b"kcore", b"2"]) or head[1][:1] != [b"vertices"]:
             raise ValueError("it isn't an input of the program: its first lines aren't `kcore 1` or `2`, and `vertices N`")
@@ -66,7 +66,7 @@ def names_of(lines: Iterable[bytes]) -> Dict[int, str]:
     return names
 
 
-def _kept(data):
+def kept(data):
     """Yields the words of each line that isn't skipped. A line that is too long has none that fit."""
     pieces = data.split(b"\n")
     if not pieces[-1]:
@@ -132,7 +132,7 @@ class Run:
         self.points = 0
         rows = text.split(b"\n")
         if len(rows) < 4 or rows[0] != b"kcore-run 1" or rows[-2:] != [b"end", b""]:
-            raise Mismatch(f"it isn't the text of a run that came to its end: {text[:60]!r}")
+            raise Mismatch(f"the text isn't that of a run that came to its end: {text[:60]!r}; `kcore run 1 < INPUT` prints one")
         self.vertices = int(rows[1].split()[1])
         levels = [0] * self.vertices
         final = []
@@ -159,9 +159,9 @@ class Run:
             elif words[0] == b"vertex":
                 final.append(words)
             else:
-                raise Mismatch(f"a line that no run has: {row[:60]!r}")
+                raise Mismatch(f"a line that no text of a run has: {row[:60]!r}; `kcore run 1 < INPUT` prints one")
         if [int(words[3]) for words in final] != levels:
-            raise Mismatch("the levels of the vertex lines aren't those to which the groups lead")
+            raise Mismatch("the levels of the vertex lines aren't those to which the groups lead: was the text changed?")
         self.levels, self.rows = levels, final
 
     def check_bounds(self, profile: int) -> None:
@@ -170,7 +170,7 @@ class Run:
         for words in self.rows:
             low, est, high, _ = thresholds.bounds(int(words[3]))
             if (int(words[5]), int(words[7]), int(words[9])) != (est, low, high):
-                raise Mismatch(f"vertex {int(words[1])} has other bounds than its level stands for")
+                raise Mismatch(f"vertex {int(words[1])} has other bounds than its level stands for: is the text that of this input?")
 
     def with_edges(self, given: Input) -> None:
         """Puts the edges of the input into the phases and groups in which they leave and come in."""
@@ -181,7 +181,7 @@ class Run:
             removed, added = _cleaned(edges, items)
             if batch.counts[3:] != [len(removed), len(added)]:
                 raise Mismatch(f"batch {number} removes {len(removed)} edges and adds {len(added)}, and the text says "
-                               f"{batch.counts[3]} and {batch.counts[4]}")
+                               f"{batch.counts[3]} and {batch.counts[4]}: is the text that of this input?")
             edges = (edges - removed) | added
             for phase in batch.phases:
                 place = {vertex: group for group in phase.groups for vertex, _, _ in group.moves}
@@ -196,7 +196,7 @@ class Run:
         for vertex, level in self.replies[reader]:
             at = self._explains(vertex, level, point)
             if at is None:
-                raise Mismatch(f"reader {reader} isn't explained at its reply {len(told) + 1}")
+                raise Mismatch(f"the text doesn't explain reply {len(told) + 1} of reader {reader}: was it changed? `kcore audit` says the same")
             point = at
             told.append((vertex, level, point))
         return told

@@ -5,6 +5,7 @@ import contextlib
 import os
 import select
 import selectors
+import shlex
 import shutil
 import subprocess
 import sys
@@ -122,7 +123,7 @@ class Process:
     """
 
     def __init__(self, found, words, stdin=None, stdout=None, apart=False):
-        self.words = " ".join(["kcore", *map(str, words)])
+        self.words = " ".join(["kcore", *map(shlex.quote, map(str, words))])
         self.errors = _note_file()
         try:
             self.popen = subprocess.Popen(
@@ -221,7 +222,8 @@ class Process:
             self.errors.seek(0)
             said = self.errors.read(1000).decode("utf-8", "replace").strip()
             self.errors.close()
-        return ProgramEnded(f"`{self.words}` {ending_in_words(status)}{before}{': ' + said if said else ''}", status)
+        ending, mark, hint = ending_in_words(status).partition("; ")
+        return ProgramEnded(f"`{self.words}` {ending}{before}{mark}{hint}{': ' + said if said else ''}", status)
 
 
 def _widen(pipe):

@@ -12,7 +12,8 @@ from typing import Any, Dict, Iterable, List, NamedTuple, Optional, Tuple, Union
 
 from ._bounds import MOST_BYTES, MOST_ITEMS, Bounds, check_nodes, check_profile, check_workers, thresholds_of
 from ._edges import check_names, ends_of, lines_of
-from ._errors import BatchRefused, KcoreError, Mismatch, StreamClosed, TooManyNodes
+from ._errors import BatchRefused, KcoreError, Mismatch, StreamClosed, TooManyNodes, unlike
+from ._inputs import kept
 from ._program import PathLike, Process, find
 from ._progress import Progress
 from ._text import Lines, Rows
@@ -24,6 +25,10 @@ START = 60
 
 #: Stands for all nodes.
 _ALL = object()
+
+#: What to do where the program and this package differ.
+_REPORT = ("The program is proved, so go by what it prints: run it on the `record` of the stream. And report the fault of "
+           "the package, with that record")
 
 #: Bytes of a name in a record.
 LONGEST_NAME = 200
@@ -209,7 +214,7 @@ class Stream:
         try:
             answer = self._exchange(head, 2, START)
             if answer != b"kcore-run 1\nvertices %d\n" % self._most:
-                raise Mismatch(f"the program begins with {answer[:100]!r}")
+                raise unlike(f"{answer[:100]!r}, where a text begins with `kcore-run 1` and `vertices {self._most}`")
         except BaseException:
             self._give_up("it didn't begin")
             raise
@@ -287,7 +292,7 @@ class Stream:
             if total <= MOST_ITEMS:
                 return self._apply(b"".join(lines_of(*part) for part in parts), total, fresh)
             if not cut:
-                raise BatchRefused(self._lines + 2 + MOST_ITEMS, "too-many", self.batches + 1, MOST_ITEMS, sent=False)
+                raise BatchRefused("too-many", self.batches + 1, MOST_ITEMS + 1, MOST_ITEMS, sent=False)
             pieces: List[Batch] = []
             for items, size in _cut(parts):
                 try:
@@ -328,7 +333,7 @@ class Stream:
         Raises
         ------
         BatchRefused
-            With the line and the reason that the program prints.
+            With the reason that the program prints, the line of `data` and the number of the item.
         ValueError
             If nodes have other names than their numbers, or a line ``end`` would end the batch.
 
@@ -341,7 +346,7 @@ class Stream:
         ...     stream.apply_lines(b"- 0 1\\n0 3\\n")
         ... except kcore.BatchRefused as refusal:
         ...     print(refusal)
-        batch 2 is refused at line 13: bad-vertex, the item names a vertex that isn't there
+        batch 2 is refused at line 2 of its items: bad-vertex, the item names a vertex that isn't there
         >>> stream.level(2)
         1
         >>> stream.close()[1].down
@@ -356,7 +361,13 @@ class Stream:
             raise ValueError("a line `end` would end the batch")
         with self._calls:
             self._check_open()
-            return self._apply(data, data.count(b"\n"), {})
+            try:
+                return self._apply(data, data.count(b"\n"), {})
+            except BatchRefused as refusal:
+                if refusal.line is not None:
+                    # Comments and empty lines are no items.
+                    refusal.item = sum(1 for _ in kept(b"\n".join(data.split(b"\n")[:refusal.line - 1])))
+                raise
 
     def level(self, node: Any) -> int:
         """Returns the level of a node after the last batch. Raises KeyError if no batch has named it."""
@@ -406,11 +417,15 @@ class Stream:
             if self._ended is None:
                 try:
                     self._result = self._finish()
-                    self._ended = "it was closed"
+                    self._ended = "`close` was called, or its `with` statement ended"
+                except KcoreError as fault:
+                    self._give_up(str(fault))
+                    raise
                 finally:
-                    self._give_up("its end failed")
+                    self._give_up("its end was interrupted")
             if self._result is None:
-                raise StreamClosed(f"the stream has no result: {self._ended}")
+                raise StreamClosed(f"the stream came to no result, since {self._ended}. `levels` and `bounds` still tell how "
+                                   "things stood after its last batch")
             return self._result
 
     @property
@@ -418,19 +433,22 @@ class Stream:
         """The lines of the nodes after the last batch, as a dict from node to `Vertex`. They are there once it is
         closed."""
         if self._ended is None:
-            raise StreamClosed("the stream is open: its result comes when it is closed")
+            raise StreamClosed("the stream is open, and its result comes at its end: call `close`, which returns it, or leave "
+                               "the `with` statement first")
         return self.close()
 
     def _check_open(self):
         if self._ended is not None:
-            raise StreamClosed(f"the stream is closed: {self._ended}")
+            raise StreamClosed(f"the stream takes no more batches, since {self._ended}. To go on, open another one and add the "
+                               "edges again")
 
     def _fresh(self, names):
         """Returns the names that have no number yet, each with the one that it gets."""
         known = self._number
         fresh = [name for name in dict.fromkeys(names) if name not in known]
         if len(known) + len(fresh) > self._most:
-            raise TooManyNodes(f"{len(known) + len(fresh):,} nodes in a stream that was opened for {self._most:,}")
+            raise TooManyNodes(f"{len(known) + len(fresh):,} nodes in a stream that was opened for {self._most:,}: `nodes=` is the most "
+                               "that there may be, so open one with more")
         check_names(fresh)
         return dict(zip(fresh, range(len(known), self._most)))
 
@@ -447,7 +465,7 @@ class Stream:
         data = b"batch\n" + items + b"end\n"
         # The marker and a line of the next batch fit too.
         if self._bytes + len(data) + 32 > MOST_BYTES:
-            raise BatchRefused(line + 1, "input-limit", self.batches + 1, sent=False)
+            raise BatchRefused("input-limit", self.batches + 1, sent=False)
         if self._record:
             self._record.add(data, fresh)
         shown = self._shown or Progress(self._wanted)
@@ -470,6 +488,9 @@ class Stream:
                 shown.end()
         return batch
 
+    def _after(self):
+        return f", after {self.batches:,} batch{'es' * (self.batches != 1)}"
+
     def _exchange(self, data, lines, seconds=None):
         """Sends data and an empty batch after it, and returns what the program prints up to the line of that.
 
@@ -489,13 +510,13 @@ class Stream:
         try:
             self._process.write(data, take)
         except BrokenPipeError:
-            raise self._process.ending(f", after {self.batches} batches") from None
+            raise self._process.ending(self._after()) from None
         self._lines += lines + 2
         self._bytes += len(data)
         while tail != mark:
             block = self._process.read(seconds)
             if not block:
-                raise self._process.ending(f", after {self.batches} batches")
+                raise self._process.ending(self._after())
             take(block)
         return b"".join(blocks)[:1 - len(mark)]
 
@@ -504,29 +525,31 @@ class Stream:
         rows = answer.splitlines()
         words = rows[0].split() if rows else []
         if len(words) not in (6, 12) or words[0] != b"batch" or int(words[1]) != self._last - 1:
-            raise Mismatch(f"the line of a batch is due, and not {answer[:100]!r}")
+            raise unlike(f"{answer[:100]!r}, where the line of batch {self._last - 1} is due")
         if words[2] == b"refused":
             self._refused = True
+            # (the line `batch` stands after those that were sent before; at the line `end` a batch is refused as a whole)
             at = int(words[4]) - line - 2
-            raise BatchRefused(int(words[4]), words[5].decode(), self.batches, at if 0 <= at < count else None)
+            raise BatchRefused(words[5].decode(), self.batches, *((at + 1, at) if 0 <= at < count else ()))
         names, levels = self._names + list(fresh) if fresh else self._names, self._levels
         now, phases, number = {}, [], self._groups
+        name_of, level_of = names.__getitem__, levels.__getitem__
         for row in rows[1:]:
             if row.startswith(b"group ") and phases:
                 number += 1
                 phase, label, *pairs = map(int, row[6:].replace(b":", b" ").split())
                 moving, after = pairs[::2], pairs[1::2]
-                nodes = [names[v] for v in moving]
-                before = [now.get(v, levels[v]) for v in moving]
-                # In one phase each node moves at most once, so none of this phase's groups looks up what is put here.
-                now.update(zip(moving, after))
+                # In one phase each node moves at most once, so that only a second phase finds in `now` what the first put there.
+                before = map(level_of, moving) if len(phases) == 1 else [now.get(v, levels[v]) for v in moving]
+                nodes = moving if self._plain else list(map(name_of, moving))
                 group = Group(number, phase, names[label], dict(zip(nodes, after)), dict(zip(nodes, before)))
+                now.update(zip(moving, after))
                 phases[-1][3].append(group)
             elif row.startswith(b"phase "):
                 _, phase, kind, _, quiet = row.split()
                 phases.append((int(phase), kind.decode(), int(quiet), []))
             else:
-                raise Mismatch(f"the line of a phase or group is due, and not {row[:100]!r}")
+                raise unlike(f"{row[:100]!r}, where the line of a phase or group is due")
         phases = tuple(Phase(phase, kind, quiet, tuple(groups)) for phase, kind, quiet, groups in phases)
         batch = Batch(self.batches, *map(int, words[3::2]), phases)
         with self._state:
@@ -548,7 +571,7 @@ class Stream:
 
         def take(lines):
             if ends:
-                raise Mismatch("the program prints on after its last line")
+                raise unlike(f"{lines[:60]!r} after the line `end`")
             if lines == b"end\n" or lines.endswith(b"\nend\n"):
                 ends.append(True)
                 lines = lines[:-4]
@@ -560,16 +583,22 @@ class Stream:
             lines(block)
         status = process.wait()
         if not ends or lines.rest or status != (1 if self._refused else 0):
-            raise process.ending(f", after {self.batches} batches and {rows.count} of {self._most} lines of vertices")
+            raise process.ending(f"{self._after()} and {rows.count:,} of {self._most:,} lines of vertices")
         levels, est, low, high, up, down = rows.columns
         if array("H", levels) != self._levels:
             differ = next(v for v in range(self._most) if rows.count <= v or levels[v] != self._levels[v])
-            raise Mismatch(f"vertex {differ} has another level than was kept of it")
+            raise self._differs(differ, levels[differ] if differ < rows.count else None)
         for level, *printed in set(zip(levels, low, est, high)):
             if self._thresholds.bounds(level)[:3] != tuple(printed):
-                raise Mismatch(f"the program prints the bounds {printed} for level {level}, which stands for "
-                               f"{self._thresholds.bounds(level)}")
+                raise Mismatch(f"the program prints est, low, high {printed} for level {level}, and this package told "
+                               f"{self._thresholds.bounds(level)}: bounds of this stream may be wrong. {_REPORT}")
         return dict(zip(self._names, map(Vertex, levels, est, low, high, up, down)))
+
+    def _differs(self, number, printed):
+        """Returns the exception for a node whose level isn't the one that is printed."""
+        name = repr(self._names[number]) if number < len(self._names) else f"number {number}, which has no name,"
+        return Mismatch(f"node {name} is on level {printed} by the program, and this package kept {self._levels[number]}: "
+                        f"levels and bounds of this stream may be wrong. {_REPORT}")
 
     def _give_up(self, why):
         """Lets go of the program, and ends it if it runs. Notes why, if nothing was noted."""
@@ -584,6 +613,8 @@ def _nodes_of(nodes):
     try:
         return operator.index(nodes), []
     except TypeError:
+        if isinstance(nodes, (str, bytes)) or getattr(nodes, "ndim", 1) != 1:
+            raise ValueError("`nodes` is a number, or a list or graph of all nodes, and not a text, a table or a matrix") from None
         names = list(dict.fromkeys(nodes.nodes if hasattr(nodes, "nodes") else nodes))
         check_names(names)
         return len(names), names

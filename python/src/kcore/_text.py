@@ -1,5 +1,5 @@
 """Reads what the program prints, block by block."""
-from ._errors import Mismatch
+from ._errors import unlike
 
 
 class Lines:
@@ -34,9 +34,9 @@ class Rows:
         words = lines.split()
         rows = len(words) // self.width
         if len(words) % self.width or words[0] != self.word or int(words[1]) != self.count:
-            raise Mismatch(f"a line of the program's text isn't what is due: {lines[:100]!r}")
+            raise unlike(f"the lines {lines[:100]!r}, where the next is that of {self.word.decode()} {self.count}")
         if words[-self.width] != self.word or int(words[1 - self.width]) != self.count + rows - 1:
-            raise Mismatch(f"a line of the program's text isn't what is due: {lines[-100:]!r}")
+            raise unlike(f"the lines {lines[-100:]!r}, where the last is that of {self.word.decode()} {self.count + rows - 1}")
         self.count += rows
         for column, place in zip(self.columns, self.places):
             column.extend(map(int, words[place::self.width]))

@@ -6,6 +6,7 @@ import os
 from typing import Any, Dict, List, Optional
 
 from ._bounds import thresholds_of
+from ._errors import Mismatch
 from ._inputs import Input, Run
 
 #: Above this many vertices the page shows how many stand on each level, and no graph.
@@ -36,6 +37,9 @@ def page(data: bytes, text: bytes, title: str) -> str:
         If there are too many moves for a page.
     """
     given, run = Input(data), Run(text)
+    if (run.vertices, len(run.batches)) != (given.vertices, sum(1 for _ in given.batches())):
+        raise Mismatch(f"the input has {given.vertices:,} vertices, and the text {run.vertices:,}, or they have other numbers of batches: "
+                       "is the text that of this input?")
     run.check_bounds(given.profile)
     drawn = run.vertices <= MOST_DRAWN
     if drawn:
@@ -49,7 +53,7 @@ def page(data: bytes, text: bytes, title: str) -> str:
         "vertices": run.vertices,
         "profile": given.profile,
         "height": thresholds.height,
-        "bounds": thresholds._groups[:1 + thresholds.group(_greatest(run))],
+        "bounds": thresholds._bands[:1 + thresholds.band(_greatest(run))],
         "names": {str(vertex): name for vertex, name in given.names.items() if vertex < run.vertices},
         "drawn": drawn,
         "batches": [_batch(batch) for batch in run.batches],

@@ -7,7 +7,7 @@ import time
 from collections import deque
 from typing import Any, Dict, List, NamedTuple, Optional
 
-from ._errors import Mismatch
+from ._errors import unlike
 from ._program import Process, Program
 from ._text import Lines
 
@@ -67,7 +67,7 @@ class Table:
                 self._close_batch()
                 self.readers += 1
             elif kind not in (b"phase ", b"kcore-"):
-                raise Mismatch(f"a line that no run has: {line[:60]!r}")
+                raise unlike(f"the line {line[:60]!r}")
 
     def _open_batch(self, words):
         self.batches += 1
@@ -84,7 +84,7 @@ class Table:
         size = line.count(b":")
         batch = self.batch
         if batch is None:
-            raise Mismatch("a group stands before any batch")
+            raise unlike("a group before any batch")
         batch[4] += 1
         batch[5] += size
         batch[6] = max(batch[6], size)
