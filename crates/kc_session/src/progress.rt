@@ -11,8 +11,8 @@ const BEGUN: u64 = 1;
 
 const ENDED: u64 = u64::MAX;
 
-// How often a reader looks at most whether the batches have begun. Their thread begins while it looks some hundred times.
-const FIRST_LOOKS: u32 = 1_024;
+// How often a reader looks at most whether the batches have begun: on a busy machine their thread may begin some milliseconds late.
+const FIRST_LOOKS: u32 = 32_768;
 
 /// How far the batches of a session have come: a word that the thread of the batches stores, and that readers load.
 ///
