@@ -33,7 +33,7 @@ refused_in s [] ts = 0
 refused_in s (b ∷ bs) [] = 0
 refused_in s (b ∷ bs) (t ∷ ts) = one_if (is_refused s b) + refused_in t.state bs ts
 
--- the number of moving groups in all phases of these steps
+-- the number of moving groups, and of moves, in all phases of these steps
 abbrev pub all_groups : List Step → ℕ
 all_groups steps = sum_by (λ (t : Step). groups_of t.phases) steps
 

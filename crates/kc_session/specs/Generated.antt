@@ -24,7 +24,7 @@ drawn_item n s = item_of_draws n (next_state s) (next_state (next_state s)) (nex
 abbrev pub after_item : ℕ → ℕ
 after_item s = next_state (next_state (next_state s))
 
--- `count` items from the state s on
+-- `count` items from the state s on, and the state after them
 unfoldable pub drawn_items : ℕ → ℕ → ℕ → List (List (List ℕ))
 drawn_items n s zero = []
 drawn_items n s (suc count) = drawn_item n s ∷ drawn_items n (after_item s) count

@@ -35,7 +35,7 @@ fn is_digit(byte: u8) -> bool
 }
 
 // The number of digits that the first loop reads: as many as the greatest vertex has. No value of so few digits is too
-// large, and the compiler unrolls a loop of fixed length. The loop ends at the last digit of a shorter number.
+// large, and the compiler unrolls a loop of fixed length. A shorter number ends within the loop.
 const NEAR: usize = 8;
 
 // Returns the value of the digits from `start` on, and where they end. The digits before `from` have the value `value`.

@@ -11,8 +11,8 @@ use std::marker::{Model, PhantomData};
 /// A sink over a writer, such as the program's standard output. If `K` says so, the sink tells the bytes that its
 /// writer tells. By default it tells none.
 ///
-/// Each error of the writer is a fault, except that an interrupted write is made again. A write that takes nothing is a
-/// fault too.
+/// Each error of the writer is a fault, except that a write that a signal interrupted is made again. A write that takes
+/// nothing is a fault too.
 ///
 /// A contract sees the sink as an `Outlet`: the bytes taken, if the sink tells them, and the count of faults. It also
 /// sees whether the writer was flushed since the last write.

@@ -9,8 +9,8 @@ use std::marker::{Model, PhantomData};
 /// A source over a reader, such as the program's standard input. If `K` says so, the source tells the bytes that its
 /// reader tells. By default it tells none.
 ///
-/// Each error of the reader is a fault, except that an interrupted read is made again. A contract sees the source as an
-/// `Inlet`: the bytes left, if the source tells them, and the count of faults.
+/// Each error of the reader is a fault, except that a read that a signal interrupted is made again. A contract sees the
+/// source as an `Inlet`: the bytes left, if the source tells them, and the count of faults.
 #[derive(Drop)]
 pub struct StdSource<R: Read, K: Told = Untold> {
     // The origin of the bytes.

@@ -146,7 +146,7 @@ pub record Decide (command : Command) (bytes : List ℕ) (refused : Bool) : Type
   pub is_text : IsText command bytes text refused
   pub same : (other : List ℕ) (says : Bool) → IsText command bytes other says → says ≡ refused
 
--- the status of a command that refuses something, or nothing
+-- the status of a command that ran to its end: whether it refused something
 abbrev pub ending : Bool → Status
 ending false = Done
 ending true = Refused

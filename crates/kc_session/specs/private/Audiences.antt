@@ -12,7 +12,7 @@ use Rattle.kc_engine.specs.Showing as showing
 use Rattle.kc_session.specs.declared.audience.Audience.{Audience}
 use Rattle.kc_session.specs.declared.audience.Audience.TheVariants.{Readers, Nobody}
 
--- the store in which the audience looks levels up, if there is one
+-- the store in which the audience looks levels up, if there is one, and the store's writer
 abbrev pub store_of : Audience → Option StoreShape
 store_of (Readers store writer) = Some store.now
 store_of Nobody = None
