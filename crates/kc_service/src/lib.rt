@@ -6,8 +6,12 @@
 //! [`Reader::bounds`] answer while batches are applied. No call asks its caller for a proof: arguments that could be
 //! wrong are tested at run time.
 //!
-//! ```text let mut service = Service::open(&rt, rt.alloc(), Options::for_vertices(5))?; let mut reader =
-//! service.reader()?; let applied = service.apply(&[Item::Insert { u: 0, v: 1 }])?; let bounds = reader.bounds(1); ```
+//! ```text
+//! let mut service = Service::open(&rt, rt.alloc(), Options::for_vertices(5))?;
+//! let mut reader = service.reader()?;
+//! let applied = service.apply(&[Item::Insert { u: 0, v: 1 }])?;
+//! let bounds = reader.bounds(1);
+//! ```
 //!
 //! `specs/` has the definitions: `Services` for the changes of a service, `Readers` for the answers of a reader.
 #![tactic(auto)]
