@@ -92,7 +92,8 @@ fn run_told<R: Threads + Sync, S: Source, K: Sink, G: Gate + Sync>(
     counts
 }
 
-// Applies the batches while the agents ask. The agents are the audience.
+// Applies the batches while the agents ask. The agents are the audience. If the system starts no thread, the agents run
+// last: before the batches they would look in vain for a beginning.
 fn side_by_side<R: Threads + Sync, S: Source + Send, K: Sink + Send, G: Gate + Sync>(
     context: &SessionContext<'_, R, G>,
     watched: &mut Watched<'_>,
@@ -122,13 +123,13 @@ fn side_by_side<R: Threads + Sync, S: Source + Send, K: Sink + Send, G: Gate + S
     thread::join_mut(
         rt,
         &mut ||
-            requires { IsSync R.row × IsSync G.row × IsAbreast watched.now.audience watched.now.engine.state × IsOpen watched.now.engine × (watched.now.engine.state.graph.vertices ≡ context.now.n) }
-        { run_told(context, watched, reader, src, sink) },
-        &mut ||
             requires { IsSync R.row × IsSync G.row × All (λ a. (a.store ≡ store.now) × (a.has_run ≡ false)) agents.now.items }
         { run_agents(rt, gate, store, progress, agents) },
+        &mut ||
+            requires { IsSync R.row × IsSync G.row × IsAbreast watched.now.audience watched.now.engine.state × IsOpen watched.now.engine × (watched.now.engine.state.graph.vertices ≡ context.now.n) }
+        { run_told(context, watched, reader, src, sink) },
     )
-    .0
+    .1
 }
 
 // Writes the text after the batches: the lines of the readers, and those of the vertices by a last pass. Returns the
