@@ -76,7 +76,8 @@ printf 'kserve 1\nvertices 16777217\nx\n' | ends 1 'refused line 2 header' "$kse
 for words in "4294967295 5 1 3 1" "0 5 1024 0 1" "0 1 1 3 64"; do
   "$kcore" gen $words >"$out" || { echo "checks/programs/limits.sh: gen $words: exit number $?"; failed=1; }
 done
-for words in "0 16777216 1 0 1" "0 5 1 1048576 1" "0 5 32 1048576 1" "0 5 1024 32768 1"; do
+# With fewer vertices it would depend on the stacks of the readers' threads whether the rest of the memory is enough.
+for words in "0 16777216 1 0 1" "0 16777216 1 1048576 1" "0 16777216 32 1048576 1" "0 16777216 1024 32768 1"; do
   accepts "$kcore" gen $words
 done
 for words in "4294967296 5 1 3 1" "0 16777217 1 0 1" "0 0 1 3 1" "0 5 1025 0 1" "0 5 0 0 1" "0 5 1 1048577 1" "0 5 33 1048576 1" "0 5 1024 32769 1" "0 5 1 3 65" "0 5 1 3 0"; do
