@@ -8,6 +8,8 @@ mod ChangeLemmas
 mod RowLemmas
 mod KeptLemmas
 mod EdgeListLemmas
+mod DigitLemmas
+mod OrderLemmas
 mod DecidingLemmas
 mod KeyLemmas
 mod BatchLemmas
