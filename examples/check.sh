@@ -46,7 +46,7 @@ for text in *_final.txt cases/*_final.txt; do
   [ $? = 0 ] && grep -q '^certified ' "$out" || wrong "$text isn't certified"
 done
 
-# So is what `final` writes of other inputs, with any number of workers.
+# So is the text of `final` for other inputs, with any number of workers.
 for input in path.kc isolate.kc; do
   for workers in 1 3; do
     "$program" final $workers <"$input" | "$program" check >"$out"
@@ -54,15 +54,15 @@ for input in path.kc isolate.kc; do
   done
 done
 
-# What `run` writes is explained.
+# A text of `run` is explained.
 for text in *.txt cases/*.txt; do
   [ "$text" != readers.txt ] && grep -q '^kcore-run' "$text" || continue
   "$program" audit <"$text" >"$out"
   [ $? = 0 ] && grep -qx explained "$out" || wrong "$text isn't explained"
 done
 
-# Nor does it matter how many readers ask meanwhile: but for their lines the text is the same, with the line numbers of refusals one greater
-# for one `ask` more, and the replies are explained.
+# Readers beside the batches change nothing but their own lines. For one more `ask` the line numbers of refusals are one
+# greater. The replies are explained.
 for input in cases/*.kc; do
   grep -q '^refused' "${input%.kc}.txt" && continue
   awk '{ print } $1 == "vertices" && !n { n = $2 + 0; print "ask 7 0", n - 1, int(n / 2) }' "$input" >"$err"
@@ -73,7 +73,8 @@ for input in cases/*.kc; do
   done
 done
 
-# says LINE WORDS.. <DOCUMENT: of this document the program writes this line, and exits with 1 where it isn't right.
+# says LINE WORDS.. <DOCUMENT: the program writes this line for this document, and exits with 1 if the document isn't
+# right.
 says() {
   "$program" "${@:2}" >"$out"
   exited=$?
@@ -107,8 +108,9 @@ printf 'kcore 1\nvertices 5\nask 65536 0\n' | "$program" run 1 >"$out"
 "$program" audit <"$out" | grep -qx explained || wrong "a reader with 65536 questions isn't explained"
 sed '/^reader 0/s/=0$/=1/' "$out" | "$program" audit | grep -qx 'unexplained reader 0 ask 65536' || wrong "a reader with 65536 questions: its last reply"
 
-# Lists that are long enough to go to threads. In the first batch 6,144 vertices begin to rise at once, in the second 12,288 that have a
-# neighbour above them. Then a strip of vertices each of which is joined to the next two; it comes in, and goes out again.
+# Lists that are long enough to go to threads. In the first batch 6,144 vertices begin to rise at once, in the second
+# 12,288 that have a neighbour above them. Then a strip of vertices comes in, and goes out again. In the strip each
+# vertex is joined to the next two.
 awk 'function pairs(n, further) { for (v = 0; v < n; v++) print v, v + further }
   BEGIN { print "kcore 1\nvertices 18432\nbatch"; pairs(3072, 3072); print "end\nbatch"; pairs(6144, 6144); pairs(6144, 12288); print "end" }' >"$long"
 awk 'function strip(sign) { print "batch"; for (v = 0; v + 2 < 60000; v++) { print sign, v, v + 1; print sign, v, v + 2 } print "end" }
@@ -123,7 +125,7 @@ done
 # All edges of the strip are gone.
 tail -n 60001 "$err" | grep -qvE '^(vertex [0-9]+ level 0 est 0 low 0 high 0 up 0 down 0|end)$' && wrong "long lists: an edge of the strip is left"
 
-# What a generated load comes to: one line, the same for any number of workers. Nothing is read.
+# The counts of a generated load: one line, the same for any number of workers. Nothing is read.
 generates() {
   "$program" gen ${@:2} <. >"$out"
   exited=$?
@@ -133,14 +135,14 @@ generates 'gen batches 1 refused 0 phases 1 groups 1 moves 4 edges 3 replies 40 
 line=$("$program" gen 1 20000 4 20000 1)
 generates "$line" 1 20000 4 20000 4
 
-# Words that name no command: nothing is written.
+# Words that are no command: nothing is written.
 for words in "" run "run 0" "run +1" "run 00000000001" "run x" "run 1 1" "exact 1" final "final 0" orient "orient 0" "orient x" "orient 1 1" "dense 1" "check 1" "audit 1" gen "gen 0 5 1 3" "gen 0 5 1 3 1 1" "gen 0 5 1 3 x" --help --version; do
   "$program" $words <path.kc >"$out" 2>"$err"
   exited=$?
   [ $exited = 2 ] && [ ! -s "$out" ] && [ ! -s "$err" ] || wrong "path.kc: '$words': exit number $exited"
 done
 
-# An input that can't be read: a folder. A graph that doesn't fit into the memory that there is.
+# An input that can't be read: a folder. A graph for which there isn't enough memory.
 for words in "run 1" "final 1" "orient 1" exact dense; do
   "$program" $words <. >"$out" 2>"$err"
   exited=$?
@@ -150,7 +152,7 @@ for words in "run 1" "final 1" "orient 1" exact dense; do
   [ $exited = 5 ] && [ ! -s "$err" ] || wrong "$words with 20 MB for 1048576 vertices: exit number $exited"
 done
 
-# Nor can a document that is read be a folder.
+# A document can't be a folder either.
 for words in check audit; do
   "$program" $words <. >"$out" 2>"$err"
   exited=$?
@@ -163,7 +165,7 @@ serves() {
   exited=$?
   [ $exited = "$1" ] && [ ! -s "$err" ] || wrong "$2: exit number $exited of kserve ${*:3}"
 }
-# Which updates share a batch is up to the schedule, and each client's stand in the order of its script.
+# The schedule decides which updates share a batch. Those of each client stand in the order of its script.
 for workers in 1 03; do
   serves 0 clients.ks $workers
   for client in "0 + 0 1,0 + 0 2" "1 + 1 2,1 + 2 3" "2 + 3 4,2 - 3 4"; do
@@ -203,8 +205,8 @@ fi
 # Each limit, and one past it.
 ./limits.sh "$program" "$kserve" || failed=1
 
-# A run with one worker starts no thread. With four it starts as many each time, fewer where some list isn't cut for them or where there
-# are fewer processors.
+# A run with one worker starts no thread. With four it starts as many each time. It starts fewer if some list isn't cut
+# for them, or if there are fewer processors.
 if command -v strace >/dev/null && strace -f -qq -o "$err" true 2>"$out"; then
   for threads in 1:0 4:41; do
     strace -f -qq -e trace=clone,clone3 -e signal=none -o "$err" "$program" run ${threads%:*} <"$strip" >"$out"
@@ -240,7 +242,7 @@ for words in "" x 0 "5 3" "5 1 1"; do
 done
 python3 -B to_kcore.py --batch 20 <karate.snap 2>"$err" | cmp -s - karate_batches.kc || wrong "karate_batches.kc: another text"
 
-# The text of a load, put through `run`, comes to what `gen` writes.
+# The counts of the text of `run` for a load are those that `gen` writes.
 for load in "0 5 1 3" "1 300 7 500" "4294967295 17 20 40" "7 1 2 3" "5 2000 3 0"; do
   python3 generated.py $load | "$program" run 2 | python3 generated.py --counts >"$err"
   generates "$(cat "$err")" $load 3
@@ -253,8 +255,8 @@ for load in "3 40 6 120" "9 300 5 2000" "11 7 9 30"; do
   python3 corenesses.py "$err" <"$out" || wrong "a load of $load: another coreness"
 done
 
-# What readers are told depends on how the threads run, and all else is in readers.txt. The history explains each reply. Where one
-# reply is another by 1, `audit` and explained.py name the same reply, or none.
+# The replies to readers depend on how the threads run, and everything else is in readers.txt. The history explains each
+# reply. If one reply is changed by 1, `audit` and explained.py name the same reply, or none.
 for workers in 1 2 4 4 4; do
   "$program" run $workers <readers.kc >"$out"
   [ $? = 0 ] && sed -E '/^reader/s/=[01]/=L/g' "$out" | cmp -s - readers.txt || wrong "readers.kc: another text than in readers.txt"
@@ -274,7 +276,8 @@ if [ -z "$python" ]; then
   exit $failed
 fi
 
-# draws NUMBER WORDS..: the script exits with this number, and makes the picture only where that is 0. If not, it says why in one line.
+# draws NUMBER WORDS..: the script exits with this number, and makes the picture only if that is 0. If not, it says why
+# in one line.
 draws() {
   rm -f "$out.svg"
   "$python" draw.py "${@:2}" "$out.svg" 2>"$err"

@@ -1,10 +1,10 @@
 #!/usr/bin/env python3
-"""Compares what `kcore exact` prints with the coreness that a plain program finds.
+"""Compares the text of `kcore exact` with the coreness that a plain program finds.
 
     corenesses.py INPUT < TEXT
 
-INPUT is what `kcore exact` read, without refused batches and without lines `x v`; TEXT is what it printed. Says at which vertices they differ.
-The exit number is 1 where they do, or where a vertex has no line.
+INPUT is what `kcore exact` read, without refused batches and without lines `x v`; TEXT is what it printed. Says at
+which vertices they differ. The exit number is 1 if they do, or if a vertex has no line.
 """
 import sys
 

@@ -1,18 +1,19 @@
 #!/usr/bin/env python3
-"""Says whether the readers of a run text were told levels of its history.
+"""Says whether the replies to the readers of a run text are levels of its history.
 
     kcore run 4 < readers.kc | python3 explained.py
     kcore run 4 < readers.kc | python3 explained.py --points
     kcore run 4 < readers.kc | python3 explained.py --changed kcore
 
-Each reply `V=L` has to be the level of V at a point of the history: before the first line `group`, or after one of them. The points of
-one reader never go back. Exits with 0 if that is so, and else with 1 and the first reply for which there is no point.
+Each reply `V=L` has to be the level of V at a point of the history: before the first line `group`, or after one of
+them. The points of one reader never go back. Exits with 0 if that is so. Otherwise exits with 1 and says the first
+reply for which there is no point.
 
-With --points it also prints a line for each reader: how many different points its replies meet, of how many there are. A
-reply may fit several points; the earliest one is taken that isn't before that of the reply before it.
+With --points it also prints a line for each reader: how many different points its replies meet, of how many there are.
+A reply may fit several points; the earliest one is taken that isn't before that of the reply before it.
 
-With --changed the text is changed at one reply in turn, to the next level up and down, and `PROGRAM audit` has to name the same reply
-of each changed text, or `explained`. Exits with 1 and the first text of which it doesn't.
+With --changed the text is changed at one reply after another, to the next level up and down. `PROGRAM audit` has to
+name the same reply of each changed text, or `explained`. Exits with 1 and says the first text for which it doesn't.
 """
 import subprocess
 import sys

@@ -3,8 +3,8 @@
 
     generated.py SEED N B M > load.kc
 
-B batches of M items between N vertices, drawn from SEED. With --counts reads a text of `kcore run` instead, and prints the line that
-`kcore gen` writes where its input comes to that text.
+B batches of M items between N vertices, drawn from SEED. With --counts reads a text of `kcore run` instead. It then
+prints the line that `kcore gen` writes for an input with that text.
 """
 import sys
 

@@ -1,11 +1,12 @@
 #!/usr/bin/env python3
-"""Compares what `kcore run` writes of loads with the levels that a plain program finds.
+"""Compares texts of `kcore run` for loads with the levels that a plain program finds.
 
     levels.py KCORE
 
-Each load has insertions and deletions, in each of the two profiles. The plain program counts all neighbours anew at each look. Its levels after each
-phase are compared with those to which the lines `group` lead, and those after the last batch, with what they stand for, with the lines
-`vertex`. Says which load differs first; the exit number is 1 then.
+Each load has insertions and deletions, in each of the two profiles. The plain program counts all neighbours anew at
+each look. Its levels after each phase are compared with those that follow from the lines `group`. Its levels after the
+last batch, with their bounds and estimates, are compared with the lines `vertex`. Says which load differs first; the
+exit number is 1 then.
 """
 import itertools
 import subprocess

@@ -1,6 +1,6 @@
 #!/usr/bin/env bash
-# Runs in the gate, from check.sh: kcore and kserve on inputs at each of their limits, and one past it. Silent where
-# all is well.
+# Runs in the gate, from check.sh: kcore and kserve on inputs at each of their limits, and one past it. Silent if all is
+# well.
 #     examples/limits.sh KCORE KSERVE
 set -u
 kcore=$(realpath "$1") && kserve=$(realpath "$2") && out=$(mktemp) || exit 1
@@ -8,8 +8,8 @@ cd "$(dirname "$0")" || exit 1
 trap 'rm -f "$out"' EXIT
 failed=0
 
-# ends NUMBER LINE PROGRAM WORDS..: of its standard input the program writes this line among others, and exits with this number. Where LINE is
-# empty it writes nothing.
+# ends NUMBER LINE PROGRAM WORDS..: for its standard input the program writes this line among others, and exits with
+# this number. If LINE is empty, it writes nothing.
 ends() {
   "${@:3}" >"$out"
   exited=$?
@@ -19,7 +19,7 @@ ends() {
     failed=1
   fi
 }
-# accepts PROGRAM WORDS..: these words name a command, which doesn't find the memory for what it has to do.
+# accepts PROGRAM WORDS..: these words are a command, which doesn't find the memory that it needs.
 accepts() { (ulimit -v "$least" && "$@" >"$out"); [ $? = 5 ] || { echo "examples/limits.sh: ${*:2}: not exit number 5"; failed=1; }; }
 
 # The address space with which a program starts and little more, in KiB.
@@ -58,7 +58,8 @@ printf 'kcore 1\nvertices 5\nask 65537 0\n' | ends 1 'refused line 3 header' "$k
 { printf 'kcore 1\nvertices 2\nbatch\n' && items 1048576 && echo end; } | ends 0 'batch 1 loops 0 repeats 1048575 idle 0 removed 0 added 1' "$kcore" run 1
 { printf 'kcore 1\nvertices 2\nbatch\n' && items 1048577 && echo end; } | ends 1 'batch 1 refused line 1048580 too-many' "$kcore" run 1
 
-# 16,777,216 vertices, and as many edges. Where a header fits, its graph doesn't fit into the memory, or a later line is refused.
+# 16,777,216 vertices, and as many edges. If a header fits, its graph doesn't fit into the memory, or a later line is
+# refused.
 for words in "run 1" "final 1" "orient 1" exact dense; do
   printf 'kcore 1\nvertices 16777216\n' | accepts "$kcore" $words
   printf 'kcore 1\nvertices 16777217\n' | ends 1 'refused line 2 header' "$kcore" $words
@@ -100,7 +101,7 @@ scripts() {
 }
 scripts 64 0 | ends 0 end "$kserve" 2
 scripts 65 0 | ends 1 'refused line 132 too-many' "$kserve" 2
-# A fault of the 65th goes before.
+# A fault of the 65th script goes before its number.
 { scripts 64 0 && printf 'batch\n0 9\nend\n'; } | ends 1 'refused line 132 bad-vertex' "$kserve" 2
 { scripts 64 0 && echo end; } | ends 1 'refused line 131 bad-line' "$kserve" 2
 scripts 1 1048577 | ends 1 'refused line 1048580 too-many' "$kserve" 2

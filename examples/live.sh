@@ -1,6 +1,6 @@
 #!/usr/bin/env bash
 # Runs in the gate, from check.sh. Feeds kcore over a pipe that stays open: the lines of each batch have to come
-# before the next batch is sent. Silent where all is well.
+# before the next batch is sent. Silent if all is well.
 #     examples/live.sh KCORE
 set -u
 program=$(realpath "$1") || exit 1
@@ -42,7 +42,7 @@ ends() {
   exec {from}<&-
 }
 
-# added NUMBER, removed NUMBER: what batch NUMBER comes to that puts the edge 0-1 in or takes it out.
+# added NUMBER, removed NUMBER: the lines of batch NUMBER, which puts the edge 0-1 in or takes it out.
 added() { writes "batch $1 loops 0 repeats 0 idle 0 removed 0 added 1" "phase $1 insert quiet 0" "group $1 0 0:1 1:1"; }
 removed() { writes "batch $1 loops 0 repeats 0 idle 0 removed 1 added 0" "phase $1 delete quiet 0" "group $1 0 0:0 1:0"; }
 
@@ -68,7 +68,7 @@ for workers in 1 2; do
   exec {from}<&-
 done
 
-# The commands that write a document at the end write a note of each batch that is refused, as soon as it is.
+# The commands that write a document at the end write a note of each refused batch as soon as it is refused.
 for command in "final 1" "orient 1" exact dense; do
   starts $command
   sends 'kcore 1' 'vertices 2' 'batch' '0 2' 'end' 'batch' '0 1' 'end'
@@ -83,7 +83,8 @@ for command in "final 1" "orient 1" exact dense; do
   exec {from}<&-
 done
 
-# A reader that closes its end: the next batch can't be told, and the program ends though its input stays open.
+# The other end of the output is closed: the lines of the next batch can't be written, and the program ends though its
+# input stays open.
 starts run 1
 sends 'kcore 1' 'vertices 2' 'batch' '0 1' 'end'
 writes 'kcore-run 1' 'vertices 2' && added 1

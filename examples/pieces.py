@@ -1,11 +1,11 @@
 #!/usr/bin/env python3
-"""Runs kcore and kserve on inputs that come some bytes at a time, and with an output that nobody reads.
+"""Runs kcore and kserve on inputs that come some bytes at a time, and with an output that no program reads.
 
     pieces.py KCORE KSERVE
 
-Each input of `cases` goes through a pipe that hands over 1, 2 or 7 bytes a read (Linux has such pipes), and the program has to write the text
-beside it, and to exit with 1 where something is refused. To a closed pipe each command has to exit with 4. Says what went wrong; the exit
-number is 1 then.
+Each input of `cases` goes through a pipe that passes on 1, 2 or 7 bytes a read (Linux has such pipes). The program has
+to write the text beside it, and to exit with 1 if something is refused. To a closed pipe each command has to exit with
+4. Says what went wrong; the exit number is 1 then.
 """
 import glob
 import os

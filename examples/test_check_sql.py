@@ -1,10 +1,11 @@
 #!/usr/bin/env python3
-"""Holds `check.sql` in SQLite against `kcore check`, on certificates that hold and on ones with one level or edge changed. Run by `check.sh`.
+"""Holds `check.sql` in SQLite against `kcore check`, on certificates that hold and on ones with one level or edge
+changed. Run by `check.sh`.
 
     test_check_sql.py KCORE
 
-Prints a line for each certificate on which they differ; the exit number is then 1. Both have to certify the certificates of
-this folder, and to refuse some of the changed ones for each invariant.
+Prints a line for each certificate on which they differ; the exit number is then 1. Both have to certify the
+certificates of this folder, and to refuse some of the changed ones for each invariant.
 """
 import glob
 import os
