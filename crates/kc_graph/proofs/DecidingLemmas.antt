@@ -1,11 +1,10 @@
 -- The keys that decide on their pairs: the same ones where the keys are dealt by their pairs.
-use Rattle.std.proofs.Common.{ℕ, zero, suc, ◌+◌, ◌<◌, ◌≡◌, ◌==◌, Bool, true, false, cond, List, [], ◌∷◌, ◌++◌, refl, ap, sym, ◌∙◌, inl, inr, arith}
+use Rattle.std.proofs.Common.{ℕ, zero, suc, ◌<◌, ◌≡◌, ◌==◌, Bool, true, false, cond, List, [], ◌∷◌, ◌++◌, refl, ap, ◌∙◌, inl, inr, arith}
 use Rattle.std.proofs.lemmas.Bool.{cases_Bool}
 use Rattle.std.proofs.lemmas.Bool.Decides.{nat_tests}
-use Rattle.std.proofs.lemmas.List.{append-nil, append_assoc}
-use Rattle.std.proofs.lemmas.List.Elements.{All-head, All-tail, All-weaker}
+use Rattle.std.proofs.lemmas.List.Elements.{All-head, All-tail}
 use Rattle.std.specs.List.{list_any}
-use Rattle.std.specs.Prelude.{All, not, filter}
+use Rattle.std.specs.Prelude.{All, filter}
 use Rattle.kc_graph.specs.declared.keys.Key.{Key}
 use Rattle.kc_graph.specs.private.Buckets.{bucket, dealt}
 use Rattle.kc_graph.specs.private.Keys.{same_pair}
