@@ -10,6 +10,7 @@ mod KeptLemmas
 mod EdgeListLemmas
 mod DigitLemmas
 mod OrderLemmas
+mod RangeLemmas
 mod DecidingLemmas
 mod KeyLemmas
 mod BatchLemmas
