@@ -8,6 +8,9 @@ mod ChangeLemmas
 mod RowLemmas
 mod KeptLemmas
 mod EdgeListLemmas
+mod DigitLemmas
+mod OrderLemmas
+mod RangeLemmas
 mod DecidingLemmas
 mod KeyLemmas
 mod BatchLemmas
