@@ -11,8 +11,8 @@ seconds that pass in the best run of each, and the ratios.
 
 Then the graph has degrees by a power law (R-MAT): half as many edges between 65,536 vertices, in batches of 1,000. One
 reader asks 1,000 times for the 65 vertices that have most neighbours at the end. Prints two numbers of N runs of each
-program. The first is how many different points of the history its replies meet at least (examples/explained.py). The
-second is how many of the last 65 replies are the levels at the end.
+program. The first is how many different points of the history its replies meet at least
+(checks/programs/explained.py). The second is how many of the last 65 replies are the levels at the end.
 
 It judges nothing: times on a shared machine are ratios at best, and readers run in threads of their own.
 """
@@ -26,7 +26,7 @@ import time
 
 from bench import power_edges
 
-sys.path.append(os.path.join(os.path.dirname(os.path.abspath(__file__)), "../examples"))
+sys.path.append(os.path.join(os.path.dirname(os.path.abspath(__file__)), "../checks/programs"))
 from explained import points_met, replies_of  # noqa: E402
 
 VERTICES = 100_000

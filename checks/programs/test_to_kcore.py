@@ -1,7 +1,7 @@
 #!/usr/bin/env python3
 """Tries `to_kcore.py` and `with_names.py` on each format, good and bad. Run by `check.sh`, and by hand:
 
-    python3 examples/test_to_kcore.py
+    python3 checks/programs/test_to_kcore.py
 """
 import argparse
 import bz2
@@ -14,14 +14,14 @@ import tempfile
 import unittest
 import unittest.mock
 
-import to_kcore
-
-HERE = os.path.dirname(os.path.abspath(__file__))
+EXAMPLES = os.path.normpath(os.path.join(os.path.dirname(os.path.abspath(__file__)), "../../examples"))
+sys.path.append(EXAMPLES)
+import to_kcore  # noqa: E402
 
 
 def run(script, words, given=b""):
     """What a script wrote, what it said on standard error, and its exit number."""
-    ran = subprocess.run([sys.executable, f"{HERE}/{script}", *words], input=given if isinstance(given, bytes) else given.encode(),
+    ran = subprocess.run([sys.executable, f"{EXAMPLES}/{script}", *words], input=given if isinstance(given, bytes) else given.encode(),
                          stdout=subprocess.PIPE, stderr=subprocess.PIPE)
     return ran.stdout.decode(), ran.stderr.decode(), ran.returncode
 
@@ -187,7 +187,7 @@ class Converter(unittest.TestCase):
 
     def test_a_reader_that_closes_its_end(self):
         for script, words, given in ("to_kcore.py", "", "0 1\n" * 200_000), ("with_names.py", os.devnull, "edge 0 1\n" * 200_000):
-            shell = f"{sys.executable} {HERE}/{script} {words} | head -1 >/dev/null"
+            shell = f"{sys.executable} {EXAMPLES}/{script} {words} | head -1 >/dev/null"
             ran = subprocess.run(["sh", "-c", shell], input=given.encode(), stderr=subprocess.PIPE)
             self.assertNotIn(b"pipe", ran.stderr.lower())
 

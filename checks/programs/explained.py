@@ -1,9 +1,9 @@
 #!/usr/bin/env python3
 """Says whether the replies to the readers of a run text are levels of its history.
 
-    kcore run 4 < readers.kc | python3 explained.py
-    kcore run 4 < readers.kc | python3 explained.py --points
-    kcore run 4 < readers.kc | python3 explained.py --changed kcore
+    kcore run 4 < examples/readers.kc | python3 checks/programs/explained.py
+    kcore run 4 < examples/readers.kc | python3 checks/programs/explained.py --points
+    kcore run 4 < examples/readers.kc | python3 checks/programs/explained.py --changed kcore
 
 Each reply `V=L` has to be the level of V at a point of the history: before the first line `group`, or after one of
 them. The points of one reader never go back. Exits with 0 if that is so. Otherwise exits with 1 and says the first

@@ -2,10 +2,10 @@
 """Holds `check.sql` in SQLite against `kcore check`, on certificates that hold and on ones with one level or edge
 changed. Run by `check.sh`.
 
-    test_check_sql.py KCORE
+    checks/programs/test_check_sql.py KCORE
 
 Prints a line for each certificate on which they differ; the exit number is then 1. Both have to certify the
-certificates of this folder, and to refuse some of the changed ones for each invariant.
+certificates in `examples`, and to refuse some of the changed ones for each invariant.
 """
 import glob
 import os
@@ -13,16 +13,16 @@ import random
 import subprocess
 import sys
 
-from thresholds import thresholds
-
-HERE = os.path.dirname(os.path.abspath(__file__))
+EXAMPLES = os.path.normpath(os.path.join(os.path.dirname(os.path.abspath(__file__)), "../../examples"))
+sys.path.append(EXAMPLES)
+from thresholds import thresholds  # noqa: E402
 
 
 def verdicts(program, text):
     """What each of the two says of a certificate."""
     given = text.encode()
     ran = [subprocess.run(words, input=given, stdout=subprocess.PIPE, stderr=subprocess.PIPE)
-           for words in ([program, "check"], [sys.executable, f"{HERE}/check_sql.py"])]
+           for words in ([program, "check"], [sys.executable, f"{EXAMPLES}/check_sql.py"])]
     return [it.stdout.decode().strip() for it in ran]
 
 
@@ -46,7 +46,7 @@ def main():
     if len(sys.argv) != 2:
         sys.exit(__doc__)
     program, draw, failed, met = os.path.abspath(sys.argv[1]), random.Random(1), False, set()
-    for path in sorted(glob.glob(f"{HERE}/*_final.txt") + glob.glob(f"{HERE}/cases/*_final.txt")):
+    for path in sorted(glob.glob(f"{EXAMPLES}/*_final.txt") + glob.glob(f"{EXAMPLES}/cases/*_final.txt")):
         with open(path, encoding="utf-8") as file:
             text = file.read()
         if not text.startswith("kcore-cert"):
@@ -60,7 +60,7 @@ def main():
                 print(f"{path}: change {number}: `check` says '{said}', check.sql '{by_sql}'")
                 failed = True
     if not {"certified", "upper", "lower"} <= met:
-        print(f"test_check_sql.py: only {sorted(met)} came up")
+        print(f"checks/programs/test_check_sql.py: only {sorted(met)} came up")
         failed = True
     sys.exit(failed)
 

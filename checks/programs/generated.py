@@ -1,7 +1,7 @@
 #!/usr/bin/env python3
 """Prints the input that `kcore gen SEED N B M W` makes.
 
-    generated.py SEED N B M > load.kc
+    checks/programs/generated.py SEED N B M > load.kc
 
 B batches of M items between N vertices, drawn from SEED. With --counts reads a text of `kcore run` instead. It then
 prints the line that `kcore gen` writes for an input with that text.

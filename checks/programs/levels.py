@@ -1,7 +1,7 @@
 #!/usr/bin/env python3
 """Compares texts of `kcore run` for loads with the levels that a plain program finds.
 
-    levels.py KCORE
+    checks/programs/levels.py KCORE
 
 Each load has insertions and deletions, in each of the two profiles. The plain program counts all neighbours anew at
 each look. Its levels after each phase are compared with those that follow from the lines `group`. Its levels after the

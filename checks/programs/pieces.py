@@ -1,11 +1,11 @@
 #!/usr/bin/env python3
 """Runs kcore and kserve on inputs that come some bytes at a time, and with an output that no program reads.
 
-    pieces.py KCORE KSERVE
+    checks/programs/pieces.py KCORE KSERVE
 
-Each input of `cases` goes through a pipe that passes on 1, 2 or 7 bytes a read (Linux has such pipes). The program has
-to write the text beside it, and to exit with 1 if something is refused. To a closed pipe each command has to exit with
-4. Says what went wrong; the exit number is 1 then.
+Each input in `examples/cases` goes through a pipe that passes on 1, 2 or 7 bytes a read (Linux has such pipes). The
+program has to write the text beside it, and to exit with 1 if something is refused. To a closed pipe each command has
+to exit with 4. Says what went wrong; the exit number is 1 then.
 """
 import glob
 import os
@@ -49,13 +49,13 @@ def main():
     if len(sys.argv) != 3:
         sys.exit(__doc__)
     kcore, kserve = map(os.path.abspath, sys.argv[1:])
-    os.chdir(os.path.dirname(os.path.abspath(__file__)))
+    os.chdir(os.path.join(os.path.dirname(os.path.abspath(__file__)), "../../examples"))
     failed = False
     for words, path, data, wanted in cases(kcore, kserve):
         status = int(any(word in wanted for word in BAD_ENDS))
         for size in 1, 2, 7:
             if ended(words, data, size) != (status, wanted):
-                print(f"examples/pieces.py: {path}, {size} bytes a read: another text or exit number of {' '.join(words[1:])}")
+                print(f"checks/programs/pieces.py: {path}, {size} bytes a read: another text or exit number of {' '.join(words[1:])}")
                 failed = True
     for words, path in (*((f"{kcore} {words}", "path.kc") for words in COMMANDS.values()), (f"{kcore} gen 0 5 1 3 2", "path.kc"), (f"{kserve} 2", "clients.ks")):
         source, end = os.pipe()
@@ -64,7 +64,7 @@ def main():
             status = subprocess.run(words.split(), stdin=file, stdout=end, check=False).returncode
         os.close(end)
         if status != 4:
-            print(f"examples/pieces.py: {words}: exit number {status} where nobody reads its text")
+            print(f"checks/programs/pieces.py: {words}: exit number {status} where nobody reads its text")
             failed = True
     sys.exit(failed)
 

@@ -1,7 +1,7 @@
 #!/usr/bin/env python3
 """Compares the text of `kcore exact` with the coreness that a plain program finds.
 
-    corenesses.py INPUT < TEXT
+    checks/programs/corenesses.py INPUT < TEXT
 
 INPUT is what `kcore exact` read, without refused batches and without lines `x v`; TEXT is what it printed. Says at
 which vertices they differ. The exit number is 1 if they do, or if a vertex has no line.

@@ -1,18 +1,19 @@
 #!/usr/bin/env bash
-# Runs in the gate, after the static checks. Runs kcore on each example, and on each small input in `cases`: it has to
+# Runs in the gate, after the static checks. Runs kcore on each input in `examples` and `examples/cases`: it has to
 # write the text beside it, and to exit with 1 if it refuses something. Tries each exit number, of kserve too, each
 # limit (`limits.sh`), answers over a pipe that stays open (`live.sh`) and inputs in pieces (`pieces.py`). Then tries
 # the converter and `check.sql`, compares corenesses and levels with those of plain programs, and tries `draw.py`, if
 # there is matplotlib. Silent if all is well.
-#     examples/check.sh KCORE KSERVE
+#     checks/programs/check.sh KCORE KSERVE
 set -u
 program=$(realpath "$1") || exit 1
 kserve=$(realpath "$2") || exit 1
-cd "$(dirname "$0")" || exit 1
+here=$(realpath "$(dirname "$0")") || exit 1
+cd "$here/../../examples" || exit 1
 out=$(mktemp) && err=$(mktemp) && long=$(mktemp) && strip=$(mktemp) || exit 1
 trap 'rm -f "$out" "$out.svg" "$err" "$long" "$strip"' EXIT
 failed=0
-wrong() { echo "examples/$1"; failed=1; }
+wrong() { echo "checks/programs/check.sh: $1"; failed=1; }
 
 # writes INPUT TEXT WORDS..: the program writes this text of this input.
 writes() {
@@ -186,7 +187,7 @@ serves 3 . 2
 [ ! -s "$out" ] || wrong "kserve writes something of a folder"
 
 # A pipe that stays open.
-./live.sh "$program" || failed=1
+"$here/live.sh" "$program" || failed=1
 
 # A text that can't be written: the device is full.
 if [ -c /dev/full ]; then
@@ -203,7 +204,7 @@ else
 fi
 
 # Each limit, and one past it.
-./limits.sh "$program" "$kserve" || failed=1
+"$here/limits.sh" "$program" "$kserve" || failed=1
 
 # A run with one worker starts no thread. With four it starts as many each time. It starts fewer if some list isn't cut
 # for them, or if there are fewer processors.
@@ -227,14 +228,14 @@ if ! command -v python3 >/dev/null; then
 fi
 
 # The same inputs in pieces, and closed pipes.
-python3 -B pieces.py "$program" "$kserve" || failed=1
+python3 -B "$here/pieces.py" "$program" "$kserve" || failed=1
 
 # The levels after each phase of loads, beside a plain program.
-python3 -B levels.py "$program" || wrong "levels.py: other levels"
+python3 -B "$here/levels.py" "$program" || wrong "levels.py: other levels"
 
 # The converter: each format, good and bad; and certificates in SQL beside `check`.
-python3 -B test_to_kcore.py 2>"$err" || { cat "$err"; wrong "test_to_kcore.py"; }
-python3 -B test_check_sql.py "$program" || wrong "test_check_sql.py"
+python3 -B "$here/test_to_kcore.py" 2>"$err" || { cat "$err"; wrong "test_to_kcore.py"; }
+python3 -B "$here/test_check_sql.py" "$program" || wrong "test_check_sql.py"
 for words in "" x 0 "5 3" "5 1 1"; do
   python3 -B thresholds.py $words >"$out" 2>"$err"
   exited=$?
@@ -244,15 +245,15 @@ python3 -B to_kcore.py --batch 20 <karate.snap 2>"$err" | cmp -s - karate_batche
 
 # The counts of the text of `run` for a load are those that `gen` writes.
 for load in "0 5 1 3" "1 300 7 500" "4294967295 17 20 40" "7 1 2 3" "5 2000 3 0"; do
-  python3 generated.py $load | "$program" run 2 | python3 generated.py --counts >"$err"
+  python3 "$here/generated.py" $load | "$program" run 2 | python3 "$here/generated.py" --counts >"$err"
   generates "$(cat "$err")" $load 3
 done
 
 # The coreness of each vertex of loads with insertions and deletions, beside a plain program.
 for load in "3 40 6 120" "9 300 5 2000" "11 7 9 30"; do
-  python3 generated.py $load >"$err"
+  python3 "$here/generated.py" $load >"$err"
   "$program" exact <"$err" >"$out"
-  python3 corenesses.py "$err" <"$out" || wrong "a load of $load: another coreness"
+  python3 "$here/corenesses.py" "$err" <"$out" || wrong "a load of $load: another coreness"
 done
 
 # The replies to readers depend on how the threads run, and everything else is in readers.txt. The history explains each
@@ -260,10 +261,10 @@ done
 for workers in 1 2 4 4 4; do
   "$program" run $workers <readers.kc >"$out"
   [ $? = 0 ] && sed -E '/^reader/s/=[01]/=L/g' "$out" | cmp -s - readers.txt || wrong "readers.kc: another text than in readers.txt"
-  python3 explained.py <"$out" 2>"$err" || wrong "readers.kc: $(cat "$err")"
+  python3 "$here/explained.py" <"$out" 2>"$err" || wrong "readers.kc: $(cat "$err")"
   "$program" audit <"$out" | grep -qx explained || wrong "readers.kc: its text isn't explained"
-  python3 explained.py --changed "$program" <"$out" || wrong "readers.kc: a changed reply"
-  sed '/^reader 0/s/0=. 4=.$/0=0 4=2/' "$out" | python3 explained.py 2>"$err" && wrong "explained.py: a level that 4 never has"
+  python3 "$here/explained.py" --changed "$program" <"$out" || wrong "readers.kc: a changed reply"
+  sed '/^reader 0/s/0=. 4=.$/0=0 4=2/' "$out" | python3 "$here/explained.py" 2>"$err" && wrong "explained.py: a level that 4 never has"
 done
 
 # A python3 that has matplotlib, which may be another one than the first on the path.

@@ -1,11 +1,11 @@
 #!/usr/bin/env bash
 # Runs in the gate, from check.sh. Feeds kcore over a pipe that stays open: the lines of each batch have to come
 # before the next batch is sent. Silent if all is well.
-#     examples/live.sh KCORE
+#     checks/programs/live.sh KCORE
 set -u
 program=$(realpath "$1") || exit 1
 failed=0
-wrong() { echo "examples/live.sh: $1"; failed=1; }
+wrong() { echo "checks/programs/live.sh: $1"; failed=1; }
 
 # starts WORDS..: the program runs, reads what `sends` sends, and writes what `writes` reads.
 starts() {
