@@ -1,13 +1,14 @@
 #!/usr/bin/env python3
-"""Checks that each edit still fits the sources: those of crates/CRATE/must-fail and those of hostile/edits/CRATE.
-Runs in the gate, after `rt ci`.
+"""Checks that each edit still fits the sources: those of crates/CRATE/must-fail, of checks/refused/CRATE and of
+hostile/edits/CRATE. Runs in the gate, after `rt ci`.
 
     checks/edits.py
 
 An edit is a wrong body. Its file names a source file of the crate (`file:`), and pairs of a text that stands there
 once (`old:`) and its replacement (`new:`). Each edit has a row in hostile/edits/TABLE.md, and the calls and clauses
 that a row names stand on checks/clauses.txt. Prints what is wrong, and a last line that counts; ends with 1 if
-something is wrong. `rt ci` tries whether the edits of must-fail are refused, and hostile/edits.py tries the others.
+something is wrong. Whether they are refused is tried by `rt ci` (must-fail), by checks/refused.py, and by hand by
+hostile/edits.py.
 """
 import os
 import re
@@ -15,6 +16,7 @@ import sys
 
 TOP = os.path.normpath(os.path.join(os.path.dirname(os.path.abspath(__file__)), ".."))
 CRATES = os.path.join(TOP, "crates")
+REFUSED = os.path.join(TOP, "checks", "refused")
 OTHERS = os.path.join(TOP, "hostile", "edits")
 TABLE = os.path.join(OTHERS, "TABLE.md")
 PAGE = os.path.join(TOP, "checks", "clauses.txt")
@@ -111,13 +113,13 @@ def check_table(names):
 
 def main():
     wrong, counts, names = [], [], {}
-    for folder in CRATES, OTHERS:
+    for folder in CRATES, REFUSED, OTHERS:
         counts.append(0)
         for crate, name, path in edits_in(folder):
             counts[-1] += 1
             if (crate, name) in names:
                 wrong.append(f"{crate} {name}: there are two of this name")
-            names[crate, name] = folder == CRATES
+            names[crate, name] = folder != OTHERS
             try:
                 edited(read(path), lambda file, home=crate: read(os.path.join(CRATES, home, file)))
             except (Unfit, OSError) as error:
@@ -125,7 +127,7 @@ def main():
     wrong += check_table(names)
     for what in wrong:
         print(what)
-    print(f"{counts[0]} edits of the gate and {counts[1]} others, {len(wrong)} wrong")
+    print(f"{counts[0] + counts[1]} edits of the gate and {counts[2]} others, {len(wrong)} wrong")
     sys.exit(1 if wrong else 0)
 
 
