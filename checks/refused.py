@@ -67,7 +67,8 @@ def tried(crate, edits):
                 with open(os.path.join(copy, file), "w", encoding="utf-8") as out:
                     out.write(text)
             status, said = check(copy, only(edit))
-            if status != 1 or not re.search(r"^fn \S+: not proved", said, re.MULTILINE):
+            counted = re.search(r"^only=(\d+) proved=(\d+)$", said, re.MULTILINE)
+            if status != 1 or not counted or int(counted.group(2)) >= int(counted.group(1)):
                 wrong.append(f"{crate}/{name}: NOT REFUSED, the check ended with {status}\n{said[-2000:]}")
             for file in files:
                 shutil.copy(os.path.join(CRATES, crate, file), os.path.join(copy, file))
