@@ -1,7 +1,9 @@
 // Certificates, read, judged and written. Their answers were worked out by hand.
 ghost use Rattle.kc_cert.specs.Texts.{IsCertificate};
 
-use crate::tests::support::{Bench, Input, LIMITS, Lines, check, ensure, input_of, joined, sides, sink_of};
+use crate::tests::support::{
+    Bench, Input, LIMITS, Lines, check, ensure, input_of, joined, sides, sink_of,
+};
 use kc_cert::{CertFault, Certificate, Verdict, read_certificate, verify, write_certificate};
 use kc_levels::{Profile, Thresholds};
 use kc_text::{MemSink, Reason, SendFault};
@@ -234,7 +236,15 @@ fn each_line_is_one_call(rt: HostRuntime) {
 fn check_failing(rt: &impl Bench, call: u32, start: usize) {
     let mut sink = sink_of(rt, 2000, &[call]);
     let answer = write_path(rt, &mut sink, Profile::One, ONE_LEVELS);
-    ensure(rt, "a write fault", matches!(answer, Err(SendFault::WriteFault)));
+    ensure(
+        rt,
+        "a write fault",
+        matches!(answer, Err(SendFault::WriteFault)),
+    );
     assert!(rt; start <= PATH.len());
-    ensure(rt, "what was taken", sink.bytes() == &PATH.as_bytes()[..start]);
+    ensure(
+        rt,
+        "what was taken",
+        sink.bytes() == &PATH.as_bytes()[..start],
+    );
 }

@@ -141,7 +141,8 @@ fn check_failing(rt: &impl Bench, failing: u32) {
         call = call.saturating_add(1);
     }
     ensure(
-        rt, "the lines but one",
+        rt,
+        "the lines but one",
         sink.bytes() == without(rt, RUN_TEXT, failing).as_slice(),
     );
 }

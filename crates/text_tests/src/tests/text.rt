@@ -315,7 +315,11 @@ fn lines_at_the_programs_limit(rt: HostRuntime) {
     let mut source = StdSource::new(text.as_slice());
     let mut reader = LineReader::new(rt.alloc(), LIMITS.0, LIMITS.1).expect(&rt, "memory");
     for want in LENGTHS {
-        ensure(&rt, "a length", next_len(&rt, &mut reader, &mut source) == *want);
+        ensure(
+            &rt,
+            "a length",
+            next_len(&rt, &mut reader, &mut source) == *want,
+        );
     }
 }
 
@@ -387,8 +391,16 @@ fn words_and_numbers(rt: HostRuntime) {
     for place in PLACES {
         ensure(&rt, "a place", is_place(place));
     }
-    ensure(&rt, "a number", read_number(b"4294967295") == Some(4294967295));
-    ensure(&rt, "a number over the limit", read_number(b"4294967296").is_none());
+    ensure(
+        &rt,
+        "a number",
+        read_number(b"4294967295") == Some(4294967295),
+    );
+    ensure(
+        &rt,
+        "a number over the limit",
+        read_number(b"4294967296").is_none(),
+    );
     ensure(&rt, "names", are_names());
     ensure(&rt, "skipped lines", are_skipped());
 }

@@ -18,5 +18,9 @@ fn words_of_marks(rt: HostRuntime) {
     ensure(&rt, "a word", are_one(1, 2, 3, 0x0001_0000_0200_0003));
     ensure(&rt, "a word", are_one(2, 0, 7, 562_949_953_421_319));
     ensure(&rt, "a word", are_one(2, 0, 7, 0x0002_0000_0000_0007));
-    ensure(&rt, "a word", are_one(0xffff, 0xff_ffff, 0xff_ffff, u64::MAX));
+    ensure(
+        &rt,
+        "a word",
+        are_one(0xffff, 0xff_ffff, 0xff_ffff, u64::MAX),
+    );
 }

@@ -139,7 +139,8 @@ fn has_three_and_one(run: &RunText) -> bool {
 fn check_line(rt: &impl Bench, groups: &GroupLines, i: u32, words: &str) {
     let members = replies_of(rt, words);
     ensure(
-        rt, "a group",
+        rt,
+        "a group",
         is_line(groups, i as usize, i.saturating_add(1), &members),
     );
 }
@@ -162,7 +163,11 @@ fn auditable_runs(rt: HostRuntime) {
     for row in RUNS {
         let mut run = run_of(&rt, row.1, row.2);
         run.vertices = row.0;
-        ensure(&rt, "whether a run can be audited", run.is_auditable() == row.3);
+        ensure(
+            &rt,
+            "whether a run can be audited",
+            run.is_auditable() == row.3,
+        );
     }
 }
 
@@ -193,7 +198,9 @@ fn add_groups(rt: &impl Bench, random: &mut Random, groups: &mut GroupLines) {
 // Appends up to three readers.
 fn add_readers(rt: &impl Bench, random: &mut Random, readers: &mut Readers) {
     for _ in 0..random.below(4) {
-        readers.push(random_replies(rt, random, 5)).expect(rt, "memory");
+        readers
+            .push(random_replies(rt, random, 5))
+            .expect(rt, "memory");
     }
 }
 
@@ -266,7 +273,11 @@ fn as_a_plain_search(rt: HostRuntime) {
             explained = explained.saturating_add(1);
         }
     }
-    ensure(&rt, "the number of explained runs", 1000 < explained && explained < 3000);
+    ensure(
+        &rt,
+        "the number of explained runs",
+        1000 < explained && explained < 3000,
+    );
 }
 
 // Checks the verdict of a run, and returns whether it is explained.

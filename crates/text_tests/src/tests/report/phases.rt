@@ -124,7 +124,8 @@ const BATCH_LINE: &str = "batch 2 loops 3 repeats 40 idle 4294967295 removed 1 a
 fn check_phase(rt: &impl Bench, step: &Step, lines: &str) {
     let sink = written(rt, &[plan_of(rt, step)]);
     ensure(
-        rt, "a batch of one phase",
+        rt,
+        "a batch of one phase",
         sink.bytes() == joined(rt, &[BATCH_LINE, lines]).as_slice(),
     );
 }

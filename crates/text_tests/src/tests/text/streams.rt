@@ -143,11 +143,13 @@ fn gives_a<S: Source>(source: &mut S) -> bool {
 fn interrupted_calls_are_made_again(rt: HostRuntime) {
     let mut buf = [0u8; 3];
     ensure(
-        &rt, "an interrupted read",
+        &rt,
+        "an interrupted read",
         StdSource::new(Device::new(&rt, HINDERED)).read(&mut buf) == Ok(3),
     );
     ensure(
-        &rt, "an interrupted write",
+        &rt,
+        "an interrupted write",
         StdSink::new(Device::new(&rt, HINDERED)).write(b"ab") == Ok(2),
     );
 }
@@ -161,11 +163,24 @@ fn gives<S: Source>(source: &mut S, buf: &mut [u8; 2], count: usize, want: &[u8;
 fn ends_of_std(rt: HostRuntime) {
     let mut source = StdSource::new(b"abc".as_slice());
     let mut buf = [0u8; 2];
-    ensure(&rt, "the first read", gives(&mut source, &mut buf, 2, b"ab"));
-    ensure(&rt, "the second read", gives(&mut source, &mut buf, 1, b"cb"));
-    ensure(&rt, "a read at the end", gives(&mut source, &mut buf, 0, b"cb"));
     ensure(
-        &rt, "a failing read",
+        &rt,
+        "the first read",
+        gives(&mut source, &mut buf, 2, b"ab"),
+    );
+    ensure(
+        &rt,
+        "the second read",
+        gives(&mut source, &mut buf, 1, b"cb"),
+    );
+    ensure(
+        &rt,
+        "a read at the end",
+        gives(&mut source, &mut buf, 0, b"cb"),
+    );
+    ensure(
+        &rt,
+        "a failing read",
         StdSource::new(Device::new(&rt, GONE)).read(&mut buf) == Err(Failed),
     );
 }
@@ -177,15 +192,27 @@ fn writes_of_std(rt: HostRuntime) {
     ensure(&rt, "a write", put_all(&mut sink, b"abc").is_ok());
     ensure(&rt, "a flush", sink.flush().is_ok());
     check(&rt, "writes of std", &written, "abc");
-    ensure(&rt, "a write to nowhere", NullSink::new().write(b"abc") == Ok(3));
+    ensure(
+        &rt,
+        "a write to nowhere",
+        NullSink::new().write(b"abc") == Ok(3),
+    );
 }
 
 #[test]
 fn refused_writes_of_std(rt: HostRuntime) {
     let mut buf = [0u8; 2];
     let mut full = StdSink::new(buf.as_mut_slice());
-    ensure(&rt, "a write that fills a slice", full.write(b"xyz") == Ok(2));
-    ensure(&rt, "a write to a full slice", full.write(b"z") == Err(Failed));
+    ensure(
+        &rt,
+        "a write that fills a slice",
+        full.write(b"xyz") == Ok(2),
+    );
+    ensure(
+        &rt,
+        "a write to a full slice",
+        full.write(b"z") == Err(Failed),
+    );
     let mut gone = StdSink::new(Device::new(&rt, GONE));
     ensure(&rt, "a failing write", gone.write(b"z") == Err(Failed));
     ensure(&rt, "a failing flush", gone.flush() == Err(Failed));
@@ -254,9 +281,17 @@ fn check_sends(rt: &impl Bench, row: &SendRow) {
     let mut sink = sink_of(rt, row.0, row.1);
     let mut line = LineBuf::new(rt.alloc());
     fill_named(rt.alloc(), &mut line, b"v ", 4294967295).expect(rt, "memory");
-    ensure(rt, "the first send", send_answer(rt, &mut line, &mut sink) == row.2);
+    ensure(
+        rt,
+        "the first send",
+        send_answer(rt, &mut line, &mut sink) == row.2,
+    );
     line.text(rt.alloc(), b"w").expect(rt, "memory");
-    ensure(rt, "the second send", send_answer(rt, &mut line, &mut sink) == row.3);
+    ensure(
+        rt,
+        "the second send",
+        send_answer(rt, &mut line, &mut sink) == row.3,
+    );
     check(rt, "two sends", sink.bytes(), row.4);
 }
 
