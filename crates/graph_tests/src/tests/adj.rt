@@ -362,7 +362,11 @@ fn items_by_level(rt: HostRuntime) {
     }
     ensure(&rt, "items", lists.on(70) == [71u32, 71].as_slice());
     let taken = lists.take_all(rt.alloc(), 70);
-    ensure(&rt, "taken items", taken.as_slice() == [71u32, 71].as_slice());
+    ensure(
+        &rt,
+        "taken items",
+        taken.as_slice() == [71u32, 71].as_slice(),
+    );
     ensure(&rt, "the next level", lists.next(4) == 200);
     lists.clear(rt.alloc());
     ensure(&rt, "levels", lists.count() == 201);

@@ -104,7 +104,11 @@ fn check_point<R: Abort>(rt: &R, alloc: Global, graph: &Graph, levels: &Levels) 
     let corenesses = exact_coreness(alloc, graph).expect(rt, "memory");
     for v in 0..VERTICES {
         ensure(rt, "a level", meets_both(graph, levels, &th, v));
-        ensure(rt, "an estimate", is_near(&th, levels.get(v), corenesses[v as usize]));
+        ensure(
+            rt,
+            "an estimate",
+            is_near(&th, levels.get(v), corenesses[v as usize]),
+        );
     }
 }
 
@@ -160,13 +164,7 @@ fn histories_point_by_point(rt: HostRuntime) {
     }
 }
 
-fn change_all<R: Abort>(
-    rt: &R,
-    alloc: Global,
-    graph: &mut Graph,
-    add: bool,
-    pairs: &[(u32, u32)],
-) {
+fn change_all<R: Abort>(rt: &R, alloc: Global, graph: &mut Graph, add: bool, pairs: &[(u32, u32)]) {
     for pair in pairs {
         change(rt, alloc, graph, add, *pair);
     }

@@ -285,7 +285,9 @@ fn random_items(
 ) -> Vec<Item> {
     let mut items = Vec::new(alloc);
     for _ in 0..count {
-        items.push(random_item(random, may_isolate)).expect(rt, "memory");
+        items
+            .push(random_item(random, may_isolate))
+            .expect(rt, "memory");
     }
     items
 }
@@ -307,7 +309,11 @@ fn comes_to_what_the_definition_says(rt: HostRuntime) {
         let items = random_items(&rt, rt.alloc(), &mut random, round.min(40), true);
         check_items(&rt, 5, &items);
         let cleaned = clean(&rt, rt.alloc(), &graph, &items).expect(&rt, "memory");
-        ensure(&rt, "a cleaning", is_as_defined(&rt, rt.alloc(), &graph, &items, &cleaned));
+        ensure(
+            &rt,
+            "a cleaning",
+            is_as_defined(&rt, rt.alloc(), &graph, &items, &cleaned),
+        );
     }
 }
 
@@ -321,7 +327,11 @@ fn one_worker_and_many_come_to_the_same(rt: HostRuntime) {
         check_items(&rt, 5, &items);
         for workers in [0, 1, 2, 64] {
             let cleaned = clean_by(&rt, rt.alloc(), workers, &graph, &items).expect(&rt, "memory");
-            ensure(&rt, "a cleaning", is_as_defined(&rt, rt.alloc(), &graph, &items, &cleaned));
+            ensure(
+                &rt,
+                "a cleaning",
+                is_as_defined(&rt, rt.alloc(), &graph, &items, &cleaned),
+            );
         }
     }
 }

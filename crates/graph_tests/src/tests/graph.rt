@@ -17,7 +17,11 @@ fn edges_are_kept_in_order(rt: HostRuntime) {
     later.push(SECOND).expect(&rt, "memory");
     edges.append(later).expect(&rt, "memory");
     let again = Edges::from_vec(edges.into_vec());
-    ensure(&rt, "two edges", again.as_slice() == [FIRST, SECOND].as_slice());
+    ensure(
+        &rt,
+        "two edges",
+        again.as_slice() == [FIRST, SECOND].as_slice(),
+    );
     ensure(&rt, "the number of edges", again.len() == 2);
     ensure(&rt, "the last edge", again.last() == Some(SECOND));
 }
@@ -33,14 +37,7 @@ const SECOND: Edge = Edge { a: 0, b: 1 };
 // - the neighbours of the vertex without and with that edge.
 //
 // They are the complete graph on 0 to 3 in ascending and in descending order, a path, and a star.
-type Row = (
-    u32,
-    Pairs,
-    (u32, u32),
-    u32,
-    &'static [u32],
-    &'static [u32],
-);
+type Row = (u32, Pairs, (u32, u32), u32, &'static [u32], &'static [u32]);
 
 const GRAPHS: &[Row] = &[
     (

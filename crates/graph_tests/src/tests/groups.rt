@@ -337,9 +337,17 @@ fn small_phases_with_one_workspace(rt: HostRuntime) {
 fn an_edge_between_vertices_that_stay_is_quiet(rt: HostRuntime) {
     let plan = plan_plainly(&rt, rt.alloc(), &STAYING);
     let groups = plan.groups.as_slice();
-    ensure(&rt, "the quiet entry", plan.quiet.edges.as_slice() == [Edge { a: 0, b: 1 }].as_slice());
+    ensure(
+        &rt,
+        "the quiet entry",
+        plan.quiet.edges.as_slice() == [Edge { a: 0, b: 1 }].as_slice(),
+    );
     ensure(&rt, "no quiet move", plan.quiet.moves.is_empty());
-    ensure(&rt, "one group", groups.len() == 1 && is_falling(&groups[0]));
+    ensure(
+        &rt,
+        "one group",
+        groups.len() == 1 && is_falling(&groups[0]),
+    );
 }
 
 // Returns whether the group of vertex 4 has its edge and two moves.

@@ -118,6 +118,10 @@ fn moved_vertices_are_counted(rt: HostRuntime) {
     let mut after = before.copy(rt.alloc()).expect(&rt, "memory");
     after.set(0, 2);
     after.set(2, 1);
-    ensure(&rt, "raised levels", after.as_slice() == [2, 0, 1].as_slice());
+    ensure(
+        &rt,
+        "raised levels",
+        after.as_slice() == [2, 0, 1].as_slice(),
+    );
     ensure(&rt, "moved vertices", moved_count(&before, &after) == 2);
 }

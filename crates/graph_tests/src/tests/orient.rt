@@ -58,7 +58,11 @@ fn check<R: Abort>(rt: &R, alloc: Global, row: &Row) {
     let levels = support::levels(rt, alloc, row.1);
     let orientation = orient(alloc, &graph, &levels).expect(rt, "memory");
     for v in 0..n {
-        ensure(rt, "out-neighbours", row.2.get(v as usize) == Some(&orientation.out(v)));
+        ensure(
+            rt,
+            "out-neighbours",
+            row.2.get(v as usize) == Some(&orientation.out(v)),
+        );
     }
     let colours = colour(alloc, &orientation).expect(rt, "memory");
     ensure(rt, "colours", colours.as_slice() == row.3);
@@ -125,7 +129,15 @@ fn check_by_definition<R: Abort>(rt: &R, alloc: Global, graph: &Graph, levels: &
     let colours = colour(alloc, &orientation).expect(rt, "memory");
     assert!(rt; colours.len() == n as usize);
     for v in 0..n {
-        ensure(rt, "out-neighbours", is_oriented(graph, levels, &orientation, v));
-        ensure(rt, "a colour", is_least_free(orientation.out(v), &colours, colours[v as usize]));
+        ensure(
+            rt,
+            "out-neighbours",
+            is_oriented(graph, levels, &orientation, v),
+        );
+        ensure(
+            rt,
+            "a colour",
+            is_least_free(orientation.out(v), &colours, colours[v as usize]),
+        );
     }
 }

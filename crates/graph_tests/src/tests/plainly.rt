@@ -137,5 +137,9 @@ pub fn check_settled<R: Abort>(
     let before = plain.as_slice().to_vec(alloc).expect(rt, "memory");
     settle_plainly(rt, alloc, adj.graph(), th, rise, plain);
     ensure(rt, "levels", adj.levels().as_slice() == plain.as_slice());
-    ensure(rt, "moves", are_moves(moves.as_slice(), adj.graph().vertices(), &before, plain));
+    ensure(
+        rt,
+        "moves",
+        are_moves(moves.as_slice(), adj.graph().vertices(), &before, plain),
+    );
 }

@@ -246,9 +246,21 @@ fn gathered_in_order_by_any_workers(rt: HostRuntime) {
     let one = Rounds::new(&rt, rt.alloc(), &gate, 1);
     let what = Finds::new(None);
     let few = one.gather(&[9, 2, 3], &what).expect(&rt, "memory");
-    ensure(&rt, "numbers", few.numbers.as_slice() == [2, 2, 3].as_slice());
-    ensure(&rt, "lengths", few.lengths.as_slice() == [1, 2, 1].as_slice());
-    ensure(&rt, "found", few.found.as_slice() == [9, 2, 2, 3].as_slice());
+    ensure(
+        &rt,
+        "numbers",
+        few.numbers.as_slice() == [2, 2, 3].as_slice(),
+    );
+    ensure(
+        &rt,
+        "lengths",
+        few.lengths.as_slice() == [1, 2, 1].as_slice(),
+    );
+    ensure(
+        &rt,
+        "found",
+        few.found.as_slice() == [9, 2, 2, 3].as_slice(),
+    );
     let many = numbers(&rt, rt.alloc(), 10_000);
     let want = one.gather(&many, &what).expect(&rt, "memory");
     for workers in [2, 3, 64] {
@@ -291,7 +303,11 @@ fn check_gathered<R: Threads + Sync + Abort>(
     let rounds = Rounds::new(rt, alloc, watch, row.0);
     let what = Finds::new(None);
     rounds.gather(list, &what).expect(rt, "memory");
-    ensure(rt, "gathered numbers", what.calls.load(SeqCst) == u64::from(row.1));
+    ensure(
+        rt,
+        "gathered numbers",
+        what.calls.load(SeqCst) == u64::from(row.1),
+    );
     ensure(rt, "pieces", what.pieces.load(SeqCst) == row.2);
 }
 
