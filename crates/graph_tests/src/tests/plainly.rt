@@ -124,7 +124,7 @@ fn is_move(found: Option<&Move>, v: u32, old: u16, new: u16) -> bool {
     }
 }
 
-// Lets the plain levels settle too, and checks that a phase came to the same levels, with these moves.
+// Lets the plain levels settle too, and checks that a phase gave the same levels, with these moves.
 pub fn check_settled<R: Abort>(
     rt: &R,
     alloc: Global,
