@@ -152,8 +152,9 @@ fn told<R: Threads + Sync + Abort>(
     text
 }
 
-// Batches of one engine: its number of vertices, its workers, the phases before, its edge limit; and of each batch its items, its phases
-// and the number of its moves, or why it is refused, and levels, number of edges and number of phases after it.
+// Batches of one engine. A row has the number of vertices, the workers, the phases before the batches and the edge
+// limit. For each batch it has the items, the phases and the number of moves, or why the batch is refused. The
+// levels, the number of edges and the number of phases after the batch follow.
 type Case = (u32, u32, u32, u32, &'static [&'static str]);
 
 const CASES: &[Case] = &[
@@ -180,8 +181,8 @@ const CASES: &[Case] = &[
             "-03= out 3, group 3 of 3 3:1-0 by 03; moves 1; levels 2 1 1 0 0; edges 2; phases 3",
         ],
     ),
-    // A neighbour that stays is in no group: a fifth vertex is joined to a complete graph on four, which is high already. And no vertex
-    // falls without need: the four lose an edge, which is quiet.
+    // A neighbour that stays is in no group: a fifth vertex is joined to a complete graph on four vertices, whose
+    // levels are high already. And no vertex falls without need: the four lose an edge, in a quiet phase.
     (
         5,
         1,
@@ -227,7 +228,8 @@ const CASES: &[Case] = &[
             "+10= moves 0; levels 1 1; edges 1; phases 16777215",
         ],
     ),
-    // There is room for one edge, which may be exchanged for another. Both limits are passed at the end, and the edges' is told.
+    // There is room for one edge, which may be exchanged for another. The last batch passes both limits, and the cause
+    // is the limit of edges.
     (
         3,
         1,
@@ -242,7 +244,7 @@ const CASES: &[Case] = &[
     ),
 ];
 
-// Each batch comes to what is written of it.
+// Each batch has the result in its row.
 fn expect_batches<R: Threads + Sync + Abort>(
     rt: &R,
     alloc: Global,
@@ -270,7 +272,7 @@ fn batches_change_graph_and_levels(rt: HostRuntime) -> Result<(), Fail> {
 enum Course {
     // There was no memory to clean it.
     Uncleaned,
-    // It was planned, with so many moves.
+    // It was planned, with this number of moves.
     Planned(u32),
     // A plan found no memory, and the next one was answered with `Halted`.
     Halted,
@@ -303,8 +305,8 @@ fn course_of<R: Threads + Sync>(
     }
 }
 
-// An engine that finds no memory for a batch. If there is memory the batch is planned; the other way is seen where `hostile/check.py`
-// refuses one allocation after another, and counts the runs that print `halted`.
+// An engine that finds no memory for a batch. If there is memory, the batch is planned. `hostile/check.py` tries the
+// other case: it refuses one allocation after another, and counts the runs that print `halted`.
 #[test]
 fn an_engine_without_memory_has_halted(rt: HostRuntime) -> Result<(), Fail> {
     let shape = Shape {

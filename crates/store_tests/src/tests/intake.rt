@@ -1,5 +1,5 @@
-//! One client and the server on one thread, and clients in threads of their own beside a server that only drains. What was drained is
-//! compared with the scripts by a plain walk.
+//! One client and the server on one thread, and clients in threads of their own beside a server that only drains. A
+//! plain walk compares what was drained with the scripts.
 ghost use Rattle.std.specs.Prelude.{◌≡◌, ◌≤◌, [], IfOk};
 
 use kc_graph::Item;
@@ -137,7 +137,7 @@ fn a_queue_of_five_is_filled_and_drained(rt: HostRuntime) -> Result<(), Fail> {
     Ok(())
 }
 
-// A script of so many items.
+// A script of this number of items.
 fn random_script<R: Abort>(rt: &R, alloc: Global, random: &mut Random, count: u32) -> Vec<Item> {
     let mut script = Vec::new(alloc);
     for _i in 0..count {
@@ -179,8 +179,8 @@ fn are_delivered<R: Abort>(
         .all(|(sender, count)| sender.script().len() == *count)
 }
 
-// Eight clients with scripts of these lengths submit while the server drains. The server gets each script whole and in order, and
-// afterwards finds the intake empty.
+// Eight clients with scripts of these lengths submit while the server drains. The server gets each script whole and in
+// order, and afterwards finds the intake empty.
 fn expect_exchange<R: Threads + Wait + Sync + Abort>(
     rt: &R,
     alloc: Global,

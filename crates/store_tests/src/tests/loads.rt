@@ -1,4 +1,5 @@
-//! Generated loads, read in pieces of several sizes. The texts were made by a program of another language from the rules of a load.
+//! Generated loads, read in pieces of several sizes. A program in another language made the texts, by the rules of a
+//! load.
 ghost use Rattle.std.specs.Prelude.{◌<◌, ◌≤◌};
 ghost use Rattle.kc_session.specs.Generated.{IsLoad};
 
@@ -8,7 +9,7 @@ use std::alloc::Global;
 use std::process::Abort;
 use std::test::Fail;
 
-// Whether the source has this text, read in pieces of so many bytes, at most 1,000 of them.
+// Whether the source has this text, if it is read in pieces of this size, at most 1,000 of them.
 fn has_text<R: Abort>(
     rt: &R,
     alloc: Global,
@@ -45,8 +46,8 @@ fn expect_text<R: Abort>(
     }
 }
 
-// An edge leaves that isn't there, and the readers ask for 16 of 17 vertices; one vertex; as many vertices as a graph may have; batches
-// without items.
+// A load in which an edge leaves that isn't there, and the readers ask for 16 of 17 vertices. Loads with one vertex,
+// with as many vertices as a graph may have, and with batches without items.
 #[test]
 fn loads_in_any_pieces(rt: HostRuntime) -> Result<(), Fail> {
     let alloc = rt.alloc();

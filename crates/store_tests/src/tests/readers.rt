@@ -16,7 +16,7 @@ use std::thread::Threads;
 use std::time::{Clock, Duration};
 use test_support::gates::Greatest;
 
-// Holds the first question of each reader until the last reader has come to its own.
+// Holds the first question of each reader until the last reader puts its own.
 #[derive(Drop)]
 struct Meeting {
     // How many readers there are besides the last one.
@@ -78,16 +78,16 @@ const RUSHED: u32 = 8_192;
 // For how many milliseconds the second batch is held. A reader in a rush puts that many questions in some of them.
 const SHORT: u32 = 200;
 
-// Holds the first batch until the first reply was told, and the second one until question `RUSHED` was told, for at
-// most `SHORT` milliseconds.
+// Holds the first batch until it hears of the first reply. Holds the second one until it hears of question `RUSHED`,
+// for at most `SHORT` milliseconds.
 #[derive(Drop)]
 struct Lagging<'a, R> {
     rt: &'a R,
     replied: AtomicBool,
     ran_out: AtomicBool,
-    // Whether question `RUSHED` was told.
+    // Whether the gate has heard of question `RUSHED`.
     is_far: AtomicBool,
-    // Whether it was told before the second batch was published.
+    // Whether that was before the second batch was published.
     has_rushed: AtomicBool,
 }
 

@@ -212,7 +212,8 @@ fn meet<R: Threads + Sync>(
     )
 }
 
-// A reader in a thread of its own sees the state before a batch, and then the one after it. It goes on when the service is gone.
+// A reader in a thread of its own sees the state before a batch, and then the one after it. It goes on when the
+// service is gone.
 #[test]
 fn a_reader_sees_two_points_in_order(rt: HostRuntime) -> Result<(), Fail> {
     let alloc = rt.alloc();

@@ -64,7 +64,7 @@ pub(crate) fn run<R: Threads + Sync + Abort, G: Gate + Sync>(
     (ended.expect(rt, "a fault"), text)
 }
 
-// How many batches of an input were refused, how many phases there were, and the notes, where nobody reads meanwhile.
+// How many batches of an input were refused, how many phases there were, and the notes, if there are no readers.
 pub(crate) fn run_settled<R: Threads + Sync + Abort, G: Gate + Sync>(
     rt: &R,
     alloc: Global,
@@ -95,7 +95,7 @@ pub(crate) fn run_settled<R: Threads + Sync + Abort, G: Gate + Sync>(
 const BATCHES: &[u8] =
     b"kcore 1\nvertices 5\nask 2 4\nbatch\n0 1\nend\nbatch\n1 9\nend\nbatch\n- 0 1\n0 2\nend\n";
 
-// The same input, in which nobody asks.
+// The same input without an ask.
 const UNREAD: &[u8] =
     b"kcore 1\nvertices 5\n# ask 2 4\nbatch\n0 1\nend\nbatch\n1 9\nend\nbatch\n- 0 1\n0 2\nend\n";
 
@@ -114,7 +114,7 @@ fn is_made_of(text: &[u8], first: &[u8], second: &[u8], third: &[u8]) -> bool {
     }
 }
 
-// What both come to but for the replies.
+// The result of both but for the replies.
 const COUNTS: Ended = Ended {
     batches: 3,
     refused: 1,
@@ -162,11 +162,13 @@ fn batches_settle_with_notes(rt: HostRuntime) -> Result<(), Fail> {
 // What a gate holds, in sessions whose batch has two groups, with the labels 0 and 2.
 #[derive(Clone, Copy, PartialEq, Eq)]
 enum Hold {
-    // The second publication, until a reply was told.
+    // The second publication, until the gate hears of a reply.
     Publication,
-    // The first question of each reader, until the second publication was told: the first group has taken effect then.
+    // The first question of each reader, until the gate hears of the second publication: the first group has taken
+    // effect then.
     Question,
-    // The first publication, until the first reply was told, and the second question, until the second publication was told.
+    // The first publication, until the gate hears of the first reply. The second question, until it hears of the second
+    // publication.
     Both,
 }
 
@@ -174,7 +176,7 @@ enum Hold {
 struct Holds {
     hold: Hold,
     published: AtomicU64,
-    // Whether the second publication was told.
+    // Whether the gate has heard of the second publication.
     shown: AtomicBool,
     replied: AtomicBool,
     ran_out: AtomicBool,
@@ -236,7 +238,7 @@ const BEFORE: &[u8] =
 const AFTER: &[u8] =
     b"vertex 0 level 1 est 2 low 1 high 2 up 1 down 1\nvertex 1 level 1 est 2 low 1 high 2 up 1 down 1\nvertex 2 level 1 est 2 low 1 high 2 up 1 down 1\nvertex 3 level 1 est 2 low 1 high 2 up 1 down 1\nvertex 4 level 0 est 0 low 0 high 0 up 0 down 0\nvertex 5 level 0 est 0 low 0 high 0 up 0 down 0\nend\n";
 
-// A session of this input, with this hold and so many workers, has one of these lines of readers.
+// A session of this input, with this hold and these workers, has one of these lines of readers.
 fn expect_replies<R: Threads + Sync + Abort>(
     rt: &R,
     alloc: Global,
@@ -273,8 +275,8 @@ fn a_group_takes_effect_at_once(rt: HostRuntime) -> Result<(), Fail> {
     Ok(())
 }
 
-// The second group is published only after the reader was told a level of it, which is thus the one from before. The levels after
-// the batches would be explained as well.
+// The second group is published only when the reader has the answer for a vertex of it. So that is the level from
+// before the group. The levels after the batches would be explained as well.
 #[test]
 fn a_reply_is_from_before_what_waits_for_it(rt: HostRuntime) -> Result<(), Fail> {
     let lines: [&[u8]; 1] = [b"2=0\n"];
@@ -336,7 +338,8 @@ fn a_batch_is_shown_before_it_is_told(rt: HostRuntime) -> Result<(), Fail> {
     Ok(())
 }
 
-// What was told of questions and of replies: 1 for each, 100 for each place of a question, and 10,000 for each number of a reader.
+// Two sums, over questions and over replies: 1 for each, 100 for each place of a question, and 10,000 for each number
+// of a reader.
 #[derive(Drop)]
 struct Told {
     asking: AtomicU64,
@@ -358,7 +361,8 @@ impl Gate for Told {
     }
 }
 
-// The replies to an agent with the number 2 that asks three times for vertices 4 and 0 of a store that no batch has changed yet.
+// The replies to an agent with the number 2, which asks three times for vertices 4 and 0. No batch has changed the
+// store yet.
 fn replies_of_one(
     alloc: Global,
     gate: &Told,

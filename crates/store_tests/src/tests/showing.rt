@@ -1,5 +1,5 @@
-//! Plans that an engine shows by two workers. Their moves are few, so what is told before each range and each publication can be counted
-//! by hand.
+//! Plans that an engine shows by two workers. Their moves are few, so the calls of the gate before each range and each
+//! publication can be counted by hand.
 ghost use Rattle.std.specs.Prelude.{◌≤◌};
 
 use crate::tests::support::{items_of, open_store, trial_of};
@@ -18,17 +18,18 @@ use store_support::trial::Trial;
 // For how many milliseconds a piece is waited for that has to come.
 const LONG: u32 = 20_000;
 
-// Time enough for a piece in another thread to be told, and soon over if there is none.
+// Time enough for a piece in another thread to begin, and soon over if there is none.
 const SHORT: u32 = 200;
 
-// Holds each piece 0 until it was told piece 1 as often as piece 0, for at most `most` milliseconds, and counts how often these ran out.
+// Holds each piece 0 until piece 1 has begun as often as piece 0, for at most `most` milliseconds. Counts how often
+// these ran out.
 #[derive(Drop)]
 struct Pairing<'a, R> {
     rt: &'a R,
     most: u32,
-    // How often piece 0 was told.
+    // How often piece 0 has begun.
     zeros: AtomicU64,
-    // How often another piece was told.
+    // How often another piece has begun.
     others: AtomicU64,
     // How often piece 0 went on although the other hadn't come.
     alone: AtomicU64,
@@ -75,7 +76,7 @@ impl<R> Pairing<'_, R> {
     }
 }
 
-// Shows a batch, and says whether it had so many moves.
+// Shows a batch, and says whether it had this number of moves.
 fn shows<R: Threads + Sync, G: Gate + Sync>(
     rt: &R,
     alloc: Global,
@@ -135,8 +136,8 @@ fn expect_pairing<R: Threads + Sync + Clock + Abort>(
     assert!(rt; gate.has_paired(alone));
 }
 
-// After a first group one of 8,191 moves is marked, and then cleared, one range after the other: both times piece 0 waits for piece 1 in
-// vain. One move more, and the ranges run at the same time again.
+// After a first group a group of 8,191 moves is marked, and then cleared, one range after the other. Both times piece 0
+// waits for piece 1 in vain. With one move more the ranges run at the same time again.
 #[test]
 fn ranges_of_a_long_group_run_at_the_same_time(rt: HostRuntime) -> Result<(), Fail> {
     let (store, writer) = open_store(&rt, rt.alloc(), 16_386);
@@ -147,16 +148,16 @@ fn ranges_of_a_long_group_run_at_the_same_time(rt: HostRuntime) -> Result<(), Fa
     Ok(())
 }
 
-// Holds each publication that it is told, with the pieces that were told before it, against the one that is due.
+// Compares each publication, with the pieces that have begun before it, with the one that is due.
 #[derive(Drop)]
 struct Course<'a> {
     // The publications, in order, each after what `pieces` has to be before it.
     due: &'a [(u64, Spot)],
-    // How many publications were told.
+    // How many publications there were.
     published: AtomicUsize,
-    // How often piece i was told, for i below 8, in the bits from 8 i on.
+    // How often piece i has begun, for i below 8, in the bits from 8 i on.
     pieces: AtomicU64,
-    // How often something was told that isn't due.
+    // How many calls of the gate weren't due.
     others: AtomicU64,
 }
 
@@ -180,8 +181,8 @@ impl Gate for Course<'_> {
     }
 }
 
-// Two groups in the first phase, and one in each of the next two. Each has two moves, one for each worker, which are marked before it is
-// published and cleared afterwards.
+// Two groups in the first phase, and one in each of the next two. Each has two moves, one for each worker. They are
+// marked before the group is published, and cleared afterwards.
 const DUE: &[(u64, Spot)] = &[
     (0x0101, Spot::Publishing { phase: 1, label: 0 }),
     (0x0303, Spot::Publishing { phase: 1, label: 2 }),
@@ -190,7 +191,7 @@ const DUE: &[(u64, Spot)] = &[
 ];
 
 impl Course<'_> {
-    // Whether all was told, and nothing else.
+    // Whether the gate had all calls that are due, and no others.
     fn is_over(&self) -> bool {
         self.published.load(SeqCst) == 4
             && self.pieces.load(SeqCst) == 0x0808

@@ -1,4 +1,5 @@
-//! Readers of a store in which an engine shows batches. What a reader may read is known by hand, or by a plain walk through the moves.
+//! Readers of a store in which an engine shows batches. What a reader may read was worked out by hand, or is found by a
+//! plain walk through the moves.
 ghost use Rattle.std.specs.Prelude.{◌≡◌, ◌<◌};
 ghost use Rattle.std.specs.Thread.{IsSync};
 
@@ -99,7 +100,8 @@ fn batches_of<R: Abort>(rt: &R, alloc: Global, texts: &[&str]) -> Vec<Vec<Item>>
     batches
 }
 
-// The writer shows the batches while the reader reads. Says whether they were shown, and at how many spots the reader read its row.
+// The writer shows the batches while the reader reads. Says whether they were shown, and at how many spots the reader
+// read its row.
 fn take_turns<R: Threads + Sync>(
     rt: &R,
     alloc: Global,
@@ -118,8 +120,8 @@ fn take_turns<R: Threads + Sync>(
     )
 }
 
-// A reader that was there before the batches reads these rows, one at each spot: before a group is marked, before it is published, and
-// before it is cleared. At the end it reads the levels of the engine.
+// A reader that was there before the batches reads these rows, one at each spot. The spots are before a group is
+// marked, before it is published, and before it is cleared. At the end the reader reads the levels of the engine.
 fn expect_rows<R: Threads + Sync + Abort>(
     rt: &R,
     alloc: Global,
@@ -170,8 +172,8 @@ const ROWS_OF_THREE_PHASES: &[[u16; 5]] = &[
     [1, 0, 1, 0, 0],
 ];
 
-// Three phases publish the label 0: a marked vertex is on its old level although the label was published before, and on its new one
-// from the publication on.
+// Three phases publish the label 0. A marked vertex is on its old level although the label was published before. It
+// is on its new level from the publication on.
 #[test]
 fn a_label_is_published_again(rt: HostRuntime) -> Result<(), Fail> {
     expect_rows(
@@ -197,8 +199,8 @@ const READERS: u64 = 4;
 
 const READS: usize = 600_000;
 
-// Where writer and readers meet: the readers begin once the first batches are shown, and the writer goes on once each of them has read
-// all vertices.
+// A meeting of writer and readers. The readers begin when the first batches are shown. The writer goes on when each
+// of them has read all vertices.
 #[derive(Drop)]
 struct Meeting {
     are_first_shown: AtomicBool,
@@ -275,8 +277,8 @@ fn show_batches<R: Threads + Sync>(
     Some(plans)
 }
 
-// Puts the vertices of each group on their new levels, and gives the levels after each of them, from a row of zeros on; and how many
-// rows there are after the first batches.
+// Puts the vertices of each group on their new levels. Gives the levels after each group, from a row of zeros on, and
+// how many rows there are after the first batches.
 fn rows_of<R: Abort>(rt: &R, alloc: Global, plans: &[BatchPlan]) -> (Vec<Row>, usize) {
     let mut rows = Vec::new(alloc);
     let mut row: Row = [0; 24];
@@ -329,7 +331,8 @@ fn begin_with(answers: &[u16], rows: &[Row], at: usize) -> bool {
     }
 }
 
-// Whether what a reader read is explained, and its first answers are the row after the first batches: not one from before or after all.
+// Whether the answers of a reader are explained, and the first of them are the row after the first batches. A row from
+// before or after all batches would be explained as well.
 fn has_looked(rows: &[Row], first: usize, answers: &[u16]) -> bool {
     are_explained(rows, answers)
         && begin_with(answers, rows, first.wrapping_sub(1))

@@ -88,7 +88,8 @@ fn plan_both<R: Threads + Sync + Abort>(
     plan.moves
 }
 
-// Ten batches by an engine, and by one that is opened anew, and then all edges leave the first. Returns how many moves they have.
+// Ten batches by an engine, and by one that is opened anew. Then all edges leave the first engine. Returns how many
+// moves the batches have.
 fn run_round<R: Threads + Sync + Abort>(
     rt: &R,
     alloc: Global,
@@ -107,8 +108,8 @@ fn run_round<R: Threads + Sync + Abort>(
     moves
 }
 
-// Rounds of ten batches by one engine, from which all edges leave after each round. Beside it each round has an engine that is opened
-// anew: it plans the same, so a phase leaves nothing over in the workspace.
+// Rounds of ten batches by one engine, from which all edges leave after each round. Beside it each round has an
+// engine that is opened anew. Both plan the same, so a phase leaves nothing over in the workspace.
 #[test]
 fn many_batches_leave_nothing_over(rt: HostRuntime) -> Result<(), Fail> {
     let mut kept = Unseen::open(&rt, rt.alloc(), VERTICES, 1, 0, MAX_EDGES);
