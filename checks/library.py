@@ -46,7 +46,7 @@ def put_listings(root):
 
 def put_measuring(root):
     """Puts the programs that measure into a copy of the repository. Yields the name of each and what it prints."""
-    with open(f"{MEASURING}/crates.txt") as lines, open(f"{root}/crates.txt", "a") as file:
+    with open(f"{MEASURING}/uses.txt") as lines, open(f"{root}/crates.txt", "a") as file:
         file.write(lines.read())
     for name in sorted(os.listdir(MEASURING)):
         if os.path.isdir(f"{MEASURING}/{name}/src"):

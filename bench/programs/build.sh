@@ -12,7 +12,7 @@ mkdir -p out
 room=$(mktemp -d)
 trap 'rm -rf "$room"' EXIT
 cp -r ../../crates "$room/crates"
-cat ../../crates.txt crates.txt > "$room/crates.txt"
+cat ../../crates.txt uses.txt > "$room/crates.txt"
 cp ../../HANDLES "$room"
 for name in ${*:-store_bench intake_bench}; do
   cp -r "$name" "$room/crates/"
