@@ -3,7 +3,7 @@
 
     bench/intake.py [--program PATH] [--runs N]
 
-Runs `intake_bench` (`bench/programs/build.sh` makes it) N times (41); its root file says what it measures. Prints the median and the best of the runs in
+Runs `intake_bench` N times (41); its root file says what it measures. Prints the median and the best of the runs in
 updates a second, and in how many runs there were fewer than 2,000,000 updates a second. It judges nothing: times on a
 shared machine are ratios at best. Nine threads run, and take turns if there are fewer processors.
 """
@@ -12,7 +12,7 @@ import os
 import statistics
 import subprocess
 
-PROGRAM = os.path.join(os.path.dirname(__file__), "programs", "out", "intake_bench")
+PROGRAM = os.path.join(os.path.dirname(__file__), "..", "crates", "intake_bench", "out", "intake_bench")
 FEW = 2_000_000
 
 

@@ -3,7 +3,7 @@
 
     bench/reads.py [--program PATH] [--runs N]
 
-Runs `store_bench` (`bench/programs/build.sh` makes it) N times (5), and takes the best run of each measurement; its root file says what it measures. Prints
+Runs `store_bench` N times (5), and takes the best run of each measurement; its root file says what it measures. Prints
 the number of processors, and for each number of vertices:
 
 - the nanoseconds of a plain load, of a read of one load (nothing is marked), and of a read of three (all is marked,
@@ -24,7 +24,7 @@ import argparse
 import os
 import subprocess
 
-PROGRAM = os.path.join(os.path.dirname(__file__), "programs", "out", "store_bench")
+PROGRAM = os.path.join(os.path.dirname(__file__), "..", "crates", "store_bench", "out", "store_bench")
 READS = (("one load", "rest"), ("three loads", "marked"), ("beside a writer", "beside"))
 
 

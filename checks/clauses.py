@@ -31,8 +31,8 @@ FN = re.compile(r"(?m)^ *(?:pub(?:\(\w+\))? )?(?:unsafe )?fn (\w+)")
 
 
 def promises_nothing(crate):
-    """Returns whether the crate is for tests."""
-    return crate.endswith(("_support", "_tests"))
+    """Returns whether the crate is for tests or measures."""
+    return crate.endswith(("_support", "_tests", "_bench"))
 
 
 def one_line(text):

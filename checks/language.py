@@ -3,9 +3,9 @@
 
     checks/language.py [--list [WORD] | --write | --self-test]
 
-Runs in the gate, after `rt ci`. It reads the comments of crates/*/src/**/*.rt and crates/*/specs/**/*.antt, the same of
-bench/programs, README.md, CONTRIBUTING.md, CHANGELOG.md and docs/*.md. Fenced and indented code, tables and drawings
-are left out, and what stands in backticks counts as one word. For each crate and each page it counts
+Runs in the gate, after `rt ci`. It reads the comments of crates/*/src/**/*.rt and crates/*/specs/**/*.antt, README.md,
+CONTRIBUTING.md, CHANGELOG.md and docs/*.md. Fenced and indented code, tables and drawings are left out, and what stands
+in backticks counts as one word. For each crate and each page it counts
 
 - long:   sentences of more than 25 words; a sentence ends at `.`, `!` or `?` before a blank, or with its paragraph;
 - turns:  the turns of phrase of TURNS, by a search of the text, so a few of them may be right where they stand;
@@ -140,8 +140,6 @@ def read_paths():
 
     for path in sorted(found("crates/*/src/**/*.rt") + found("crates/*/specs/**/*.antt")):
         yield path.split(os.sep)[1], path
-    for path in sorted(found("bench/programs/*/src/**/*.rt") + found("bench/programs/*/specs/**/*.antt")):
-        yield path.split(os.sep)[2], path
     for path in sorted(found("*.md") + found("docs/*.md")):
         yield path, path
 
