@@ -3,7 +3,7 @@ ghost use Rattle.std.specs.Prelude.{◌≡◌, ◌<◌, ◌≤◌, ◌^◌, ℕ,
 ghost use Rattle.kc_graph.specs.Numbers.{has_number};
 ghost use Rattle.kc_levels.specs.Following.{AreDistinct};
 
-use super::support::{check_row, ensure, levelled, levels};
+use super::support::{check_row, levelled, levels};
 use kc_adj::{LevelAdj, LevelLists, Steps};
 use kc_graph::{Edge, MAX_EDGES, MAX_VERTICES};
 use kc_levels::{Levels, Profile, Thresholds, at_least};
@@ -24,15 +24,7 @@ use test_support::graphs::is_below;
 // - The desired levels.
 //
 // The top level is 6. A vertex stays on a level from 1 to 6 if it has a neighbour on the level below or above.
-type Row = (
-    &'static [(char, u32, u32)],
-    [u16; 5],
-    [u32; 5],
-    [u32; 5],
-    [u16; 5],
-);
-
-const CHANGES: &[Row] = &[
+const CHANGES: &[(&[(char, u32, u32)], [u16; 5], [u32; 5], [u32; 5], [u16; 5])] = &[
     (&[], [0; 5], [0; 5], [0; 5], [0; 5]),
     // One edge, of which one end has risen; then without the edge.
     (
@@ -108,49 +100,33 @@ fn apply<L: Ledger>(
     steps: &mut Steps<L>,
 ) {
     let (kind, a, b) = change;
+    assert!(rt; a < adj.graph().vertices() && b < 65536);
+    let to = b as u16;
     match kind {
-        '^' => lift(rt, adj, a, b, steps),
-        'v' => fall(rt, adj, a, b, steps),
-        'r' => rise(rt, adj, a, steps),
-        '-' => unlink(rt, adj, Edge { a, b }, steps),
-        _ => link(rt, alloc, adj, Edge { a, b }, steps),
+        '^' => {
+            assert!(rt; adj.level(a) <= to);
+            adj.lift(a, to, steps);
+        }
+        'v' => {
+            assert!(rt; to <= adj.level(a));
+            adj.fall(a, to, steps);
+        }
+        'r' => {
+            assert!(rt; adj.level(a) < 65535);
+            adj.rise(a, steps);
+        }
+        _ => {
+            assert!(rt; a < b && b < adj.graph().vertices());
+            let e = Edge { a, b };
+            if kind == '-' {
+                assert!(rt; adj.graph().has(e));
+                adj.unlink(e, steps);
+            } else {
+                assert!(rt; !adj.graph().has(e) && adj.graph().edge_count() < MAX_EDGES);
+                adj.link(alloc, e, steps).expect(rt, "memory");
+            }
+        }
     }
-}
-
-fn lift<L: Ledger>(rt: &impl Abort, adj: &mut LevelAdj, v: u32, to: u32, steps: &mut Steps<L>) {
-    assert!(rt; v < adj.graph().vertices() && to < 65536);
-    assert!(rt; adj.level(v) <= to as u16);
-    adj.lift(v, to as u16, steps);
-}
-
-fn fall<L: Ledger>(rt: &impl Abort, adj: &mut LevelAdj, v: u32, to: u32, steps: &mut Steps<L>) {
-    assert!(rt; v < adj.graph().vertices() && to < 65536);
-    assert!(rt; to as u16 <= adj.level(v));
-    adj.fall(v, to as u16, steps);
-}
-
-fn rise<L: Ledger>(rt: &impl Abort, adj: &mut LevelAdj, v: u32, steps: &mut Steps<L>) {
-    assert!(rt; v < adj.graph().vertices());
-    assert!(rt; adj.level(v) < 65535);
-    adj.rise(v, steps);
-}
-
-fn unlink<L: Ledger>(rt: &impl Abort, adj: &mut LevelAdj, e: Edge, steps: &mut Steps<L>) {
-    assert!(rt; e.a < e.b && e.b < adj.graph().vertices());
-    assert!(rt; adj.graph().has(e));
-    adj.unlink(e, steps);
-}
-
-fn link<L: Ledger>(
-    rt: &impl Abort,
-    alloc: Global,
-    adj: &mut LevelAdj,
-    e: Edge,
-    steps: &mut Steps<L>,
-) {
-    assert!(rt; e.a < e.b && e.b < adj.graph().vertices());
-    assert!(rt; !adj.graph().has(e) && adj.graph().edge_count() < MAX_EDGES);
-    adj.link(alloc, e, steps).expect(rt, "memory");
 }
 
 // Returns whether the counts and the desired level of a vertex are these, also by a fresh count, and for any guess of
@@ -177,28 +153,26 @@ fn check_changes<L: Ledger>(rt: &impl Abort, alloc: Global, blank: Blank)
 {
     let mut steps = Steps::<L>::new(blank);
     let th = Thresholds::new(alloc, Profile::One, 5).expect(rt, "memory");
-    for (number, row) in CHANGES.iter().enumerate() {
+    for (row, &(changes, items, own, below, desired)) in CHANGES.iter().enumerate() {
         let mut adj = LevelAdj::new(alloc, 5).expect(rt, "memory");
-        for change in row.0 {
+        for change in changes {
             apply(rt, alloc, &mut adj, *change, &mut steps);
         }
         assert!(rt; adj.graph().vertices() == 5);
-        check_row(rt, number, has_row(&adj, &th, row));
-    }
-}
-
-// Returns whether the levels are those of the row, and each vertex has its counts and its desired level.
-fn has_row(adj: &LevelAdj, th: &Thresholds, row: &Row) -> bool
-    requires scale { th.now.vertices ≡ adj.now.graph.vertices }
-    requires five { adj.now.graph.vertices ≡ 5 }
-{
-    for v in 0..5 {
-        let i = v as usize;
-        if !is_counted(adj, th, v, row.2[i], row.3[i], row.4[i]) {
-            return false;
+        check_row(
+            rt,
+            row,
+            adj.levels().as_slice() == items.as_slice() && adj.own_counts() == own.as_slice(),
+        );
+        for v in 0..5 {
+            let i = v as usize;
+            check_row(
+                rt,
+                row,
+                is_counted(&adj, &th, v, own[i], below[i], desired[i]),
+            );
         }
     }
-    adj.levels().as_slice() == row.1.as_slice() && adj.own_counts() == row.2.as_slice()
 }
 
 #[test]
@@ -212,18 +186,13 @@ fn woven<L: Ledger>(rt: &impl Abort, alloc: Global, n: u32, steps: &mut Steps<L>
     let mut items = Vec::new(alloc);
     for a in 0..n {
         for step in [1, 7, 30] {
-            push_pair(rt, &mut pairs, a, a.saturating_add(step), n);
+            if let Some(b) = a.checked_add(step).filter(|b| *b < n) {
+                pairs.push((a, b)).expect(rt, "memory");
+            }
         }
         items.push((a % 5) as u16).expect(rt, "memory");
     }
     levelled(rt, alloc, &pairs, &items, steps)
-}
-
-// Appends a pair if its greater end is below n.
-fn push_pair(rt: &impl Abort, pairs: &mut Vec<(u32, u32)>, a: u32, b: u32, n: u32) {
-    if b < n {
-        pairs.push((a, b)).expect(rt, "memory");
-    }
 }
 
 // Returns other levels, none of which is lower.
@@ -285,7 +254,13 @@ fn check_lifted<R: Abort + Threads + Sync, L: Ledger>(rt: &R, alloc: Global, n: 
     let new = raised(rt, alloc, &one_by_one);
     for v in 0..n {
         assert!(rt; (v as usize) < new.as_slice().len());
-        lift(rt, &mut one_by_one, v, u32::from(new.get(v)), &mut steps);
+        apply(
+            rt,
+            alloc,
+            &mut one_by_one,
+            ('^', v, u32::from(new.get(v))),
+            &mut steps,
+        );
     }
     assert!(rt; new.as_slice().len() == n as usize);
     let vertices = vertices_of(rt, alloc, &new);
@@ -299,7 +274,7 @@ fn check_lifted<R: Abort + Threads + Sync, L: Ledger>(rt: &R, alloc: Global, n: 
                 .par_lift_all(rt, alloc, workers, &vertices, &new, &mut steps)
                 .expect(rt, "memory");
         }
-        ensure(rt, "counts", have_same_counts(&together, &one_by_one));
+        assert!(rt; have_same_counts(&together, &one_by_one));
     }
 }
 
@@ -320,17 +295,10 @@ fn check_link<L: Ledger>(rt: &impl Abort, alloc: Global, blank: Blank)
     let mut adj = LevelAdj::new(alloc, 5).expect(rt, "memory");
     let linked = adj.link(alloc, Edge { a: 1, b: 3 }, &mut steps).is_ok();
     assert!(rt; adj.graph().vertices() == 5 && adj.graph().edge_count() == linked as u32);
-    ensure(rt, "an end", has_neighbours(&adj, 1, linked as u32));
-    ensure(rt, "an end", has_neighbours(&adj, 3, linked as u32));
-}
-
-// Returns whether v has this many neighbours, all counted.
-fn has_neighbours(adj: &LevelAdj, v: u32, count: u32) -> bool
-    requires { v < adj.now.graph.vertices }
-{
-    adj.at_least_own(v) == count
-        && adj.at_least_below(v) == count
-        && adj.graph().neighbours(v).len() == count as usize
+    for v in [1, 3] {
+        assert!(rt; adj.at_least_own(v) == linked as u32 && adj.at_least_below(v) == linked as u32);
+        assert!(rt; adj.graph().neighbours(v).len() == linked as usize);
+    }
 }
 
 #[test]
@@ -346,8 +314,7 @@ const NEXT: &[(u16, u16)] = &[(0, 3), (3, 3), (4, 70), (70, 70), (71, 200), (201
 fn items_by_level(rt: HostRuntime) {
     let mut lists = LevelLists::new(rt.alloc(), 1).expect(&rt, "memory");
     lists.reach(rt.alloc(), 200).expect(&rt, "memory");
-    assert!(rt; lists.count() == 201);
-    ensure(&rt, "no items", lists.next(0) == 201);
+    assert!(rt; lists.count() == 201 && lists.next(0) == 201);
     for level in [70u16, 3, 200, 70] {
         assert!(rt; level < lists.count());
         lists
@@ -356,19 +323,14 @@ fn items_by_level(rt: HostRuntime) {
     }
     lists.reach(rt.alloc(), 130).expect(&rt, "memory");
     assert!(rt; lists.count() == 201);
-    for row in NEXT {
-        assert!(rt; row.0 <= 201);
-        ensure(&rt, "the next level", lists.next(row.0) == row.1);
+    for (row, &(from, next)) in NEXT.iter().enumerate() {
+        assert!(rt; from <= 201);
+        check_row(&rt, row, lists.next(from) == next);
     }
-    ensure(&rt, "items", lists.on(70) == [71u32, 71].as_slice());
-    let taken = lists.take_all(rt.alloc(), 70);
-    ensure(
-        &rt,
-        "taken items",
-        taken.as_slice() == [71u32, 71].as_slice(),
+    assert!(rt; lists.on(70) == [71u32, 71].as_slice());
+    assert!(rt;
+        lists.take_all(rt.alloc(), 70).as_slice() == [71u32, 71].as_slice() && lists.next(4) == 200
     );
-    ensure(&rt, "the next level", lists.next(4) == 200);
     lists.clear(rt.alloc());
-    ensure(&rt, "levels", lists.count() == 201);
-    ensure(&rt, "no items", lists.next(0) == 201);
+    assert!(rt; lists.count() == 201 && lists.next(0) == 201);
 }

@@ -1,11 +1,8 @@
 //! The coreness of the vertices of small graphs, worked out by hand, and of a large graph without edges. Histories are
 //! walked point by point; their entries were worked out by hand too.
 
-ghost use Rattle.std.specs.Prelude.{◌≡◌, ◌<◌, length};
-
 use super::plainly::count_of;
 use super::support;
-use super::support::ensure;
 use kc_bound::exact_coreness;
 use kc_graph::{Edge, Graph, MAX_EDGES};
 use kc_levels::{Levels, Profile, Thresholds, check_lower, check_upper};
@@ -13,9 +10,7 @@ use std::alloc::Global;
 use std::process::Abort;
 
 // The edges of graphs, and the coreness of each vertex.
-type Row = (&'static [(u32, u32)], &'static [u32]);
-
-const GRAPHS: &[Row] = &[
+const GRAPHS: &[(&[(u32, u32)], &[u32])] = &[
     // Four vertices joined each with each, and one alone.
     (
         &[(0, 1), (0, 2), (0, 3), (1, 2), (1, 3), (2, 3)],
@@ -46,10 +41,10 @@ const GRAPHS: &[Row] = &[
 
 #[test]
 fn small_graphs(rt: HostRuntime) {
-    for row in GRAPHS {
-        let graph = support::graph(&rt, rt.alloc(), count_of(&rt, row.1.len()), row.0);
+    for (pairs, want) in GRAPHS {
+        let graph = support::graph(&rt, rt.alloc(), count_of(&rt, want.len()), pairs);
         let answers = exact_coreness(rt.alloc(), &graph).expect(&rt, "memory");
-        ensure(&rt, "corenesses", answers.as_slice() == row.1);
+        assert!(rt; answers.as_slice() == *want);
     }
 }
 
@@ -57,17 +52,8 @@ fn small_graphs(rt: HostRuntime) {
 fn many_vertices_and_no_edge(rt: HostRuntime) {
     let graph = Graph::new(rt.alloc(), 100_000).expect(&rt, "memory");
     let answers = exact_coreness(rt.alloc(), &graph).expect(&rt, "memory");
-    ensure(&rt, "corenesses", answers.len() == 100_000);
-    ensure(&rt, "corenesses above 0", are_zero(&answers));
-}
-
-fn are_zero(corenesses: &[u32]) -> bool {
-    for coreness in corenesses {
-        if *coreness != 0 {
-            return false;
-        }
-    }
-    true
+    assert!(rt; answers.len() == 100_000);
+    assert!(rt; answers.iter().all(|coreness| *coreness == 0));
 }
 
 const VERTICES: u32 = 5;
@@ -103,37 +89,15 @@ fn check_point<R: Abort>(rt: &R, alloc: Global, graph: &Graph, levels: &Levels) 
     let th = Thresholds::new(alloc, Profile::One, VERTICES).expect(rt, "memory");
     let corenesses = exact_coreness(alloc, graph).expect(rt, "memory");
     for v in 0..VERTICES {
-        ensure(rt, "a level", meets_both(graph, levels, &th, v));
-        ensure(
-            rt,
-            "an estimate",
-            is_near(&th, levels.get(v), corenesses[v as usize]),
+        let level = levels.get(v);
+        assert!(rt; level <= th.top());
+        assert!(rt; check_upper(graph, levels, &th, v) && check_lower(graph, levels, &th, v));
+        let (estimate, coreness) = (th.estimate(level), corenesses[v as usize]);
+        assert!(rt; estimate.lo <= coreness && coreness <= estimate.hi);
+        assert!(rt;
+            estimate.est <= VERTICES && estimate.est <= 2 * coreness && coreness <= 3 * estimate.est
         );
     }
-}
-
-// Returns whether the level of v isn't above the top, and v meets both invariants.
-fn meets_both(graph: &Graph, levels: &Levels, th: &Thresholds, v: u32) -> bool
-    requires scale { th.now.vertices ≡ graph.now.vertices }
-    requires same { length levels.now ≡ graph.now.vertices }
-    requires vertex { v < graph.now.vertices }
-{
-    levels.get(v) <= th.top()
-        && check_upper(graph, levels, th, v)
-        && check_lower(graph, levels, th, v)
-}
-
-// Returns whether the coreness is in the range of the level's estimate, and the estimate within its factors.
-fn is_near(th: &Thresholds, level: u16, coreness: u32) -> bool {
-    if level > th.top() {
-        return false;
-    }
-    let estimate = th.estimate(level);
-    estimate.lo <= coreness
-        && coreness <= estimate.hi
-        && estimate.est <= VERTICES
-        && estimate.est <= coreness.saturating_mul(2)
-        && coreness <= estimate.est.saturating_mul(3)
 }
 
 // Lets an edge come in, or leave.
@@ -156,23 +120,15 @@ fn histories_point_by_point(rt: HostRuntime) {
     for history in HISTORIES {
         let mut graph = support::graph(&rt, rt.alloc(), VERTICES, &[]);
         let mut levels = support::levels(&rt, rt.alloc(), &[0, 0, 0, 0, 0]);
-        for entry in *history {
-            change_all(&rt, rt.alloc(), &mut graph, entry.0, entry.1);
-            move_all(&rt, &mut levels, entry.2);
+        for (add, pairs, moves) in *history {
+            for pair in *pairs {
+                change(&rt, rt.alloc(), &mut graph, *add, *pair);
+            }
+            for (v, level) in *moves {
+                assert!(rt; (*v as usize) < levels.as_slice().len());
+                levels.set(*v, *level);
+            }
             check_point(&rt, rt.alloc(), &graph, &levels);
         }
-    }
-}
-
-fn change_all<R: Abort>(rt: &R, alloc: Global, graph: &mut Graph, add: bool, pairs: &[(u32, u32)]) {
-    for pair in pairs {
-        change(rt, alloc, graph, add, *pair);
-    }
-}
-
-fn move_all<R: Abort>(rt: &R, levels: &mut Levels, moves: &[(u32, u16)]) {
-    for to in moves {
-        assert!(rt; (to.0 as usize) < levels.as_slice().len());
-        levels.set(to.0, to.1);
     }
 }

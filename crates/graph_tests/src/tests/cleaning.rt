@@ -3,7 +3,7 @@
 ghost use Rattle.std.specs.Prelude.{◌≡◌, ◌<◌, ◌≤◌, All, IfSome, length};
 ghost use Rattle.kc_graph.specs.Cleaning.{IsInside};
 
-use super::support::{Pairs, check_row, edges, ensure, graph};
+use super::support::{Pairs, check_row, edges, graph};
 use kc_graph::Item::{Delete, Insert, Isolate};
 use kc_graph::{Cleaned, Edge, Graph, Item, MAX_ITEMS, clean, clean_by};
 use std::alloc::Global;
@@ -16,15 +16,7 @@ use test_support::random::Random;
 // - the items of the batch, each an insertion +, a deletion - or an isolation x of its first vertex;
 // - the edges that the batch removes, and those that it adds;
 // - the numbers of loops, repeats and idle items.
-type Row = (
-    Pairs,
-    &'static [(char, u32, u32)],
-    Pairs,
-    Pairs,
-    (u32, u32, u32),
-);
-
-const BATCHES: &[Row] = &[
+const BATCHES: &[(Pairs, &[(char, u32, u32)], Pairs, Pairs, (u32, u32, u32))] = &[
     // No items.
     (&[(0, 1)], &[], &[], &[], (0, 0, 0)),
     // Loops alone.
@@ -136,19 +128,15 @@ const BATCHES: &[Row] = &[
 // Returns the items of a row.
 fn items_of(rt: &impl Abort, alloc: Global, row: &[(char, u32, u32)]) -> Vec<Item> {
     let mut items = Vec::new(alloc);
-    for word in row {
-        items.push(item_of(*word)).expect(rt, "memory");
+    for &(kind, u, v) in row {
+        let item = match kind {
+            '+' => Insert { u, v },
+            '-' => Delete { u, v },
+            _ => Isolate { v },
+        };
+        items.push(item).expect(rt, "memory");
     }
     items
-}
-
-fn item_of(word: (char, u32, u32)) -> Item {
-    let (kind, u, v) = word;
-    match kind {
-        '+' => Insert { u, v },
-        '-' => Delete { u, v },
-        _ => Isolate { v },
-    }
 }
 
 // Ends the test unless the batch may be cleaned.
@@ -168,19 +156,15 @@ fn has_given(cleaned: &Cleaned, removed: &[Edge], added: &[Edge], counts: (u32, 
 
 #[test]
 fn batches_come_to_this(rt: HostRuntime) {
-    for (number, row) in BATCHES.iter().enumerate() {
-        let graph = graph(&rt, rt.alloc(), 5, row.0);
-        let items = items_of(&rt, rt.alloc(), row.1);
+    for (row, &(pairs, batch, removed, added, counts)) in BATCHES.iter().enumerate() {
+        let graph = graph(&rt, rt.alloc(), 5, pairs);
+        let items = items_of(&rt, rt.alloc(), batch);
         check_items(&rt, 5, &items);
         let cleaned = clean(&rt, rt.alloc(), &graph, &items).expect(&rt, "memory");
-        check_given(&rt, rt.alloc(), number, row, &cleaned);
+        let removed = edges(&rt, rt.alloc(), 5, removed);
+        let added = edges(&rt, rt.alloc(), 5, added);
+        check_row(&rt, row, has_given(&cleaned, &removed, &added, counts));
     }
-}
-
-fn check_given(rt: &impl Abort, alloc: Global, number: usize, row: &Row, cleaned: &Cleaned) {
-    let removed = edges(rt, alloc, 5, row.2);
-    let added = edges(rt, alloc, 5, row.3);
-    check_row(rt, number, has_given(cleaned, &removed, &added, row.4));
 }
 
 fn touches(item: Item, a: u32, b: u32) -> bool {
@@ -285,20 +269,15 @@ fn random_items(
 ) -> Vec<Item> {
     let mut items = Vec::new(alloc);
     for _ in 0..count {
-        items
-            .push(random_item(random, may_isolate))
-            .expect(rt, "memory");
+        let (u, v) = (random.below(5), random.below(5));
+        let item = match random.below(8) {
+            0..4 => Insert { u, v },
+            4 if may_isolate => Isolate { v },
+            _ => Delete { u, v },
+        };
+        items.push(item).expect(rt, "memory");
     }
     items
-}
-
-fn random_item(random: &mut Random, may_isolate: bool) -> Item {
-    let (u, v) = (random.below(5), random.below(5));
-    match random.below(8) {
-        0..4 => Insert { u, v },
-        4 if may_isolate => Isolate { v },
-        _ => Delete { u, v },
-    }
 }
 
 #[test]
@@ -309,11 +288,7 @@ fn comes_to_what_the_definition_says(rt: HostRuntime) {
         let items = random_items(&rt, rt.alloc(), &mut random, round.min(40), true);
         check_items(&rt, 5, &items);
         let cleaned = clean(&rt, rt.alloc(), &graph, &items).expect(&rt, "memory");
-        ensure(
-            &rt,
-            "a cleaning",
-            is_as_defined(&rt, rt.alloc(), &graph, &items, &cleaned),
-        );
+        assert!(rt; is_as_defined(&rt, rt.alloc(), &graph, &items, &cleaned));
     }
 }
 
@@ -327,11 +302,7 @@ fn one_worker_and_many_come_to_the_same(rt: HostRuntime) {
         check_items(&rt, 5, &items);
         for workers in [0, 1, 2, 64] {
             let cleaned = clean_by(&rt, rt.alloc(), workers, &graph, &items).expect(&rt, "memory");
-            ensure(
-                &rt,
-                "a cleaning",
-                is_as_defined(&rt, rt.alloc(), &graph, &items, &cleaned),
-            );
+            assert!(rt; is_as_defined(&rt, rt.alloc(), &graph, &items, &cleaned));
         }
     }
 }
@@ -395,5 +366,5 @@ fn large_star_is_isolated(rt: HostRuntime) {
     let star = graph(&rt, rt.alloc(), 66_001, &pairs);
     let removed = edges(&rt, rt.alloc(), 66_001, &pairs);
     let cleaned = clean(&rt, rt.alloc(), &star, &[Isolate { v: 0 }]).expect(&rt, "memory");
-    ensure(&rt, "a star", has_given(&cleaned, &removed, &[], (0, 0, 0)));
+    assert!(rt; has_given(&cleaned, &removed, &[], (0, 0, 0)));
 }

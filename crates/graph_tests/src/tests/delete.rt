@@ -8,9 +8,9 @@ ghost use Rattle.kc_delete.specs.Working.{IsReady};
 
 use super::drawing::{all_pairs, dealt, drawn_pairs};
 use super::insert::{WORKERS, come_in, empty};
-use super::plainly::{check_settled, count_of, settle_plainly};
+use super::plainly::{are_moves, count_of, settle_plainly};
 use super::support;
-use super::support::{ensure, levelled};
+use super::support::levelled;
 use kc_adj::{LevelAdj, Steps};
 use kc_delete::{DeletionWork, delete_phase, delete_rounds};
 use kc_graph::MAX_VERTICES;
@@ -86,7 +86,10 @@ fn leave_counted<R: Threads + Sync + Abort, G: Gate + Sync, L: Ledger>(
     let mut plain = adj.levels().as_slice().to_vec(alloc).expect(rt, "memory");
     for batch in batches {
         let moves = leave_once(&rounds, alloc, &th, adj, &mut work, batch, &mut steps);
-        check_settled(rt, alloc, &th, adj, false, &mut plain, &moves);
+        let before = plain.as_slice().to_vec(alloc).expect(rt, "memory");
+        settle_plainly(rt, alloc, adj.graph(), &th, false, &mut plain);
+        assert!(rt; adj.levels().as_slice() == plain.as_slice());
+        assert!(rt; are_moves(moves.as_slice(), n, &before, &plain));
     }
 }
 
@@ -149,15 +152,7 @@ fn highest<R: Abort, L: Ledger>(
 }
 
 // The edges of a graph, its levels, the edges that leave, the levels after it, and the number of vertices that move.
-type Case = (
-    &'static [(u32, u32)],
-    &'static [u16],
-    &'static [(u32, u32)],
-    &'static [u16],
-    u32,
-);
-
-const CASES: &[Case] = &[
+const CASES: &[(&[(u32, u32)], &[u16], &[(u32, u32)], &[u16], u32)] = &[
     (
         &[(0, 1), (0, 2), (0, 3), (0, 4)],
         &[2, 1, 1, 1, 1],
@@ -193,17 +188,16 @@ fn check<R: Threads + Sync + Abort>(
 ) {
     let mut adj = empty(rt, alloc, count_of(rt, levels.len()));
     come_in(rt, alloc, &OpenGate, 3, &mut adj, &[pairs]);
-    ensure(rt, "levels before", adj.levels().as_slice() == levels);
+    assert!(rt; adj.levels().as_slice() == levels);
     let blank = Blank::new(1);
     let count = leave_alone::<R, OpenGate, Brand>(rt, alloc, blank, &OpenGate, &mut adj, removed);
-    ensure(rt, "moves", count == moves);
-    ensure(rt, "levels", adj.levels().as_slice() == want);
+    assert!(rt; adj.levels().as_slice() == want && count == moves);
 }
 
 #[test]
 fn small_graphs(rt: HostRuntime) {
-    for case in CASES {
-        check(&rt, rt.alloc(), case.0, case.1, case.2, case.3, case.4);
+    for (pairs, levels, removed, want, moves) in CASES {
+        check(&rt, rt.alloc(), pairs, levels, removed, want, *moves);
     }
 }
 
@@ -224,7 +218,7 @@ fn a_first_round_has_two_pieces_at_once(rt: HostRuntime) {
     come_in(&rt, rt.alloc(), &OpenGate, 1, &mut adj, &[&star]);
     let gate = Holding::new();
     leave(&rt, rt.alloc(), &gate, 2, &mut adj, &[&star]);
-    ensure(&rt, "two pieces at once", gate.have_met());
+    assert!(rt; gate.have_met());
 }
 
 #[test]
@@ -232,26 +226,15 @@ fn batches_fall_as_by_recounting(rt: HostRuntime) {
     let mut random = Random::new(1);
     for round in 0..8u32 {
         for workers in WORKERS {
-            check_drawn(&rt, rt.alloc(), &mut random, 1 + round % 5, workers);
+            let n = 1 + random.below(20);
+            let pairs = drawn_pairs(&rt, rt.alloc(), &mut random, n, 1 + round % 5, n);
+            let batches = dealt(&rt, rt.alloc(), &mut random, &pairs, 4);
+            let blank = Blank::new(1);
+            let mut adj = highest::<HostRuntime, Brand>(&rt, rt.alloc(), blank, n, &pairs);
+            let batches = batches.parts();
+            leave(&rt, rt.alloc(), &OpenGate, workers, &mut adj, &batches);
         }
     }
-}
-
-// Lets three batches of a random graph on its greatest levels leave.
-fn check_drawn<R: Threads + Sync + Abort>(
-    rt: &R,
-    alloc: Global,
-    random: &mut Random,
-    gap: u32,
-    workers: u32,
-)
-    requires { 0 < gap }
-{
-    let n = 1 + random.below(20);
-    let pairs = drawn_pairs(rt, alloc, random, n, gap, n);
-    let batches = dealt(rt, alloc, random, &pairs, 4);
-    let mut adj = highest::<R, Brand>(rt, alloc, Blank::new(1), n, &pairs);
-    leave(rt, alloc, &OpenGate, workers, &mut adj, &batches.parts());
 }
 
 // Two rare batches and one of nearly all edges come in, and leave again. Threads share the linked edges, the vertices
@@ -262,20 +245,11 @@ fn great_batches_come_and_leave_as_by_recounting(rt: HostRuntime) {
     let n = 9_000;
     let pairs = drawn_pairs(&rt, rt.alloc(), &mut random, n, 1_000, 1);
     let batches = dealt(&rt, rt.alloc(), &mut random, &pairs, 60);
-    ensure(&rt, "a great batch", batches.third.len() >= 8_192);
+    assert!(rt; batches.third.len() >= 8_192);
     for workers in WORKERS {
-        come_and_leave(&rt, rt.alloc(), n, workers, &batches.parts());
+        let mut adj = empty(&rt, rt.alloc(), n);
+        let batches = batches.parts();
+        come_in(&rt, rt.alloc(), &OpenGate, workers, &mut adj, &batches);
+        leave(&rt, rt.alloc(), &OpenGate, workers, &mut adj, &batches);
     }
-}
-
-fn come_and_leave<R: Threads + Sync + Abort>(
-    rt: &R,
-    alloc: Global,
-    n: u32,
-    workers: u32,
-    batches: &[&[(u32, u32)]],
-) {
-    let mut adj = empty(rt, alloc, n);
-    come_in(rt, alloc, &OpenGate, workers, &mut adj, batches);
-    leave(rt, alloc, &OpenGate, workers, &mut adj, batches);
 }

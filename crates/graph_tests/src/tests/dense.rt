@@ -4,7 +4,6 @@
 
 use super::drawing::drawn_pairs;
 use super::support;
-use super::support::ensure;
 use kc_dense::densest;
 use kc_graph::Graph;
 use std::alloc::Global;
@@ -12,9 +11,7 @@ use std::process::Abort;
 use test_support::random::Random;
 
 // The number of vertices of a graph, its edges, the members of its dense part, and the number of edges between them.
-type Row = (u32, &'static [(u32, u32)], &'static [u32], u32);
-
-const GRAPHS: &[Row] = &[
+const GRAPHS: &[(u32, &[(u32, u32)], &[u32], u32)] = &[
     // Four vertices joined each with each, and one alone.
     (
         5,
@@ -48,11 +45,10 @@ const GRAPHS: &[Row] = &[
 
 #[test]
 fn small_graphs(rt: HostRuntime) {
-    for row in GRAPHS {
-        let graph = support::graph(&rt, rt.alloc(), row.0, row.1);
+    for (n, pairs, members, edges) in GRAPHS {
+        let graph = support::graph(&rt, rt.alloc(), *n, pairs);
         let dense = densest(rt.alloc(), &graph).expect(&rt, "memory");
-        ensure(&rt, "members", dense.members.as_slice() == row.2);
-        ensure(&rt, "edges", dense.edges == row.3);
+        assert!(rt; dense.members.as_slice() == *members && dense.edges == *edges);
     }
 }
 
@@ -60,8 +56,7 @@ fn small_graphs(rt: HostRuntime) {
 fn many_vertices_and_no_edge(rt: HostRuntime) {
     let graph = Graph::new(rt.alloc(), 100_000).expect(&rt, "memory");
     let dense = densest(rt.alloc(), &graph).expect(&rt, "memory");
-    ensure(&rt, "members", dense.members.len() == 100_000);
-    ensure(&rt, "edges", dense.edges == 0);
+    assert!(rt; dense.members.len() == 100_000 && dense.edges == 0);
 }
 
 fn has(set: u32, v: u32) -> bool {
@@ -129,31 +124,6 @@ fn plainly(rows: &[u32], n: u32) -> u32 {
     best
 }
 
-// Returns whether no set of the n vertices is more than twice as dense as a part.
-fn is_half_as_dense(rows: &[u32], n: u32, part: u32) -> bool {
-    for set in 1..1u32.wrapping_shl(n) {
-        if is_denser(rows, set, part, 2) {
-            return false;
-        }
-    }
-    true
-}
-
-// Returns whether these are the vertices of the part, ascending.
-fn are_members(members: &[u32], part: u32) -> bool {
-    members.is_sorted() && members.len() == part.count_ones() as usize
-}
-
-fn check<R: Abort>(rt: &R, alloc: Global, n: u32, graph: &Graph) {
-    let rows = rows(rt, alloc, graph);
-    let dense = densest(alloc, graph).expect(rt, "memory");
-    let part = set_of(&dense.members);
-    ensure(rt, "the part", part == plainly(&rows, n));
-    ensure(rt, "members", are_members(&dense.members, part));
-    ensure(rt, "edges", dense.edges == edges_in(&rows, part));
-    ensure(rt, "half as dense", is_half_as_dense(&rows, n, part));
-}
-
 #[test]
 fn as_peeled_plainly_and_half_as_dense_as_any(rt: HostRuntime) {
     let mut random = Random::new(1);
@@ -161,6 +131,12 @@ fn as_peeled_plainly_and_half_as_dense_as_any(rt: HostRuntime) {
         let n = 1 + round % 7;
         let pairs = drawn_pairs(&rt, rt.alloc(), &mut random, n, 1 + round / 7 % 5, n);
         let graph = support::graph(&rt, rt.alloc(), n, &pairs);
-        check(&rt, rt.alloc(), n, &graph);
+        let rows = rows(&rt, rt.alloc(), &graph);
+        let dense = densest(rt.alloc(), &graph).expect(&rt, "memory");
+        let part = set_of(&dense.members);
+        assert!(rt; part == plainly(&rows, n) && dense.members.is_sorted());
+        assert!(rt; dense.members.len() == part.count_ones() as usize);
+        assert!(rt; dense.edges == edges_in(&rows, part));
+        assert!(rt; !(1..1u32.wrapping_shl(n)).any(|set| is_denser(&rows, set, part, 2)));
     }
 }

@@ -1,6 +1,6 @@
 // Edges come into graphs and leave them, one by one and together. Rows were worked out by hand.
 
-use super::support::{Pairs, check_row, edges, ensure, graph};
+use super::support::{Pairs, check_row, edges, graph};
 use kc_graph::{Edge, Edges, Graph, MAX_EDGES, sort_numbers};
 use std::alloc::Global;
 use std::process::Abort;
@@ -9,26 +9,20 @@ use test_support::graphs::{are_absent, are_present};
 
 #[test]
 fn edges_are_kept_in_order(rt: HostRuntime) {
+    let (first, second) = (Edge { a: 2, b: 3 }, Edge { a: 0, b: 1 });
     let mut edges = Edges::new(rt.alloc());
-    ensure(&rt, "no edges", edges.is_empty());
-    ensure(&rt, "no last edge", edges.last().is_none());
-    edges.push(FIRST).expect(&rt, "memory");
+    assert!(rt; edges.is_empty() && edges.last().is_none());
+    edges.push(first).expect(&rt, "memory");
     let mut later = Edges::new(rt.alloc());
-    later.push(SECOND).expect(&rt, "memory");
+    later.push(second).expect(&rt, "memory");
     edges.append(later).expect(&rt, "memory");
     let again = Edges::from_vec(edges.into_vec());
-    ensure(
-        &rt,
-        "two edges",
-        again.as_slice() == [FIRST, SECOND].as_slice(),
+    assert!(rt;
+        again.as_slice() == [first, second].as_slice()
+            && again.len() == 2
+            && again.last() == Some(second)
     );
-    ensure(&rt, "the number of edges", again.len() == 2);
-    ensure(&rt, "the last edge", again.last() == Some(SECOND));
 }
-
-const FIRST: Edge = Edge { a: 2, b: 3 };
-
-const SECOND: Edge = Edge { a: 0, b: 1 };
 
 // Graphs, each with a further edge and a vertex:
 //
@@ -37,9 +31,7 @@ const SECOND: Edge = Edge { a: 0, b: 1 };
 // - the neighbours of the vertex without and with that edge.
 //
 // They are the complete graph on 0 to 3 in ascending and in descending order, a path, and a star.
-type Row = (u32, Pairs, (u32, u32), u32, &'static [u32], &'static [u32]);
-
-const GRAPHS: &[Row] = &[
+const GRAPHS: &[(u32, Pairs, (u32, u32), u32, &[u32], &[u32])] = &[
     (
         5,
         &[(0, 1), (0, 2), (0, 3), (1, 2), (1, 3)],
@@ -67,35 +59,32 @@ const GRAPHS: &[Row] = &[
     ),
 ];
 
-// Returns whether the graph has this many edges, and v these neighbours.
-fn has(graph: &Graph, count: usize, v: u32, neighbours: &[u32]) -> bool {
-    v < graph.vertices()
-        && graph.edge_count() as usize == count
-        && graph.neighbours(v) == neighbours
-}
-
 #[test]
 fn edges_in_and_out(rt: HostRuntime) {
-    for (number, row) in GRAPHS.iter().enumerate() {
-        check(&rt, rt.alloc(), number, row);
+    for (row, &(n, pairs, (a, b), v, without, with)) in GRAPHS.iter().enumerate() {
+        let mut graph = graph(&rt, rt.alloc(), n, pairs);
+        assert!(rt; a < b && b < n && v < n);
+        let e = Edge { a, b };
+        assert!(rt; !graph.has(e) && graph.edge_count() < MAX_EDGES);
+        check_row(
+            &rt,
+            row,
+            graph.edge_count() as usize == pairs.len() && graph.neighbours(v) == without,
+        );
+        graph.insert(rt.alloc(), e).expect(&rt, "memory");
+        assert!(rt; graph.has(e));
+        check_row(
+            &rt,
+            row,
+            graph.edge_count() as usize == pairs.len() + 1 && graph.neighbours(v) == with,
+        );
+        graph.remove(e);
+        check_row(
+            &rt,
+            row,
+            graph.edge_count() as usize == pairs.len() && graph.neighbours(v) == without,
+        );
     }
-}
-
-// Checks the row with this number.
-fn check(rt: &impl Abort, alloc: Global, number: usize, row: &Row) {
-    let mut graph = graph(rt, alloc, row.0, row.1);
-    let e = Edge {
-        a: row.2.0,
-        b: row.2.1,
-    };
-    assert!(rt; e.a < e.b && e.b < row.0);
-    assert!(rt; !graph.has(e) && graph.edge_count() < MAX_EDGES);
-    check_row(rt, number, has(&graph, row.1.len(), row.3, row.4));
-    graph.insert(alloc, e).expect(rt, "memory");
-    assert!(rt; graph.has(e));
-    check_row(rt, number, has(&graph, row.1.len() + 1, row.3, row.5));
-    graph.remove(e);
-    check_row(rt, number, has(&graph, row.1.len(), row.3, row.4));
 }
 
 // Returns whether the graph has five vertices with these neighbours.
@@ -158,11 +147,9 @@ fn edges_come_and_leave_together(rt: HostRuntime) {
     let mut graph = graph(&rt, rt.alloc(), 5, &[(0, 2), (1, 3)]);
     for workers in [0, 1, 3, 64] {
         put_in(&rt, rt.alloc(), workers, &mut graph, pairs);
-        ensure(&rt, "edges that came", has_rows(&graph, &AFTER));
-        ensure(&rt, "their number", graph.edge_count() == 7);
+        assert!(rt; has_rows(&graph, &AFTER) && graph.edge_count() == 7);
         take_out(&rt, rt.alloc(), workers.max(1), &mut graph, pairs);
-        ensure(&rt, "edges that left", has_rows(&graph, &BEFORE));
-        ensure(&rt, "their number", graph.edge_count() == 2);
+        assert!(rt; has_rows(&graph, &BEFORE) && graph.edge_count() == 2);
     }
 }
 
@@ -201,9 +188,9 @@ fn any_number_of_threads(rt: HostRuntime) {
     let mut graph = graph(&rt, rt.alloc(), 1000, far);
     for workers in [1, 2, 4, 64] {
         put_in(&rt, rt.alloc(), workers, &mut graph, &near);
-        ensure(&rt, "edges that came", have_same_rows(&graph, &want));
+        assert!(rt; have_same_rows(&graph, &want));
         take_out(&rt, rt.alloc(), workers, &mut graph, &near);
-        ensure(&rt, "edges that left", have_same_rows(&graph, &before));
+        assert!(rt; have_same_rows(&graph, &before));
     }
 }
 
@@ -211,20 +198,15 @@ fn any_number_of_threads(rt: HostRuntime) {
 #[test]
 fn many_numbers_come_into_order(rt: HostRuntime) {
     for lost in [8, 0] {
-        let mut numbers = numbers_without(&rt, rt.alloc(), lost);
+        let mut numbers = Vec::new(rt.alloc());
+        for i in 0..3_000u32 {
+            numbers
+                .push(i.wrapping_mul(2_654_435_761) >> lost)
+                .expect(&rt, "memory");
+        }
         let mut wanted = numbers.clone().expect(&rt, "memory");
         wanted.sort_unstable();
         sort_numbers(rt.alloc(), &mut numbers);
-        ensure(&rt, "numbers in order", numbers == wanted);
+        assert!(rt; numbers == wanted);
     }
-}
-
-// Returns 3,000 numbers without this many of their low bits, at most 8.
-fn numbers_without(rt: &impl Abort, alloc: Global, lost: u32) -> Vec<u32> {
-    let mut numbers = Vec::new(alloc);
-    for i in 0..3_000u32 {
-        let number = i.wrapping_mul(2_654_435_761).wrapping_shr(lost);
-        numbers.push(number).expect(rt, "memory");
-    }
-    numbers
 }

@@ -9,7 +9,6 @@ use super::drawing::{dealt, drawn_pairs};
 use super::insert::WORKERS;
 use super::plainly::{count_of, level_of};
 use super::support;
-use super::support::ensure;
 use kc_graph::{Edge, Graph, MAX_VERTICES};
 use kc_groups::{GroupWork, Phase, PhasePlan, Planners, plan_moves, plan_phase};
 use kc_history::{Entries, Entry, Move, Moves};
@@ -158,20 +157,17 @@ fn plan_plainly<R: Abort>(rt: &R, alloc: Global, case: &Case<'_>) -> PhasePlan {
     }
     for pair in case.edges {
         let (a, b) = *pair;
+        assert!(rt; a < b);
         let label = label_of(case.labels, a).min(label_of(case.labels, b));
-        let entry = entry_of(&mut groups, &places, label).unwrap_or(&mut quiet);
-        deal(rt, entry, a, b);
+        match entry_of(&mut groups, &places, label) {
+            Some(entry) => entry.push_edge(Edge { a, b }).expect(rt, "memory"),
+            None => quiet.push_edge(Edge { a, b }).expect(rt, "memory"),
+        }
     }
     PhasePlan {
         quiet,
         groups: Entries::from_vec(groups),
     }
-}
-
-// Puts an edge into an entry.
-fn deal(rt: &impl Abort, entry: &mut Entry, a: u32, b: u32) {
-    assert!(rt; a < b);
-    entry.push_edge(Edge { a, b }).expect(rt, "memory");
 }
 
 // Returns the entry of a label: the last one when the vertex of that number was dealt.
@@ -235,10 +231,10 @@ fn check<R: Threads + Sync + Abort>(
     let graph = support::graph(rt, alloc, n, case.others);
     let edges = support::edges(rt, alloc, n, case.edges);
     let plan = plan_lacking(planners, case, &edges, &graph, work);
-    ensure(rt, "a plan", is_same_plan(&plan, &want));
+    assert!(rt; is_same_plan(&plan, &want));
     if planners.workers <= 1 {
         let plan = plan_having(rt, alloc, n, case, &edges);
-        ensure(rt, "a plan from the levels", is_same_plan(&plan, &want));
+        assert!(rt; is_same_plan(&plan, &want));
     }
 }
 
@@ -337,24 +333,12 @@ fn small_phases_with_one_workspace(rt: HostRuntime) {
 fn an_edge_between_vertices_that_stay_is_quiet(rt: HostRuntime) {
     let plan = plan_plainly(&rt, rt.alloc(), &STAYING);
     let groups = plan.groups.as_slice();
-    ensure(
-        &rt,
-        "the quiet entry",
-        plan.quiet.edges.as_slice() == [Edge { a: 0, b: 1 }].as_slice(),
+    assert!(rt; plan.quiet.edges.as_slice() == [Edge { a: 0, b: 1 }].as_slice());
+    assert!(rt; plan.quiet.moves.is_empty() && groups.len() == 1);
+    assert!(rt;
+        groups[0].label == Some(4) && groups[0].edges.as_slice() == [Edge { a: 4, b: 5 }].as_slice()
     );
-    ensure(&rt, "no quiet move", plan.quiet.moves.is_empty());
-    ensure(
-        &rt,
-        "one group",
-        groups.len() == 1 && is_falling(&groups[0]),
-    );
-}
-
-// Returns whether the group of vertex 4 has its edge and two moves.
-fn is_falling(group: &Entry) -> bool {
-    group.label == Some(4)
-        && group.edges.as_slice() == [Edge { a: 4, b: 5 }].as_slice()
-        && group.moves.len() == 2
+    assert!(rt; groups[0].moves.len() == 2);
 }
 
 // More levels than are compared at once, and a move at each end of such a run and at the last vertex.

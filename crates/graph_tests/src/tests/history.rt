@@ -1,6 +1,5 @@
 // A move and an edge are put into an entry, and entries into a list.
 
-use super::support::ensure;
 use kc_graph::Edge;
 use kc_history::{Entries, Entry, Move, Moves};
 
@@ -13,20 +12,17 @@ fn an_entry_keeps_what_is_put_into_it(rt: HostRuntime) {
     };
     let edge = Edge { a: 3, b: 4 };
     let mut entry = Entry::new(rt.alloc(), 1, Some(3), true);
-    ensure(&rt, "no moves", entry.moves.is_empty());
-    ensure(&rt, "no edges", entry.edges.is_empty());
+    assert!(rt; entry.moves.is_empty() && entry.edges.is_empty());
     entry.push_move(rise).expect(&rt, "memory");
     entry.push_edge(edge).expect(&rt, "memory");
-    ensure(&rt, "a move", entry.moves.as_slice() == [rise].as_slice());
-    ensure(&rt, "an edge", entry.edges.as_slice() == [edge].as_slice());
+    assert!(rt;
+        entry.moves.as_slice() == [rise].as_slice() && entry.edges.as_slice() == [edge].as_slice()
+    );
     let mut entries = Entries::from_vec(Entries::new(rt.alloc()).into_vec());
     entries.push(entry).expect(&rt, "memory");
     entries
         .push(Entry::new(rt.alloc(), 2, None, false))
         .expect(&rt, "memory");
-    ensure(&rt, "two entries", are_two(entries.as_slice()));
-}
-
-fn are_two(entries: &[Entry]) -> bool {
-    entries.len() == 2 && entries[0].label == Some(3) && entries[1].label.is_none()
+    let entries = entries.as_slice();
+    assert!(rt; entries.len() == 2 && entries[0].label == Some(3) && entries[1].label.is_none());
 }

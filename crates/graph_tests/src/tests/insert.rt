@@ -6,9 +6,8 @@ ghost use Rattle.kc_levels.specs.LevelList.{MeetsUpper, IsCapped};
 ghost use Rattle.kc_insert.specs.Working.{IsReady};
 
 use super::drawing::{all_pairs, dealt, drawn_pairs};
-use super::plainly::{check_settled, count_of};
+use super::plainly::{are_moves, count_of, settle_plainly};
 use super::support;
-use super::support::ensure;
 use kc_adj::{LevelAdj, Steps};
 use kc_graph::{MAX_EDGES, MAX_VERTICES};
 use kc_insert::{InsertionWork, insert_phase, insert_rounds};
@@ -86,12 +85,16 @@ fn come_in_counted<R: Threads + Sync + Abort, G: Gate + Sync, L: Ledger>(
 {
     assert!(rt; 1 <= workers && workers <= 64);
     let rounds = Rounds::new(rt, alloc, gate, workers);
+    let n = adj.graph().vertices();
     let mut work = InsertionWork::new(alloc, th, adj).expect(rt, "memory");
     let mut steps = Steps::<L>::new(blank);
     let mut plain = adj.levels().as_slice().to_vec(alloc).expect(rt, "memory");
     for batch in batches {
         let moves = come_in_once(&rounds, alloc, th, adj, &mut work, batch, &mut steps);
-        check_settled(rt, alloc, th, adj, true, &mut plain, &moves);
+        let before = plain.as_slice().to_vec(alloc).expect(rt, "memory");
+        settle_plainly(rt, alloc, adj.graph(), th, true, &mut plain);
+        assert!(rt; adj.levels().as_slice() == plain.as_slice());
+        assert!(rt; are_moves(moves.as_slice(), n, &before, &plain));
     }
 }
 
@@ -134,19 +137,8 @@ fn check_counted<R: Threads + Sync + Abort, G: Gate + Sync, L: Ledger>(
     let tally = insert_rounds(rt, alloc, gate, 2, &th, &mut adj, &added, &mut steps).expect(
         rt, "memory",
     );
-    ensure(rt, "levels", adj.levels().as_slice() == want);
-    ensure(rt, "moves", tally.moves == above_zero(want));
-}
-
-// Returns how many levels are above 0.
-fn above_zero(levels: &[u16]) -> u32 {
-    let mut count = 0u32;
-    for level in levels {
-        if *level > 0 {
-            count = count.wrapping_add(1);
-        }
-    }
-    count
+    assert!(rt; adj.levels().as_slice() == want);
+    assert!(rt; tally.moves as usize == want.iter().filter(|level| **level > 0).count());
 }
 
 fn check<R: Threads + Sync + Abort, G: Gate + Sync>(
@@ -160,9 +152,7 @@ fn check<R: Threads + Sync + Abort, G: Gate + Sync>(
 }
 
 // Batches, and the levels after them.
-type Case = (&'static [&'static [(u32, u32)]], &'static [u16]);
-
-const CASES: &[Case] = &[
+const CASES: &[(&[&[(u32, u32)]], &[u16])] = &[
     (&[&[]], &[0]),
     (&[&[]], &[0, 0]),
     (&[&[(0, 1)]], &[1, 1]),
@@ -180,17 +170,13 @@ const CASES: &[Case] = &[
     ),
 ];
 
-fn check_case<R: Threads + Sync + Abort>(rt: &R, alloc: Global, case: &Case, workers: u32) {
-    let mut adj = empty(rt, alloc, count_of(rt, case.1.len()));
-    come_in(rt, alloc, &OpenGate, workers, &mut adj, case.0);
-    ensure(rt, "levels", adj.levels().as_slice() == case.1);
-}
-
 #[test]
 fn small_graphs(rt: HostRuntime) {
-    for case in CASES {
+    for (batches, want) in CASES {
         for workers in [1, 3, 64] {
-            check_case(&rt, rt.alloc(), case, workers);
+            let mut adj = empty(&rt, rt.alloc(), count_of(&rt, want.len()));
+            come_in(&rt, rt.alloc(), &OpenGate, workers, &mut adj, batches);
+            assert!(rt; adj.levels().as_slice() == *want);
         }
     }
 }
@@ -205,25 +191,18 @@ fn eight_joined_each_with_each(rt: HostRuntime) {
 #[test]
 fn levels_among_many(rt: HostRuntime) {
     for n in [4u32, 5, 1000, 530_000] {
-        check_star(&rt, rt.alloc(), n);
-    }
-}
-
-fn check_star<R: Threads + Sync + Abort>(rt: &R, alloc: Global, n: u32) {
-    let last = n.saturating_sub(1);
-    let mut want = Vec::new(alloc);
-    for v in 0..n {
-        want.push(star_level(v, last)).expect(rt, "memory");
-    }
-    check(rt, alloc, &OpenGate, &[(0, 1), (0, 2), (0, last)], &want);
-}
-
-// Returns the level of v in a star with the middle 0 and the ends 1, 2 and `last`.
-fn star_level(v: u32, last: u32) -> u16 {
-    match v {
-        0 => 2,
-        1 | 2 => 1,
-        _ => u16::from(v == last),
+        let last = n.saturating_sub(1);
+        let mut want = Vec::new(rt.alloc());
+        for v in 0..n {
+            let level = match v {
+                0 => 2,
+                1 | 2 => 1,
+                _ => u16::from(v == last),
+            };
+            want.push(level).expect(&rt, "memory");
+        }
+        let star = [(0, 1), (0, 2), (0, last)];
+        check(&rt, rt.alloc(), &OpenGate, &star, &want);
     }
 }
 
@@ -238,7 +217,7 @@ fn a_first_round_has_two_pieces_at_once(rt: HostRuntime) {
         &[(0, 1), (0, 2), (0, 3), (0, 4)],
         &[2, 1, 1, 1, 1],
     );
-    ensure(&rt, "two pieces at once", gate.have_met());
+    assert!(rt; gate.have_met());
 }
 
 // The numbers of workers in tests of random graphs.
@@ -249,24 +228,12 @@ fn batches_rise_as_by_recounting(rt: HostRuntime) {
     let mut random = Random::new(1);
     for round in 0..8u32 {
         for workers in WORKERS {
-            check_drawn(&rt, rt.alloc(), &mut random, 1 + round % 5, workers);
+            let n = 1 + random.below(30);
+            let pairs = drawn_pairs(&rt, rt.alloc(), &mut random, n, 1 + round % 5, n);
+            let batches = dealt(&rt, rt.alloc(), &mut random, &pairs, 3);
+            let mut adj = empty(&rt, rt.alloc(), n);
+            let batches = batches.parts();
+            come_in(&rt, rt.alloc(), &OpenGate, workers, &mut adj, &batches);
         }
     }
-}
-
-// Lets three batches of a random graph come in.
-fn check_drawn<R: Threads + Sync + Abort>(
-    rt: &R,
-    alloc: Global,
-    random: &mut Random,
-    gap: u32,
-    workers: u32,
-)
-    requires { 0 < gap }
-{
-    let n = 1 + random.below(30);
-    let pairs = drawn_pairs(rt, alloc, random, n, gap, n);
-    let batches = dealt(rt, alloc, random, &pairs, 3);
-    let mut adj = empty(rt, alloc, n);
-    come_in(rt, alloc, &OpenGate, workers, &mut adj, &batches.parts());
 }

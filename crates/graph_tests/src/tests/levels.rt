@@ -1,8 +1,8 @@
 // Thresholds of bands, and a star that meets and breaks the invariants, all worked out by hand.
 ghost use Rattle.std.specs.Prelude.{◌≡◌};
 
-use super::support::{check_row, ensure, graph, levels};
-use kc_graph::{Graph, MAX_VERTICES};
+use super::support::{check_row, graph, levels};
+use kc_graph::MAX_VERTICES;
 use kc_levels::{
     Estimate, Levels, Profile, Thresholds, at_least, check_lower, check_upper, moved_count,
 };
@@ -17,9 +17,7 @@ fn thresholds(rt: &impl Abort, alloc: Global, profile: Profile, n: u32) -> Thres
 }
 
 // The top level for a number of vertices.
-type Top = (Profile, u32, u16);
-
-const TOPS: &[Top] = &[
+const TOPS: &[(Profile, u32, u16)] = &[
     (Profile::One, 1, 1),
     (Profile::One, 2, 1),
     (Profile::One, 3, 1),
@@ -36,16 +34,17 @@ const TOPS: &[Top] = &[
 
 #[test]
 fn tops(rt: HostRuntime) {
-    for (row, top) in TOPS.iter().enumerate() {
-        let th = thresholds(&rt, rt.alloc(), top.0, top.1);
-        check_row(&rt, row, th.top() == top.2);
+    for (row, &(profile, n, top)) in TOPS.iter().enumerate() {
+        check_row(
+            &rt,
+            row,
+            thresholds(&rt, rt.alloc(), profile, n).top() == top,
+        );
     }
 }
 
 // A level of 8 vertices, its band, and the low, the high, the est and the lo of the band. The top is 19.
-type Band = (u16, u16, u32, u32, u32, u32);
-
-const EIGHT: &[Band] = &[
+const EIGHT: &[(u16, u16, u32, u32, u32, u32)] = &[
     (0, 0, 1, 0, 0, 0),
     (1, 1, 1, 2, 2, 1),
     (6, 1, 1, 2, 2, 1),
@@ -56,59 +55,44 @@ const EIGHT: &[Band] = &[
     (19, 4, 4, 8, 4, 2),
 ];
 
-// Returns whether the level has this band.
-fn is_band(th: &Thresholds, band: &Band) -> bool {
-    if band.0 > th.top() {
-        return false;
-    }
-    let i = th.group(band.0);
-    let estimate = Estimate {
-        est: band.4,
-        lo: band.5,
-        hi: band.3,
-    };
-    i == band.1 && th.low(i) == band.2 && th.high(i) == band.3 && th.estimate(band.0) == estimate
-}
-
 #[test]
 fn groups_of_eight(rt: HostRuntime) {
     let th = thresholds(&rt, rt.alloc(), Profile::One, 8);
-    for (row, band) in EIGHT.iter().enumerate() {
-        check_row(&rt, row, is_band(&th, band));
+    for (row, &(level, group, low, high, est, lo)) in EIGHT.iter().enumerate() {
+        assert!(rt; level <= th.top());
+        let i = th.group(level);
+        let estimate = Estimate { est, lo, hi: high };
+        check_row(
+            &rt,
+            row,
+            i == group && th.low(i) == low && th.high(i) == high && th.estimate(level) == estimate,
+        );
     }
 }
 
 // A star with three leaves and a vertex alone: their levels, a vertex, and how many of its neighbours are on its level
 // or above. Then whether the vertex meets the upper and the lower invariant. Band 1 allows two neighbours.
-type Case = (&'static [u16], u32, u32, bool, bool);
-
-const STAR: &[Case] = &[
-    (&[1, 1, 2, 5, 0], 0, 3, false, true),
-    (&[2, 1, 2, 5, 0], 0, 2, true, true),
-    (&[2, 1, 2, 5, 0], 4, 0, true, true),
-    (&[2, 1, 2, 5, 1], 4, 0, true, false),
+const STAR: &[([u16; 5], u32, u32, bool, bool)] = &[
+    ([1, 1, 2, 5, 0], 0, 3, false, true),
+    ([2, 1, 2, 5, 0], 0, 2, true, true),
+    ([2, 1, 2, 5, 0], 4, 0, true, true),
+    ([2, 1, 2, 5, 1], 4, 0, true, false),
 ];
-
-fn is_case(star: &Graph, th: &Thresholds, levels: &Levels, case: &Case) -> bool
-    requires graph { star.now.vertices ≡ 5 }
-    requires scale { th.now.vertices ≡ 5 }
-{
-    let v = case.1;
-    levels.as_slice().len() == 5
-        && v < 5
-        && levels.get(v) <= th.top()
-        && at_least(star, levels, v, levels.get(v)) == case.2
-        && check_upper(star, levels, th, v) == case.3
-        && check_lower(star, levels, th, v) == case.4
-}
 
 #[test]
 fn a_star_meets_and_breaks_the_bounds(rt: HostRuntime) {
     let th = thresholds(&rt, rt.alloc(), Profile::One, 5);
     let star = graph(&rt, rt.alloc(), 5, &[(0, 1), (0, 2), (0, 3)]);
-    for (row, case) in STAR.iter().enumerate() {
-        let levels = levels(&rt, rt.alloc(), case.0);
-        check_row(&rt, row, is_case(&star, &th, &levels, case));
+    for (row, &(items, v, own, upper, lower)) in STAR.iter().enumerate() {
+        let levels = levels(&rt, rt.alloc(), &items);
+        assert!(rt; v < 5 && levels.get(v) <= th.top());
+        check_row(
+            &rt,
+            row,
+            at_least(&star, &levels, v, levels.get(v)) == own
+                && check_upper(&star, &levels, &th, v) == upper
+                && check_lower(&star, &levels, &th, v) == lower,
+        );
     }
 }
 
@@ -118,10 +102,5 @@ fn moved_vertices_are_counted(rt: HostRuntime) {
     let mut after = before.copy(rt.alloc()).expect(&rt, "memory");
     after.set(0, 2);
     after.set(2, 1);
-    ensure(
-        &rt,
-        "raised levels",
-        after.as_slice() == [2, 0, 1].as_slice(),
-    );
-    ensure(&rt, "moved vertices", moved_count(&before, &after) == 2);
+    assert!(rt; after.as_slice() == [2, 0, 1].as_slice() && moved_count(&before, &after) == 2);
 }

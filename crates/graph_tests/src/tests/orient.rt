@@ -5,23 +5,13 @@ ghost use Rattle.std.specs.Prelude.{◌≡◌, ◌<◌, length};
 use super::drawing::drawn_pairs;
 use super::plainly::count_of;
 use super::support;
-use super::support::ensure;
 use kc_graph::{Edge, Graph};
 use kc_levels::Levels;
 use kc_orient::{Orientation, colour, orient};
-use std::alloc::Global;
-use std::process::Abort;
 use test_support::random::Random;
 
 // The edges of graphs, their levels, and the out-neighbours and the colour of each vertex.
-type Row = (
-    &'static [(u32, u32)],
-    &'static [u16],
-    &'static [&'static [u32]],
-    &'static [u32],
-);
-
-const GRAPHS: &[Row] = &[
+const GRAPHS: &[(&[(u32, u32)], &[u16], &[&[u32]], &[u32])] = &[
     // Four vertices joined each with each on one level, and one alone.
     (
         &[(0, 1), (0, 2), (0, 3), (1, 2), (1, 3), (2, 3)],
@@ -47,25 +37,17 @@ const GRAPHS: &[Row] = &[
 
 #[test]
 fn small_graphs(rt: HostRuntime) {
-    for row in GRAPHS {
-        check(&rt, rt.alloc(), row);
+    for (pairs, levels, outs, want) in GRAPHS {
+        let n = count_of(&rt, levels.len());
+        let graph = support::graph(&rt, rt.alloc(), n, pairs);
+        let levels = support::levels(&rt, rt.alloc(), levels);
+        let orientation = orient(rt.alloc(), &graph, &levels).expect(&rt, "memory");
+        let colours = colour(rt.alloc(), &orientation).expect(&rt, "memory");
+        for v in 0..n {
+            assert!(rt; outs.get(v as usize) == Some(&orientation.out(v)));
+        }
+        assert!(rt; colours.as_slice() == *want);
     }
-}
-
-fn check<R: Abort>(rt: &R, alloc: Global, row: &Row) {
-    let n = count_of(rt, row.1.len());
-    let graph = support::graph(rt, alloc, n, row.0);
-    let levels = support::levels(rt, alloc, row.1);
-    let orientation = orient(alloc, &graph, &levels).expect(rt, "memory");
-    for v in 0..n {
-        ensure(
-            rt,
-            "out-neighbours",
-            row.2.get(v as usize) == Some(&orientation.out(v)),
-        );
-    }
-    let colours = colour(alloc, &orientation).expect(rt, "memory");
-    ensure(rt, "colours", colours.as_slice() == row.3);
 }
 
 // Returns whether w has this colour.
@@ -108,36 +90,18 @@ fn small_graphs_by_the_definition(rt: HostRuntime) {
         let n = 1 + random.below(9);
         let pairs = drawn_pairs(&rt, rt.alloc(), &mut random, n, 1 + round % 4, n);
         let graph = support::graph(&rt, rt.alloc(), n, &pairs);
-        let levels = random_levels(&rt, rt.alloc(), &mut random, n);
-        check_by_definition(&rt, rt.alloc(), &graph, &levels);
-    }
-}
-
-// Returns n levels below 4.
-fn random_levels<R: Abort>(rt: &R, alloc: Global, random: &mut Random, n: u32) -> Levels {
-    let mut levels = Vec::new(alloc);
-    for _ in 0..n {
-        levels.push(random.below(4) as u16).expect(rt, "memory");
-    }
-    support::levels(rt, alloc, &levels)
-}
-
-fn check_by_definition<R: Abort>(rt: &R, alloc: Global, graph: &Graph, levels: &Levels) {
-    let n = graph.vertices();
-    assert!(rt; levels.as_slice().len() == n as usize);
-    let orientation = orient(alloc, graph, levels).expect(rt, "memory");
-    let colours = colour(alloc, &orientation).expect(rt, "memory");
-    assert!(rt; colours.len() == n as usize);
-    for v in 0..n {
-        ensure(
-            rt,
-            "out-neighbours",
-            is_oriented(graph, levels, &orientation, v),
-        );
-        ensure(
-            rt,
-            "a colour",
-            is_least_free(orientation.out(v), &colours, colours[v as usize]),
-        );
+        let mut levels = Vec::new(rt.alloc());
+        for _ in 0..n {
+            levels.push(random.below(4) as u16).expect(&rt, "memory");
+        }
+        assert!(rt; levels.len() == n as usize);
+        let levels = support::levels(&rt, rt.alloc(), &levels);
+        let orientation = orient(rt.alloc(), &graph, &levels).expect(&rt, "memory");
+        let colours = colour(rt.alloc(), &orientation).expect(&rt, "memory");
+        assert!(rt; colours.len() == n as usize);
+        for v in 0..n {
+            assert!(rt; is_oriented(&graph, &levels, &orientation, v));
+            assert!(rt; is_least_free(orientation.out(v), &colours, colours[v as usize]));
+        }
     }
 }

@@ -3,10 +3,8 @@
 
 ghost use Rattle.std.specs.Prelude.{◌≡◌, ◌<◌, ◌≤◌};
 
-use super::support::ensure;
-use kc_adj::LevelAdj;
 use kc_graph::{Graph, MAX_VERTICES};
-use kc_levels::{Move, Moves, Thresholds};
+use kc_levels::{Move, Thresholds};
 use std::alloc::Global;
 use std::process::Abort;
 
@@ -106,40 +104,16 @@ pub fn settle_plainly<R: Abort>(
 }
 
 // Returns whether these are the moves of n vertices from levels to others, ascending.
-fn are_moves(moves: &[Move], n: u32, before: &[u16], after: &[u16]) -> bool {
+pub fn are_moves(moves: &[Move], n: u32, before: &[u16], after: &[u16]) -> bool {
     let mut rest = moves.iter();
     for v in 0..n {
         let (old, new) = (level_of(before, v), level_of(after, v));
-        if old != new && !is_move(rest.next(), v, old, new) {
-            return false;
+        if old != new {
+            match rest.next() {
+                Some(m) if m.vertex == v && m.old == old && m.new == new => {}
+                _ => return false,
+            }
         }
     }
     rest.next().is_none()
-}
-
-fn is_move(found: Option<&Move>, v: u32, old: u16, new: u16) -> bool {
-    match found {
-        Some(m) => m.vertex == v && m.old == old && m.new == new,
-        None => false,
-    }
-}
-
-// Lets the plain levels settle too, and checks that a phase gave the same levels, with these moves.
-pub fn check_settled<R: Abort>(
-    rt: &R,
-    alloc: Global,
-    th: &Thresholds,
-    adj: &LevelAdj,
-    rise: bool,
-    plain: &mut Vec<u16>,
-    moves: &Moves,
-) {
-    let before = plain.as_slice().to_vec(alloc).expect(rt, "memory");
-    settle_plainly(rt, alloc, adj.graph(), th, rise, plain);
-    ensure(rt, "levels", adj.levels().as_slice() == plain.as_slice());
-    ensure(
-        rt,
-        "moves",
-        are_moves(moves.as_slice(), adj.graph().vertices(), &before, plain),
-    );
 }

@@ -2,7 +2,7 @@
 // its first test.
 ghost use Rattle.std.specs.Prelude.{◌≡◌, ◌≤◌};
 
-use super::support::{check_row, ensure};
+use super::support::check_row;
 use kc_rounds::{
     FirstRound, Gate, Gathered, OpenGate, RoundGather, RoundTest, Rounds, Spot, filter_round,
 };
@@ -68,9 +68,7 @@ impl RoundTest for Watch {
 }
 
 // A number of workers, the size of their pieces of five numbers, and how often each piece starts.
-type Round = (u32, u32, u64);
-
-const ROUNDS: &[Round] = &[
+const ROUNDS: &[(u32, u32, u64)] = &[
     (1, 5, 0x01),
     (2, 3, 0x0101),
     (3, 2, 0x010101),
@@ -79,38 +77,38 @@ const ROUNDS: &[Round] = &[
     (64, 1, 0x01_0101_0101),
 ];
 
-const FIVE: &[u32] = &[0, 1, 2, 3, 4];
-
 // Runs a round of the numbers below five, of which two are kept.
 fn watched<R: Threads + Sync + Abort>(rt: &R, alloc: Global, workers: u32, size: u32) -> Watch {
     assert!(rt; 1 <= workers && workers <= 64 && 1 <= size);
     let watch = Watch::new(size);
-    let kept = filter_round(rt, alloc, &watch, workers, FIVE, &watch).expect(rt, "memory");
-    ensure(rt, "kept numbers", kept.as_slice() == [1, 3].as_slice());
+    let kept = filter_round(rt, alloc, &watch, workers, &[0, 1, 2, 3, 4], &watch).expect(
+        rt, "memory",
+    );
+    assert!(rt; kept.as_slice() == [1, 3].as_slice());
     watch
 }
 
 #[test]
 fn kept_in_order_by_any_workers(rt: HostRuntime) {
-    for (number, row) in ROUNDS.iter().enumerate() {
-        let watch = watched(&rt, rt.alloc(), row.0, row.1);
-        check_row(&rt, number, watch.pieces.load(SeqCst) == row.2);
+    for (row, &(workers, size, pieces)) in ROUNDS.iter().enumerate() {
+        let watch = watched(&rt, rt.alloc(), workers, size);
+        check_row(&rt, row, watch.pieces.load(SeqCst) == pieces);
     }
 }
 
 #[test]
 fn pieces_are_told_before_they_are_tested(rt: HostRuntime) {
-    for (number, row) in ROUNDS.iter().enumerate() {
-        let watch = watched(&rt, rt.alloc(), row.0, row.1);
-        check_row(&rt, number, watch.early.load(SeqCst) == 0);
+    for (row, &(workers, size, _)) in ROUNDS.iter().enumerate() {
+        let watch = watched(&rt, rt.alloc(), workers, size);
+        check_row(&rt, row, watch.early.load(SeqCst) == 0);
     }
 }
 
 #[test]
 fn each_candidate_is_tested_once(rt: HostRuntime) {
-    for (number, row) in ROUNDS.iter().enumerate() {
-        let watch = watched(&rt, rt.alloc(), row.0, row.1);
-        check_row(&rt, number, watch.tested.load(SeqCst) == 0x01_0101_0101);
+    for (row, &(workers, size, _)) in ROUNDS.iter().enumerate() {
+        let watch = watched(&rt, rt.alloc(), workers, size);
+        check_row(&rt, row, watch.tested.load(SeqCst) == 0x01_0101_0101);
     }
 }
 
@@ -121,8 +119,7 @@ fn an_empty_list_has_no_piece(rt: HostRuntime) {
         let kept = filter_round(&rt, rt.alloc(), &watch, workers, &[], &watch).expect(
             &rt, "memory",
         );
-        ensure(&rt, "no number", kept.is_empty());
-        ensure(&rt, "no piece", watch.pieces.load(SeqCst) == 0);
+        assert!(rt; kept.is_empty() && watch.pieces.load(SeqCst) == 0);
     }
 }
 
@@ -133,14 +130,11 @@ fn pieces_run_at_the_same_time(rt: HostRuntime) {
     let kept = filter_round(&rt, rt.alloc(), &gate, 2, &[1, 2, 3, 4, 5], &test).expect(
         &rt, "memory",
     );
-    ensure(&rt, "kept numbers", kept.as_slice() == [1, 3, 5].as_slice());
-    ensure(&rt, "two pieces at once", gate.have_met());
+    assert!(rt; kept.as_slice() == [1, 3, 5].as_slice() && gate.have_met());
 }
 
 // The candidates of a round, those that are kept, and how often each piece has started so far.
-type Later = (&'static [u32], &'static [u32], u64);
-
-const LATER: &[Later] = &[
+const LATER: &[(&[u32], &[u32], u64)] = &[
     (&[], &[], 0),
     (&[1, 2, 3, 4, 5], &[1, 3, 5], 0x010101),
     (&[7, 6, 9], &[7, 9], 0x010102),
@@ -152,27 +146,22 @@ fn later_short_rounds_have_one_piece(rt: HostRuntime) {
     let watch = Watch::new(1);
     let rounds = Rounds::new(&rt, rt.alloc(), &watch, 3);
     let mut first = FirstRound::new();
-    ensure(&rt, "workers", rounds.workers() == 3);
-    for row in LATER {
-        check_movers(&rt, &rounds, &mut first, row.0, &watch, row.1, row.2);
+    assert!(rt; rounds.workers() == 3);
+    for (row, &(candidates, kept, pieces)) in LATER.iter().enumerate() {
+        let movers = rounds
+            .movers(&mut first, candidates, &watch)
+            .expect(&rt, "memory");
+        check_row(
+            &rt,
+            row,
+            movers.as_slice() == kept && watch.pieces.load(SeqCst) == pieces,
+        );
     }
     let long = vec![in rt.alloc(); 4u32; 300_000].expect(&rt, "memory");
-    check_movers(&rt, &rounds, &mut first, &long, &watch, &[], 0x010203);
-}
-
-// Checks which candidates a round keeps, and how often each piece has started then.
-fn check_movers<R: Threads + Sync + Abort>(
-    rt: &R,
-    rounds: &Rounds<R, Watch>,
-    first: &mut FirstRound,
-    candidates: &[u32],
-    watch: &Watch,
-    kept: &[u32],
-    pieces: u64,
-) {
-    let movers = rounds.movers(first, candidates, watch).expect(rt, "memory");
-    ensure(rt, "kept candidates", movers.as_slice() == kept);
-    ensure(rt, "pieces", watch.pieces.load(SeqCst) == pieces);
+    let movers = rounds
+        .movers(&mut first, &long, &watch)
+        .expect(&rt, "memory");
+    assert!(rt; movers.is_empty() && watch.pieces.load(SeqCst) == 0x010203);
 }
 
 // Finds an odd number once at itself and an even one twice, and gives the remainder by 7.
@@ -246,32 +235,22 @@ fn gathered_in_order_by_any_workers(rt: HostRuntime) {
     let one = Rounds::new(&rt, rt.alloc(), &gate, 1);
     let what = Finds::new(None);
     let few = one.gather(&[9, 2, 3], &what).expect(&rt, "memory");
-    ensure(
-        &rt,
-        "numbers",
-        few.numbers.as_slice() == [2, 2, 3].as_slice(),
-    );
-    ensure(
-        &rt,
-        "lengths",
-        few.lengths.as_slice() == [1, 2, 1].as_slice(),
-    );
-    ensure(
-        &rt,
-        "found",
-        few.found.as_slice() == [9, 2, 2, 3].as_slice(),
+    assert!(rt;
+        few.numbers.as_slice() == [2, 2, 3].as_slice()
+            && few.lengths.as_slice() == [1, 2, 1].as_slice()
+            && few.found.as_slice() == [9, 2, 2, 3].as_slice()
     );
     let many = numbers(&rt, rt.alloc(), 10_000);
     let want = one.gather(&many, &what).expect(&rt, "memory");
     for workers in [2, 3, 64] {
         let rounds = Rounds::new(&rt, rt.alloc(), &gate, workers);
         let all = rounds.gather(&many, &what).expect(&rt, "memory");
-        ensure(&rt, "all", are_same(&all, &want));
+        assert!(rt; are_same(&all, &want));
     }
 }
 
 // Workers, a number of vertices, and the number of their pieces.
-const GATHERED: &[Round] = &[
+const GATHERED: &[(u32, u32, u64)] = &[
     (64, 0, 0),
     (64, 1, 1),
     (64, 4095, 1),
@@ -285,30 +264,19 @@ const GATHERED: &[Round] = &[
 #[test]
 fn short_lists_are_gathered_by_few(rt: HostRuntime) {
     let watch = Watch::new(1);
-    for row in GATHERED {
-        let list = numbers(&rt, rt.alloc(), row.1);
-        check_gathered(&rt, rt.alloc(), row, &list, &watch);
+    for (row, &(workers, count, pieces)) in GATHERED.iter().enumerate() {
+        assert!(rt; 1 <= workers && workers <= 64);
+        let rounds = Rounds::new(&rt, rt.alloc(), &watch, workers);
+        let what = Finds::new(None);
+        let list = numbers(&rt, rt.alloc(), count);
+        rounds.gather(&list, &what).expect(&rt, "memory");
+        check_row(
+            &rt,
+            row,
+            what.calls.load(SeqCst) == u64::from(count) && what.pieces.load(SeqCst) == pieces,
+        );
     }
-    ensure(&rt, "no piece of a round", watch.pieces.load(SeqCst) == 0);
-}
-
-fn check_gathered<R: Threads + Sync + Abort>(
-    rt: &R,
-    alloc: Global,
-    row: &Round,
-    list: &[u32],
-    watch: &Watch,
-) {
-    assert!(rt; 1 <= row.0 && row.0 <= 64);
-    let rounds = Rounds::new(rt, alloc, watch, row.0);
-    let what = Finds::new(None);
-    rounds.gather(list, &what).expect(rt, "memory");
-    ensure(
-        rt,
-        "gathered numbers",
-        what.calls.load(SeqCst) == u64::from(row.1),
-    );
-    ensure(rt, "pieces", what.pieces.load(SeqCst) == row.2);
+    assert!(rt; watch.pieces.load(SeqCst) == 0);
 }
 
 #[test]
@@ -318,12 +286,9 @@ fn pieces_are_gathered_at_the_same_time(rt: HostRuntime) {
     let what = Finds::new(Some(Holding::new()));
     let list = numbers(&rt, rt.alloc(), 4096);
     rounds.gather(&list, &what).expect(&rt, "memory");
-    ensure(&rt, "two pieces at once", have_met(&what.gate));
-}
-
-fn have_met(gate: &Option<Holding>) -> bool {
-    match gate {
-        Some(gate) => gate.have_met(),
-        None => false,
-    }
+    assert!(rt;
+        what.gate
+            .as_ref()
+            .is_some_and(|gate: &Holding| gate.have_met())
+    );
 }

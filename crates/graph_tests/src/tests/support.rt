@@ -62,11 +62,6 @@ pub fn levelled<L: Ledger>(
     adj
 }
 
-// Ends the test unless this holds, and prints of what. Its proof costs half that of an `assert!` in place.
-pub fn ensure(rt: &impl Abort, of: &str, holds: bool) {
-    assert!(rt; holds, "{of}");
-}
-
 // Ends the test unless a row of its table holds.
 pub fn check_row(rt: &impl Abort, row: usize, holds: bool)
     ensures { holds ≡ true }

@@ -1,6 +1,6 @@
 // Run texts, whole, changed and broken. Their answers were worked out by hand.
 
-use crate::tests::support::{Bench, Input, LIMITS, Lines, check, input_of, joined, sides};
+use crate::tests::support::{Bench, LIMITS, Lines, check, input_of, joined, sides};
 use kc_audit::{AuditFault, AuditVerdict, RunText, audit, read_run};
 
 // Runs that aren't read from a text.
@@ -21,43 +21,27 @@ fn tell(rt: &impl Bench, out: &mut Lines, run: &RunText) {
     }
 }
 
-// Adds the answer of the audit of a text: the verdict, the refused line and why, or `?` for a read fault.
-fn tell_text(rt: &impl Bench, out: &mut Lines, input: &mut Input) {
+// Returns the answer of the audit of a text: the verdict, the refused line and why, or `?` for a read fault.
+fn told(rt: &impl Bench, text: &[u8], piece: u32, failing: &[u32], limits: (u32, u32)) -> Vec<u8> {
+    let mut input = input_of(rt, text, piece, failing, limits);
+    let mut out = Lines::new(rt);
     match read_run(rt.alloc(), &mut input.reader, &mut input.source) {
-        Ok(run) => tell(rt, out, &run),
+        Ok(run) => tell(rt, &mut out, &run),
         Err(AuditFault::Refused { line, reason }) => out.refused(rt, line, reason),
         Err(AuditFault::ReadFault) => out.text(rt, b"?"),
         Err(AuditFault::Memory(_)) => out.text(rt, b"memory"),
     }
     out.end(rt);
+    out.done(rt)
 }
 
-// Checks the answer to a text in these pieces, of which some calls fail, with these limits.
-fn check_text(
-    rt: &impl Bench,
-    text: &[u8],
-    piece: u32,
-    failing: &[u32],
-    limits: (u32, u32),
-    want: &str,
-) {
-    let mut input = input_of(rt, text, piece, failing, limits);
-    let mut out = Lines::new(rt);
-    tell_text(rt, &mut out, &mut input);
-    check(rt, "a run", out.ended(), want);
-}
-
-// Checks a text that begins with `before`, has the first side of a row and ends with `after`. The second side is the
+// Checks texts that begin with `before`, have the first side of a row and end with `after`. The second side is the
 // answer.
-fn check_row(rt: &impl Bench, before: &'static str, row: &'static str, after: &'static str) {
-    let (part, want) = sides(rt, row);
-    let text = joined(rt, &[before, part, after]);
-    check_text(rt, &text, 1000, &[], RUN_LIMITS, want);
-}
-
 fn check_rows(rt: &impl Bench, before: &'static str, rows: &[&'static str], after: &'static str) {
     for row in rows {
-        check_row(rt, before, row, after);
+        let (part, want) = sides(rt, row);
+        let text = joined(rt, &[before, part, after]);
+        check(rt, part, &told(rt, &text, 1000, &[], RUN_LIMITS), want);
     }
 }
 
@@ -105,7 +89,7 @@ const READERS: &[&str] = &[
 fn readers(rt: HostRuntime) {
     check_rows(&rt, GROUPS, READERS, TAIL);
     let (vertices, _) = TAIL.split_once("end").expect(&rt, "an end");
-    check_row(&rt, GROUPS, " => 13 truncated\n", vertices);
+    check_rows(&rt, GROUPS, &[" => 13 truncated\n"], vertices);
 }
 
 const GROUP_LINES: &[&str] = &[
@@ -223,9 +207,15 @@ const SHORT: &str =
 fn whole_texts(rt: HostRuntime) {
     check_rows(&rt, "", HEADS, "");
     check_rows(&rt, ONE, ENDS, "");
-    let text = joined(&rt, &[GROUPS, "reader 0 0=1 1=0\n", TAIL]);
-    check_text(&rt, &text, 1, &[], RUN_LIMITS, "0 ask 2\n");
-    check_text(&rt, &text, 7, &[], RUN_LIMITS, "0 ask 2\n");
+    for piece in [1, 7] {
+        let text = joined(&rt, &[GROUPS, "reader 0 0=1 1=0\n", TAIL]);
+        check(
+            &rt,
+            "a text in pieces",
+            &told(&rt, &text, piece, &[], RUN_LIMITS),
+            "0 ask 2\n",
+        );
+    }
 }
 
 // Limits of a line and of the input, and the answer to `SHORT`.
@@ -241,28 +231,40 @@ const LIMITED: &[((u32, u32), &str)] = &[
 
 #[test]
 fn limits_and_faults(rt: HostRuntime) {
-    for row in LIMITED {
-        check_text(&rt, SHORT.as_bytes(), 9, &[], row.0, row.1);
+    for (limits, want) in LIMITED {
+        check(
+            &rt,
+            "limits",
+            &told(&rt, SHORT.as_bytes(), 9, &[], *limits),
+            want,
+        );
     }
     for call in [1, 2, 5] {
-        check_text(&rt, SHORT.as_bytes(), 9, &[call], RUN_LIMITS, "?\n");
+        let got = told(&rt, SHORT.as_bytes(), 9, &[call], RUN_LIMITS);
+        check(&rt, "a failing source", &got, "?\n");
     }
 }
 
-// Checks the answer to a run with this many readers.
-fn check_readers(rt: &impl Bench, count: u32, want: &str) {
+// Returns the answer to a run with this many readers.
+fn told_of_readers(rt: &impl Bench, count: u32) -> Vec<u8> {
     let mut lines = Lines::new(rt);
-    lines.text(rt, HEAD.as_bytes());
     for reader in 0..count {
         lines.field(rt, b"reader ", reader);
         lines.line(rt, b" 5=0");
     }
-    lines.line(rt, TAIL.as_bytes());
-    check_text(rt, lines.ended(), 1000, &[], RUN_LIMITS, want);
+    let mut text = joined(rt, &[HEAD]);
+    text.extend_from_slice(&lines.done(rt)).expect(rt, "memory");
+    text.extend_from_slice(TAIL.as_bytes()).expect(rt, "memory");
+    told(rt, &text, 1000, &[], RUN_LIMITS)
 }
 
 #[test]
 fn at_most_64_readers(rt: HostRuntime) {
-    check_readers(&rt, 64, "explained\n");
-    check_readers(&rt, 65, "67 bad-line\n");
+    check(&rt, "64 readers", &told_of_readers(&rt, 64), "explained\n");
+    check(
+        &rt,
+        "65 readers",
+        &told_of_readers(&rt, 65),
+        "67 bad-line\n",
+    );
 }

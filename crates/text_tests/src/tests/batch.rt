@@ -1,6 +1,6 @@
 // Headers and batches of inputs. Their answers were worked out by hand.
 
-use crate::tests::support::{Bench, Input, LIMITS, Lines, check, ensure, input_of, joined, sides};
+use crate::tests::support::{Bench, Input, LIMITS, Lines, check, input_of, joined, sides};
 use kc_batch::{
     Ask, Asks, Batch, BatchFault, Header, HeaderFault, Items, Next, Vertices, next_batch,
 };
@@ -10,41 +10,31 @@ use kc_levels::Profile;
 // The program's limit of the items of a batch.
 const ITEM_LIMIT: u32 = 1_048_576;
 
-// Adds an ask: its times and vertices.
-fn tell_ask(rt: &impl Bench, out: &mut Lines, ask: &Ask) {
-    out.field(rt, b" ask ", ask.times);
-    for v in ask.vertices.as_slice() {
-        out.field(rt, b",", *v);
-    }
-}
-
-// Adds a header: `n`, and each ask.
+// Adds a header: `n`, and each ask as its times and vertices.
 fn tell_header(rt: &impl Bench, out: &mut Lines, header: &Header) {
     out.number(rt, header.n);
     for ask in header.asks.as_slice() {
-        tell_ask(rt, out, ask);
+        out.field(rt, b" ask ", ask.times);
+        for v in ask.vertices.as_slice() {
+            out.field(rt, b",", *v);
+        }
     }
     out.end(rt);
-}
-
-fn tell_pair(rt: &impl Bench, out: &mut Lines, sign: &[u8], u: u32, v: u32) {
-    out.field(rt, sign, u);
-    out.field(rt, b",", v);
-}
-
-fn tell_item(rt: &impl Bench, out: &mut Lines, item: Item) {
-    match item {
-        Item::Insert { u, v } => tell_pair(rt, out, b" +", u, v),
-        Item::Delete { u, v } => tell_pair(rt, out, b" -", u, v),
-        Item::Isolate { v } => out.field(rt, b" x", v),
-    }
 }
 
 // Adds a batch: the line of its `end`, and each item.
 fn tell_batch(rt: &impl Bench, out: &mut Lines, batch: &Batch) {
     out.number(rt, batch.line);
     for item in batch.items.as_slice() {
-        tell_item(rt, out, *item);
+        let (sign, u, v): (&[u8], u32, Option<u32>) = match *item {
+            Item::Insert { u, v } => (b" +", u, Some(v)),
+            Item::Delete { u, v } => (b" -", u, Some(v)),
+            Item::Isolate { v } => (b" x", v, None),
+        };
+        out.field(rt, sign, u);
+        if let Some(v) = v {
+            out.field(rt, b",", v);
+        }
     }
 }
 
@@ -81,12 +71,13 @@ fn tell_batches(
     }
 }
 
-// Adds the answer to an input: the header, or `!` and the line at which it is refused, and up to four batches.
-fn tell(rt: &impl Bench, out: &mut Lines, input: &mut Input, item_limit: u32) {
+// Returns the answer to an input: the header, or `!` and the line at which it is refused, and up to four batches.
+fn told(rt: &impl Bench, mut input: Input, item_limit: u32) -> Vec<u8> {
+    let mut out = Lines::new(rt);
     match Header::read(rt.alloc(), &mut input.reader, &mut input.source) {
         Ok(header) => {
-            tell_header(rt, out, &header);
-            tell_batches(rt, out, &header, input, item_limit);
+            tell_header(rt, &mut out, &header);
+            tell_batches(rt, &mut out, &header, &mut input, item_limit);
         }
         Err(HeaderFault::Refused { line }) => {
             out.field(rt, b"!", line);
@@ -95,30 +86,16 @@ fn tell(rt: &impl Bench, out: &mut Lines, input: &mut Input, item_limit: u32) {
         Err(HeaderFault::ReadFault) => out.line(rt, b"?"),
         Err(HeaderFault::Memory(_)) => out.line(rt, b"memory"),
     }
+    out.done(rt)
 }
 
-// Checks the answer to an input.
-fn check_input(rt: &impl Bench, input: Input, item_limit: u32, want: &str) {
-    let mut input = input;
-    let mut out = Lines::new(rt);
-    tell(rt, &mut out, &mut input, item_limit);
-    check(rt, "an input", out.ended(), want);
-}
-
-// Checks the answer to a text in these pieces.
-fn check_text(rt: &impl Bench, text: &[u8], piece: u32, want: &str) {
-    check_input(rt, input_of(rt, text, piece, &[], LIMITS), ITEM_LIMIT, want);
-}
-
-// Checks an input that begins with `before` and ends with the first side of a row. The second side is the answer.
-fn check_row(rt: &impl Bench, before: &'static str, row: &'static str, piece: u32) {
-    let (text, want) = sides(rt, row);
-    check_text(rt, &joined(rt, &[before, text]), piece, want);
-}
-
+// Checks inputs that begin with `before` and end with the first side of a row. The second side is the answer.
 fn check_rows(rt: &impl Bench, before: &'static str, rows: &[&'static str], piece: u32) {
     for row in rows {
-        check_row(rt, before, row, piece);
+        let (text, want) = sides(rt, row);
+        let whole = joined(rt, &[before, text]);
+        let input = input_of(rt, &whole, piece, &[], LIMITS);
+        check(rt, text, &told(rt, input, ITEM_LIMIT), want);
     }
 }
 
@@ -158,31 +135,25 @@ const HEADERS: &[&str] = &[
 
 const HEAD: &str = "kcore 1\nvertices 5\n";
 
-// Appends a part, `count` times over.
-fn push(rt: &impl Bench, text: &mut Vec<u8>, part: &[u8], count: usize) {
-    for _ in 0..count {
-        text.extend_from_slice(part).expect(rt, "memory");
-    }
-}
-
-// Checks the answer to a header with this many asks.
-fn check_asks(rt: &impl Bench, count: usize, want: &[u8]) {
+// Returns the answer to a header with this many asks.
+fn told_of_asks(rt: &impl Bench, count: usize) -> Vec<u8> {
     let mut text = joined(rt, &[HEAD]);
-    push(rt, &mut text, b"ask 1 0\n", count);
-    let mut input = input_of(rt, &text, 1000, &[], LIMITS);
-    let mut out = Lines::new(rt);
-    tell(rt, &mut out, &mut input, ITEM_LIMIT);
-    ensure(rt, "asks", out.ended() == want);
+    for _ in 0..count {
+        text.extend_from_slice(b"ask 1 0\n").expect(rt, "memory");
+    }
+    told(rt, input_of(rt, &text, 1000, &[], LIMITS), ITEM_LIMIT)
 }
 
 #[test]
 fn headers_and_asks(rt: HostRuntime) {
     check_rows(&rt, "", HEADERS, 5);
     let mut want = joined(&rt, &["5"]);
-    push(&rt, &mut want, b" ask 1,0", 64);
-    push(&rt, &mut want, b"\n.\n", 1);
-    check_asks(&rt, 64, &want);
-    check_asks(&rt, 65, b"!67\n");
+    for _ in 0..64 {
+        want.extend_from_slice(b" ask 1,0").expect(&rt, "memory");
+    }
+    want.extend_from_slice(b"\n.\n").expect(&rt, "memory");
+    assert!(rt; told_of_asks(&rt, 64) == want);
+    check(&rt, "65 asks", &told_of_asks(&rt, 65), "!67\n");
 }
 
 // Batches after `HEAD`.
@@ -219,24 +190,13 @@ const CUT: &[&str] = &[
 
 #[test]
 fn cut_inputs(rt: HostRuntime) {
+    let text = "kcore 1\nvertices 5\nbatch\n0 1\n0 2\nend\nbatch\n+ 0 3\nend\n# no more\n";
     for row in CUT {
-        check_cut(&rt, row);
+        let (line, want) = sides(&rt, row);
+        let (before, _) = text.split_once(line).expect(&rt, "the line");
+        let input = input_of(&rt, before.as_bytes(), 3, &[], LIMITS);
+        check(&rt, line, &told(&rt, input, ITEM_LIMIT), want);
     }
-}
-
-const UNCUT: &str = "kcore 1\nvertices 5\nbatch\n0 1\n0 2\nend\nbatch\n+ 0 3\nend\n# no more\n";
-
-fn check_cut(rt: &impl Bench, row: &'static str) {
-    let (line, want) = sides(rt, row);
-    let (before, _) = UNCUT.split_once(line).expect(rt, "the line");
-    check_text(rt, before.as_bytes(), 3, want);
-}
-
-// Adds the next batch of a graph of three vertices, which has at most two items.
-fn tell_small(rt: &impl Bench, out: &mut Lines, input: &mut Input) {
-    let (reader, source) = (&mut input.reader, &mut input.source);
-    let next = next_batch(rt.alloc(), reader, source, 3, Profile::One, 2);
-    tell_next(rt, out, next);
 }
 
 #[test]
@@ -244,27 +204,20 @@ fn batches_without_a_header(rt: HostRuntime) {
     let text = b"batch\n0 1\n0 2\n1 2\nend\n";
     let mut input = input_of(&rt, text, 5, &[], LIMITS);
     let mut out = Lines::new(&rt);
-    tell_small(&rt, &mut out, &mut input);
-    tell_small(&rt, &mut out, &mut input);
-    check(&rt, "a batch", out.ended(), "4 too-many\n.\n");
+    for _ in 0..2 {
+        let (reader, source) = (&mut input.reader, &mut input.source);
+        let next = next_batch(rt.alloc(), reader, source, 3, Profile::One, 2);
+        tell_next(&rt, &mut out, next);
+    }
+    check(&rt, "a batch", &out.done(&rt), "4 too-many\n.\n");
 }
 
-const ITEM: Item = Item::Delete { u: 1, v: 0 };
-
 #[test]
-fn items_from_a_vec(rt: HostRuntime) {
-    let items = vec![in rt.alloc(); ITEM; 3].expect(&rt, "memory");
+fn lists_from_a_vec(rt: HostRuntime) {
+    let item = Item::Delete { u: 1, v: 0 };
+    let items = vec![in rt.alloc(); item; 3].expect(&rt, "memory");
     let items = Items::from_vec(items).into_vec();
-    ensure(&rt, "items", items.as_slice() == [ITEM; 3].as_slice());
-}
-
-// Returns whether this is three times an ask for vertex 7, twice.
-fn is_ask(ask: &Ask) -> bool {
-    ask.times == 3 && ask.vertices.as_slice() == [7u32, 7].as_slice()
-}
-
-#[test]
-fn asks_from_a_vec(rt: HostRuntime) {
+    assert!(rt; items.as_slice() == [item; 3].as_slice());
     let vertices = vec![in rt.alloc(); 7u32; 2].expect(&rt, "memory");
     let ask = Ask {
         times: 3,
@@ -274,13 +227,11 @@ fn asks_from_a_vec(rt: HostRuntime) {
     asks.push(ask).expect(&rt, "memory");
     let asks = Asks::from_vec(asks).into_vec();
     assert!(rt; asks.len() == 1);
-    ensure(&rt, "an ask", is_ask(&asks[0]));
+    assert!(rt; asks[0].times == 3 && asks[0].vertices.as_slice() == [7u32, 7].as_slice());
 }
 
 // The limits of a line, of the input and of the items of a batch, an input, and the answer to it.
-type Limited = ((u32, u32, u32), &'static str);
-
-const LIMITED: &[Limited] = &[
+const LIMITED: &[((u32, u32, u32), &str)] = &[
     (
         (99, 26, 9),
         "kcore 1\nvertices 2\nbatch\n0 1\nend\n => 2\n4 input-limit\n4 input-limit\n4 input-limit\n4 input-limit\n",
@@ -309,29 +260,35 @@ const LIMITED: &[Limited] = &[
     ((99, 7, 9), "kcore 1\nvertices 2\n => !1\n"),
 ];
 
-// Checks the answer to a comment of a hash and this many digits, at the program's limits.
-fn check_comment(rt: &impl Bench, digits: usize, want: &str) {
+// Returns the answer to a comment of this many bytes, at the program's limits.
+fn told_of_comment(rt: &impl Bench, len: usize) -> Vec<u8> {
     let mut text = joined(rt, &[HEAD, "batch\n#"]);
-    push(rt, &mut text, b"0", digits);
-    push(rt, &mut text, b"\nend\n", 1);
-    check_text(rt, &text, 1000, want);
-}
-
-fn check_limited(rt: &impl Bench, limited: &Limited) {
-    let (text, want) = sides(rt, limited.1);
-    let limits = (limited.0.0, limited.0.1);
-    let input = input_of(rt, text.as_bytes(), 4, &[], limits);
-    check_input(rt, input, limited.0.2, want);
+    for _ in 1..len {
+        text.push(b'0').expect(rt, "memory");
+    }
+    text.extend_from_slice(b"\nend\n").expect(rt, "memory");
+    told(rt, input_of(rt, &text, 1000, &[], LIMITS), ITEM_LIMIT)
 }
 
 #[test]
 fn limits_of_lines_and_items(rt: HostRuntime) {
-    for limited in LIMITED {
-        check_limited(&rt, limited);
+    for ((line, input, items), row) in LIMITED {
+        let (text, want) = sides(&rt, row);
+        let input = input_of(&rt, text.as_bytes(), 4, &[], (*line, *input));
+        check(&rt, text, &told(&rt, input, *items), want);
     }
-    // Lines of 65,536 bytes and of one more.
-    check_comment(&rt, 65_535, "5\n5\n.\n");
-    check_comment(&rt, 65_536, "5\n4 line-long\n.\n");
+    check(
+        &rt,
+        "65,536 bytes",
+        &told_of_comment(&rt, 65_536),
+        "5\n5\n.\n",
+    );
+    check(
+        &rt,
+        "65,537 bytes",
+        &told_of_comment(&rt, 65_537),
+        "5\n4 line-long\n.\n",
+    );
 }
 
 // The call of the source that fails, if it gives 7 bytes a call.
@@ -346,8 +303,8 @@ const FAILING: &[(u32, &str)] = &[
 #[test]
 fn read_faults(rt: HostRuntime) {
     let text = b"kcore 1\nvertices 3\nbatch\n0 1\nend\n";
-    for row in FAILING {
-        let input = input_of(&rt, text, 7, &[row.0], LIMITS);
-        check_input(&rt, input, ITEM_LIMIT, row.1);
+    for (call, want) in FAILING {
+        let input = input_of(&rt, text, 7, &[*call], LIMITS);
+        check(&rt, "a failing source", &told(&rt, input, ITEM_LIMIT), want);
     }
 }

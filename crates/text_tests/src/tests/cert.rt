@@ -1,9 +1,7 @@
 // Certificates, read, judged and written. Their answers were worked out by hand.
 ghost use Rattle.kc_cert.specs.Texts.{IsCertificate};
 
-use crate::tests::support::{
-    Bench, Input, LIMITS, Lines, check, ensure, input_of, joined, sides, sink_of,
-};
+use crate::tests::support::{Bench, LIMITS, Lines, check, input_of, joined, sides, sink_of};
 use kc_cert::{CertFault, Certificate, Verdict, read_certificate, verify, write_certificate};
 use kc_levels::{Profile, Thresholds};
 use kc_text::{MemSink, Reason, SendFault};
@@ -32,31 +30,19 @@ fn tell_verdict(rt: &impl Bench, out: &mut Lines, cert: &Certificate)
     out.field(rt, b" of ", cert.graph.edge_count());
 }
 
-// Adds the answer to a text: the verdict of the certificate and its number of edges, or the refused line and why. A
+// Returns the answer to a text: the verdict of the certificate and its number of edges, or the refused line and why. A
 // read fault is `?`.
-fn tell(rt: &impl Bench, out: &mut Lines, input: &mut Input) {
+fn told(rt: &impl Bench, text: &[u8], piece: u32, failing: &[u32], limits: (u32, u32)) -> Vec<u8> {
+    let mut input = input_of(rt, text, piece, failing, limits);
+    let mut out = Lines::new(rt);
     match read_certificate(rt.alloc(), &mut input.reader, &mut input.source) {
-        Ok(cert) => tell_verdict(rt, out, &cert),
+        Ok(cert) => tell_verdict(rt, &mut out, &cert),
         Err(CertFault::Refused { line, reason }) => out.refused(rt, line, reason),
         Err(CertFault::ReadFault) => out.text(rt, b"?"),
         Err(CertFault::Memory(_)) => out.text(rt, b"memory"),
     }
     out.end(rt);
-}
-
-// Checks the answer to a text in these pieces, of which some calls fail, with these limits.
-fn check_text(
-    rt: &impl Bench,
-    text: &[u8],
-    piece: u32,
-    failing: &[u32],
-    limits: (u32, u32),
-    want: &str,
-) {
-    let mut input = input_of(rt, text, piece, failing, limits);
-    let mut out = Lines::new(rt);
-    tell(rt, &mut out, &mut input);
-    check(rt, "a certificate", out.ended(), want);
+    out.done(rt)
 }
 
 const WHOLE: &[&str] = &[
@@ -84,37 +70,23 @@ const WHOLE: &[&str] = &[
 fn whole_certificates(rt: HostRuntime) {
     for piece in [1, 7, 1000] {
         for row in WHOLE {
-            check_row(&rt, row, piece);
+            let (text, want) = sides(&rt, row);
+            check(
+                &rt,
+                text,
+                &told(&rt, text.as_bytes(), piece, &[], LIMITS),
+                want,
+            );
         }
-        check_text(
-            &rt,
-            PATH.as_bytes(),
-            piece,
-            &[],
-            LIMITS,
-            "certified 5 of 2\n",
-        );
-        check_text(
-            &rt,
-            FINE_PATH.as_bytes(),
-            piece,
-            &[],
-            LIMITS,
-            "certified 5 of 2\n",
-        );
+        for text in [PATH, FINE_PATH] {
+            let got = told(&rt, text.as_bytes(), piece, &[], LIMITS);
+            check(&rt, text, &got, "certified 5 of 2\n");
+        }
     }
 }
 
-// Checks the first side of a row, a text in these pieces. The second side is the answer.
-fn check_row(rt: &impl Bench, row: &'static str, piece: u32) {
-    let (text, want) = sides(rt, row);
-    check_text(rt, text.as_bytes(), piece, &[], LIMITS, want);
-}
-
 // A line, the line in its place, and the answer then.
-type Misfit = (&'static str, &'static str, &'static str);
-
-const MISFITS: &[Misfit] = &[
+const MISFITS: &[(&str, &str, &str)] = &[
     ("kcore-cert 1\n", "kcore-cert 1 1\n", "1 bad-line\n"),
     ("vertices 5\n", "vertices 1\n", "5 bad-vertex\n"),
     ("edges 2\n", "edges 1\n", "6 bad-line\n"),
@@ -135,15 +107,11 @@ const MISFITS: &[Misfit] = &[
 
 #[test]
 fn misfits(rt: HostRuntime) {
-    for row in MISFITS {
-        check_misfit(&rt, row);
+    for (old, new, want) in MISFITS {
+        let (before, after) = PATH.split_once(*old).expect(&rt, "the line");
+        let text = joined(&rt, &[before, new, after]);
+        check(&rt, new, &told(&rt, &text, 9, &[], LIMITS), want);
     }
-}
-
-fn check_misfit(rt: &impl Bench, row: &Misfit) {
-    let (before, after) = PATH.split_once(row.0).expect(rt, "the line");
-    let text = joined(rt, &[before, row.1, after]);
-    check_text(rt, &text, 9, &[], LIMITS, row.2);
 }
 
 // The beginnings of the lines of the path.
@@ -161,39 +129,28 @@ const LIMITED: &[((u32, u32), &str)] = &[
 
 #[test]
 fn cut_certificates(rt: HostRuntime) {
+    let path = PATH.as_bytes();
     let mut line = 0u32;
     for start in STARTS {
         line = line.saturating_add(1);
-        check_cut(&rt, line, *start);
+        let mut want = Lines::new(&rt);
+        want.refused(&rt, line, Reason::Truncated);
+        want.end(&rt);
+        assert!(rt; *start <= path.len() && path[*start..].contains(&b'\n'));
+        assert!(rt; told(&rt, &path[..*start], 1000, &[], LIMITS) == want.done(&rt));
     }
-    for row in LIMITED {
-        check_text(&rt, PATH.as_bytes(), 5, &[], row.0, row.1);
+    for (limits, want) in LIMITED {
+        check(&rt, want, &told(&rt, path, 5, &[], *limits), want);
     }
-}
-
-// Checks the path without the text from the start of one of its lines on.
-fn check_cut(rt: &impl Bench, line: u32, start: usize) {
-    let path = PATH.as_bytes();
-    assert!(rt; start <= path.len());
-    ensure(rt, "a line after the cut", path[start..].contains(&b'\n'));
-    let mut input = input_of(rt, &path[..start], 1000, &[], LIMITS);
-    let mut out = Lines::new(rt);
-    tell(rt, &mut out, &mut input);
-    let mut want = Lines::new(rt);
-    want.refused(rt, line, Reason::Truncated);
-    want.end(rt);
-    ensure(rt, "a cut certificate", out.ended() == want.ended());
 }
 
 #[test]
 fn failing_source(rt: HostRuntime) {
     for call in 1..13 {
-        check_text(&rt, PATH.as_bytes(), 10, &[call], LIMITS, "?\n");
+        let got = told(&rt, PATH.as_bytes(), 10, &[call], LIMITS);
+        check(&rt, "a failing source", &got, "?\n");
     }
 }
-
-// The levels of the path under the first profile.
-const ONE_LEVELS: &[u16] = &[1, 1, 1, 0, 0];
 
 // Writes the certificate of the path.
 fn write_path(
@@ -211,15 +168,13 @@ fn write_path(
 #[test]
 fn written_certificates(rt: HostRuntime) {
     for piece in [1, 7, 1000] {
-        check_written(&rt, piece, Profile::One, ONE_LEVELS, PATH);
-        check_written(&rt, piece, Profile::Two, &[1, 2, 1, 0, 0], FINE_PATH);
+        let mut sink = sink_of(&rt, piece, &[]);
+        write_path(&rt, &mut sink, Profile::One, &[1, 1, 1, 0, 0]).expect(&rt, "a write");
+        check(&rt, "the path", sink.bytes(), PATH);
+        let mut sink = sink_of(&rt, piece, &[]);
+        write_path(&rt, &mut sink, Profile::Two, &[1, 2, 1, 0, 0]).expect(&rt, "a write");
+        check(&rt, "the path", sink.bytes(), FINE_PATH);
     }
-}
-
-fn check_written(rt: &impl Bench, piece: u32, profile: Profile, items: &[u16], want: &str) {
-    let mut sink = sink_of(rt, piece, &[]);
-    write_path(rt, &mut sink, profile, items).expect(rt, "a write");
-    check(rt, "the path", sink.bytes(), want);
 }
 
 // Each line is one call of a sink that takes it whole: if a call fails, the lines before it were taken.
@@ -228,23 +183,9 @@ fn each_line_is_one_call(rt: HostRuntime) {
     let mut call = 0u32;
     for start in STARTS {
         call = call.saturating_add(1);
-        check_failing(&rt, call, *start);
+        let mut sink = sink_of(&rt, 2000, &[call]);
+        let answer = write_path(&rt, &mut sink, Profile::One, &[1, 1, 1, 0, 0]);
+        assert!(rt; matches!(answer, Err(SendFault::WriteFault)));
+        assert!(rt; *start <= PATH.len() && sink.bytes() == &PATH.as_bytes()[..*start]);
     }
-}
-
-// Checks that what was taken before this call fails ends at this place of the path.
-fn check_failing(rt: &impl Bench, call: u32, start: usize) {
-    let mut sink = sink_of(rt, 2000, &[call]);
-    let answer = write_path(rt, &mut sink, Profile::One, ONE_LEVELS);
-    ensure(
-        rt,
-        "a write fault",
-        matches!(answer, Err(SendFault::WriteFault)),
-    );
-    assert!(rt; start <= PATH.len());
-    ensure(
-        rt,
-        "what was taken",
-        sink.bytes() == &PATH.as_bytes()[..start],
-    );
 }

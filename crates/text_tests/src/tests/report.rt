@@ -1,7 +1,7 @@
 // The lines of runs, of exact texts and of readers, beside lines that were worked out by hand.
 ghost use Rattle.std.specs.Prelude.{◌≤◌, length};
 
-use crate::tests::support::{Bench, check, ensure, sink_of};
+use crate::tests::support::{Bench, check, sink_of};
 use kc_graph::{Cleaned, Edges};
 use kc_history::Reply;
 use kc_levels::Estimate;
@@ -55,12 +55,6 @@ enum Part {
     Alone,
 }
 
-fn write_cleaned(rt: &impl Bench, buf: &mut LineBuf, sink: &mut MemSink) -> Result<(), SendFault> {
-    let cleaned = cleaned_of(rt, &[(0, 1)], &[(0, 2), (3, 4)]);
-    assert!(rt; cleaned.removed.len() < 9 && cleaned.added.len() < 9);
-    write_batch(rt.alloc(), buf, sink, 1, &cleaned, &[])
-}
-
 fn write_part(
     rt: &impl Bench,
     buf: &mut LineBuf,
@@ -70,7 +64,11 @@ fn write_part(
     let alloc = rt.alloc();
     match part {
         Part::Head => write_head(alloc, buf, sink, 1048576),
-        Part::Batch => write_cleaned(rt, buf, sink),
+        Part::Batch => {
+            let cleaned = cleaned_of(rt, &[(0, 1)], &[(0, 2), (3, 4)]);
+            assert!(rt; cleaned.removed.len() < 9 && cleaned.added.len() < 9);
+            write_batch(alloc, buf, sink, 1, &cleaned, &[])
+        }
         Part::Refused => write_refused(alloc, buf, sink, 2, 17, Reason::EdgeLimit),
         Part::Vertex => write_vertex(alloc, buf, sink, 0, 65535, ESTIMATE, 5, 10),
         Part::End => write_end(alloc, buf, sink),
@@ -117,34 +115,17 @@ fn lines_of_a_run(rt: HostRuntime) {
 fn each_line_is_one_call(rt: HostRuntime) {
     // Call 2 is the second of the head. There is no call 7.
     for failing in 2..=7 {
-        check_failing(&rt, failing);
+        let mut sink = sink_of(&rt, 2000, &[failing]);
+        let mut buf = LineBuf::new(rt.alloc());
+        let mut call = 2u32;
+        for part in RUN {
+            let answer = write_part(&rt, &mut buf, &mut sink, *part);
+            assert!(rt; answer.is_ok() == (call != failing));
+            assert!(rt; matches!(answer, Ok(()) | Err(SendFault::WriteFault)));
+            call = call.saturating_add(1);
+        }
+        assert!(rt; sink.bytes() == without(&rt, RUN_TEXT, failing).as_slice());
     }
-}
-
-// Returns whether this is a write fault where a call fails, and else `Ok`.
-fn is_answer(answer: &Result<(), SendFault>, fails: bool) -> bool {
-    match answer {
-        Ok(()) => !fails,
-        Err(SendFault::WriteFault) => fails,
-        Err(SendFault::Memory(_)) => false,
-    }
-}
-
-// Checks what is written of a run to a sink of which this call fails.
-fn check_failing(rt: &impl Bench, failing: u32) {
-    let mut sink = sink_of(rt, 2000, &[failing]);
-    let mut buf = LineBuf::new(rt.alloc());
-    let mut call = 2u32;
-    for part in RUN {
-        let answer = write_part(rt, &mut buf, &mut sink, *part);
-        ensure(rt, "an answer", is_answer(&answer, call == failing));
-        call = call.saturating_add(1);
-    }
-    ensure(
-        rt,
-        "the lines but one",
-        sink.bytes() == without(rt, RUN_TEXT, failing).as_slice(),
-    );
 }
 
 // Returns a text without one of its lines, counted from 1.
@@ -166,8 +147,7 @@ fn without(rt: &impl Bench, text: &str, line: u32) -> Vec<u8> {
 fn head_ends_at_its_first_fault(rt: HostRuntime) {
     let mut sink = sink_of(&rt, 1000, &[1]);
     let answer = write_head(rt.alloc(), &mut LineBuf::new(rt.alloc()), &mut sink, 1);
-    ensure(&rt, "the head's answer", is_answer(&answer, true));
-    ensure(&rt, "no line", sink.bytes().is_empty());
+    assert!(rt; matches!(answer, Err(SendFault::WriteFault)) && sink.bytes().is_empty());
 }
 
 // One line, in the first call: none is left for the second, which would fail.
@@ -187,57 +167,49 @@ fn line_of_a_refused_header(rt: HostRuntime) {
 // Four vertices joined each with each, and one alone: the level of the four says 1 to 4, and 2 for an estimate.
 #[test]
 fn lines_of_an_exact_text(rt: HostRuntime) {
+    let parts = [
+        Part::Note,
+        Part::ExactHead,
+        Part::Coreness,
+        Part::Alone,
+        Part::End,
+    ];
+    let want = "# batch 2 refused line 9 bad-vertex\n\
+        kcore-exact 1\nvertices 5\n\
+        vertex 3 coreness 3 low 1 est 2 high 4\n\
+        vertex 4 coreness 0 low 0 est 0 high 0\n\
+        end\n";
     for piece in [1, 7, 1000] {
-        check_parts(&rt, EXACT, piece, EXACT_TEXT);
+        check_parts(&rt, &parts, piece, want);
     }
 }
 
-const EXACT: &[Part] = &[
-    Part::Note,
-    Part::ExactHead,
-    Part::Coreness,
-    Part::Alone,
-    Part::End,
+const REPLIES: &[Reply] = &[
+    Reply {
+        vertex: 4294967295,
+        level: 65535,
+    },
+    Reply {
+        vertex: 0,
+        level: 7,
+    },
+    Reply {
+        vertex: 0,
+        level: 0,
+    },
 ];
-
-const EXACT_TEXT: &str = "# batch 2 refused line 9 bad-vertex\n\
-    kcore-exact 1\nvertices 5\n\
-    vertex 3 coreness 3 low 1 est 2 high 4\n\
-    vertex 4 coreness 0 low 0 est 0 high 0\n\
-    end\n";
-
-const SEVEN: Reply = Reply {
-    vertex: 0,
-    level: 7,
-};
-
-const ZERO: Reply = Reply {
-    vertex: 0,
-    level: 0,
-};
-
-const GREATEST: Reply = Reply {
-    vertex: 4294967295,
-    level: 65535,
-};
-
-const REPLIES: &[Reply] = &[GREATEST, SEVEN, ZERO];
-
-const LATER: &[Reply] = &[SEVEN, ZERO];
-
-// Readers and their replies.
-const READERS: &[(u32, &[Reply])] = &[(0, REPLIES), (1, &[]), (4294967295, LATER)];
 
 // The second reader has no reply. Each line is one call of the sink, of which the fourth fails.
 #[test]
 fn lines_of_readers(rt: HostRuntime) {
     let mut sink = sink_of(&rt, 1000, &[4]);
     let mut buf = LineBuf::new(rt.alloc());
-    for row in READERS {
-        write_reader(rt.alloc(), &mut buf, &mut sink, row.0, row.1).expect(&rt, "a write");
+    for (reader, from) in [(0, 0), (1, 3), (4294967295, 1)] {
+        let replies = &REPLIES[from..];
+        write_reader(rt.alloc(), &mut buf, &mut sink, reader, replies).expect(&rt, "a write");
     }
     let failed = write_reader(rt.alloc(), &mut buf, &mut sink, 3, REPLIES);
-    ensure(&rt, "the fourth answer", is_answer(&failed, true));
+    assert!(rt; matches!(failed, Err(SendFault::WriteFault)));
     let want = "reader 0 4294967295=65535 0=7 0=0\nreader 1\nreader 4294967295 0=7 0=0\n";
     check(&rt, "readers", sink.bytes(), want);
 }
@@ -285,43 +257,36 @@ fn write_known(rt: &impl Bench, sink: &mut MemSink, corenesses: &[u32]) -> Resul
 #[test]
 fn each_vertex_has_its_line(rt: HostRuntime) {
     for piece in [1, 7, 1000] {
-        check_known(&rt, piece, &[5, 0, 4294967295], KNOWN_TEXT);
+        let mut sink = sink_of(&rt, piece, &[]);
+        write_known(&rt, &mut sink, &[5, 0, 4294967295]).expect(&rt, "a write");
+        let want = "vertex 0 coreness 5 low 1 est 2 high 4\n\
+            vertex 1 coreness 0 low 1 est 2 high 4\n\
+            vertex 2 coreness 4294967295 low 1 est 2 high 4\n\
+            end\n";
+        check(&rt, "three vertices", sink.bytes(), want);
     }
-    check_known(&rt, 1000, &[], "end\n");
-}
-
-const KNOWN_TEXT: &str = "vertex 0 coreness 5 low 1 est 2 high 4\n\
-    vertex 1 coreness 0 low 1 est 2 high 4\n\
-    vertex 2 coreness 4294967295 low 1 est 2 high 4\n\
-    end\n";
-
-fn check_known(rt: &impl Bench, piece: u32, corenesses: &[u32], want: &str) {
-    let mut sink = sink_of(rt, piece, &[]);
-    write_known(rt, &mut sink, corenesses).expect(rt, "a write");
-    check(rt, "lines of vertices", sink.bytes(), want);
+    let mut sink = sink_of(&rt, 1000, &[]);
+    write_known(&rt, &mut sink, &[]).expect(&rt, "a write");
+    check(&rt, "no vertex", sink.bytes(), "end\n");
 }
 
 // Each line is one call of a sink that takes it whole: nothing is written after the one that fails.
 #[test]
 fn the_end_stops_at_its_first_fault(rt: HostRuntime) {
+    let texts = [
+        "",
+        "vertex 0 coreness 5 low 1 est 2 high 4\n",
+        "vertex 0 coreness 5 low 1 est 2 high 4\nvertex 1 coreness 0 low 1 est 2 high 4\n",
+        "vertex 0 coreness 5 low 1 est 2 high 4\nvertex 1 coreness 0 low 1 est 2 high 4\nend\n",
+    ];
     let mut call = 0u32;
-    for want in TEXTS {
+    for want in texts {
         call = call.saturating_add(1);
-        check_end(&rt, call, want);
+        let mut sink = sink_of(&rt, 1000, &[call]);
+        match write_known(&rt, &mut sink, &[5, 0]) {
+            Ok(()) => assert!(rt; call == 4),
+            Err(fault) => assert!(rt; matches!(fault, SendFault::WriteFault) && call < 4),
+        }
+        check(&rt, "an end", sink.bytes(), want);
     }
-}
-
-const TEXTS: &[&str] = &[
-    "",
-    "vertex 0 coreness 5 low 1 est 2 high 4\n",
-    "vertex 0 coreness 5 low 1 est 2 high 4\nvertex 1 coreness 0 low 1 est 2 high 4\n",
-    "vertex 0 coreness 5 low 1 est 2 high 4\nvertex 1 coreness 0 low 1 est 2 high 4\nend\n",
-];
-
-// Checks the end of a text of two vertices in a sink of which this call fails. There is no call 4.
-fn check_end(rt: &impl Bench, call: u32, want: &str) {
-    let mut sink = sink_of(rt, 1000, &[call]);
-    let answer = write_known(rt, &mut sink, &[5, 0]);
-    ensure(rt, "an answer", is_answer(&answer, call < 4));
-    check(rt, "an end", sink.bytes(), want);
 }

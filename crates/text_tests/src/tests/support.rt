@@ -1,5 +1,4 @@
 // Inputs and sinks in memory, and texts that are put together to be compared. Each fits, or the test ends.
-ghost use Rattle.std.specs.Prelude.{◌≡◌, None};
 
 use kc_text::{LineBuf, LineReader, MemSink, MemSource, Reason};
 use std::process::Abort;
@@ -27,9 +26,7 @@ pub fn input_of(
     piece: u32,
     failing: &[u32],
     limits: (u32, u32),
-) -> Input
-    ensures { result.reader.held ≡ None }
-{
+) -> Input {
     assert!(rt; piece > 0 && limits.0 <= LIMITS.1 && limits.1 <= LIMITS.1);
     Input {
         source: MemSource::new(rt.alloc(), text, piece, failing).expect(rt, "memory"),
@@ -97,8 +94,8 @@ impl Lines {
     }
 
     /// Returns the lines that have ended.
-    pub fn ended(&self) -> &[u8] {
-        self.sink.bytes()
+    pub fn done(&self, rt: &impl Bench) -> Vec<u8> {
+        Vec::from_slice(rt.alloc(), self.sink.bytes()).expect(rt, "memory")
     }
 }
 
@@ -114,11 +111,6 @@ pub fn joined(rt: &impl Bench, parts: &[&str]) -> Vec<u8> {
 /// Returns the two sides of a row, which ` => ` parts.
 pub fn sides(rt: &impl Bench, row: &'static str) -> (&'static str, &'static str) {
     row.split_once(" => ").expect(rt, "two sides")
-}
-
-/// Ends the test unless this holds, and prints of what. Its proof costs half that of an `assert!` in place.
-pub fn ensure(rt: &impl Abort, of: &str, holds: bool) {
-    assert!(rt; holds, "{of}");
 }
 
 /// Ends the test unless it got what is wanted, and prints of what.

@@ -1,10 +1,10 @@
 // Lines, numbers and words of texts. Expected values were worked out by hand.
 ghost use Rattle.std.specs.Prelude.{◌≡◌, None};
 
-use crate::tests::support::{Bench, Input, LIMITS, Lines, check, ensure, input_of};
+use crate::tests::support::{Bench, LIMITS, Lines, check, input_of};
 use kc_text::{
-    Body, Line, LineFault, LineReader, Reason, Sign, Source, StdSource, Words, give_back, is_named,
-    is_skipped, next_kept, next_number, next_word, read_number, text_of,
+    Body, Line, LineFault, LineReader, MemSource, Reason, Sign, Source, StdSource, Words,
+    give_back, is_named, is_skipped, next_kept, next_number, next_word, read_number, text_of,
 };
 
 // Sources and sinks.
@@ -73,31 +73,26 @@ fn tell_whole(rt: &impl Bench, reader: &mut LineReader, out: &mut Lines) -> bool
     true
 }
 
-// Adds the next answer of a reader, and returns whether it was the last. If `whole`, a line that lies whole in the
-// reader's memory is passed there.
-fn tell_next(rt: &impl Bench, input: &mut Input, out: &mut Lines, whole: bool) -> bool {
-    if whole && tell_whole(rt, &mut input.reader, out) {
-        return false;
-    }
-    tell(rt, &mut input.reader, &mut input.source, out)
-}
-
-// Checks all answers of a reader with a line limit of 8 and an input limit of 20, the last one twice.
-fn check_all(rt: &impl Bench, text: &str, piece: u32, failing: &[u32], whole: bool, want: &str) {
+// Returns all answers of a reader with a line limit of 8 and an input limit of 20, the last one twice. If `whole`,
+// lines that lie whole in its memory are passed there.
+fn told(rt: &impl Bench, text: &str, piece: u32, failing: &[u32], whole: bool) -> Vec<u8> {
     let mut input = input_of(rt, text.as_bytes(), piece, failing, (8, 20));
     let mut out = Lines::new(rt);
     for _ in 0..20 {
-        if tell_next(rt, &mut input, &mut out, whole) {
+        if whole && tell_whole(rt, &mut input.reader, &mut out) {
+            continue;
+        }
+        if tell(rt, &mut input.reader, &mut input.source, &mut out) {
+            tell(rt, &mut input.reader, &mut input.source, &mut out);
             break;
         }
     }
-    tell(rt, &mut input.reader, &mut input.source, &mut out);
-    check(rt, text, out.ended(), want);
+    out.done(rt)
 }
 
 fn check_told(rt: &impl Bench, text: &str, piece: u32, failing: &[u32], want: &str) {
-    check_all(rt, text, piece, failing, false, want);
-    check_all(rt, text, piece, failing, true, want);
+    check(rt, text, &told(rt, text, piece, failing, false), want);
+    check(rt, text, &told(rt, text, piece, failing, true), want);
 }
 
 // Inputs, and the answers of a reader.
@@ -114,9 +109,9 @@ const LINES: &[(&str, &str)] = &[
 
 #[test]
 fn lines_in_any_pieces(rt: HostRuntime) {
-    for row in LINES {
+    for (text, want) in LINES {
         for piece in [1, 2, 7, 1000] {
-            check_told(&rt, row.0, piece, &[], row.1);
+            check_told(&rt, text, piece, &[], want);
         }
     }
 }
@@ -130,8 +125,8 @@ const FAULTS: &[(&str, u32, &[u32], &str)] = &[
 
 #[test]
 fn lines_over_faults(rt: HostRuntime) {
-    for row in FAULTS {
-        check_told(&rt, row.0, row.1, row.2, row.3);
+    for (text, piece, failing, want) in FAULTS {
+        check_told(&rt, text, *piece, failing, want);
     }
 }
 
@@ -151,34 +146,23 @@ fn add_numbers(rt: &impl Bench, out: &mut Lines, first: u32, second: u32, len: u
     out.end(rt);
 }
 
-// Adds the second line of an input if it has two numbers.
-fn tell_numbers(rt: &impl Bench, reader: &mut LineReader, out: &mut Lines) {
-    if let Some(line) = reader.number_line() {
-        ensure(rt, "the second line", reader.pass_line(line.len) == 2);
-        out.text(rt, sign_of(line.sign));
-        add_numbers(rt, out, line.first, line.second, line.len);
-    }
-}
-
-// Adds the second line of an input if it is `ab` and two numbers.
-fn tell_named(rt: &impl Bench, reader: &mut LineReader, out: &mut Lines) {
-    if let Some(line) = reader.numbers_after(b"ab") {
-        ensure(rt, "the second line", reader.pass_line(line.len) == 2);
-        add_numbers(rt, out, line.first, line.second, line.len);
-    }
-}
-
-// Checks the answer to the second line of an input: two numbers, or `ab` and two numbers if `named`.
-fn check_second(rt: &impl Bench, row: &NumberRow, named: bool) {
-    let mut input = input_of(rt, row.1.as_bytes(), 1000, &[], row.0);
+// Returns the answer to the second line of an input: two numbers, or `ab` and two numbers if `named`.
+fn second_line(rt: &impl Bench, limits: (u32, u32), text: &str, named: bool) -> Vec<u8> {
+    let mut input = input_of(rt, text.as_bytes(), 1000, &[], limits);
     let mut out = Lines::new(rt);
-    next_of(rt, &mut input.reader, &mut input.source);
+    let reader = &mut input.reader;
+    next_of(rt, reader, &mut input.source);
     if named {
-        tell_named(rt, &mut input.reader, &mut out);
-    } else {
-        tell_numbers(rt, &mut input.reader, &mut out);
+        if let Some(line) = reader.numbers_after(b"ab") {
+            assert!(rt; reader.pass_line(line.len) == 2);
+            add_numbers(rt, &mut out, line.first, line.second, line.len);
+        }
+    } else if let Some(line) = reader.number_line() {
+        assert!(rt; reader.pass_line(line.len) == 2);
+        out.text(rt, sign_of(line.sign));
+        add_numbers(rt, &mut out, line.first, line.second, line.len);
     }
-    check(rt, row.1, out.ended(), row.2);
+    out.done(rt)
 }
 
 // The limits of a line and of the input, the input, and the answer to its second line.
@@ -208,8 +192,8 @@ const TWO_NUMBERS: &[NumberRow] = &[
 
 #[test]
 fn lines_of_two_numbers(rt: HostRuntime) {
-    for row in TWO_NUMBERS {
-        check_second(&rt, row, false);
+    for (limits, text, want) in TWO_NUMBERS {
+        check(&rt, text, &second_line(&rt, *limits, text, false), want);
     }
 }
 
@@ -232,130 +216,89 @@ const NAMED_NUMBERS: &[NumberRow] = &[
 
 #[test]
 fn lines_of_a_name_and_two_numbers(rt: HostRuntime) {
-    for row in NAMED_NUMBERS {
-        check_second(&rt, row, true);
+    for (limits, text, want) in NAMED_NUMBERS {
+        check(&rt, text, &second_line(&rt, *limits, text, true), want);
     }
 }
 
 // The input, the failing reads, and the first four answers.
-type KeptRow = (&'static str, &'static [u32], &'static str);
-
-const KEPT: &[KeptRow] = &[
+const KEPT: &[(&str, &[u32], &str)] = &[
     ("#\n\na\n \t\n #x\nb #\n", &[], "3:a\n6:b #\n7.\n7.\n"),
     ("#23456789\na", &[], "1*\n2:a\n3.\n3.\n"),
     ("#\n\n#\n#4567890123456789", &[], "4!\n4!\n4!\n4!\n"),
     ("#\n\na\n", &[2], "?\n3:a\n4.\n4.\n"),
 ];
 
-// Adds the next line that isn't skipped.
-fn tell_kept(rt: &impl Bench, input: &mut Input, out: &mut Lines) {
-    let given = next_kept(rt.alloc(), &mut input.reader, &mut input.source);
-    add_line(rt, &mut input.reader, given, out);
-}
-
-fn check_kept(rt: &impl Bench, row: &KeptRow) {
-    let mut input = input_of(rt, row.0.as_bytes(), 2, row.1, (8, 20));
-    let mut out = Lines::new(rt);
-    for _ in 0..4 {
-        tell_kept(rt, &mut input, &mut out);
-    }
-    check(rt, row.0, out.ended(), row.2);
-}
-
 #[test]
 fn lines_that_arent_skipped(rt: HostRuntime) {
-    for row in KEPT {
-        check_kept(&rt, row);
+    for (text, failing, want) in KEPT {
+        let mut input = input_of(&rt, text.as_bytes(), 2, failing, (8, 20));
+        let mut out = Lines::new(&rt);
+        for _ in 0..4 {
+            let given = next_kept(rt.alloc(), &mut input.reader, &mut input.source);
+            add_line(&rt, &mut input.reader, given, &mut out);
+        }
+        check(&rt, text, &out.done(&rt), want);
     }
 }
 
-// Puts a line back, and adds the next two answers.
-fn tell_back(rt: &impl Bench, input: &mut Input, out: &mut Lines, line: Line)
-    requires { input.old.reader.held ≡ None }
-{
-    input.reader.put_back(line);
-    tell(rt, &mut input.reader, &mut input.source, out);
-    tell(rt, &mut input.reader, &mut input.source, out);
-}
-
-// Puts the next line back, and adds the next two answers.
-fn tell_again(rt: &impl Bench, input: &mut Input, out: &mut Lines) {
-    let line = next_of(rt, &mut input.reader, &mut input.source);
-    tell_back(rt, input, out, line);
-}
-
-// Puts a line in the place of the next one, and adds the next two answers.
-fn tell_instead(rt: &impl Bench, input: &mut Input, out: &mut Lines, body: Body) {
-    next_of(rt, &mut input.reader, &mut input.source);
-    tell_back(rt, input, out, Line { number: 9, body });
-}
-
-// A line before the first, the second line and the end, which were read, and two lines in the place of the end.
 #[test]
 fn takes_lines_back(rt: HostRuntime) {
-    let mut input = input_of(&rt, b"a\nb\n", 1, &[], (8, 20));
+    let mut source = MemSource::new(rt.alloc(), b"a\nb\n", 1, &[]).expect(&rt, "memory");
+    let mut reader = LineReader::new(rt.alloc(), 8, 20).expect(&rt, "memory");
     let mut out = Lines::new(&rt);
-    let first = Line {
+    reader.put_back(Line {
         number: 7,
         body: Body::TooLong,
-    };
-    tell_back(&rt, &mut input, &mut out, first);
-    tell_again(&rt, &mut input, &mut out);
-    tell_again(&rt, &mut input, &mut out);
-    tell_instead(&rt, &mut input, &mut out, Body::Limit);
-    tell_instead(&rt, &mut input, &mut out, Body::TooLong);
-    let want = "7*\n1:a\n2:b\n3.\n3.\n3.\n9!\n9!\n9*\n9!\n";
-    check(&rt, "lines put back", out.ended(), want);
+    });
+    tell(&rt, &mut reader, &mut source, &mut out);
+    tell(&rt, &mut reader, &mut source, &mut out);
+    for _ in 0..2 {
+        let line = next_of(&rt, &mut reader, &mut source);
+        reader.put_back(line);
+        tell(&rt, &mut reader, &mut source, &mut out);
+    }
+    tell(&rt, &mut reader, &mut source, &mut out);
+    for body in [Body::Limit, Body::TooLong] {
+        next_of(&rt, &mut reader, &mut source);
+        reader.put_back(Line { number: 9, body });
+        tell(&rt, &mut reader, &mut source, &mut out);
+        tell(&rt, &mut reader, &mut source, &mut out);
+    }
+    check(
+        &rt,
+        "lines put back",
+        &out.done(&rt),
+        "7*\n1:a\n2:b\n3.\n3.\n9!\n9!\n9*\n9!\n",
+    );
 }
 
 // Lines of 65,536 bytes, the program's limit, a carriage return among them, and one of a byte more.
 #[test]
 fn lines_at_the_programs_limit(rt: HostRuntime) {
-    let text = long_lines(&rt);
+    let mut text = Vec::new(rt.alloc());
+    for end in ["a\n", "aa\n", "\r\n", "a\r\n"] {
+        for _ in 0..65_535 {
+            text.push(b'a').expect(&rt, "memory");
+        }
+        text.extend_from_slice(end.as_bytes()).expect(&rt, "memory");
+    }
     let mut source = StdSource::new(text.as_slice());
     let mut reader = LineReader::new(rt.alloc(), LIMITS.0, LIMITS.1).expect(&rt, "memory");
-    for want in LENGTHS {
-        ensure(
-            &rt,
-            "a length",
-            next_len(&rt, &mut reader, &mut source) == *want,
-        );
-    }
-}
-
-// The ends of long lines.
-const ENDS: &[&str] = &["a\n", "aa\n", "\r\n", "a\r\n"];
-
-// The length of each of these lines, or `None` for one that is too long.
-const LENGTHS: &[Option<usize>] = &[Some(65_536), None, Some(65_535), None];
-
-// Returns lines of 65,535 letters, each with one of the ends.
-fn long_lines(rt: &impl Bench) -> Vec<u8> {
-    let letters = vec![in rt.alloc(); b'a'; 65_535].expect(rt, "memory");
-    let mut text = Vec::new(rt.alloc());
-    for end in ENDS {
-        text.extend_from_slice(&letters).expect(rt, "memory");
-        text.extend_from_slice(end.as_bytes()).expect(rt, "memory");
-    }
-    text
-}
-
-// Returns the length of the next line, or `None` if it is too long. At the end or the limit it is 0.
-fn next_len<S: Source>(rt: &impl Bench, reader: &mut LineReader, source: &mut S) -> Option<usize> {
-    let line = next_of(rt, reader, source);
-    match &line.body {
-        Body::Text(text) => Some(text.as_slice().len()),
-        Body::TooLong => None,
-        Body::Limit | Body::End => Some(0),
+    for want in [Some(65_536), None, Some(65_535), None] {
+        let line = next_of(&rt, &mut reader, &mut source);
+        let len = match &line.body {
+            Body::Text(text) => Some(text.as_slice().len()),
+            Body::TooLong | Body::Limit | Body::End => None,
+        };
+        assert!(rt; len == want && (len.is_some() || matches!(line.body, Body::TooLong)));
     }
 }
 
 const WORDS: &[u8] = b" +  10\t20";
 
 // The place of the next word in it, and the number of the next word.
-type Place = (usize, Option<(usize, usize)>, Option<(u32, usize)>);
-
-const PLACES: &[Place] = &[
+const PLACES: &[(usize, Option<(usize, usize)>, Option<(u32, usize)>)] = &[
     (0, Some((1, 2)), None),
     (2, Some((4, 6)), Some((10, 6))),
     (5, Some((5, 6)), Some((0, 6))),
@@ -363,46 +306,19 @@ const PLACES: &[Place] = &[
     (9, None, None),
 ];
 
-// Returns whether the next word and the next number are these.
-fn is_place(place: &Place) -> bool {
-    place.0 <= WORDS.len()
-        && next_word(WORDS, place.0) == place.1
-        && next_number(WORDS, place.0) == place.2
-}
-
-fn are_names() -> bool {
-    is_named(b"ab", b"ab")
-        && is_named(b"", b"")
-        && !is_named(b"ab", b"a")
-        && !is_named(b"a", b"ab")
-        && !is_named(b"ab", b"aB")
-}
-
-fn are_skipped() -> bool {
-    is_skipped(b"")
-        && is_skipped(b" \t")
-        && is_skipped(b" #")
-        && !is_skipped(b"a #")
-        && !is_skipped(b"+ 1 2")
-}
-
 #[test]
 fn words_and_numbers(rt: HostRuntime) {
-    for place in PLACES {
-        ensure(&rt, "a place", is_place(place));
+    for (from, word, number) in PLACES {
+        assert!(rt; *from <= WORDS.len());
+        assert!(rt; next_word(WORDS, *from) == *word && next_number(WORDS, *from) == *number);
     }
-    ensure(
-        &rt,
-        "a number",
-        read_number(b"4294967295") == Some(4294967295),
+    assert!(rt;
+        read_number(b"4294967295") == Some(4294967295) && read_number(b"4294967296").is_none()
     );
-    ensure(
-        &rt,
-        "a number over the limit",
-        read_number(b"4294967296").is_none(),
-    );
-    ensure(&rt, "names", are_names());
-    ensure(&rt, "skipped lines", are_skipped());
+    assert!(rt; is_named(b"ab", b"ab") && is_named(b"", b""));
+    assert!(rt; !is_named(b"ab", b"a") && !is_named(b"a", b"ab") && !is_named(b"ab", b"aB"));
+    assert!(rt; is_skipped(b"") && is_skipped(b" \t") && is_skipped(b" #"));
+    assert!(rt; !is_skipped(b"a #") && !is_skipped(b"+ 1 2"));
 }
 
 const REASONS: &[(Reason, &str)] = &[
@@ -419,14 +335,14 @@ const REASONS: &[(Reason, &str)] = &[
 
 #[test]
 fn reasons_and_words(rt: HostRuntime) {
-    for row in REASONS {
-        check(&rt, "a reason", row.0.word(), row.1);
-    }
     let mut words = Words::new(rt.alloc());
-    ensure(&rt, "no word", words.is_empty());
+    assert!(rt; words.is_empty());
     words.push(rt.alloc(), b"run").expect(&rt, "memory");
     words.push(rt.alloc(), b"").expect(&rt, "memory");
     assert!(rt; words.len() == 2);
     check(&rt, "the first word", words.word(0), "run");
     check(&rt, "the second word", words.word(1), "");
+    for (reason, want) in REASONS {
+        check(&rt, "a reason", reason.word(), want);
+    }
 }

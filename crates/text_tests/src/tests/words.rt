@@ -1,6 +1,5 @@
 // Marks and their words, worked out by hand, up to the greatest of each.
 
-use crate::tests::support::ensure;
 use kc_words::{Mark, pack, unpack};
 
 // Returns whether each is the other.
@@ -13,14 +12,10 @@ fn are_one(new: u16, label: u32, phase: u32, word: u64) -> bool {
 
 #[test]
 fn words_of_marks(rt: HostRuntime) {
-    ensure(&rt, "a word", are_one(0, 0, 0, 0));
-    ensure(&rt, "a word", are_one(1, 2, 3, 281_475_010_265_091));
-    ensure(&rt, "a word", are_one(1, 2, 3, 0x0001_0000_0200_0003));
-    ensure(&rt, "a word", are_one(2, 0, 7, 562_949_953_421_319));
-    ensure(&rt, "a word", are_one(2, 0, 7, 0x0002_0000_0000_0007));
-    ensure(
-        &rt,
-        "a word",
-        are_one(0xffff, 0xff_ffff, 0xff_ffff, u64::MAX),
-    );
+    assert!(rt; are_one(0, 0, 0, 0));
+    assert!(rt; are_one(1, 2, 3, 281_475_010_265_091));
+    assert!(rt; are_one(1, 2, 3, 0x0001_0000_0200_0003));
+    assert!(rt; are_one(2, 0, 7, 562_949_953_421_319));
+    assert!(rt; are_one(2, 0, 7, 0x0002_0000_0000_0007));
+    assert!(rt; are_one(0xffff, 0xff_ffff, 0xff_ffff, u64::MAX));
 }

@@ -4,7 +4,7 @@ ghost use Rattle.kc_graph.specs.Shape.{EdgesFrom};
 ghost use Rattle.kc_groups.specs.WellFormed.{IsWellFormed};
 
 use crate::tests::report::cleaned_of;
-use crate::tests::support::{Bench, check, ensure, joined, sink_of};
+use crate::tests::support::{Bench, check, joined, sink_of};
 use kc_graph::{Edge, Graph};
 use kc_groups::{PhasePlan, plan_phase};
 use kc_report::write_batch;
@@ -123,11 +123,7 @@ const BATCH_LINE: &str = "batch 2 loops 3 repeats 40 idle 4294967295 removed 1 a
 // Checks the text of a batch with this phase.
 fn check_phase(rt: &impl Bench, step: &Step, lines: &str) {
     let sink = written(rt, &[plan_of(rt, step)]);
-    ensure(
-        rt,
-        "a batch of one phase",
-        sink.bytes() == joined(rt, &[BATCH_LINE, lines]).as_slice(),
-    );
+    assert!(rt; sink.bytes() == joined(rt, &[BATCH_LINE, lines]).as_slice());
 }
 
 #[test]
