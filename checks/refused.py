@@ -9,8 +9,9 @@ checks/refused are of crates whose proof takes minutes. Each has a line `only: P
 on these alone (`--only` of `rattle check`). The same functions have to be proved before, with nothing changed.
 
 Checks a copy of the crate with the libraries that `rt ci` has built in crates/*/out, as `rt ci` checks an edit. Prints a
-line for each edit that isn't refused, and a last line that counts. Ends with 1 if one isn't. Takes a minute of processor
-time for each crate and half a minute more for each edit, on as many processors as the process may use (`taskset`).
+line for each edit that isn't refused, and a last line that counts. Ends with 1 if one isn't. Takes one to five minutes
+of processor time for each crate, since the functions that a named one calls are checked too. Runs on as many processors
+as the process may use (`taskset`).
 """
 import concurrent.futures
 import os
