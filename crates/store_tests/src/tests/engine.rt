@@ -224,6 +224,7 @@ fn batches_change_graph_and_levels(rt: HostRuntime) {
     for ((n, workers, phases_before, edge_limit), batches) in CASES {
         let mut unseen = Unseen::open(&rt, *n, *workers, *phases_before, *edge_limit);
         assert!(rt; have_results(&rt, &mut unseen, batches));
+        drop(unseen);
     }
 }
 
@@ -237,18 +238,18 @@ fn has_halted(rt: &impl Bench, engine: &mut Engine, items: &[Item]) -> bool
     let Ok(cleaned) = clean(rt, rt.alloc(), engine.graph(), items) else {
         return false;
     };
-    let fault = match engine.plan(rt, rt.alloc(), &OpenGate::new(), &cleaned) {
+    match engine.plan(rt, rt.alloc(), &OpenGate::new(), &cleaned) {
         Ok(plan) => {
             assert!(rt; plan.moves == 3);
-            return false;
+            false
         }
-        Err(fault) => fault,
-    };
-    let again = engine.plan(rt, rt.alloc(), &OpenGate::new(), &cleaned);
-    assert!(rt;
-        matches!(fault, EngineFault::Memory(_)) && matches!(again, Err(EngineFault::Halted))
-    );
-    true
+        Err(EngineFault::Memory(_)) => {
+            let again = engine.plan(rt, rt.alloc(), &OpenGate::new(), &cleaned);
+            assert!(rt; matches!(again, Err(EngineFault::Halted)));
+            true
+        }
+        Err(_) => panic!(rt; "refused"),
+    }
 }
 
 const PATH: &[Item] = &[Item::Insert { u: 0, v: 1 }, Item::Insert { u: 1, v: 2 }];
@@ -268,5 +269,6 @@ fn an_engine_without_memory_has_halted(rt: HostRuntime) {
         if has_halted(&rt, &mut engine, PATH) {
             println!(rt; "halted").expect(&rt, "a line");
         }
+        drop(engine);
     }
 }

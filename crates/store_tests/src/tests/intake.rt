@@ -22,7 +22,19 @@ struct Desk<'a> {
     ghost counted: { length client.sent ≡ sent },
 }
 
-impl Desk<'_> {
+impl<'a> Desk<'a> {
+    fn new(intake: &'a Intake, drainer: Drainer, client: Client) -> Desk<'a>
+        requires server { drainer.intake ≡ intake.now }
+        requires client { (client.intake ≡ intake.now) × (client.sent ≡ []) }
+    {
+        Desk {
+            intake,
+            drainer,
+            client,
+            sent: 0,
+        }
+    }
+
     // Submits an item, and says whether it fits.
     fn submits<R: Bench + Wait>(&mut self, rt: &R, item: Item) -> bool {
         if self.sent == MAX_SENT || self.intake.submit(rt, &mut self.client, item).is_err() {
@@ -90,13 +102,7 @@ fn expect_room<R: Bench + Wait>(rt: &R, capacity: u32, items: &[Item])
     requires capacity { (1 ≤ capacity) × (capacity ≤ 65536) }
 {
     let (intake, drainer, client) = open_for_one(rt, capacity);
-    let intake = &intake;
-    let mut desk = Desk {
-        intake,
-        drainer,
-        client,
-        sent: 0,
-    };
+    let mut desk = Desk::new(&intake, drainer, client);
     assert!(rt; fills_and_empties(rt, &mut desk, items));
 }
 
@@ -114,35 +120,40 @@ fn a_queue_of_five_is_filled_and_drained(rt: HostRuntime) {
     expect_room(&rt, 5, FIVE);
 }
 
+const FIRST: &[Item] = &[INSERT];
+
+const LAST: &[Item] = &[ISOLATE];
+
 // Whether an item of a client is drained, and one more submitted.
 fn leaves_one<R: Bench + Wait>(rt: &R, desk: &mut Desk<'_>) -> bool {
     desk.drains(rt, 0, &[])
         && desk.submits(rt, INSERT)
-        && desk.drains(rt, 0, &[INSERT])
+        && desk.drains(rt, 0, FIRST)
         && desk.submits(rt, ISOLATE)
+}
+
+// Takes the client in. Says whether its last update is drained afterwards, and then there are no more.
+fn takes_in<R: Bench + Wait>(rt: &R, desk: Desk<'_>) -> bool {
+    let Desk {
+        intake,
+        drainer,
+        client,
+        sent: _,
+    } = desk;
+    let mut drainer = drainer;
+    intake.take_in(rt, &mut drainer, client);
+    intake.drain(rt, &mut drainer).is_ok()
+        && drainer.batch().len() == 1
+        && are_of(drainer.batch(), 0, 1, LAST)
+        && intake.drain(rt, &mut drainer).is_err()
 }
 
 #[test]
 fn a_client_is_taken_in_before_its_last_update(rt: HostRuntime) {
     let (intake, drainer, client) = open_for_one(&rt, 1);
-    let intake = &intake;
-    let mut desk = Desk {
-        intake,
-        drainer,
-        client,
-        sent: 0,
-    };
+    let mut desk = Desk::new(&intake, drainer, client);
     assert!(rt; leaves_one(&rt, &mut desk));
-    let Desk {
-        drainer,
-        client,
-        ..
-    } = desk;
-    let mut drainer = drainer;
-    intake.take_in(&rt, &mut drainer, client);
-    assert!(rt; intake.drain(&rt, &mut drainer).is_ok());
-    assert!(rt; are_of(drainer.batch(), 0, 1, &[ISOLATE]) && drainer.batch().len() == 1);
-    assert!(rt; intake.drain(&rt, &mut drainer).is_err());
+    assert!(rt; takes_in(&rt, desk));
 }
 
 // A script of this number of items.

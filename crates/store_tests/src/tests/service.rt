@@ -15,7 +15,10 @@ fn open<R: Bench>(rt: &R, options: Options) -> Service<'_, R> {
 // What `open` answers: the number that is out of range, with a letter for the option, or 0.
 fn open_answer<R: Bench>(rt: &R, options: Options) -> (char, u32) {
     match Service::open(rt, rt.alloc(), options) {
-        Ok(_service) => ('o', 0),
+        Ok(service) => {
+            drop(service);
+            ('o', 0)
+        }
         Err(OpenFault::Vertices { vertices }) => ('v', vertices),
         Err(OpenFault::Workers { workers }) => ('w', workers),
         Err(OpenFault::EdgeLimit { edge_limit }) => ('e', edge_limit),
@@ -101,10 +104,10 @@ fn has_levels<R>(reader: &mut Reader, service: &Service<'_, R>) -> bool {
 fn refuses<R: Bench>(rt: &R, service: &mut Service<'_, R>, items: &[Item], answer: Answer) -> bool {
     let before = certificate(rt, service);
     let mut reader = service.reader().expect(rt, "memory");
-    apply_answer(service, items) == answer
-        && before.bytes() == certificate(rt, service).bytes()
-        && has_levels(&mut reader, service)
-        && !service.has_halted()
+    let refused = apply_answer(service, items) == answer && has_levels(&mut reader, service);
+    drop(reader);
+    let after = certificate(rt, service);
+    refused && before.bytes() == after.bytes() && !service.has_halted()
 }
 
 // Batches of a service with ten vertices, two edges and at most three, and what is answered to each. The last one is
@@ -136,6 +139,7 @@ fn refused_batches_change_nothing(rt: HostRuntime) {
         assert!(rt; refuses(&rt, &mut service, items_of(&rt, text).as_slice(), *answer));
     }
     assert!(rt; answers(&rt, &mut service, "+01 -56 -67 +12 +02", ('o', 203)));
+    drop(service);
 }
 
 // More items than a batch may have.
@@ -150,6 +154,7 @@ fn a_batch_has_at_most_so_many_items(rt: HostRuntime) {
     let mut service = open(&rt, Options::for_vertices(2));
     let answer = ('t', u64::from(MAX_ITEMS) + 1);
     assert!(rt; refuses(&rt, &mut service, items.as_slice(), answer));
+    drop(service);
 }
 
 // What a batch and a reader wait for.
@@ -214,6 +219,7 @@ fn a_reader_sees_two_points_in_order(rt: HostRuntime) {
     assert!(rt; sees_both(&rt, &mut service, &mut reader));
     drop(service);
     assert!(rt; reader.level(2) == Some(1) && reader.level(4).is_none());
+    drop(reader);
 }
 
 // Takes a reader in, and returns the number of phases.
@@ -227,7 +233,10 @@ fn take_in<R>(service: Service<'_, R>, reader: Reader) -> u32
     } = service.into_parts();
     let mut writer = writer;
     writer.take_in(&board.store, reader.into_pass());
-    engine.phases()
+    let phases = engine.phases();
+    drop(engine);
+    drop(board);
+    phases
 }
 
 // What a reader has seen is how the history begins: the parts of a service meet what the crates below ask for.

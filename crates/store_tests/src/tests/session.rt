@@ -5,7 +5,7 @@ use crate::tests::support::{Bench, Count, open_store, put};
 use kc_batch::{Ask, Header, Vertices};
 use kc_history::Reply;
 use kc_rounds::{Gate, OpenGate, Spot};
-use kc_session::{Agent, Ended, SessionFault, Settled, run_session, settle};
+use kc_session::{Agent, Ended, SessionFault, run_session, settle};
 use kc_store::{Store, Writer};
 use kc_text::{LineReader, MemSink, MemSource};
 
@@ -58,13 +58,13 @@ pub(crate) fn run<R: Bench, G: Gate + Sync>(
     (ended.expect(rt, "a fault"), sink)
 }
 
-// The batches of an input without readers, and a sink with their notes.
+// How many batches of an input were refused, how many phases there were, and the notes, if there are no readers.
 pub(crate) fn run_settled<R: Bench, G: Gate + Sync>(
     rt: &R,
     gate: &G,
     workers: u32,
     input: &[u8],
-) -> (Settled, MemSink) {
+) -> (u32, u32, MemSink) {
     assert!(rt; 1 <= workers && workers <= 64);
     let alloc = rt.alloc();
     let mut source = source_of(rt, input);
@@ -80,7 +80,10 @@ pub(crate) fn run_settled<R: Bench, G: Gate + Sync>(
         &mut source,
         &mut sink,
     );
-    (settled.expect(rt, "a fault"), sink)
+    let settled = settled.expect(rt, "a fault");
+    let (refused, phases) = (settled.refused, settled.engine.phases());
+    drop(settled);
+    (refused, phases, sink)
 }
 
 const BATCHES: &[u8] =
@@ -143,9 +146,9 @@ fn a_session_without_asks_lacks_the_reader_lines_alone(rt: HostRuntime) {
 
 #[test]
 fn batches_settle_with_notes(rt: HostRuntime) {
-    let (settled, notes) = run_settled(&rt, &OpenGate::new(), 1, BATCHES);
+    let (refused, phases, notes) = run_settled(&rt, &OpenGate::new(), 1, BATCHES);
     assert!(rt; notes.bytes() == b"# batch 2 refused line 8 bad-vertex\n".as_slice());
-    assert!(rt; settled.refused == 1 && settled.engine.phases() == 3);
+    assert!(rt; refused == 1 && phases == 3);
 }
 
 // What a gate holds, in sessions whose batch has two groups, with the labels 0 and 2.

@@ -115,6 +115,7 @@ fn expect_pairing<R: Bench + Clock>(rt: &R, n: u32, paths: &[Path])
     for path_of in paths {
         assert!(rt; pairs(rt, &mut trial, path_of));
     }
+    drop(trial);
 }
 
 const FIRST_PATH: &[Path] = &[(0, 2, LONG, 0)];
@@ -202,4 +203,5 @@ fn each_range_and_each_publication_is_told(rt: HostRuntime) {
     let (store, writer) = open_store(&rt, 5);
     let mut trial = trial_of(&rt, 5, 2, &store, writer);
     assert!(rt; tells_course(&rt, &mut trial));
+    drop(trial);
 }

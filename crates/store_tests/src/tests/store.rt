@@ -100,6 +100,7 @@ fn expect_rows<R: Bench>(rt: &R, texts: &[&str], rows: &[[u16; 5]]) {
     let (store, writer) = open_store(rt, 5);
     let mut trial = trial_of(rt, 5, 1, &store, writer);
     assert!(rt; sees_rows(rt, &mut trial, texts, rows));
+    drop(trial);
 }
 
 const ROWS_OF_TWO_GROUPS: &[[u16; 5]] = &[
@@ -345,4 +346,5 @@ fn readers_see_points_of_the_history(rt: HostRuntime) {
     let (store, writer) = open_store(&rt, VERTICES);
     let mut trial = trial_of(&rt, VERTICES, 1, &store, writer);
     assert!(rt; history_is_seen(&rt, &mut trial));
+    drop(trial);
 }

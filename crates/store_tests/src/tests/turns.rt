@@ -38,6 +38,7 @@ fn plan_both(rt: &impl Bench, kept: &mut Unseen, anew: &mut Unseen, items: &[Ite
     let again = anew.plan(rt, items).expect(rt, "refused");
     let (one, other) = (said(rt, kept, &plan), said(rt, anew, &again));
     assert!(rt; one.as_slice() == other.as_slice());
+    drop(again);
     plan.moves
 }
 
@@ -51,7 +52,8 @@ fn run_round(rt: &impl Bench, kept: &mut Unseen, random: &mut Random) -> u32 {
         moves = moves.saturating_add(plan_both(rt, kept, &mut anew, items.as_slice()));
     }
     let all = isolate_all(rt);
-    kept.plan(rt, all.as_slice()).expect(rt, "refused");
+    drop(kept.plan(rt, all.as_slice()).expect(rt, "refused"));
+    drop(anew);
     moves
 }
 
@@ -67,4 +69,5 @@ fn many_batches_leave_nothing_over(rt: HostRuntime) {
     }
     // Vertices rise and fall.
     assert!(rt; moves > 1_000);
+    drop(kept);
 }
