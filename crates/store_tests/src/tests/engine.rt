@@ -48,9 +48,9 @@ impl Unseen {
     ) -> Result<BatchPlan, EngineFault> {
         assert!(rt; are_batch(items, self.engine.graph().vertices()));
         let cleaned = clean(rt, rt.alloc(), self.engine.graph(), items).expect(rt, "memory");
-        let plan = self
-            .engine
-            .plan(rt, rt.alloc(), &OpenGate::new(), &cleaned)?;
+        let planned = self.engine.plan(rt, rt.alloc(), &OpenGate::new(), &cleaned);
+        drop(cleaned);
+        let plan = planned?;
         self.engine.leave_unshown();
         Ok(plan)
     }
@@ -241,6 +241,7 @@ fn has_halted(rt: &impl Bench, engine: &mut Engine, items: &[Item]) -> bool
     match engine.plan(rt, rt.alloc(), &OpenGate::new(), &cleaned) {
         Ok(plan) => {
             assert!(rt; plan.moves == 3);
+            drop(plan);
             false
         }
         Err(EngineFault::Memory(_)) => {
