@@ -104,6 +104,7 @@ fn expect_room<R: Bench + Wait>(rt: &R, capacity: u32, items: &[Item])
     let (intake, drainer, client) = open_for_one(rt, capacity);
     let mut desk = Desk::new(&intake, drainer, client);
     assert!(rt; fills_and_empties(rt, &mut desk, items));
+    drop(desk);
 }
 
 const TWO: &[Item] = &[INSERT, ISOLATE];
@@ -227,7 +228,10 @@ fn delivers<R: Bench + Wait>(
     let count = count_items(senders);
     let mut server = Server::new(rt.alloc(), intake, drainer, true, count).expect(rt, "memory");
     exchange(rt, &mut server, count, senders).expect(rt, "memory");
-    are_delivered(senders, server.updates()) && matches!(server.drain(rt), Ok(false))
+    let delivered = are_delivered(senders, server.updates());
+    let drained = server.drain(rt).expect(rt, "memory");
+    drop(server);
+    delivered && !drained
 }
 
 // Eight clients with scripts of these lengths submit while the server drains.
@@ -237,6 +241,7 @@ fn expect_exchange<R: Bench + Wait>(rt: &R, capacity: u32, lengths: &[u32])
     let (intake, drainer, clients) = open(rt.alloc(), capacity, 8).expect(rt, "memory");
     let mut senders = senders_of(rt, &intake, clients, lengths);
     assert!(rt; delivers(rt, &intake, drainer, senders.as_mut_slice()));
+    drop(senders);
 }
 
 const EIGHT: &[u32] = &[3000; 8];

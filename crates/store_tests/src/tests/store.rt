@@ -338,7 +338,10 @@ fn history_is_seen<R: Bench>(rt: &R, trial: &mut Trial<'_>) -> bool {
     let mut askers = make_askers(rt, trial);
     let plans = show_beside(rt, &meeting, trial, askers.as_mut_slice());
     let levels = trial.engine().levels().as_slice();
-    meeting.ran_out.get() == 0 && are_right(rt, plans.as_slice(), levels, askers.as_slice())
+    let seen = are_right(rt, plans.as_slice(), levels, askers.as_slice());
+    drop(plans);
+    drop(askers);
+    seen && meeting.ran_out.get() == 0
 }
 
 #[test]
