@@ -8,7 +8,8 @@ ghost use Rattle.kc_levels.specs.Moved.{moved_count, moves_between};
 ghost use Rattle.kc_insert.specs.Effort.{effort};
 ghost use Rattle.kc_insert.specs.Working.{IsReady};
 
-use crate::filling::{file_ends, link_edges};
+use crate::filing::file_ends;
+use crate::linking::link_edges;
 use crate::work::InsertionWork;
 use kc_adj::{LevelAdj, Steps};
 use kc_graph::{Edge, MAX_EDGES};
@@ -82,13 +83,12 @@ pub fn insert_phase<R: Threads + Sync, G: Gate + Sync, L: Ledger>(
     let _levels = adj.levels();
     let _top = th.top();
     link_edges(rounds, alloc, adj, added, steps)?;
-    let counted = &mut work.sweep.counted;
     file_ends(
+        rounds,
         th,
         adj.levels(),
         adj.own_counts(),
-        &mut counted.queue,
-        &mut counted.watched.counts,
+        &mut work.sweep.ranges,
         added,
     )?;
     work.raise(rounds, alloc, th, adj.graph(), steps)?;

@@ -1,73 +1,58 @@
-//! How many neighbours each vertex counts, where whoever comes to count few is written down.
-
-ghost use Rattle.std.specs.Prelude.{◌≡◌, ◌+◌, ◌-◌, ◌<◌, ◌≤◌, ◌^◌, ℕ, true, OnOk, filter, length, slice_index, slice_set};
-ghost use Rattle.kc_graph.specs.Numbers.{has_number};
-ghost use Rattle.kc_insert.specs.private.Watched.{is_few, StayWatched};
+//! How many neighbours each vertex of a range counts, with a watch list of the vertices whose count is at the limit.
 
 use std::alloc::AllocError;
 
-/// For each vertex how many of its neighbours it counts, and who came to count few (`StayWatched`).
+/// For each vertex of a range how many of its neighbours it counts, and a watch list of those whose count came to the limit.
 #[derive(Drop)]
 pub struct WatchedCounts {
-    /// How many neighbours each vertex counts.
+    /// The first vertex of the range.
+    pub first: u32,
+    /// How many neighbours each vertex counts, that of the first one first.
     pub counts: Vec<u32>,
-    /// The greatest number that is few.
+    /// The limit: the greatest count with which a rising vertex stays.
     pub most: u32,
-    /// Whoever came to count few, and maybe others.
+    /// The vertices whose count came to the limit, and maybe others.
     pub doubtful: Vec<u32>,
 }
 
 impl WatchedCounts {
+    /// How many neighbours v counts.
+    pub fn count(&self, v: u32) -> u32 {
+        self.counts[(v - self.first) as usize]
+    }
+
+    /// v counts `count`, and the watch list stays.
+    pub fn set(&mut self, v: u32, count: u32) {
+        self.counts[(v - self.first) as usize] = count;
+    }
+
     /// v counts one less. Fails only if memory runs out.
-    pub fn lessen(&mut self, v: u32) -> Result<(), AllocError>
-        requires vertex { v < length self.old.counts.items }
-        requires some { 1 ≤ slice_index self.old.counts.items v }
-        ensures counts { OnOk result (self.new.counts.items ≡ slice_set self.old.counts.items v (slice_index self.old.counts.items v - 1)) }
-        ensures watched { OnOk result (StayWatched self.old self.new) }
-    {
-        let count = self.counts[v as usize] - 1;
-        self.counts[v as usize] = count;
+    pub fn lessen(&mut self, v: u32) -> Result<(), AllocError> {
+        let place = (v - self.first) as usize;
+        let count = self.counts[place] - 1;
+        self.counts[place] = count;
         if count == self.most {
             self.doubtful.push(v)?;
         }
         Ok(())
     }
 
-    /// v counts one more.
-    pub fn increase(&mut self, v: u32)
-        requires vertex { v < length self.old.counts.items }
-        requires small { slice_index self.old.counts.items v < 2 ^ 31 }
-        ensures counts { self.new.counts.items ≡ slice_set self.old.counts.items v (slice_index self.old.counts.items v + 1) }
-        ensures watched { StayWatched self.old self.new }
-    {
-        self.counts[v as usize] += 1;
-    }
-
     /// v counts `count`. Fails only if memory runs out.
-    pub fn put(&mut self, v: u32, count: u32) -> Result<(), AllocError>
-        requires vertex { v < length self.old.counts.items }
-        ensures counts { OnOk result (self.new.counts.items ≡ slice_set self.old.counts.items v count) }
-        ensures watched { OnOk result (StayWatched self.old self.new) }
-    {
-        self.counts[v as usize] = count;
+    pub fn put(&mut self, v: u32, count: u32) -> Result<(), AllocError> {
+        self.set(v, count);
         if count <= self.most {
             self.doubtful.push(v)?;
         }
         Ok(())
     }
 
-    /// From now on at most `most` is few: the list has those of the vertices, in order, who count at most that. Fails only if
-    /// memory runs out.
-    pub fn watch(&mut self, most: u32, vertices: &[u32]) -> Result<(), AllocError>
-        requires inside { (v : ℕ) → has_number v vertices.now ≡ true → v < length self.old.counts.items }
-        ensures counts { OnOk result (self.new.counts.items ≡ self.old.counts.items) }
-        ensures most { OnOk result (self.new.most ≡ most) }
-        ensures few { OnOk result (self.new.doubtful.items ≡ filter (is_few self.old.counts.items most) vertices.now) }
-    {
+    /// From now on the limit is `most`: the watch list has those of the vertices that count at most that. Fails only if memory runs
+    /// out.
+    pub fn watch(&mut self, most: u32, vertices: &[u32]) -> Result<(), AllocError> {
         self.most = most;
         self.doubtful.clear();
         for v in vertices {
-            if self.counts[*v as usize] <= most {
+            if self.count(*v) <= most {
                 self.doubtful.push(*v)?;
             }
         }
