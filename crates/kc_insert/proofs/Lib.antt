@@ -1,0 +1,5 @@
+mod Adding
+mod Buckets
+mod Flips
+mod Lifting
+mod Seen

@@ -1,1 +1,7 @@
 -- Words of private contracts and loop invariants: no public contract needs them.
+pub mod Crossing
+pub mod Meetings
+pub mod Parts
+pub mod Rising
+pub mod Telling
+pub mod Watched

@@ -40,12 +40,12 @@ impl Range {
         levels: &Levels,
         fresh: &[u32],
     ) -> Result<(), AllocError> {
-        let first = self.watched.first;
-        for i in 0..self.watched.counts.len() {
+        let first = self.watched.first();
+        for i in 0..self.watched.counts().len() {
             let v = first + i as u32;
             let own = fresh[v as usize];
-            if self.watched.counts[i] != own {
-                self.watched.counts[i] = own;
+            if self.watched.counts()[i] != own {
+                self.watched.set(v, own);
                 let level = levels.get(v);
                 if own > th.high(th.group(level)) {
                     self.queue.file(level, v)?;

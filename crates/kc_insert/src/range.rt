@@ -1,13 +1,22 @@
 //! A range of vertices: all that a sweep writes of them. One thread at a time writes it.
 
+ghost use Rattle.std.specs.Prelude.{◌≡◌, ◌+◌, ◌++◌, ◌∷◌, ◌<◌, ◌≤◌, ◌==◌, ◌^◌, ℕ, List, [], false, true, All, IfOk, OnOk, cond, filter, length, replicate, slice_index_or, slice_set};
+ghost use Rattle.kc_graph.specs.Numbers.{has_number};
+ghost use Rattle.kc_insert.specs.private.Parts.{HaveMet, LetStay};
+ghost use Rattle.kc_insert.specs.private.Rising.{rises, seen};
+ghost use Rattle.kc_insert.specs.private.Telling.{heard_by, times};
+ghost use Rattle.kc_insert.specs.private.Watched.{count_at, is_few, IsHeld, StayWatched};
+
 use crate::meetings::Meeting;
 use crate::rising::RisingLevels;
 use crate::telling::Told;
 use crate::watched::WatchedCounts;
 use kc_adj::LevelLists;
 use std::alloc::{AllocError, Global};
+use std::marker::Model;
+use std::mem;
 
-/// What a sweep has come to at the vertices of a range.
+/// What a sweep has come to at the vertices of a range. Contracts see it as a `Part`.
 #[derive(Drop)]
 pub struct Range {
     /// What each vertex counts.
@@ -34,22 +43,28 @@ pub struct Range {
     pub is_short: bool,
 }
 
+impl Model for Range {
+    ghost use Rattle.kc_insert.specs.private.Parts.{Part};
+
+    ghost Value = { Part };
+
+    ghost view = { λ r. record { watch = r.watched; queue = r.queue; meetings = r.meetings; began = r.began.items; risen = r.risen.items; stay = r.stay.items; begun = r.begun.items; tell = r.told; steps = r.steps; is_short = r.is_short } };
+}
+
 impl Range {
-    /// The vertices from `first` on, with these counts; nobody rises or waits.
+    /// The vertices from `first` on, with these counts; nobody rises or waits on any of the levels. Fails only if memory runs out.
     pub fn new(
         alloc: Global,
         first: u32,
         counts: &[u32],
         levels: u16,
         ranges: usize,
-    ) -> Result<Self, AllocError> {
+    ) -> Result<Self, AllocError>
+        requires { first + length counts.now ≤ 2 ^ 24 }
+        ensures { IfOk result (λ r. r ≡ record { watch = record { first = first; counts = counts.now; most = 0; doubtful = [] }; queue = replicate levels []; meetings = replicate levels []; began = []; risen = []; stay = []; begun = []; tell = record { all = []; lists = replicate ranges [] }; steps = 0; is_short = false }) }
+    {
         Ok(Range {
-            watched: WatchedCounts {
-                first,
-                counts: counts.to_vec(alloc)?,
-                most: 0,
-                doubtful: Vec::new(alloc),
-            },
+            watched: WatchedCounts::new(alloc, first, counts)?,
             queue: LevelLists::new(alloc, levels)?,
             meetings: LevelLists::new(alloc, levels)?,
             began: Vec::new(alloc),
@@ -64,35 +79,50 @@ impl Range {
     }
 
     /// Rising vertices on the watch list whose count is within the limit stop on the level of the sweep: `stay` has these alone
-    /// afterwards, and the watch list is empty.
-    pub fn let_stay(&mut self, levels: &mut RisingLevels) -> Result<(), AllocError> {
+    /// afterwards, and the watch list is empty. Fails only if memory runs out.
+    pub fn let_stay(&mut self, levels: &mut RisingLevels) -> Result<(), AllocError>
+        requires small { levels.old.level < 65535 }
+        requires inside { (v : ℕ) → has_number v self.old.watch.doubtful ≡ true → (v < length (seen levels.old)) × IsHeld self.old.watch v }
+        ensures same { OnOk result ((levels.new.level ≡ levels.old.level) × (seen levels.new ≡ seen levels.old)) }
+        ensures part { OnOk result (self.new ≡ record self.old { watch = record self.old.watch { doubtful = [] }; stay = self.new.stay }) }
+        ensures stay { OnOk result (LetStay levels.old self.old.watch levels.new self.new.stay) }
+    {
         self.stay.clear();
-        for v in &self.watched.doubtful {
-            if levels.rises(*v) && self.watched.count(*v) <= self.watched.most {
+        for v in self.watched.doubtful() {
+            if levels.rises(*v) && self.watched.count(*v) <= self.watched.most() {
                 levels.settle(*v);
                 self.stay.push(*v)?;
             }
         }
-        self.watched.doubtful.clear();
+        self.watched.clear();
         Ok(())
     }
 
-    /// Where another number of neighbours is few than before, looks anew at all that rise.
-    pub fn look_anew(&mut self, levels: &RisingLevels, most: u32) -> Result<(), AllocError> {
+    /// From now on the limit is `most`: looks anew at all that rise, and forgets those that began and stay since. Fails only if memory
+    /// runs out.
+    pub fn look_anew(&mut self, levels: &RisingLevels, most: u32) -> Result<(), AllocError>
+        requires { (v : ℕ) → has_number v self.old.began ≡ true → (v < length (seen levels.now)) × IsHeld self.old.watch v }
+        ensures { let rising = filter (rises levels.now) self.old.began in OnOk result (self.new ≡ record self.old { watch = record self.old.watch { most = most; doubtful = filter (is_few self.old.watch most) rising }; began = rising; stay = self.new.stay }) }
+    {
         self.stay.clear();
         for v in &self.began {
             if levels.rises(*v) {
                 self.stay.push(*v)?;
             }
         }
-        std::mem::swap(&mut self.began, &mut self.stay);
-        self.stay.clear();
+        mem::swap(&mut self.began, &mut self.stay);
         self.watched.watch(most, &self.began)?;
         Ok(())
     }
 
-    /// v counts one more, and waits on its level if it then counts one more than `most`.
-    pub fn meet(&mut self, level: u16, most: u32, v: u32) -> Result<(), AllocError> {
+    /// v counts one more, and waits on the level if it then counts one more than `most`. Fails only if memory runs out.
+    pub fn meet(&mut self, level: u16, most: u32, v: u32) -> Result<(), AllocError>
+        requires vertex { IsHeld self.old.watch v }
+        requires small { count_at self.old.watch v < 2 ^ 31 }
+        requires room { level < length self.old.queue }
+        ensures { let waits = cond (count_at self.old.watch v == most) (slice_set self.old.queue level (slice_index_or self.old.queue level [] ++ v ∷ [])) self.old.queue in
+            OnOk result (self.new ≡ record self.old { watch = record self.old.watch { counts = slice_set self.old.watch.counts (v - self.old.watch.first) (count_at self.old.watch v + 1) }; queue = waits }) }
+    {
         let count = self.watched.count(v);
         if count == most {
             self.queue.file(level, v)?;
@@ -101,34 +131,65 @@ impl Range {
         Ok(())
     }
 
-    /// Each vertex that was told to this range counts one less.
-    pub fn hear_less(&mut self, told: &[Told], own: usize) -> Result<(), AllocError> {
-        for from in told {
-            for v in &from.lists[own].items {
-                self.watched.lessen(*v)?;
-            }
+    /// Each vertex of the list, all on the level, counts one more for each time that it is there, and waits on the level if it then
+    /// counts more than `most`. Fails only if memory runs out.
+    pub fn meet_all(
+        &mut self,
+        level: u16,
+        most: u32,
+        vertices: &[u32],
+    ) -> Result<(), AllocError>
+        requires held { (v : ℕ) → has_number v vertices.now ≡ true → IsHeld self.old.watch v }
+        requires small { (v : ℕ) → count_at self.old.watch v + times v vertices.now ≤ 2 ^ 31 }
+        requires room { level < length self.old.queue }
+        ensures { OnOk result (HaveMet level most vertices.now self.old self.new) }
+    {
+        for v in vertices {
+            self.meet(level, most, *v)?;
         }
         Ok(())
     }
 
-    /// Each vertex that was told to this range, all on the level, counts one more.
+    /// Each vertex that was told to this range counts one less for each time. Fails only if memory runs out.
+    pub fn hear_less(&mut self, told: &[Told], own: usize) -> Result<(), AllocError>
+        requires lists { All (λ t. own < length t.lists) told.now }
+        requires held { (v : ℕ) → has_number v (heard_by own told.now) ≡ true → IsHeld self.old.watch v }
+        requires enough { (v : ℕ) → times v (heard_by own told.now) ≤ count_at self.old.watch v }
+        ensures less { OnOk result ((v : ℕ) → self.old.watch.first ≤ v → count_at self.new.watch v + times v (heard_by own told.now) ≡ count_at self.old.watch v) }
+        ensures watched { OnOk result (StayWatched self.old.watch self.new.watch) }
+        ensures part { OnOk result (self.new ≡ record self.old { watch = self.new.watch }) }
+    {
+        for from in told {
+            self.watched.lessen_all(from.of_range(own))?;
+        }
+        Ok(())
+    }
+
+    /// Each vertex that was told to this range, all on the level, counts one more for each time, and waits there if it then counts more
+    /// than `most`. Fails only if memory runs out.
     pub fn hear_more(
         &mut self,
         told: &[Told],
         own: usize,
         level: u16,
         most: u32,
-    ) -> Result<(), AllocError> {
+    ) -> Result<(), AllocError>
+        requires lists { All (λ t. own < length t.lists) told.now }
+        requires held { (v : ℕ) → has_number v (heard_by own told.now) ≡ true → IsHeld self.old.watch v }
+        requires small { (v : ℕ) → count_at self.old.watch v + times v (heard_by own told.now) ≤ 2 ^ 31 }
+        requires room { level < length self.old.queue }
+        ensures { OnOk result (HaveMet level most (heard_by own told.now) self.old self.new) }
+    {
         for from in told {
-            for v in &from.lists[own].items {
-                self.meet(level, most, *v)?;
-            }
+            self.meet_all(level, most, from.of_range(own))?;
         }
         Ok(())
     }
 
     /// Forgets the phase.
-    pub fn forget(&mut self, alloc: Global) {
+    pub fn forget(&mut self, alloc: Global)
+        ensures { self.new ≡ record self.old { began = []; risen = []; queue = replicate (length self.old.queue) []; meetings = replicate (length self.old.meetings) [] } }
+    {
         self.began.clear();
         self.risen.clear();
         self.queue.clear(alloc);

@@ -105,7 +105,7 @@ impl Ranges {
     /// Whether a vertex is on a watch list.
     pub fn has_doubt(&self) -> bool {
         for range in &self.items {
-            if !range.watched.doubtful.is_empty() {
+            if !range.watched.doubtful().is_empty() {
                 return true;
             }
         }
@@ -166,7 +166,7 @@ impl Ranges {
     /// Looks anew at all that rise, with another limit.
     pub fn look_anew(&mut self, levels: &RisingLevels, most: u32) -> Result<(), AllocError> {
         for range in &mut self.items {
-            if most != range.watched.most {
+            if most != range.watched.most() {
                 range.look_anew(levels, most)?;
             }
         }
@@ -175,7 +175,7 @@ impl Ranges {
 
     /// Whether what is told of `count` vertices is dealt to the ranges, and heard by each of them.
     pub fn is_dealt(&self, count: usize) -> bool {
-        self.items.len() > 1 && count >= self.layout.least_shared
+        self.items.len() > 1 && self.layout.is_shared(count)
     }
 
     // The number of threads that share a pass over `count` vertices.
@@ -184,10 +184,10 @@ impl Ranges {
         rounds: &Rounds<R, G>,
         count: usize,
     ) -> usize {
-        if count < self.layout.least_shared {
-            1
-        } else {
+        if self.layout.is_shared(count) {
             rounds.workers() as usize
+        } else {
+            1
         }
     }
 
@@ -230,7 +230,7 @@ impl Ranges {
         self.collect();
         if !step.is_dealt {
             for i in 0..self.told.len() {
-                for v in &self.told[i].all {
+                for v in self.told[i].all() {
                     self.items[self.layout.range_of(*v)].watched.lessen(*v)?;
                 }
             }
@@ -275,7 +275,7 @@ impl Ranges {
         self.collect();
         if !step.is_dealt {
             for i in 0..self.told.len() {
-                for v in &self.told[i].all {
+                for v in self.told[i].all() {
                     self.items[self.layout.range_of(*v)].meet(next, most, *v)?;
                 }
             }

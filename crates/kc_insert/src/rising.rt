@@ -2,8 +2,7 @@
 
 ghost use Rattle.std.specs.Prelude.{◌≡◌, ◌<◌, ◌==◌, ◌&&◌, ◌||◌, ℕ, true, List, not, length, slice_index, slice_set};
 ghost use Rattle.kc_graph.specs.Numbers.{has_number};
-ghost use Rattle.kc_insert.specs.private.Rising.{rises, seen};
-ghost use Rattle.kc_insert.specs.private.Sweeping.{all_at};
+ghost use Rattle.kc_insert.specs.private.Rising.{all_at, rises, seen};
 
 use kc_levels::Levels;
 
