@@ -9,6 +9,7 @@ use Rattle.std.proofs.Math.Seq.{take-suc}
 use Rattle.std.proofs.lemmas.List.{take-append-drop}
 use Rattle.kc_graph.specs.Numbers.{has_number, RisesFrom}
 use Rattle.kc_graph.specs.Shape.{GraphShape, IsGraph, neighbours_of}
+use Rattle.kc_graph.proofs.lemmas.Counts.{count_by-cons}
 use Rattle.kc_graph.proofs.lemmas.Numbers.{has_number_below}
 use Rattle.kc_graph.proofs.lemmas.Neighbours.{neighbours_rise, neighbours_both}
 use Rattle.kc_levels.specs.Following.{AreDistinct}
@@ -16,7 +17,7 @@ use Rattle.kc_insert.specs.private.Telling.{times}
 use Rattle.kc_insert.proofs.Flips.{count_agree, count_less}
 
 pub times-append : (v : ℕ) (xs ys : List ℕ) → times v (xs ++ ys) ≡ times v xs + times v ys
-times-append v [] ys = refl
+times-append v [] ys = omega arith
 times-append v (x ∷ xs) ys = omega (arith, times-append v xs ys)
 
 pub times_none : (v : ℕ) (xs : List ℕ) → has_number v xs ≡ false → times v xs ≡ 0
@@ -73,7 +74,7 @@ module _ (g : GraphShape) (graph : IsGraph g) (f : ℕ → Bool) (v : ℕ) where
   one_row : (s : ℕ) → times v (filter f (neighbours_of s g.edges)) ≡ cond (f v) (cond (has_number s (neighbours_of v g.edges)) 1 0) 0
   one_row s =
       times-filter v f (neighbours_of s g.edges)
-      ∙ ap (λ k. cond (f v) k 0) (times_rising v 0 (neighbours_of s g.edges) (neighbours_rise g.vertices s g.edges graph) ∙ ap (λ b. cond b 1 0) (neighbours_both v s g.edges))
+      ∙ ap (λ k. cond (f v) k 0) (times_rising v 0 (neighbours_of s g.edges) (neighbours_rise g.vertices s g.edges graph) ∙ ap (λ b. cond b 1 0) (neighbours_both s v g.edges))
 
   one_more : (s : ℕ) (ss : List ℕ) → has_number s ss ≡ false → count_by (λ u. has_number u (s ∷ ss)) (neighbours_of v g.edges) ≡ cond (has_number s (neighbours_of v g.edges)) 1 0 + count_by (λ u. has_number u ss) (neighbours_of v g.edges)
   one_more s ss gone = elim (cases_Bool (has_number s (neighbours_of v g.edges))) [
@@ -81,19 +82,28 @@ module _ (g : GraphShape) (graph : IsGraph g) (f : ℕ → Bool) (v : ℕ) where
         let less = count_less (λ u. has_number u (s ∷ ss)) (λ u. has_number u ss) s 0 (neighbours_of v g.edges) (neighbours_rise g.vertices v g.edges graph) near (grind (arith, nat_tests)) gone (λ u ne. grind (arith, nat_tests, ne)) in
         rw near (omega (arith, less))
     | inr far ↦
-        let same = count_agree (λ u. has_number u (s ∷ ss)) (λ u. has_number u ss) (neighbours_of v g.edges) (λ u there. grind (arith, nat_tests, other u there)) in
+        let same = count_agree (λ u. has_number u (s ∷ ss)) (λ u. has_number u ss) (neighbours_of v g.edges) (λ u there. grind (arith, nat_tests, other far u there)) in
         rw far (omega (arith, same))
   ]
     where
-      other : (u : ℕ) → has_number u (neighbours_of v g.edges) ≡ true → s ≢ u
-      other u there e = true≢false (sym there ∙ ap (λ k. has_number k (neighbours_of v g.edges)) (sym e) ∙ far)
+      other : has_number s (neighbours_of v g.edges) ≡ false → (u : ℕ) → has_number u (neighbours_of v g.edges) ≡ true → s ≢ u
+      other far u there e = true≢false (sym there ∙ ap (λ k. has_number k (neighbours_of v g.edges)) (sym e) ∙ far)
+
+  count_none : (xs : List ℕ) → count_by (λ u. has_number u []) xs ≡ 0
+  count_none [] = refl
+  count_none (x ∷ xs) = count_by-cons (λ u. has_number u []) x xs ∙ omega (arith, count_none xs)
+
+  nothing : (b : Bool) (k : ℕ) → k ≡ 0 → cond b k 0 ≡ 0
+  nothing true k none = none
+  nothing false k none = refl
+
+  sum : (b : Bool) (k m t a c : ℕ) → a ≡ cond b k 0 → c ≡ cond b m 0 → t ≡ k + m → a + c ≡ cond b t 0
+  sum true k m t a c is too both = omega (arith, is, too, both)
+  sum false k m t a c is too both = omega (arith, is, too)
 
   pub times_rows : (ss : List ℕ) → AreDistinct ss → times v (flat_map (λ s. filter f (neighbours_of s g.edges)) ss) ≡ cond (f v) (count_by (λ u. has_number u ss) (neighbours_of v g.edges)) 0
-  times_rows [] once = ap (times v) refl
+  times_rows [] once = sym (nothing (f v) _ (count_none (neighbours_of v g.edges)))
   times_rows (s ∷ ss) once =
       ap (times v) (flat_map-cons (λ s. filter f (neighbours_of s g.edges)) s ss)
       ∙ times-append v (filter f (neighbours_of s g.edges)) (flat_map (λ s. filter f (neighbours_of s g.edges)) ss)
-      ∙ elim (cases_Bool (f v)) [
-        | inl asked ↦ omega (arith, one_row s, times_rows ss once.1, one_more s ss once.0, asked)
-        | inr no_ ↦ omega (arith, one_row s, times_rows ss once.1, no_)
-      ]
+      ∙ sum (f v) _ _ _ _ _ (one_row s) (times_rows ss once.1) (one_more s ss once.0)

@@ -3,3 +3,4 @@ mod Buckets
 mod Flips
 mod Lifting
 mod Seen
+mod Watching

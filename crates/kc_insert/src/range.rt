@@ -1,6 +1,6 @@
 //! A range of vertices: all that a sweep writes of them. One thread at a time writes it.
 
-ghost use Rattle.std.specs.Prelude.{◌≡◌, ◌+◌, ◌++◌, ◌∷◌, ◌<◌, ◌≤◌, ◌==◌, ◌^◌, ℕ, List, [], false, true, All, IfOk, OnOk, cond, filter, length, replicate, slice_index_or, slice_set};
+ghost use Rattle.std.specs.Prelude.{◌≡◌, ◌+◌, ◌-◌, ◌++◌, ◌∷◌, ◌<◌, ◌≤◌, ◌==◌, ◌^◌, ℕ, List, [], false, true, All, IfOk, OnOk, cond, filter, length, replicate, slice_index_or, slice_set};
 ghost use Rattle.kc_graph.specs.Numbers.{has_number};
 ghost use Rattle.kc_insert.specs.private.Parts.{HaveMet, LetStay};
 ghost use Rattle.kc_insert.specs.private.Rising.{rises, seen};

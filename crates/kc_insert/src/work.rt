@@ -1,6 +1,6 @@
 //! The workspace that insertion phases share, one after another.
 
-ghost use Rattle.std.specs.Prelude.{◌≡◌, All, IfOk, length};
+ghost use Rattle.std.specs.Prelude.{◌≡◌, ◌<◌, All, IfOk, length};
 ghost use Rattle.kc_graph.specs.Shape.{without_edges};
 ghost use Rattle.kc_levels.specs.declared.profile.Profile.{Profile};
 ghost use Rattle.kc_levels.specs.Moved.{moves_between};
