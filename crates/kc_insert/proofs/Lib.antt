@@ -1,5 +1,6 @@
 mod Adding
 mod Buckets
+mod Dealing
 mod Flips
 mod Lifting
 mod Seen

@@ -5,6 +5,9 @@ ghost use Rattle.std.specs.Prelude.{◌≡◌, ◌*◌, ◌^◌, ◌<◌, ◌≤
 // The most vertices of a range, as a power of two, while there are fewer than `MOST_RANGES`.
 const WIDEST: u32 = 16;
 
+// The most bits of a vertex.
+const MOST_BITS: u32 = 24;
+
 // The fewest ranges of a graph that has more than one.
 const FEWEST_RANGES: u32 = 16;
 
@@ -13,6 +16,9 @@ const MOST_RANGES: u32 = 64;
 
 // The fewest vertices that are cut.
 const LEAST_CUT: u32 = 32_768;
+
+// The fewest vertices, to begin or to stay, for which threads are made.
+const LEAST_SHARED: usize = 1_024;
 
 /// How the vertices are cut into ranges of 2 ^ `bits` that follow each other, and when threads share a pass over the ranges.
 #[derive(Clone, Copy, Debug, PartialEq, Eq)]
@@ -38,15 +44,15 @@ impl Layout {
     pub fn of(n: u32) -> Self {
         let mut bits = 0;
         if n < LEAST_CUT {
-            return Layout::new(24, 1_024);
+            return Layout::new(MOST_BITS, LEAST_SHARED);
         }
         while bits < WIDEST && n >> (bits + 1) >= FEWEST_RANGES {
             bits += 1;
         }
-        while n >> bits >= MOST_RANGES {
+        while bits < MOST_BITS && n >> bits >= MOST_RANGES {
             bits += 1;
         }
-        Layout::new(bits, 1_024)
+        Layout::new(bits, LEAST_SHARED)
     }
 
     /// The number of ranges of n vertices.

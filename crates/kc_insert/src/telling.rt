@@ -61,8 +61,8 @@ impl Told {
         ensures { self.new ≡ record { all = []; lists = replicate (length self.old.lists) [] } }
     {
         self.all.clear();
-        for list in &mut self.lists {
-            list.items.clear();
+        for i in 0..self.lists.len() {
+            self.lists[i].items.clear();
         }
     }
 
@@ -88,8 +88,9 @@ impl Told {
         ensures same { OnOk result (self.new.all ≡ self.old.all) }
         ensures dealt { OnOk result (AreDealt layout.bits self.old.all self.old.lists self.new.lists) }
     {
-        for v in &self.all {
-            self.lists[layout.range_of(*v)].items.push(*v)?;
+        for i in 0..self.all.len() {
+            let v = self.all[i];
+            self.lists[layout.range_of(v)].items.push(v)?;
         }
         Ok(())
     }
