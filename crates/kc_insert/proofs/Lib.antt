@@ -3,5 +3,7 @@ mod Buckets
 mod Dealing
 mod Flips
 mod Lifting
+mod Meeting
 mod Seen
+mod Staying
 mod Watching

@@ -51,6 +51,58 @@ impl Model for Range {
     ghost view = { λ r. record { watch = r.watched; queue = r.queue; meetings = r.meetings; began = r.began.items; risen = r.risen.items; stay = r.stay.items; begun = r.begun.items; tell = r.told; steps = r.steps; is_short = r.is_short } };
 }
 
+// Rising vertices on the watch list whose count is within the limit stop: `stay` has these alone afterwards. Fails only if memory runs
+// out.
+fn stop(
+    watched: &WatchedCounts,
+    levels: &mut RisingLevels,
+    stay: &mut Vec<u32>,
+) -> Result<(), AllocError>
+    requires small { levels.old.level < 65535 }
+    requires inside { (v : ℕ) → has_number v watched.now.doubtful ≡ true → (v < length (seen levels.old)) × IsHeld watched.now v }
+    ensures same { OnOk result ((levels.new.level ≡ levels.old.level) × (seen levels.new ≡ seen levels.old)) }
+    ensures stay { OnOk result (LetStay levels.old watched.now levels.new stay.new.items) }
+{
+    let most = watched.most();
+    let doubtful = watched.doubtful();
+    stay.clear();
+    for v in doubtful {
+        if levels.rises(*v) && watched.count(*v) <= most {
+            levels.settle(*v);
+            stay.push(*v)?;
+        }
+    }
+    Ok(())
+}
+
+// The vertices of the list that rise, in order: `rising` has these alone afterwards. Fails only if memory runs out.
+fn who_rises(levels: &RisingLevels, began: &[u32], rising: &mut Vec<u32>) -> Result<(), AllocError>
+    requires inside { (v : ℕ) → has_number v began.now ≡ true → v < length (seen levels.now) }
+    ensures { OnOk result (rising.new.items ≡ filter (rises levels.now) began.now) }
+{
+    rising.clear();
+    for v in began {
+        if levels.rises(*v) {
+            rising.push(*v)?;
+        }
+    }
+    Ok(())
+}
+
+// Keeps those vertices of the list that rise, in order. Fails only if memory runs out.
+fn keep_rising(
+    levels: &RisingLevels,
+    began: &mut Vec<u32>,
+    room: &mut Vec<u32>,
+) -> Result<(), AllocError>
+    requires inside { (v : ℕ) → has_number v began.old.items ≡ true → v < length (seen levels.now) }
+    ensures { OnOk result (began.new.items ≡ filter (rises levels.now) began.old.items) }
+{
+    who_rises(levels, began, room)?;
+    mem::swap(began, room);
+    Ok(())
+}
+
 impl Range {
     /// The vertices from `first` on, with these counts; nobody rises or waits on any of the levels. Fails only if memory runs out.
     pub fn new(
@@ -87,13 +139,7 @@ impl Range {
         ensures part { OnOk result (self.new ≡ record self.old { watch = record self.old.watch { doubtful = [] }; stay = self.new.stay }) }
         ensures stay { OnOk result (LetStay levels.old self.old.watch levels.new self.new.stay) }
     {
-        self.stay.clear();
-        for v in self.watched.doubtful() {
-            if levels.rises(*v) && self.watched.count(*v) <= self.watched.most() {
-                levels.settle(*v);
-                self.stay.push(*v)?;
-            }
-        }
+        stop(&self.watched, levels, &mut self.stay)?;
         self.watched.clear();
         Ok(())
     }
@@ -104,13 +150,7 @@ impl Range {
         requires { (v : ℕ) → has_number v self.old.began ≡ true → (v < length (seen levels.now)) × IsHeld self.old.watch v }
         ensures { let rising = filter (rises levels.now) self.old.began in OnOk result (self.new ≡ record self.old { watch = record self.old.watch { most = most; doubtful = filter (is_few self.old.watch most) rising }; began = rising; stay = self.new.stay }) }
     {
-        self.stay.clear();
-        for v in &self.began {
-            if levels.rises(*v) {
-                self.stay.push(*v)?;
-            }
-        }
-        mem::swap(&mut self.began, &mut self.stay);
+        keep_rising(levels, &mut self.began, &mut self.stay)?;
         self.watched.watch(most, &self.began)?;
         Ok(())
     }
