@@ -2,6 +2,7 @@ mod Adding
 mod Buckets
 mod Dealing
 mod Flips
+mod Hearing
 mod Lifting
 mod Meeting
 mod Seen

@@ -75,6 +75,20 @@ fn stop(
     Ok(())
 }
 
+// Each vertex that was told to the range counts one less for each time. Fails only if memory runs out.
+fn hear_each(watched: &mut WatchedCounts, told: &[Told], own: usize) -> Result<(), AllocError>
+    requires lists { All (λ t. own < length t.lists) told.now }
+    requires held { (v : ℕ) → has_number v (heard_by own told.now) ≡ true → IsHeld watched.old v }
+    requires enough { (v : ℕ) → times v (heard_by own told.now) ≤ count_at watched.old v }
+    ensures less { OnOk result ((v : ℕ) → watched.old.first ≤ v → count_at watched.new v + times v (heard_by own told.now) ≡ count_at watched.old v) }
+    ensures watched { OnOk result (StayWatched watched.old watched.new) }
+{
+    for i in 0..told.len() {
+        watched.lessen_all(told[i].of_range(own))?;
+    }
+    Ok(())
+}
+
 // The vertices of the list that rise, in order: `rising` has these alone afterwards. Fails only if memory runs out.
 fn who_rises(levels: &RisingLevels, began: &[u32], rising: &mut Vec<u32>) -> Result<(), AllocError>
     requires inside { (v : ℕ) → has_number v began.now ≡ true → v < length (seen levels.now) }
@@ -199,10 +213,7 @@ impl Range {
         ensures watched { OnOk result (StayWatched self.old.watch self.new.watch) }
         ensures part { OnOk result (self.new ≡ record self.old { watch = self.new.watch }) }
     {
-        for from in told {
-            self.watched.lessen_all(from.of_range(own))?;
-        }
-        Ok(())
+        hear_each(&mut self.watched, told, own)
     }
 
     /// Each vertex that was told to this range, all on the level, counts one more for each time, and waits there if it then counts more
@@ -220,8 +231,8 @@ impl Range {
         requires room { level < length self.old.queue }
         ensures { OnOk result (HaveMet level most (heard_by own told.now) self.old self.new) }
     {
-        for from in told {
-            self.meet_all(level, most, from.of_range(own))?;
+        for i in 0..told.len() {
+            self.meet_all(level, most, told[i].of_range(own))?;
         }
         Ok(())
     }
