@@ -165,8 +165,8 @@ impl Range {
         self.watched.put(v, above)
     }
 
-    /// Each vertex that goes on counts no more who stays, whoever begins counts afresh, and all that came up to the next level tell it
-    /// to the neighbours that stood there. Fails only if memory runs out.
+    /// Vertices that go on count the neighbours that stay no more, and vertices that begin count afresh. All of them tell it to the
+    /// neighbours that stood on the next level. Fails only if memory runs out.
     pub fn rise(&mut self, alloc: Global, step: &Step<'_>) -> Result<(), AllocError> {
         self.told.clear();
         self.leave_behind(alloc, step)?;

@@ -118,7 +118,7 @@ fn keep_rising(
 }
 
 impl Range {
-    /// The vertices from `first` on, with these counts; nobody rises or waits on any of the levels. Fails only if memory runs out.
+    /// The vertices from `first` on, with these counts; none rises or waits. Fails only if memory runs out.
     pub fn new(
         alloc: Global,
         first: u32,

@@ -23,7 +23,7 @@ pub struct Ranges {
 }
 
 impl Ranges {
-    /// The vertices with these counts, of which nobody rises or waits.
+    /// The vertices with these counts, of which none rises or waits.
     pub fn new(
         alloc: Global,
         layout: Layout,

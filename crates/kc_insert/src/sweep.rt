@@ -45,7 +45,7 @@ fn lesser(a: u16, b: u16) -> u16 {
 
 impl Sweep {
     /// The furthest level below the top up to which the vertices that came to the level of the sweep may rise together: on the levels
-    /// on the way nobody waits or is to be met. That level itself if there is none beyond it.
+    /// on the way no vertex waits or is to be met. That level itself if there is none beyond it.
     pub fn free_level(&self, th: &Thresholds) -> u16 {
         let level = self.levels.level;
         let met = self.ranges.next_meeting(level);

@@ -27,11 +27,11 @@ fn end_of_group(th: &Thresholds, level: u16, limit: u16) -> u16 {
     last + 1
 }
 
-// If no rising vertex counts few, and nobody is to look at on the way, goes on to the furthest level to which all rise at once.
+// If no watch list has a vertex, and none waits or is met on the way, goes on to the furthest level to which all rise at once.
 // Returns whether there is one.
 //
-// They count each other on each of the levels, and all others whom they count are above: so no count changes, and in a group each
-// of them goes on where all went on before.
+// Rising vertices count each other on each of the levels, and all other neighbours that they count are above. So no count changes, and
+// in a group each of them goes on where all went on before.
 fn rise_together(th: &Thresholds, sweep: &mut Sweep) -> bool {
     let limit = sweep.free_level(th);
     let level = sweep.levels.level;

@@ -8,8 +8,8 @@ ghost use Rattle.kc_insert.specs.private.Watched.{count_at, IsHeld, is_few, Stay
 use std::alloc::{AllocError, Global};
 use std::marker::Model;
 
-/// For each vertex of a range how many of its neighbours it counts, and a watch list of those whose count came to the limit.
-/// Contracts see it as a `Watch`.
+/// For each vertex of a range how many of its neighbours it counts, and a watch list of the vertices whose
+/// count came to the limit. Contracts see it as a `Watch`.
 #[derive(Drop)]
 pub struct WatchedCounts {
     // The first vertex of the range.

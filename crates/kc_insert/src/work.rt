@@ -29,7 +29,7 @@ use std::thread::Threads;
 /// and 48 for each range and each level up to the top.
 #[derive(Drop)]
 pub struct InsertionWork {
-    // How far the sweep of the phase has come. Between phases nobody rises, waits or is to be met.
+    // How far the sweep of the phase has come. Between phases no vertex rises, waits or is to be met.
     pub(crate) sweep: Sweep,
 }
 
