@@ -1,9 +1,7 @@
 -- Words of private contracts and loop invariants: no public contract needs them.
-pub mod BucketQueue
-pub mod Counting
+pub mod Crossing
 pub mod Meetings
+pub mod Parts
 pub mod Rising
-pub mod Round
-pub mod Sweeping
-pub mod Together
+pub mod Telling
 pub mod Watched

@@ -1,0 +1,41 @@
+-- The state of a sweep, cut into ranges of vertices.
+use Rattle.std.specs.Prelude.{ℕ, ◌+◌, ◌≤◌, ◌<◌, ◌≡◌, ◌&&◌, ◌⊎◌, not, true, Bool, List, [], length, get_or}
+use Rattle.kc_graph.specs.Numbers.{has_number}
+use Rattle.kc_levels.specs.Following.{AreDistinct}
+use Rattle.kc_insert.specs.declared.rising.RisingLevels.{RisingLevels}
+use Rattle.kc_insert.specs.private.Rising.{rises}
+use Rattle.kc_graph.specs.Shape.{Pair}
+use Rattle.kc_insert.specs.private.Telling.{Tell, times}
+use Rattle.kc_insert.specs.private.Watched.{Watch, count_at, IsHeld}
+
+-- what contracts see of a `Range`
+pub record Part : Type 0 where
+  pub watch : Watch
+  pub queue : List (List ℕ)
+  pub meetings : List (List Pair)
+  pub began : List ℕ
+  pub risen : List ℕ
+  pub stay : List ℕ
+  pub begun : List ℕ
+  pub tell : Tell
+  pub steps : ℕ
+  pub is_short : Bool
+
+-- the vertices in the list, each once, rise no more, since their counts are within the limit; all others of the watch list that still
+-- rise count more
+pub record LetStay (old : RisingLevels) (watch : Watch) (new : RisingLevels) (stay : List ℕ) : Type 0 where
+  pub rises_on : (v : ℕ) → rises new v ≡ (rises old v && not (has_number v stay))
+  pub stays : (v : ℕ) → has_number v stay ≡ true → (rises old v ≡ true) × (count_at watch v ≤ watch.most)
+  pub over : (v : ℕ) → has_number v watch.doubtful ≡ true → rises new v ≡ true → watch.most < count_at watch v
+  pub distinct : AreDistinct stay
+
+-- each vertex of the list counts one more for each time that it is there; whoever waited waits still, and besides only vertices of the
+-- list on the level, among them each that came to count more than `most`
+pub record HaveMet (level most : ℕ) (vertices : List ℕ) (old new : Part) : Type 0 where
+  pub part : new ≡ record old { watch = record old.watch { counts = new.watch.counts }; queue = new.queue }
+  pub sized : length new.watch.counts ≡ length old.watch.counts
+  pub more : (v : ℕ) → old.watch.first ≤ v → count_at new.watch v ≡ count_at old.watch v + times v vertices
+  pub levels : length new.queue ≡ length old.queue
+  pub still : (k v : ℕ) → has_number v (get_or old.queue k []) ≡ true → has_number v (get_or new.queue k []) ≡ true
+  pub only : (k v : ℕ) → has_number v (get_or new.queue k []) ≡ true → (has_number v (get_or old.queue k []) ≡ true) ⊎ ((k ≡ level) × (has_number v vertices ≡ true))
+  pub noted : (v : ℕ) → IsHeld old.watch v → most < count_at new.watch v → (most < count_at old.watch v) ⊎ (has_number v (get_or new.queue level []) ≡ true)
