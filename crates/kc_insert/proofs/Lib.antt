@@ -1,10 +1,16 @@
 mod Adding
+mod Beginning
 mod Buckets
 mod Dealing
 mod Flips
 mod Hearing
+mod Inside
+mod Leaving
 mod Lifting
+mod Looking
 mod Meeting
+mod Rows
 mod Seen
 mod Staying
+mod Summing
 mod Watching

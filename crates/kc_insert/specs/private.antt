@@ -2,6 +2,7 @@
 pub mod Crossing
 pub mod Meetings
 pub mod Parts
+pub mod Ranges
 pub mod Rising
 pub mod Telling
 pub mod Watched

@@ -1,18 +1,23 @@
 //! The two passes of a step over the rows of a range: of the vertices that stay on the level, and of those that begin to rise from it.
 
-ghost use Rattle.std.specs.Prelude.{◌≡◌, ◌+◌, ◌*◌, ◌++◌, ◌∷◌, ◌<◌, ◌≤◌, ◌^◌, ℕ, [], true, IfOk, OnOk, cond, filter, length, slice_set, take};
+ghost use Rattle.std.specs.Prelude.{◌≡◌, ◌+◌, ◌*◌, ◌++◌, ◌∷◌, ◌<◌, ◌≤◌, ◌^◌, ◌⊎◌, ℕ, [], true, IfOk, OnOk, cond, count_by, filter, length, slice_index, slice_index_or, slice_set, take};
 ghost use Rattle.std.specs.List.{flat_map};
 ghost use Rattle.kc_graph.specs.Numbers.{has_number};
-ghost use Rattle.kc_graph.specs.Shape.{neighbours_of};
+ghost use Rattle.kc_graph.specs.Shape.{has_edge, neighbours_of};
 ghost use Rattle.kc_adj.specs.Degrees.{degrees};
+ghost use Rattle.kc_insert.specs.private.Crossing.{above_near, count_above, HaveBegun, HaveMeetings, is_above, left_at, met_by, next_near, rising_near, with_levels};
+ghost use Rattle.kc_insert.specs.private.Parts.{CanRise, HaveRisen};
 ghost use Rattle.kc_insert.specs.private.Rising.{rises, seen};
-ghost use Rattle.kc_insert.specs.private.Telling.{AreDealtAnew, range_of};
+ghost use Rattle.kc_insert.specs.private.Telling.{AreDealtAnew, range_of, times};
+ghost use Rattle.kc_insert.specs.private.Watched.{count_at, IsHeld, StayWatched};
 
 use crate::layout::Layout;
 use crate::meetings::Meeting;
 use crate::range::Range;
-use crate::rising::RisingLevels;
-use kc_adj::put_where;
+use crate::rising::{RISING, RisingLevels};
+use crate::telling::Told;
+use crate::watched::WatchedCounts;
+use kc_adj::{LevelLists, put_where};
 use kc_graph::Graph;
 use std::alloc::{AllocError, Global};
 use std::marker::Model;
@@ -66,20 +71,23 @@ fn rising_of(step: &Step<'_>, row: &[u32], found: &mut Vec<u32>) -> Result<usize
     if found.len() < row.len() {
         found.resize(row.len(), 0)?;
     }
+    let levels = step.levels;
     let mut end = 0;
     for w in row {
-        end = put_where(found, end, *w, step.levels.rises(*w));
+        end = put_where(found, end, *w, levels.rises(*w));
     }
     Ok(end)
 }
 
-// The neighbours in the row that stood above the level before the sweep, each with its level, at the front of `found`. Returns where
-// they end, and how many neighbours are above the level now.
-fn above_of(
-    step: &Step<'_>,
-    row: &[u32],
-    found: &mut Vec<u32>,
-) -> Result<(usize, u32), AllocError> {
+// The neighbours in the row that stand above the level and don't rise, each with its level, at the front of `found`. Returns where
+// they end, and how many neighbours are above the level or rise.
+fn above_of(step: &Step<'_>, row: &[u32], found: &mut Vec<u32>) -> Result<(usize, u32), AllocError>
+    requires inside { (w : ℕ) → has_number w row.now ≡ true → w < step.now.graph.vertices }
+    requires small { length row.now < 2 ^ 24 }
+    ensures found { IfOk result (λ r. take r.0 found.new.items ≡ with_levels step.now.levels.stored (filter (is_above step.now) row.now)) }
+    ensures within { IfOk result (λ r. r.0 ≤ length found.new.items) }
+    ensures above { IfOk result (λ r. r.1 ≡ count_by (λ w. count_above step.now w) row.now) }
+{
     if found.len() < 2 * row.len() {
         found.resize(2 * row.len(), 0)?;
     }
@@ -95,86 +103,170 @@ fn above_of(
             end,
             *w,
             u32::from(stood),
-            (stood > level) & (stood != 65_535),
+            (stood > level) & (stood < RISING),
         );
     }
     Ok((end, above))
+}
+
+// Each vertex that stays tells it to its neighbours that rise on. Returns how many neighbours there are. Fails only if memory runs
+// out.
+fn tell_parting(
+    step: &Step<'_>,
+    stay: &[u32],
+    row: &mut Vec<u32>,
+    told: &mut Told,
+) -> Result<usize, AllocError>
+    requires vertices { (v : ℕ) → has_number v stay.now ≡ true → v < step.now.graph.vertices }
+    requires few { length stay.now ≤ 2 ^ 24 }
+    ensures told { OnOk result (told.new ≡ record told.old { all = told.old.all ++ flat_map (rising_near step.now) stay.now }) }
+    ensures steps { IfOk result (λ steps. (steps ≡ degrees step.now.graph stay.now) × (steps ≤ 2 ^ 24 * length stay.now)) }
+{
+    let graph = step.graph;
+    let mut steps = 0;
+    for i in 0..stay.len() {
+        let v = graph.in_turn(stay, i);
+        let near = graph.neighbours(v);
+        steps += near.len();
+        let count = rising_of(step, near, row)?;
+        told.tell_all(&row[..count])?;
+    }
+    Ok(steps)
+}
+
+// For each meeting on the level: if the riser goes on and the other stays, the riser counts one less. Fails only if memory runs out.
+fn leave_behind(
+    step: &Step<'_>,
+    met: &[Meeting],
+    watched: &mut WatchedCounts,
+) -> Result<(), AllocError>
+    requires held { (v w : ℕ) → has_edge (v, w) met.now ≡ true → (v < step.now.graph.vertices) × (w < step.now.graph.vertices) × IsHeld watched.old v }
+    requires enough { (v : ℕ) → times v (left_at step.now met.now) ≤ count_at watched.old v }
+    ensures less { OnOk result ((v : ℕ) → watched.old.first ≤ v → count_at watched.new v + times v (left_at step.now met.now) ≡ count_at watched.old v) }
+    ensures watched { OnOk result (StayWatched watched.old watched.new) }
+{
+    let levels = step.levels;
+    let level = step.level;
+    for m in met {
+        if levels.rises(m.riser) && levels.get(m.other) == level {
+            watched.lessen(m.riser)?;
+        }
+    }
+    Ok(())
+}
+
+// For each meeting on the next level: if the riser came up, it tells it to the other. Fails only if memory runs out.
+fn come_up(step: &Step<'_>, meetings: &[Meeting], told: &mut Told) -> Result<(), AllocError>
+    requires inside { (v w : ℕ) → has_edge (v, w) meetings.now ≡ true → v < step.now.graph.vertices }
+    ensures { OnOk result (told.new ≡ record told.old { all = told.old.all ++ met_by step.now meetings.now }) }
+{
+    let levels = step.levels;
+    for m in meetings {
+        if levels.rises(m.riser) {
+            told.tell(m.other)?;
+        }
+    }
+    Ok(())
+}
+
+// v begins to rise: it tells it to its neighbours on the next level, and is to meet all that stand above the level and don't rise, which
+// are in `above`, each with its level. Fails only if memory runs out.
+fn file_above(
+    step: &Step<'_>,
+    v: u32,
+    above: &[u32],
+    told: &mut Told,
+    meetings: &mut LevelLists<Meeting>,
+) -> Result<(), AllocError>
+    requires vertex { v < step.now.graph.vertices }
+    requires above { above.now ≡ with_levels step.now.levels.stored (above_near step.now v) }
+    requires places { (w : ℕ) → is_above step.now w ≡ true → slice_index step.now.levels.stored w < length meetings.old }
+    ensures told { OnOk result (told.new ≡ record told.old { all = told.old.all ++ next_near step.now v }) }
+    ensures meetings { OnOk result (HaveMeetings step.now (v ∷ []) meetings.old meetings.new) }
+{
+    let next = step.level + 1;
+    for i in 0..above.len() / 2 {
+        let w = above[2 * i];
+        let stood = above[2 * i + 1] as u16;
+        if stood == next {
+            told.tell(w)?;
+        }
+        meetings.file(stood, Meeting { riser: v, other: w })?;
+    }
+    Ok(())
+}
+
+// Each vertex of the list begins to rise: it tells it to its neighbours on the next level, is to meet all that stand above the level and
+// don't rise, and counts afresh. Returns how many neighbours there are. Fails only if memory runs out.
+fn begin_each(
+    step: &Step<'_>,
+    begun: &[u32],
+    row: &mut Vec<u32>,
+    told: &mut Told,
+    meetings: &mut LevelLists<Meeting>,
+    watched: &mut WatchedCounts,
+) -> Result<usize, AllocError>
+    requires vertices { (v : ℕ) → has_number v begun.now ≡ true → (v < step.now.graph.vertices) × IsHeld watched.old v }
+    requires few { length begun.now ≤ 2 ^ 24 }
+    requires places { (w : ℕ) → is_above step.now w ≡ true → slice_index step.now.levels.stored w < length meetings.old }
+    ensures told { OnOk result (told.new ≡ record told.old { all = told.old.all ++ flat_map (next_near step.now) begun.now }) }
+    ensures meetings { OnOk result (HaveMeetings step.now begun.now meetings.old meetings.new) }
+    ensures counts { OnOk result (HaveBegun step.now begun.now watched.old watched.new) }
+    ensures steps { IfOk result (λ steps. (steps ≡ degrees step.now.graph begun.now) × (steps ≤ 2 ^ 24 * length begun.now)) }
+{
+    let graph = step.graph;
+    let mut steps = 0;
+    for i in 0..begun.len() {
+        let v = graph.in_turn(begun, i);
+        let near = graph.neighbours(v);
+        steps += near.len();
+        let (end, above) = above_of(step, near, row)?;
+        file_above(step, v, &row[..end], told, meetings)?;
+        watched.put(v, above)?;
+    }
+    Ok(steps)
 }
 
 impl Range {
     /// Each vertex that stays tells it to its neighbours that rise on. Fails only if memory runs out.
     pub fn part(&mut self, step: &Step<'_>) -> Result<(), AllocError>
         requires vertices { (v : ℕ) → has_number v self.old.stay ≡ true → v < step.now.graph.vertices }
-        requires small { self.old.steps + 2 ^ 24 * length self.old.stay < 2 ^ 64 }
+        requires few { length self.old.stay ≤ 2 ^ 24 }
+        requires steps { self.old.steps < 2 ^ 63 }
         requires ranges { (v : ℕ) → v < step.now.graph.vertices → range_of step.now.bits v < length self.old.tell.lists }
-        ensures told { OnOk result (self.new.tell.all ≡ flat_map (λ v. filter (rises step.now.levels) (neighbours_of v step.now.graph.edges)) self.old.stay) }
+        ensures told { OnOk result (self.new.tell.all ≡ flat_map (rising_near step.now) self.old.stay) }
         ensures dealt { OnOk result (step.now.is_dealt ≡ true → AreDealtAnew step.now.bits self.old.tell self.new.tell) }
         ensures part { OnOk result (self.new ≡ record self.old { tell = self.new.tell; steps = self.old.steps + degrees step.now.graph self.old.stay }) }
     {
         self.told.clear();
-        for i in 0..self.stay.len() {
-            let v = step.graph.in_turn(&self.stay, i);
-            let row = step.graph.neighbours(v);
-            self.steps += row.len();
-            let count = rising_of(step, row, &mut self.row)?;
-            self.told.tell_all(&self.row[..count])?;
-        }
+        self.steps += tell_parting(step, &self.stay, &mut self.row, &mut self.told)?;
         if step.is_dealt {
             self.told.deal(step.layout)?;
         }
         Ok(())
     }
 
-    // Each vertex that rises on counts its neighbours no more that it was to meet on the level and that stay there.
-    fn leave_behind(&mut self, alloc: Global, step: &Step<'_>) -> Result<(), AllocError> {
-        let met = self.meetings.take_all(alloc, step.level);
-        let levels = step.levels;
-        for m in &met {
-            if levels.rises(m.riser) && levels.get(m.other) == step.level {
-                self.watched.lessen(m.riser)?;
-            }
-        }
-        Ok(())
-    }
-
-    // Each vertex that came up to the next level tells it to the neighbours that it was to meet there.
-    fn come_up(&mut self, step: &Step<'_>) -> Result<(), AllocError> {
-        for m in self.meetings.on(step.level + 1) {
-            if step.levels.rises(m.riser) {
-                self.told.tell(m.other)?;
-            }
-        }
-        Ok(())
-    }
-
-    // v begins to rise: it counts its neighbours above the level afresh, tells it to those on the next level, and is to meet all that
-    // stood above the level.
-    fn begin(&mut self, step: &Step<'_>, v: u32) -> Result<(), AllocError> {
-        let next = step.level + 1;
-        let row = step.graph.neighbours(v);
-        self.steps += row.len();
-        let (end, above) = above_of(step, row, &mut self.row)?;
-        for i in 0..end / 2 {
-            let w = self.row[2 * i];
-            let stood = self.row[2 * i + 1] as u16;
-            if stood == next {
-                self.told.tell(w)?;
-            }
-            self.meetings.file(stood, Meeting { riser: v, other: w })?;
-        }
-        self.watched.put(v, above)
-    }
-
     /// Vertices that go on count the neighbours that stay no more, and vertices that begin count afresh. All of them tell it to the
     /// neighbours that stood on the next level. Fails only if memory runs out.
-    pub fn rise(&mut self, alloc: Global, step: &Step<'_>) -> Result<(), AllocError> {
+    pub fn rise(&mut self, alloc: Global, step: &Step<'_>) -> Result<(), AllocError>
+        requires { CanRise step.now self.old }
+        ensures part { OnOk result (self.new ≡ record self.old { watch = self.new.watch; meetings = self.new.meetings; began = self.old.began ++ self.old.begun; risen = self.old.risen ++ self.old.begun; begun = []; tell = self.new.tell; steps = self.old.steps + degrees step.now.graph self.old.begun }) }
+        ensures told { OnOk result (self.new.tell.all ≡ met_by step.now (slice_index_or self.old.meetings (step.now.level + 1) []) ++ flat_map (next_near step.now) self.old.begun) }
+        ensures dealt { OnOk result (step.now.is_dealt ≡ true → AreDealtAnew step.now.bits self.old.tell self.new.tell) }
+        ensures risen { OnOk result (HaveRisen step.now self.old self.new) }
+    {
         self.told.clear();
-        self.leave_behind(alloc, step)?;
-        self.come_up(step)?;
-        for i in 0..self.begun.len() {
-            let v = step.graph.in_turn(&self.begun, i);
-            self.begin(step, v)?;
-        }
+        let met = self.meetings.take_all(alloc, step.level);
+        leave_behind(step, &met, &mut self.watched)?;
+        come_up(step, self.meetings.on(step.level + 1), &mut self.told)?;
+        self.steps += begin_each(
+            step,
+            &self.begun,
+            &mut self.row,
+            &mut self.told,
+            &mut self.meetings,
+            &mut self.watched,
+        )?;
         self.risen.extend_from_slice(&self.begun)?;
         self.began.append(&mut self.begun)?;
         if step.is_dealt {

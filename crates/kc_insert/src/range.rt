@@ -187,12 +187,7 @@ impl Range {
 
     /// Each vertex of the list, all on the level, counts one more for each time that it is there, and waits on the level if it then
     /// counts more than `most`. Fails only if memory runs out.
-    pub fn meet_all(
-        &mut self,
-        level: u16,
-        most: u32,
-        vertices: &[u32],
-    ) -> Result<(), AllocError>
+    pub fn meet_all(&mut self, level: u16, most: u32, vertices: &[u32]) -> Result<(), AllocError>
         requires held { (v : ℕ) → has_number v vertices.now ≡ true → IsHeld self.old.watch v }
         requires small { (v : ℕ) → count_at self.old.watch v + times v vertices.now ≤ 2 ^ 31 }
         requires room { level < length self.old.queue }

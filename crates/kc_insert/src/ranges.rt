@@ -7,9 +7,8 @@ use crate::rising::RisingLevels;
 use crate::telling::Told;
 use kc_rounds::{Gate, Rounds};
 use std::alloc::{AllocError, Global};
-use std::mem;
-use std::thread;
 use std::thread::Threads;
+use std::{mem, thread};
 
 /// The vertices of a graph, cut into ranges.
 #[derive(Drop)]

@@ -90,12 +90,7 @@ impl InsertionWork {
         let fresh = adj.own_counts();
         self.sweep.levels.stored.follow(moves);
         copy_ends(&mut self.sweep.ranges, fresh, removed);
-        copy_rows(
-            &mut self.sweep.ranges,
-            fresh,
-            adj.graph(),
-            moves.as_slice(),
-        );
+        copy_rows(&mut self.sweep.ranges, fresh, adj.graph(), moves.as_slice());
     }
 
     /// Raises the levels of the sweep to the raised list, where every vertex that breaks the upper invariant waits on its level

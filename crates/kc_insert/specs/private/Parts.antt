@@ -1,12 +1,15 @@
 -- The state of a sweep, cut into ranges of vertices.
-use Rattle.std.specs.Prelude.{ℕ, ◌+◌, ◌≤◌, ◌<◌, ◌≡◌, ◌&&◌, ◌⊎◌, not, true, Bool, List, [], length, get_or}
+use Rattle.std.specs.Prelude.{ℕ, ◌+◌, ◌^◌, ◌≤◌, ◌<◌, ◌≡◌, ◌&&◌, ◌⊎◌, ◌++◌, not, true, false, Bool, List, [], count_by, length, get_or, set}
+use Rattle.std.specs.List.{flat_map}
 use Rattle.kc_graph.specs.Numbers.{has_number}
+use Rattle.kc_graph.specs.Shape.{Pair, has_edge, neighbours_of}
 use Rattle.kc_levels.specs.Following.{AreDistinct}
+use Rattle.kc_adj.specs.Degrees.{degrees}
 use Rattle.kc_insert.specs.declared.rising.RisingLevels.{RisingLevels}
+use Rattle.kc_insert.specs.private.Crossing.{Crossing, count_above, HaveMeetings, is_above, left_at, met_by, next_near}
 use Rattle.kc_insert.specs.private.Rising.{rises}
-use Rattle.kc_graph.specs.Shape.{Pair}
-use Rattle.kc_insert.specs.private.Telling.{Tell, times}
-use Rattle.kc_insert.specs.private.Watched.{Watch, count_at, IsHeld}
+use Rattle.kc_insert.specs.private.Telling.{AreDealtAnew, range_of, Tell, times}
+use Rattle.kc_insert.specs.private.Watched.{Watch, count_at, IsHeld, StayWatched}
 
 -- what contracts see of a `Range`
 pub record Part : Type 0 where
@@ -39,3 +42,23 @@ pub record HaveMet (level most : ℕ) (vertices : List ℕ) (old new : Part) : T
   pub still : (k v : ℕ) → has_number v (get_or old.queue k []) ≡ true → has_number v (get_or new.queue k []) ≡ true
   pub only : (k v : ℕ) → has_number v (get_or new.queue k []) ≡ true → (has_number v (get_or old.queue k []) ≡ true) ⊎ ((k ≡ level) × (has_number v vertices ≡ true))
   pub noted : (v : ℕ) → IsHeld old.watch v → most < count_at new.watch v → (most < count_at old.watch v) ⊎ (has_number v (get_or new.queue level []) ≡ true)
+
+-- what `Range::rise` asks: the vertices and the meetings are of the graph, those that rise are of the range, and there is room
+pub record CanRise (step : Crossing) (old : Part) : Type 0 where
+  pub met : (v w : ℕ) → has_edge (v, w) (get_or old.meetings step.level []) ≡ true → (v < step.graph.vertices) × (w < step.graph.vertices) × IsHeld old.watch v
+  pub enough : (v : ℕ) → times v (left_at step (get_or old.meetings step.level [])) ≤ count_at old.watch v
+  pub coming : (v w : ℕ) → has_edge (v, w) (get_or old.meetings (step.level + 1) []) ≡ true → (v < step.graph.vertices) × (w < step.graph.vertices)
+  pub begins : (v : ℕ) → has_number v old.begun ≡ true → (v < step.graph.vertices) × IsHeld old.watch v
+  pub few : length old.begun ≤ 2 ^ 24
+  pub steps : old.steps < 2 ^ 63
+  pub levels : step.level + 1 < length old.meetings
+  pub places : (w : ℕ) → is_above step w ≡ true → get_or step.levels.stored w 0 < length old.meetings
+  pub ranges : (v : ℕ) → v < step.graph.vertices → range_of step.bits v < length old.tell.lists
+
+-- the vertices that begin are to meet all above them, and count afresh; each other vertex counts one less for each meeting at which it
+-- left the other behind
+pub record HaveRisen (step : Crossing) (old new : Part) : Type 0 where
+  pub meetings : HaveMeetings step old.begun (set old.meetings step.level []) new.meetings
+  pub watched : StayWatched old.watch new.watch
+  pub own : (v : ℕ) → has_number v old.begun ≡ true → count_at new.watch v ≡ count_by (count_above step) (neighbours_of v step.graph.edges)
+  pub others : (v : ℕ) → old.watch.first ≤ v → has_number v old.begun ≡ false → count_at new.watch v + times v (left_at step (get_or old.meetings step.level [])) ≡ count_at old.watch v
