@@ -51,4 +51,4 @@ near_inside g v u p graph there = neighbour_below g.vertices v u g.edges graph (
 
 -- a list of vertices can be dealt to the ranges
 pub dealt_all : (bits n : ℕ) (lists : List (List ℕ)) (y : Tell) (told : List ℕ) → y ≡ record { all = told; lists = replicate (length lists) [] } → ((v : ℕ) → has_number v told ≡ true → v < n) → ((v : ℕ) → v < n → range_of bits v < length lists) → All (λ v. range_of bits v < length y.lists) y.all
-dealt_all bits n lists y told is inside ranges = rw is (all_of (λ v. range_of bits v < length (replicate (length lists) [])) told (λ v there. rw (length-replicate (length lists) []) (ranges v (inside v there))))
+dealt_all bits n lists y told is inside ranges = rw is (all_of (λ v. range_of bits v < length (replicate {A = List ℕ} (length lists) [])) told (λ v there. omega (arith, length-replicate {A = List ℕ} (length lists) [], ranges v (inside v there))))
