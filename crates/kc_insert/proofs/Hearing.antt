@@ -1,5 +1,5 @@
 -- A range hears the lists of all ranges, one after another.
-use Rattle.std.proofs.Common.{ℕ, ◌+◌, ◌≤◌, ◌<◌, ◌≡◌, ◌⊎◌, inl, inr, true, false, List, [], ◌∷◌, ◌++◌, length, get_or, take, drop, add-one, refl, ap, sym, ◌∙◌, arith}
+use Rattle.std.proofs.Common.{ℕ, ◌+◌, ◌≤◌, ◌<◌, ◌≡◌, ◌⊎◌, inl, inr, true, false, List, [], ◌∷◌, ◌++◌, length, get_or, take, drop, add-one, refl, ap, sym, subst, ◌∙◌, arith}
 use Rattle.std.specs.List.{flat_map}
 use Rattle.std.proofs.lemmas.Bool.{cases_lt}
 use Rattle.std.proofs.lemmas.Bool.Decides.{nat_tests}
@@ -11,12 +11,14 @@ use Rattle.kc_graph.specs.Numbers.{has_number}
 use Rattle.kc_graph.proofs.lemmas.Numbers.{has_number-append}
 use Rattle.kc_insert.specs.private.Telling.{Tell, heard_by, times}
 use Rattle.kc_insert.specs.private.Watched.{Watch, count_at, IsHeld, StayWatched}
+use Rattle.kc_insert.specs.private.Parts.{Part, HaveMet}
 use Rattle.kc_insert.proofs.Adding.{times-append, times_there, times_some}
+use Rattle.kc_insert.proofs.Meeting.{met_on}
 use Rattle.kc_insert.proofs.Watching.{watched_same, watched_on}
 
 -- the list at a place follows what was heard before
 module _ (own : ℕ) (told : List Tell) (i : ℕ) (d : Tell) (at : i < length told) where
-  abbrev here : List ℕ
+  abbrev pub here : List ℕ
   here = get_or (get_or told i d).lists own []
 
   split : take (i + 1) told ≡ take i told ++ get_or told i d ∷ []
@@ -67,3 +69,30 @@ module _ (own : ℕ) (told : List Tell) (i : ℕ) (d : Tell) (at : i < length to
 
 pub less_last : (own : ℕ) (told : List Tell) (i : ℕ) (a b : Watch) → length told ≤ i → IsHeardLess own told i a b → (v : ℕ) → a.first ≤ v → count_at b v + times v (heard_by own told) ≡ count_at a v
 less_last own told i a b end s v from = rw (take_all i told end) at s.less v from
+
+-- the same of one more each
+module _ (own level most : ℕ) (told : List Tell) (i : ℕ) (d : Tell) (at : i < length told) (a b : Part) (s : HaveMet level most (heard_by own (take i told)) a b) where
+  begun : b.watch.first ≡ a.watch.first
+  begun = ap (λ (p : Part). p.watch.first) s.part
+
+  pub more_held : ((v : ℕ) → has_number v (heard_by own told) ≡ true → IsHeld a.watch v) → (v : ℕ) → has_number v (here own told i d at) ≡ true → IsHeld b.watch v
+  more_held held v there =
+      let was = held v (heard_there own told i d at v there) in
+      record { from = omega (arith, was.from, begun); below = omega (arith, was.below, begun, s.sized) }
+
+  above : (most_of : ℕ) → ((v : ℕ) → count_at a.watch v + times v (heard_by own told) ≤ most_of) → (v : ℕ) → a.watch.first ≤ v → count_at b.watch v + times v (here own told i d at) ≤ most_of
+  above most_of small v from = omega (arith, s.more v from, heard_part own told i d at v, small v)
+
+  pub more_small : (most_of : ℕ) → ((v : ℕ) → has_number v (heard_by own told) ≡ true → IsHeld a.watch v) → ((v : ℕ) → count_at a.watch v + times v (heard_by own told) ≤ most_of) → (v : ℕ) → count_at b.watch v + times v (here own told i d at) ≤ most_of
+  more_small most_of held small v = elim (cases_lt v a.watch.first) [
+    | inr from ↦ above most_of small v from
+    | inl below ↦ elim (cases_lt 0 (times v (here own told i d at))) [
+      | inl some ↦ absurd (omega (arith, below, (held v (heard_there own told i d at v (times_some v (here own told i d at) (omega (arith, some))))).from))
+      | inr none ↦
+          let same : count_at b.watch v ≡ count_at b.watch a.watch.first = ap (λ k. get_or b.watch.counts k 0) (omega (arith, below, begun)) in
+          omega (arith, same, none, above most_of small a.watch.first (omega arith))
+    ]
+  ]
+
+  pub more_next : (c : Part) → HaveMet level most (here own told i d at) b c → HaveMet level most (heard_by own (take (i + 1) told)) a c
+  more_next c t = subst (λ (xs : List ℕ). HaveMet level most xs a c) (sym (heard_more own told i d at)) (met_on level most (heard_by own (take i told)) (here own told i d at) a b c s t)

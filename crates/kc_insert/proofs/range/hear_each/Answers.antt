@@ -1,5 +1,4 @@
 use Rattle.std.proofs.Common.{◌≡◌, [], get_or, sym, ap, ◌∙◌, arith}
-use Rattle.std.proofs.lemmas.List.{get_or_read}
 use Rattle.kc_graph.specs.Numbers.{has_number}
 use Rattle.kc_insert.specs.private.Telling.{Tell, times}
 use Rattle.kc_insert.specs.private.Watched.{count_at}
@@ -11,21 +10,18 @@ loop-i-init c = heard_first c.args.own c.args.told.now c.args.watched.now
 
 pub lessen_all-requires-clause-held : goal.lessen_all-requires-clause-held
 lessen_all-requires-clause-held c =
-    let read = get_or_read c.args.told.now c.loop-i.i c.index.result.now (omega arith) c.index.ensures c.index.result.now in
-    let is : here c.args.own c.args.told.now c.loop-i.i c.index.result.now (omega arith) ≡ c.of_range.result.now = ap (λ (t : Tell). get_or t.lists c.args.own []) read ∙ sym c.of_range.ensures in
-    λ v there. less_held c.args.own c.args.told.now c.loop-i.i c.index.result.now (omega arith) _ _ c.requires.held c.requires.enough c.loop-i.invariant v (ap (has_number v) is ∙ there)
+    let is : here c.args.own c.args.told.now c.loop-i.i c.index-told-i.result (omega arith) ≡ c.of_range.result.now = ap (λ (t : Tell). get_or t.lists c.args.own []) (sym c.index-told-i.is) ∙ sym c.of_range.ensures in
+    λ v there. less_held c.args.own c.args.told.now c.loop-i.i c.index-told-i.result (omega arith) _ _ c.requires.held c.requires.enough c.loop-i.invariant v (ap (has_number v) is ∙ there)
 
 pub lessen_all-requires-clause-enough : goal.lessen_all-requires-clause-enough
 lessen_all-requires-clause-enough c =
-    let read = get_or_read c.args.told.now c.loop-i.i c.index.result.now (omega arith) c.index.ensures c.index.result.now in
-    let is : here c.args.own c.args.told.now c.loop-i.i c.index.result.now (omega arith) ≡ c.of_range.result.now = ap (λ (t : Tell). get_or t.lists c.args.own []) read ∙ sym c.of_range.ensures in
-    λ v. omega (arith, ap (times v) is, less_enough c.args.own c.args.told.now c.loop-i.i c.index.result.now (omega arith) _ _ c.requires.held c.requires.enough c.loop-i.invariant v)
+    let is : here c.args.own c.args.told.now c.loop-i.i c.index-told-i.result (omega arith) ≡ c.of_range.result.now = ap (λ (t : Tell). get_or t.lists c.args.own []) (sym c.index-told-i.is) ∙ sym c.of_range.ensures in
+    λ v. omega (arith, ap (times v) is, less_enough c.args.own c.args.told.now c.loop-i.i c.index-told-i.result (omega arith) _ _ c.requires.held c.requires.enough c.loop-i.invariant v)
 
 pub loop-i-preserved : goal.loop-i-preserved
 loop-i-preserved c =
-    let read = get_or_read c.args.told.now c.loop-i.i c.index.result.now (omega arith) c.index.ensures c.index.result.now in
-    let is : here c.args.own c.args.told.now c.loop-i.i c.index.result.now (omega arith) ≡ c.of_range.result.now = ap (λ (t : Tell). get_or t.lists c.args.own []) read ∙ sym c.of_range.ensures in
-    less_next c.args.own c.args.told.now c.loop-i.i c.index.result.now (omega arith) _ _ c.requires.held c.requires.enough c.loop-i.invariant _ (λ v from. omega (arith, ap (times v) is, c.in_ok-lessen_all.ensures.less v from)) c.in_ok-lessen_all.ensures.watched
+    let is : here c.args.own c.args.told.now c.loop-i.i c.index-told-i.result (omega arith) ≡ c.of_range.result.now = ap (λ (t : Tell). get_or t.lists c.args.own []) (sym c.index-told-i.is) ∙ sym c.of_range.ensures in
+    less_next c.args.own c.args.told.now c.loop-i.i c.index-told-i.result (omega arith) _ _ c.requires.held c.requires.enough c.loop-i.invariant _ (λ v from. omega (arith, ap (times v) is, c.in_ok-lessen_all.ensures.less v from)) c.in_ok-lessen_all.ensures.watched
 
 pub returns-clause-less : goal.returns-clause-less
 returns-clause-less c = less_last c.args.own c.args.told.now c.loop-i.i _ _ (omega arith) c.loop-i.invariant
