@@ -2,7 +2,9 @@ mod Adding
 mod Beginning
 mod Buckets
 mod Dealing
+mod Direct
 mod Flips
+mod Following
 mod Hearing
 mod Inside
 mod Leaving
@@ -11,6 +13,7 @@ mod Looking
 mod Meeting
 mod Rows
 mod Seen
+mod Shared
 mod Staying
 mod Summing
 mod Watching

@@ -1,7 +1,16 @@
 //! How the counts of a sweep follow those of the graph, and which vertices wait when it begins.
 
+ghost use Rattle.std.specs.Prelude.{◌≡◌, ◌+◌, ◌<◌, ◌≤◌, ◌^◌, false, OnOk, length, slice_index};
+ghost use Rattle.kc_levels.specs.LevelList.{IsCapped};
+ghost use Rattle.kc_levels.specs.Thresholds.{top_level};
+ghost use Rattle.kc_insert.specs.private.Filed.{CanFollow, HasFiled, HasFollowed, HaveFiled};
+ghost use Rattle.kc_insert.specs.private.Watched.{IsHeld};
+
 use crate::range::Range;
 use crate::ranges::Ranges;
+use crate::sharing::check;
+use crate::watched::WatchedCounts;
+use kc_adj::LevelLists;
 use kc_graph::{Edge, Graph};
 use kc_levels::{Levels, Move, Thresholds};
 use kc_rounds::{Gate, Rounds};
@@ -12,7 +21,58 @@ use std::thread::Threads;
 // The number of edges for each of which all vertices are looked at rather than the ends of the edges.
 const LEAST_SHARE: usize = 4;
 
-// Copies the fresh count of v, and files v if this is another one than before and more than its group allows.
+// v counts `own` from now on, and waits on its level if it counted otherwise before and its group allows fewer. Fails only if memory
+// runs out.
+fn follow_count(
+    th: &Thresholds,
+    levels: &Levels,
+    v: u32,
+    own: u32,
+    watched: &mut WatchedCounts,
+    queue: &mut LevelLists<u32>,
+) -> Result<(), AllocError>
+    requires vertex { IsHeld watched.old v }
+    requires inside { v < length levels.now }
+    requires capped { slice_index levels.now v ≤ top_level th.now.profile th.now.vertices }
+    requires room { slice_index levels.now v < length queue.old }
+    ensures { OnOk result (HasFollowed th.now.profile th.now.vertices levels.now v own watched.old watched.new queue.old queue.new) }
+{
+    if watched.count(v) == own {
+        return Ok(());
+    }
+    watched.set(v, own);
+    let level = levels.get(v);
+    if own > th.high(th.group(level)) {
+        queue.file(level, v)?;
+    }
+    Ok(())
+}
+
+// Each vertex of the range counts afresh, and waits on its level if it counted otherwise before and its group allows fewer. Fails only
+// if memory runs out.
+fn follow_counts(
+    th: &Thresholds,
+    levels: &Levels,
+    fresh: &[u32],
+    watched: &mut WatchedCounts,
+    queue: &mut LevelLists<u32>,
+) -> Result<(), AllocError>
+    requires inside { watched.old.first + length watched.old.counts ≤ length fresh.now }
+    requires few { length fresh.now ≤ 2 ^ 24 }
+    requires levels { (length levels.now ≡ length fresh.now) × (th.now.vertices ≡ length fresh.now) × IsCapped th.now.profile th.now.vertices levels.now }
+    requires room { top_level th.now.profile th.now.vertices < length queue.old }
+    ensures { OnOk result (HaveFiled th.now.profile th.now.vertices levels.now fresh.now (length watched.old.counts) watched.old watched.new queue.old queue.new) }
+{
+    let first = watched.first();
+    let count = watched.counts().len();
+    for i in 0..count {
+        let v = first + i as u32;
+        follow_count(th, levels, v, fresh[v as usize], watched, queue)?;
+    }
+    Ok(())
+}
+
+// As `follow_count` says, for a vertex of one of the ranges.
 fn file_end(
     th: &Thresholds,
     levels: &Levels,
@@ -20,39 +80,26 @@ fn file_end(
     ranges: &mut Ranges,
     v: u32,
 ) -> Result<(), AllocError> {
-    let own = fresh[v as usize];
-    if ranges.count(v) == own {
-        return Ok(());
-    }
-    ranges.set(v, own);
-    let level = levels.get(v);
-    if own > th.high(th.group(level)) {
-        ranges.file(level, v)?;
-    }
-    Ok(())
+    let range = &mut ranges.items[ranges.layout.range_of(v)];
+    follow_count(
+        th,
+        levels,
+        v,
+        fresh[v as usize],
+        &mut range.watched,
+        &mut range.queue,
+    )
 }
 
 impl Range {
-    // As `file_end` says, for all vertices of the range.
-    fn file_all(
-        &mut self,
-        th: &Thresholds,
-        levels: &Levels,
-        fresh: &[u32],
-    ) -> Result<(), AllocError> {
-        let first = self.watched.first();
-        for i in 0..self.watched.counts().len() {
-            let v = first + i as u32;
-            let own = fresh[v as usize];
-            if self.watched.counts()[i] != own {
-                self.watched.set(v, own);
-                let level = levels.get(v);
-                if own > th.high(th.group(level)) {
-                    self.queue.file(level, v)?;
-                }
-            }
+    // As `follow_counts` says. If memory runs out the range is marked.
+    fn try_follow(&mut self, th: &Thresholds, levels: &Levels, fresh: &[u32])
+        requires { CanFollow th.now.profile th.now.vertices levels.now fresh.now self.old }
+        ensures { self.new.is_short ≡ false → HasFiled th.now.profile th.now.vertices levels.now fresh.now self.old self.new }
+    {
+        if follow_counts(th, levels, fresh, &mut self.watched, &mut self.queue).is_err() {
+            self.is_short = true;
         }
-        Ok(())
     }
 }
 
@@ -84,13 +131,9 @@ pub fn file_ends<R: Threads + Sync, G: Gate + Sync>(
         rounds.runtime(),
         ranges.items.as_mut_slice(),
         threads,
-        &|_: usize, range: &mut Range| {
-            if range.file_all(th, levels, fresh).is_err() {
-                range.is_short = true;
-            }
-        },
+        &|_: usize, range: &mut Range| { range.try_follow(th, levels, fresh) },
     );
-    ranges.check()
+    check(&ranges.items)
 }
 
 /// Copies the counts of the ends of the edges.

@@ -12,6 +12,7 @@ mod passes;
 mod range;
 mod ranges;
 mod rising;
+mod sharing;
 mod sweep;
 mod sweeping;
 mod telling;

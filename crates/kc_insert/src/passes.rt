@@ -1,12 +1,12 @@
 //! The two passes of a step over the rows of a range: of the vertices that stay on the level, and of those that begin to rise from it.
 
-ghost use Rattle.std.specs.Prelude.{◌≡◌, ◌+◌, ◌*◌, ◌++◌, ◌∷◌, ◌<◌, ◌≤◌, ◌^◌, ◌⊎◌, ℕ, [], true, IfOk, OnOk, cond, count_by, filter, length, slice_index, slice_index_or, slice_set, take};
+ghost use Rattle.std.specs.Prelude.{◌≡◌, ◌+◌, ◌*◌, ◌++◌, ◌∷◌, ◌<◌, ◌≤◌, ◌^◌, ◌⊎◌, ℕ, [], false, true, IfOk, OnOk, cond, count_by, filter, length, slice_index, slice_index_or, slice_set, take};
 ghost use Rattle.std.specs.List.{flat_map};
 ghost use Rattle.kc_graph.specs.Numbers.{has_number};
 ghost use Rattle.kc_graph.specs.Shape.{has_edge, neighbours_of};
 ghost use Rattle.kc_adj.specs.Degrees.{degrees};
 ghost use Rattle.kc_insert.specs.private.Crossing.{above_near, count_above, HaveBegun, HaveMeetings, is_above, left_at, met_by, next_near, rising_near, with_levels};
-ghost use Rattle.kc_insert.specs.private.Parts.{CanRise, HaveRisen};
+ghost use Rattle.kc_insert.specs.private.Parts.{CanPart, CanRise, HasParted, HasRisen, HaveRisen};
 ghost use Rattle.kc_insert.specs.private.Rising.{rises, seen};
 ghost use Rattle.kc_insert.specs.private.Telling.{AreDealtAnew, range_of, times};
 ghost use Rattle.kc_insert.specs.private.Watched.{count_at, IsHeld, StayWatched};
@@ -230,13 +230,8 @@ fn begin_each(
 impl Range {
     /// Each vertex that stays tells it to its neighbours that rise on. Fails only if memory runs out.
     pub fn part(&mut self, step: &Step<'_>) -> Result<(), AllocError>
-        requires vertices { (v : ℕ) → has_number v self.old.stay ≡ true → v < step.now.graph.vertices }
-        requires few { length self.old.stay ≤ 2 ^ 24 }
-        requires steps { self.old.steps < 2 ^ 63 }
-        requires ranges { (v : ℕ) → v < step.now.graph.vertices → range_of step.now.bits v < length self.old.tell.lists }
-        ensures told { OnOk result (self.new.tell.all ≡ flat_map (rising_near step.now) self.old.stay) }
-        ensures dealt { OnOk result (step.now.is_dealt ≡ true → AreDealtAnew step.now.bits self.old.tell self.new.tell) }
-        ensures part { OnOk result (self.new ≡ record self.old { tell = self.new.tell; steps = self.old.steps + degrees step.now.graph self.old.stay }) }
+        requires { CanPart step.now self.old }
+        ensures { OnOk result (HasParted step.now self.old self.new) }
     {
         self.told.clear();
         self.steps += tell_parting(step, &self.stay, &mut self.row, &mut self.told)?;
@@ -244,6 +239,16 @@ impl Range {
             self.told.deal(step.layout)?;
         }
         Ok(())
+    }
+
+    /// As `part`. If memory runs out the range is marked.
+    pub fn try_part(&mut self, step: &Step<'_>)
+        requires { CanPart step.now self.old }
+        ensures { self.new.is_short ≡ false → HasParted step.now self.old self.new }
+    {
+        if self.part(step).is_err() {
+            self.is_short = true;
+        }
     }
 
     /// Vertices that go on count the neighbours that stay no more, and vertices that begin count afresh. All of them tell it to the
@@ -273,5 +278,15 @@ impl Range {
             self.told.deal(step.layout)?;
         }
         Ok(())
+    }
+
+    /// As `rise`. If memory runs out the range is marked.
+    pub fn try_rise(&mut self, alloc: Global, step: &Step<'_>)
+        requires { CanRise step.now self.old }
+        ensures { self.new.is_short ≡ false → HasRisen step.now self.old self.new }
+    {
+        if self.rise(alloc, step).is_err() {
+            self.is_short = true;
+        }
     }
 }

@@ -2,7 +2,7 @@
 
 ghost use Rattle.std.specs.Prelude.{◌≡◌, ◌+◌, ◌-◌, ◌++◌, ◌∷◌, ◌<◌, ◌≤◌, ◌==◌, ◌^◌, ℕ, List, [], false, true, All, IfOk, OnOk, cond, filter, length, replicate, slice_index_or, slice_set};
 ghost use Rattle.kc_graph.specs.Numbers.{has_number};
-ghost use Rattle.kc_insert.specs.private.Parts.{HaveMet, LetStay};
+ghost use Rattle.kc_insert.specs.private.Parts.{CanHearLess, CanHearMore, HasHeardLess, HaveMet, LetStay};
 ghost use Rattle.kc_insert.specs.private.Rising.{rises, seen};
 ghost use Rattle.kc_insert.specs.private.Telling.{heard_by, times};
 ghost use Rattle.kc_insert.specs.private.Watched.{count_at, is_few, IsHeld, StayWatched};
@@ -201,14 +201,20 @@ impl Range {
 
     /// Each vertex that was told to this range counts one less for each time. Fails only if memory runs out.
     pub fn hear_less(&mut self, told: &[Told], own: usize) -> Result<(), AllocError>
-        requires lists { All (λ t. own < length t.lists) told.now }
-        requires held { (v : ℕ) → has_number v (heard_by own told.now) ≡ true → IsHeld self.old.watch v }
-        requires enough { (v : ℕ) → times v (heard_by own told.now) ≤ count_at self.old.watch v }
-        ensures less { OnOk result ((v : ℕ) → self.old.watch.first ≤ v → count_at self.new.watch v + times v (heard_by own told.now) ≡ count_at self.old.watch v) }
-        ensures watched { OnOk result (StayWatched self.old.watch self.new.watch) }
-        ensures part { OnOk result (self.new ≡ record self.old { watch = self.new.watch }) }
+        requires { CanHearLess told.now own self.old }
+        ensures { OnOk result (HasHeardLess (heard_by own told.now) self.old self.new) }
     {
         hear_each(&mut self.watched, told, own)
+    }
+
+    /// As `hear_less`. If memory runs out the range is marked.
+    pub fn try_hear_less(&mut self, told: &[Told], own: usize)
+        requires { CanHearLess told.now own self.old }
+        ensures { self.new.is_short ≡ false → HasHeardLess (heard_by own told.now) self.old self.new }
+    {
+        if self.hear_less(told, own).is_err() {
+            self.is_short = true;
+        }
     }
 
     /// Each vertex that was told to this range, all on the level, counts one more for each time, and waits there if it then counts more
@@ -220,16 +226,23 @@ impl Range {
         level: u16,
         most: u32,
     ) -> Result<(), AllocError>
-        requires lists { All (λ t. own < length t.lists) told.now }
-        requires held { (v : ℕ) → has_number v (heard_by own told.now) ≡ true → IsHeld self.old.watch v }
-        requires small { (v : ℕ) → count_at self.old.watch v + times v (heard_by own told.now) ≤ 2 ^ 31 }
-        requires room { level < length self.old.queue }
+        requires { CanHearMore told.now own level self.old }
         ensures { OnOk result (HaveMet level most (heard_by own told.now) self.old self.new) }
     {
         for i in 0..told.len() {
             self.meet_all(level, most, told[i].of_range(own))?;
         }
         Ok(())
+    }
+
+    /// As `hear_more`. If memory runs out the range is marked.
+    pub fn try_hear_more(&mut self, told: &[Told], own: usize, level: u16, most: u32)
+        requires { CanHearMore told.now own level self.old }
+        ensures { self.new.is_short ≡ false → HaveMet level most (heard_by own told.now) self.old self.new }
+    {
+        if self.hear_more(told, own, level, most).is_err() {
+            self.is_short = true;
+        }
     }
 
     /// Forgets the phase.

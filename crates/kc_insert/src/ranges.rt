@@ -1,16 +1,25 @@
 //! All ranges of a graph, and the passes over them: by threads where there is much to do.
 
+ghost use Rattle.std.specs.Prelude.{◌≡◌, ◌+◌, ◌-◌, ◌*◌, ◌++◌, ◌∷◌, ◌<◌, ◌≤◌, ◌^◌, ℕ, [], false, true, All, IfOk, OnOk, length, slice_index_or, slice_set, sum_by};
+ghost use Rattle.kc_insert.specs.private.Ranges.{all_began, count_of, IsIn, part_of};
+ghost use Rattle.kc_insert.specs.private.Telling.{range_of};
+
 use crate::layout::Layout;
 use crate::passes::Step;
 use crate::range::Range;
 use crate::rising::RisingLevels;
+use crate::sharing::{
+    check, collect, hear_less_all, hear_less_each, hear_more_all, hear_more_each, part_each,
+    rise_each,
+};
 use crate::telling::Told;
 use kc_rounds::{Gate, Rounds};
 use std::alloc::{AllocError, Global};
+use std::marker::Model;
+use std::mem;
 use std::thread::Threads;
-use std::{mem, thread};
 
-/// The vertices of a graph, cut into ranges.
+/// The vertices of a graph, cut into ranges. Contracts see it as a `Cut`.
 #[derive(Drop)]
 pub struct Ranges {
     /// How they are cut.
@@ -19,6 +28,14 @@ pub struct Ranges {
     pub items: Vec<Range>,
     // What the ranges told, while it is heard; each list is swapped with that of its range.
     told: Vec<Told>,
+}
+
+impl Model for Ranges {
+    ghost use Rattle.kc_insert.specs.private.Ranges.{Cut};
+
+    ghost Value = { Cut };
+
+    ghost view = { λ r. record { bits = r.layout.bits; parts = r.items.items; told = r.told.items } };
 }
 
 impl Ranges {
@@ -52,18 +69,33 @@ impl Ranges {
     }
 
     /// How many neighbours v counts.
-    pub fn count(&self, v: u32) -> u32 {
-        self.items[self.layout.range_of(v)].watched.count(v)
+    pub fn count(&self, v: u32) -> u32
+        requires { IsIn self.now v }
+        ensures { result ≡ count_of self.now v }
+    {
+        let range = &self.items[self.layout.range_of(v)];
+        range.watched.count(v)
     }
 
     /// v counts `count`.
-    pub fn set(&mut self, v: u32, count: u32) {
-        self.items[self.layout.range_of(v)].watched.set(v, count);
+    pub fn set(&mut self, v: u32, count: u32)
+        requires { IsIn self.old v }
+        ensures { let part = part_of self.old v in
+            self.new ≡ record self.old { parts = slice_set self.old.parts (range_of self.old.bits v) (record part { watch = record part.watch { counts = slice_set part.watch.counts (v - part.watch.first) count } }) } }
+    {
+        let range = &mut self.items[self.layout.range_of(v)];
+        range.watched.set(v, count);
     }
 
     /// v waits on the level.
-    pub fn file(&mut self, level: u16, v: u32) -> Result<(), AllocError> {
-        self.items[self.layout.range_of(v)].queue.file(level, v)?;
+    pub fn file(&mut self, level: u16, v: u32) -> Result<(), AllocError>
+        requires vertex { IsIn self.old v }
+        requires room { level < length (part_of self.old v).queue }
+        ensures { let part = part_of self.old v in
+            OnOk result (self.new ≡ record self.old { parts = slice_set self.old.parts (range_of self.old.bits v) (record part { queue = slice_set part.queue level (slice_index_or part.queue level [] ++ v ∷ []) }) }) }
+    {
+        let range = &mut self.items[self.layout.range_of(v)];
+        range.queue.file(level, v)?;
         Ok(())
     }
 
@@ -92,7 +124,9 @@ impl Ranges {
     }
 
     /// Whether a vertex began to rise and is still kept.
-    pub fn has_begun(&self) -> bool {
+    pub fn has_begun(&self) -> bool
+        ensures { result ≡ false → all_began self.now ≡ [] }
+    {
         for range in &self.items {
             if !range.began.is_empty() {
                 return true;
@@ -102,7 +136,9 @@ impl Ranges {
     }
 
     /// Whether a vertex is on a watch list.
-    pub fn has_doubt(&self) -> bool {
+    pub fn has_doubt(&self) -> bool
+        ensures { result ≡ false → All (λ p. p.watch.doubtful ≡ []) self.now.parts }
+    {
         for range in &self.items {
             if !range.watched.doubtful().is_empty() {
                 return true;
@@ -146,7 +182,8 @@ impl Ranges {
         for v in vertices {
             if levels.get(*v) == level {
                 levels.begin(*v);
-                self.items[self.layout.range_of(*v)].begun.push(*v)?;
+                let range = &mut self.items[self.layout.range_of(*v)];
+                range.begun.push(*v)?;
                 count += 1;
             }
         }
@@ -154,10 +191,12 @@ impl Ranges {
     }
 
     /// The number of meetings on a level.
-    pub fn meeting_count(&self, level: u16) -> usize {
-        let mut count = 0;
+    pub fn meeting_count(&self, level: u16) -> usize
+        requires { All (λ p. level < length p.meetings) self.now.parts }
+    {
+        let mut count: usize = 0;
         for range in &self.items {
-            count += range.meetings.on(level).len();
+            count = count.saturating_add(range.meetings.on(level).len());
         }
         count
     }
@@ -190,23 +229,6 @@ impl Ranges {
         }
     }
 
-    /// Fails if memory ran out in a pass.
-    pub fn check(&self) -> Result<(), AllocError> {
-        for range in &self.items {
-            if range.is_short {
-                return Err(AllocError);
-            }
-        }
-        Ok(())
-    }
-
-    // What the ranges told is put where all ranges can hear it.
-    fn collect(&mut self) {
-        for i in 0..self.items.len() {
-            mem::swap(&mut self.items[i].told, &mut self.told[i]);
-        }
-    }
-
     /// The vertices that stay on the level, `count` in all, are counted no more by those that rise on.
     pub fn part<R: Threads + Sync, G: Gate + Sync>(
         &mut self,
@@ -215,38 +237,17 @@ impl Ranges {
         count: usize,
     ) -> Result<(), AllocError> {
         let threads = self.threads(rounds, count);
-        thread::for_each_mut(
-            rounds.runtime(),
-            self.items.as_mut_slice(),
-            threads,
-            &|_: usize, range: &mut Range| {
-                if range.part(step).is_err() {
-                    range.is_short = true;
-                }
-            },
-        );
-        self.check()?;
-        self.collect();
-        if !step.is_dealt {
-            for i in 0..self.told.len() {
-                for v in self.told[i].all() {
-                    self.items[self.layout.range_of(*v)].watched.lessen(*v)?;
-                }
-            }
-            return Ok(());
+        part_each(rounds.runtime(), threads, step, &mut self.items);
+        check(&self.items)?;
+        collect(&mut self.items, &mut self.told);
+        if step.is_dealt {
+            hear_less_each(rounds.runtime(), threads, &self.told, &mut self.items);
+            return check(&self.items);
         }
-        let told = &self.told;
-        thread::for_each_mut(
-            rounds.runtime(),
-            self.items.as_mut_slice(),
-            threads,
-            &|own: usize, range: &mut Range| {
-                if range.hear_less(told, own).is_err() {
-                    range.is_short = true;
-                }
-            },
-        );
-        self.check()
+        for i in 0..self.told.len() {
+            hear_less_all(self.layout, self.told[i].all(), &mut self.items)?;
+        }
+        Ok(())
     }
 
     /// The vertices that begin, and those that came up, `count` in all, meet the neighbours that stood on the next level.
@@ -260,42 +261,31 @@ impl Ranges {
     ) -> Result<(), AllocError> {
         let threads = self.threads(rounds, count);
         let next = step.level + 1;
-        thread::for_each_mut(
-            rounds.runtime(),
-            self.items.as_mut_slice(),
-            threads,
-            &|_: usize, range: &mut Range| {
-                if range.rise(alloc, step).is_err() {
-                    range.is_short = true;
-                }
-            },
-        );
-        self.check()?;
-        self.collect();
-        if !step.is_dealt {
-            for i in 0..self.told.len() {
-                for v in self.told[i].all() {
-                    self.items[self.layout.range_of(*v)].meet(next, most, *v)?;
-                }
-            }
-            return Ok(());
+        rise_each(rounds.runtime(), alloc, threads, step, &mut self.items);
+        check(&self.items)?;
+        collect(&mut self.items, &mut self.told);
+        if step.is_dealt {
+            hear_more_each(
+                rounds.runtime(),
+                threads,
+                &self.told,
+                next,
+                most,
+                &mut self.items,
+            );
+            return check(&self.items);
         }
-        let told = &self.told;
-        thread::for_each_mut(
-            rounds.runtime(),
-            self.items.as_mut_slice(),
-            threads,
-            &|own: usize, range: &mut Range| {
-                if range.hear_more(told, own, next, most).is_err() {
-                    range.is_short = true;
-                }
-            },
-        );
-        self.check()
+        for i in 0..self.told.len() {
+            hear_more_all(self.layout, next, most, self.told[i].all(), &mut self.items)?;
+        }
+        Ok(())
     }
 
     /// The steps that the passes took since they were last counted.
-    pub fn take_steps(&mut self) -> usize {
+    pub fn take_steps(&mut self) -> usize
+        requires { sum_by (λ p. p.steps) self.old.parts < 2 ^ 64 }
+        ensures steps { result ≡ sum_by (λ p. p.steps) self.old.parts }
+    {
         let mut steps = 0;
         for range in &mut self.items {
             steps += range.steps;

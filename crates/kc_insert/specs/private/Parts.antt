@@ -1,14 +1,14 @@
 -- The state of a sweep, cut into ranges of vertices.
-use Rattle.std.specs.Prelude.{ℕ, ◌+◌, ◌^◌, ◌≤◌, ◌<◌, ◌≡◌, ◌&&◌, ◌⊎◌, ◌++◌, not, true, false, Bool, List, [], count_by, length, get_or, set}
+use Rattle.std.specs.Prelude.{All, ℕ, ◌+◌, ◌^◌, ◌≤◌, ◌<◌, ◌≡◌, ◌&&◌, ◌⊎◌, ◌++◌, not, true, false, Bool, List, [], count_by, length, get_or, set}
 use Rattle.std.specs.List.{flat_map}
 use Rattle.kc_graph.specs.Numbers.{has_number}
 use Rattle.kc_graph.specs.Shape.{Pair, has_edge, neighbours_of}
 use Rattle.kc_levels.specs.Following.{AreDistinct}
 use Rattle.kc_adj.specs.Degrees.{degrees}
 use Rattle.kc_insert.specs.declared.rising.RisingLevels.{RisingLevels}
-use Rattle.kc_insert.specs.private.Crossing.{Crossing, count_above, HaveMeetings, is_above, left_at, met_by, next_near}
+use Rattle.kc_insert.specs.private.Crossing.{Crossing, count_above, HaveMeetings, is_above, left_at, met_by, next_near, rising_near}
 use Rattle.kc_insert.specs.private.Rising.{rises}
-use Rattle.kc_insert.specs.private.Telling.{AreDealtAnew, range_of, Tell, times}
+use Rattle.kc_insert.specs.private.Telling.{AreDealtAnew, heard_by, range_of, Tell, times}
 use Rattle.kc_insert.specs.private.Watched.{Watch, count_at, IsHeld, StayWatched}
 
 -- what contracts see of a `Range`
@@ -62,3 +62,41 @@ pub record HaveRisen (step : Crossing) (old new : Part) : Type 0 where
   pub watched : StayWatched old.watch new.watch
   pub own : (v : ℕ) → has_number v old.begun ≡ true → count_at new.watch v ≡ count_by (count_above step) (neighbours_of v step.graph.edges)
   pub others : (v : ℕ) → old.watch.first ≤ v → has_number v old.begun ≡ false → count_at new.watch v + times v (left_at step (get_or old.meetings step.level [])) ≡ count_at old.watch v
+
+-- what `Range::rise` leaves, writes and tells
+pub record HasRisen (step : Crossing) (old new : Part) : Type 0 where
+  pub part : new ≡ record old { watch = new.watch; meetings = new.meetings; began = old.began ++ old.begun; risen = old.risen ++ old.begun; begun = []; tell = new.tell; steps = old.steps + degrees step.graph old.begun }
+  pub told : new.tell.all ≡ met_by step (get_or old.meetings (step.level + 1) []) ++ flat_map (next_near step) old.begun
+  pub dealt : step.is_dealt ≡ true → AreDealtAnew step.bits old.tell new.tell
+  pub risen : HaveRisen step old new
+
+-- what `Range::part` asks: the vertices are of the graph, and there is room
+pub record CanPart (step : Crossing) (old : Part) : Type 0 where
+  pub vertices : (v : ℕ) → has_number v old.stay ≡ true → v < step.graph.vertices
+  pub few : length old.stay ≤ 2 ^ 24
+  pub steps : old.steps < 2 ^ 63
+  pub ranges : (v : ℕ) → v < step.graph.vertices → range_of step.bits v < length old.tell.lists
+
+-- what `Range::part` tells
+pub record HasParted (step : Crossing) (old new : Part) : Type 0 where
+  pub part : new ≡ record old { tell = new.tell; steps = old.steps + degrees step.graph old.stay }
+  pub told : new.tell.all ≡ flat_map (rising_near step) old.stay
+  pub dealt : step.is_dealt ≡ true → AreDealtAnew step.bits old.tell new.tell
+
+-- what a range that hears asks: all lists have its place, what it hears is of its vertices, and there is room
+pub record CanHearLess (told : List Tell) (own : ℕ) (old : Part) : Type 0 where
+  pub lists : All (λ (t : Tell). own < length t.lists) told
+  pub held : (v : ℕ) → has_number v (heard_by own told) ≡ true → IsHeld old.watch v
+  pub enough : (v : ℕ) → times v (heard_by own told) ≤ count_at old.watch v
+
+pub record CanHearMore (told : List Tell) (own level : ℕ) (old : Part) : Type 0 where
+  pub lists : All (λ (t : Tell). own < length t.lists) told
+  pub held : (v : ℕ) → has_number v (heard_by own told) ≡ true → IsHeld old.watch v
+  pub small : (v : ℕ) → count_at old.watch v + times v (heard_by own told) ≤ 2 ^ 31
+  pub room : level < length old.queue
+
+-- each vertex of the list, all of the range, counts one less for each time that it is there
+pub record HasHeardLess (told : List ℕ) (old new : Part) : Type 0 where
+  pub part : new ≡ record old { watch = new.watch }
+  pub watched : StayWatched old.watch new.watch
+  pub less : (v : ℕ) → old.watch.first ≤ v → count_at new.watch v + times v told ≡ count_at old.watch v

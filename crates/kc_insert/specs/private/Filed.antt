@@ -1,0 +1,37 @@
+-- Which vertices wait when a sweep begins.
+use Rattle.std.specs.Prelude.{ℕ, ◌+◌, ◌-◌, ◌≤◌, ◌<◌, ◌≡◌, ◌≢◌, ◌==◌, ◌&&◌, ◌⊎◌, ◌++◌, ◌∷◌, ◌^◌, not, nat_lt, cond, true, List, [], length, get_or, set}
+use Rattle.kc_graph.specs.Numbers.{has_number}
+use Rattle.kc_levels.specs.declared.profile.Profile.{Profile}
+use Rattle.kc_levels.specs.Thresholds.{high, group_of, top_level}
+use Rattle.kc_levels.specs.LevelList.{IsCapped}
+use Rattle.kc_insert.specs.private.Parts.{Part}
+use Rattle.kc_insert.specs.private.Watched.{Watch, count_at, IsHeld}
+
+-- v counts `own` from now on, and waits on its level by y if it counted otherwise before and its group allows fewer
+pub record HasFollowed (p : Profile) (n : ℕ) (y : List ℕ) (v own : ℕ) (old new : Watch) (first queue : List (List ℕ)) : Type 0 where
+  pub counts : new ≡ record old { counts = set old.counts (v - old.first) own }
+  pub waits : queue ≡ cond (not (count_at old v == own) && nat_lt (high p (group_of p n (get_or y v 0))) own) (set first (get_or y v 0) (get_or first (get_or y v 0) [] ++ v ∷ [])) first
+
+-- the first i vertices of the range count afresh, and each of them waits that counted otherwise before and counts more than its group
+-- allows; whoever waited waits still, and all others are of the range, on their levels by y
+pub record HaveFiled (p : Profile) (n : ℕ) (y fresh : List ℕ) (i : ℕ) (old new : Watch) (first queue : List (List ℕ)) : Type 0 where
+  pub watch : new ≡ record old { counts = new.counts }
+  pub sized : length new.counts ≡ length old.counts
+  pub counts : (v : ℕ) → old.first ≤ v → v < old.first + i → count_at new v ≡ get_or fresh v 0
+  pub later : (v : ℕ) → old.first + i ≤ v → count_at new v ≡ count_at old v
+  pub buckets : length queue ≡ length first
+  pub still : (k u : ℕ) → has_number u (get_or first k []) ≡ true → has_number u (get_or queue k []) ≡ true
+  pub only : (k u : ℕ) → has_number u (get_or queue k []) ≡ true → (has_number u (get_or first k []) ≡ true) ⊎ (IsHeld old u × (get_or y u 0 ≡ k))
+  pub found : (u : ℕ) → old.first ≤ u → u < old.first + i → count_at old u ≢ get_or fresh u 0 → high p (group_of p n (get_or y u 0)) < get_or fresh u 0 → has_number u (get_or queue (get_or y u 0) []) ≡ true
+
+-- the range is of the vertices of the list, each of which has a level that there is
+pub record CanFollow (p : Profile) (n : ℕ) (y fresh : List ℕ) (old : Part) : Type 0 where
+  pub inside : old.watch.first + length old.watch.counts ≤ length fresh
+  pub few : length fresh ≤ 2 ^ 24
+  pub levels : (length y ≡ length fresh) × (n ≡ length fresh) × IsCapped p n y
+  pub room : top_level p n < length old.queue
+
+-- all vertices of the range count afresh
+pub record HasFiled (p : Profile) (n : ℕ) (y fresh : List ℕ) (old new : Part) : Type 0 where
+  pub part : new ≡ record old { watch = new.watch; queue = new.queue }
+  pub filed : HaveFiled p n y fresh (length old.watch.counts) old.watch new.watch old.queue new.queue
