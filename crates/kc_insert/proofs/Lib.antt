@@ -1,6 +1,7 @@
 mod Adding
 mod Beginning
 mod Buckets
+mod Coming
 mod Dealing
 mod Direct
 mod Flips
@@ -11,6 +12,7 @@ mod Leaving
 mod Lifting
 mod Looking
 mod Meeting
+mod Parting
 mod Rows
 mod Seen
 mod Shared

@@ -9,7 +9,7 @@ use Rattle.std.proofs.lemmas.List.Elements.{filter-append}
 use Rattle.std.proofs.lemmas.Grind.{flat_map-append}
 use Rattle.kc_graph.specs.Numbers.{has_number}
 use Rattle.kc_insert.specs.private.Parts.{CanHearLess, CanHearMore, HasHeardLess, HaveMet, Part}
-use Rattle.kc_insert.specs.private.Sharing.{AreTold, CanLessen, CanMeet, HearLess, HearMore, told_all}
+use Rattle.kc_insert.specs.private.Sharing.{AreFew, AreTold, CanLessen, CanMeet, HearLess, HearMore, told_all}
 use Rattle.kc_insert.specs.private.Telling.{Tell, heard_by, in_range, range_of, times}
 use Rattle.kc_insert.specs.private.Watched.{Watch, count_at, IsHeld, StayWatched}
 use Rattle.kc_insert.proofs.Adding.{times-append, times-filter, times_some, times_there}
@@ -130,14 +130,14 @@ module _ (bits level : ℕ) (told : List Tell) (old : List Part) (can : CanMeet 
     same : heard_by i told ≡ in_range bits i (told_all told)
     same = heard_is bits (length old) i told at (lists.dealt refl)
 
-    pub can_meet : (d : Part) → CanHearMore told i level (get_or old i d)
-    can_meet d = record {
+    pub can_meet : AreFew old → (d : Part) → CanHearMore told i level (get_or old i d)
+    can_meet few d = record {
       lists = λ k t h. omega (arith, at, lists.sized k t h);
       held = λ v there.
           let in_it = in_range_has bits i v (told_all told) (ap (has_number v) (sym same) ∙ there) in
           subst (λ j. IsHeld (get_or old j d).watch v) in_it.1 (can.held v d in_it.0).1;
       small = λ v. elim (cases_lt 0 (times v (heard_by i told))) [
-        | inr none ↦ omega (arith, none, can.few i d v at)
+        | inr none ↦ omega (arith, none, few i d v at)
         | inl some ↦
             let in_it = in_range_has bits i v (told_all told) (times_some v (in_range bits i (told_all told)) (omega (arith, some, ap (times v) same))) in
             subst (λ j. count_at (get_or old j d).watch v + times v (heard_by i told) ≤ 2147483648) in_it.1 (omega (arith, ap (times v) same, ap (λ j. times v (in_range bits j (told_all told))) (sym in_it.1) ∙ in_range_times bits v (told_all told), can.small v d in_it.0))

@@ -231,7 +231,10 @@ impl Range {
     /// Each vertex that stays tells it to its neighbours that rise on. Fails only if memory runs out.
     pub fn part(&mut self, step: &Step<'_>) -> Result<(), AllocError>
         requires { CanPart step.now self.old }
-        ensures { OnOk result (HasParted step.now self.old self.new) }
+        ensures part { OnOk result (self.new ≡ record self.old { tell = self.new.tell; steps = self.old.steps + degrees step.now.graph self.old.stay }) }
+        ensures told { OnOk result (self.new.tell.all ≡ flat_map (rising_near step.now) self.old.stay) }
+        ensures lists { OnOk result (length self.new.tell.lists ≡ length self.old.tell.lists) }
+        ensures dealt { OnOk result (step.now.is_dealt ≡ true → AreDealtAnew step.now.bits self.old.tell self.new.tell) }
     {
         self.told.clear();
         self.steps += tell_parting(step, &self.stay, &mut self.row, &mut self.told)?;
@@ -257,6 +260,7 @@ impl Range {
         requires { CanRise step.now self.old }
         ensures part { OnOk result (self.new ≡ record self.old { watch = self.new.watch; meetings = self.new.meetings; began = self.old.began ++ self.old.begun; risen = self.old.risen ++ self.old.begun; begun = []; tell = self.new.tell; steps = self.old.steps + degrees step.now.graph self.old.begun }) }
         ensures told { OnOk result (self.new.tell.all ≡ met_by step.now (slice_index_or self.old.meetings (step.now.level + 1) []) ++ flat_map (next_near step.now) self.old.begun) }
+        ensures lists { OnOk result (length self.new.tell.lists ≡ length self.old.tell.lists) }
         ensures dealt { OnOk result (step.now.is_dealt ≡ true → AreDealtAnew step.now.bits self.old.tell self.new.tell) }
         ensures risen { OnOk result (HaveRisen step.now self.old self.new) }
     {

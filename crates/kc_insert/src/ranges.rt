@@ -2,16 +2,14 @@
 
 ghost use Rattle.std.specs.Prelude.{◌≡◌, ◌+◌, ◌-◌, ◌*◌, ◌++◌, ◌∷◌, ◌<◌, ◌≤◌, ◌^◌, ℕ, [], false, true, All, IfOk, OnOk, length, slice_index_or, slice_set, sum_by};
 ghost use Rattle.kc_insert.specs.private.Ranges.{all_began, count_of, IsIn, part_of};
+ghost use Rattle.kc_insert.specs.private.Sharing.{AllParted, AllRisen, CanPartAll, CanRiseAll};
 ghost use Rattle.kc_insert.specs.private.Telling.{range_of};
 
 use crate::layout::Layout;
 use crate::passes::Step;
 use crate::range::Range;
 use crate::rising::RisingLevels;
-use crate::sharing::{
-    check, collect, hear_less_all, hear_less_each, hear_more_all, hear_more_each, part_each,
-    rise_each,
-};
+use crate::sharing::{part_all, rise_all};
 use crate::telling::Told;
 use kc_rounds::{Gate, Rounds};
 use std::alloc::{AllocError, Global};
@@ -221,7 +219,9 @@ impl Ranges {
         &self,
         rounds: &Rounds<R, G>,
         count: usize,
-    ) -> usize {
+    ) -> usize
+        ensures { 0 < result }
+    {
         if self.layout.is_shared(count) {
             rounds.workers() as usize
         } else {
@@ -235,18 +235,20 @@ impl Ranges {
         rounds: &Rounds<R, G>,
         step: &Step<'_>,
         count: usize,
-    ) -> Result<(), AllocError> {
+    ) -> Result<(), AllocError>
+        requires { CanPartAll step.now self.old.parts self.old.told }
+        ensures parted { OnOk result (AllParted step.now self.old.parts self.new.parts) }
+        ensures told { OnOk result (All (λ t. length t.lists ≡ length self.old.parts) self.new.told) }
+        ensures same { self.new.bits ≡ self.old.bits }
+    {
         let threads = self.threads(rounds, count);
-        part_each(rounds.runtime(), threads, step, &mut self.items);
-        check(&self.items)?;
-        collect(&mut self.items, &mut self.told);
-        if step.is_dealt {
-            hear_less_each(rounds.runtime(), threads, &self.told, &mut self.items);
-            return check(&self.items);
-        }
-        for i in 0..self.told.len() {
-            hear_less_all(self.layout, self.told[i].all(), &mut self.items)?;
-        }
+        part_all(
+            rounds.runtime(),
+            threads,
+            step,
+            &mut self.told,
+            &mut self.items,
+        )?;
         Ok(())
     }
 
@@ -258,26 +260,22 @@ impl Ranges {
         step: &Step<'_>,
         most: u32,
         count: usize,
-    ) -> Result<(), AllocError> {
+    ) -> Result<(), AllocError>
+        requires { CanRiseAll step.now self.old.parts self.old.told }
+        ensures risen { OnOk result (AllRisen step.now most self.old.parts self.new.parts) }
+        ensures told { OnOk result (All (λ t. length t.lists ≡ length self.old.parts) self.new.told) }
+        ensures same { self.new.bits ≡ self.old.bits }
+    {
         let threads = self.threads(rounds, count);
-        let next = step.level + 1;
-        rise_each(rounds.runtime(), alloc, threads, step, &mut self.items);
-        check(&self.items)?;
-        collect(&mut self.items, &mut self.told);
-        if step.is_dealt {
-            hear_more_each(
-                rounds.runtime(),
-                threads,
-                &self.told,
-                next,
-                most,
-                &mut self.items,
-            );
-            return check(&self.items);
-        }
-        for i in 0..self.told.len() {
-            hear_more_all(self.layout, next, most, self.told[i].all(), &mut self.items)?;
-        }
+        rise_all(
+            rounds.runtime(),
+            alloc,
+            threads,
+            step,
+            most,
+            &mut self.told,
+            &mut self.items,
+        )?;
         Ok(())
     }
 

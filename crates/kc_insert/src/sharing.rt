@@ -2,7 +2,7 @@
 
 ghost use Rattle.std.specs.Prelude.{◌≡◌, ◌+◌, ◌<◌, ℕ, false, All, OnOk, length, slice_index_or};
 ghost use Rattle.kc_insert.specs.private.Parts.{CanHearLess, CanHearMore, CanPart, CanRise, HasHeardLess, HasParted, HasRisen, HaveMet};
-ghost use Rattle.kc_insert.specs.private.Sharing.{AreTold, CanLessen, CanMeet, HearLess, HearMore, told_all};
+ghost use Rattle.kc_insert.specs.private.Sharing.{AllParted, AllRisen, AreFew, AreTold, CanLessen, CanMeet, CanPartAll, CanRiseAll, HearLess, HearMore, told_all};
 ghost use Rattle.kc_insert.specs.private.Telling.{heard_by};
 
 use crate::layout::Layout;
@@ -167,7 +167,8 @@ pub fn hear_less<R: Threads + Sync>(
 {
     if is_dealt {
         hear_less_each(rt, threads, told, items);
-        return check(items);
+        check(items)?;
+        return Ok(());
     }
     for i in 0..told.len() {
         hear_less_all(layout, told[i].all(), items)?;
@@ -188,16 +189,60 @@ pub fn hear_more<R: Threads + Sync>(
     requires threads { 0 < threads }
     requires lists { AreTold step.now.bits step.now.is_dealt (length items.old) told.now }
     requires ready { CanMeet step.now.bits (step.now.level + 1) (told_all told.now) items.old }
+    requires few { AreFew items.old }
     ensures { OnOk result (HearMore step.now.bits (step.now.level + 1) most (told_all told.now) items.old items.new) }
 {
     let layout = step.layout;
     let next = step.level + 1;
     if step.is_dealt {
         hear_more_each(rt, threads, told, next, most, items);
-        return check(items);
+        check(items)?;
+        return Ok(());
     }
     for i in 0..told.len() {
         hear_more_all(layout, next, most, told[i].all(), items)?;
     }
+    Ok(())
+}
+
+/// In all ranges the vertices that stay are counted no more by those that rise on. Fails only if memory runs out.
+pub fn part_all<R: Threads + Sync>(
+    rt: &R,
+    threads: usize,
+    step: &Step<'_>,
+    told: &mut [Told],
+    items: &mut [Range],
+) -> Result<(), AllocError>
+    requires threads { 0 < threads }
+    requires ready { CanPartAll step.now items.old told.old }
+    ensures parted { OnOk result (AllParted step.now items.old items.new) }
+    ensures told { OnOk result (All (λ t. length t.lists ≡ length items.old) told.new) }
+{
+    part_each(rt, threads, step, items);
+    check(items)?;
+    collect(items, told);
+    hear_less(rt, threads, step.layout, step.is_dealt, told, items)?;
+    Ok(())
+}
+
+/// In all ranges vertices go on or begin, and those on the next level hear of them. Fails only if memory runs out.
+pub fn rise_all<R: Threads + Sync>(
+    rt: &R,
+    alloc: Global,
+    threads: usize,
+    step: &Step<'_>,
+    most: u32,
+    told: &mut [Told],
+    items: &mut [Range],
+) -> Result<(), AllocError>
+    requires threads { 0 < threads }
+    requires ready { CanRiseAll step.now items.old told.old }
+    ensures risen { OnOk result (AllRisen step.now most items.old items.new) }
+    ensures told { OnOk result (All (λ t. length t.lists ≡ length items.old) told.new) }
+{
+    rise_each(rt, alloc, threads, step, items);
+    check(items)?;
+    collect(items, told);
+    hear_more(rt, threads, step, most, told, items)?;
     Ok(())
 }

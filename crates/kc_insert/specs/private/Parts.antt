@@ -67,6 +67,7 @@ pub record HaveRisen (step : Crossing) (old new : Part) : Type 0 where
 pub record HasRisen (step : Crossing) (old new : Part) : Type 0 where
   pub part : new ≡ record old { watch = new.watch; meetings = new.meetings; began = old.began ++ old.begun; risen = old.risen ++ old.begun; begun = []; tell = new.tell; steps = old.steps + degrees step.graph old.begun }
   pub told : new.tell.all ≡ met_by step (get_or old.meetings (step.level + 1) []) ++ flat_map (next_near step) old.begun
+  pub lists : length new.tell.lists ≡ length old.tell.lists
   pub dealt : step.is_dealt ≡ true → AreDealtAnew step.bits old.tell new.tell
   pub risen : HaveRisen step old new
 
@@ -81,6 +82,7 @@ pub record CanPart (step : Crossing) (old : Part) : Type 0 where
 pub record HasParted (step : Crossing) (old new : Part) : Type 0 where
   pub part : new ≡ record old { tell = new.tell; steps = old.steps + degrees step.graph old.stay }
   pub told : new.tell.all ≡ flat_map (rising_near step) old.stay
+  pub lists : length new.tell.lists ≡ length old.tell.lists
   pub dealt : step.is_dealt ≡ true → AreDealtAnew step.bits old.tell new.tell
 
 -- what a range that hears asks: all lists have its place, what it hears is of its vertices, and there is room

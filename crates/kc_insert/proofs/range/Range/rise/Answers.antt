@@ -1,12 +1,13 @@
 use Rattle.std.proofs.Common.{ℕ, ◌≡◌, ◌≢◌, ◌<◌, ◌+◌, ◌++◌, [], true, List, get_or, length, set, ap, sym, ◌∙◌, arith}
 use Rattle.std.specs.List.{flat_map}
-use Rattle.std.proofs.lemmas.List.{get_or-set_other}
+use Rattle.std.proofs.lemmas.List.{get_or-set_other, length-replicate}
 use Rattle.kc_graph.specs.Shape.{Pair, has_edge}
 use Rattle.kc_insert.specs.private.Crossing.{Crossing, met_by, next_near}
 use Rattle.kc_insert.specs.private.Parts.{Part}
 use Rattle.kc_insert.specs.private.Rising.{rises}
 use Rattle.kc_insert.specs.private.Telling.{Tell}
 use Rattle.kc_insert.proofs.Inside.{dealt_all, inside_both, inside_ends, inside_rows, near_inside}
+use Rattle.kc_insert.proofs.range.Range.rise.Goals.{then-step+in_ok-deal, else-step}
 use Rattle.kc_insert.proofs.range.Range.rise.Goals as goal
 
 pub overflow_add-self : goal.overflow_add-self
@@ -25,3 +26,11 @@ deal-requires c =
     (inside_ends (λ v. v < c.step.inside.graph.now.vertices) (λ (e : Pair). e.1) (λ (e : Pair). rises c.args.step.now.levels e.0) c.on.result.now (λ v w at. ((rw (← c.step.view_is) at (rw (← c.self.view_is) at c.requires.coming)) v w (ap (has_edge (v, w)) (sym on) ∙ at)).1))
     (inside_rows (λ v. v < c.step.inside.graph.now.vertices) (next_near c.args.step.now) c.deref-2.result.now (λ x v at near. near_inside c.step.inside.graph.now x v _ c.step.invariant.graph (rw (← c.step.view_is) at near))))
     (λ v h. (rw (← c.self.view_is) at (rw (← c.step.view_is) at c.requires.ranges)) v h)
+
+pub returns-clause-lists : goal.returns-clause-lists
+returns-clause-lists c =
+    let long : length c.begin_each.new.told.lists ≡ length c.args.self.now.tell.lists = ap (λ (t : Tell). length t.lists) c.in_ok-self-inside.ensures.told ∙ ap (λ (t : Tell). length t.lists) c.in_ok-come_up.ensures ∙ ap (λ (t : Tell). length t.lists) c.clear.ensures ∙ length-replicate {A = List ℕ} (length c.self.inside.told.lists) [] ∙ ap (λ (p : Part). length p.tell.lists) c.self.view_is in
+    elim c.if-step.branch [
+      | then-step+in_ok-deal w ↦ rw w.self-is (w.in_ok-deal.ensures.dealt.sized ∙ long)
+      | else-step w ↦ rw w.self-is long
+    ]
