@@ -125,7 +125,8 @@ impl Ranges {
     pub fn has_begun(&self) -> bool
         ensures { result ≡ false → all_began self.now ≡ [] }
     {
-        for range in &self.items {
+        let items = self.items.as_slice();
+        for range in items {
             if !range.began.is_empty() {
                 return true;
             }
@@ -137,7 +138,8 @@ impl Ranges {
     pub fn has_doubt(&self) -> bool
         ensures { result ≡ false → All (λ p. p.watch.doubtful ≡ []) self.now.parts }
     {
-        for range in &self.items {
+        let items = self.items.as_slice();
+        for range in items {
             if !range.watched.doubtful().is_empty() {
                 return true;
             }
@@ -192,8 +194,9 @@ impl Ranges {
     pub fn meeting_count(&self, level: u16) -> usize
         requires { All (λ p. level < length p.meetings) self.now.parts }
     {
+        let items = self.items.as_slice();
         let mut count: usize = 0;
-        for range in &self.items {
+        for range in items {
             count = count.saturating_add(range.meetings.on(level).len());
         }
         count

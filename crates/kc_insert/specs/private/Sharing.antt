@@ -43,9 +43,9 @@ pub record HearMore (bits level most : ℕ) (told : List ℕ) (old new : List Pa
   pub each : (j : ℕ) (d : Part) → j < length old → HaveMet level most (in_range bits j told) (get_or old j d) (get_or new j d)
 
 -- what `part_all` asks: each range can tell, and each vertex that is told counts at least as many
-pub record CanPartAll (step : Crossing) (old : List Part) (told : List Tell) : Type 0 where
-  pub told : length told ≡ length old
-  pub heard : (i : ℕ) (e : Tell) → i < length old → length (get_or told i e).lists ≡ length old
+pub record CanPartAll (step : Crossing) (old : List Part) (tells : List Tell) : Type 0 where
+  pub told : length tells ≡ length old
+  pub heard : (i : ℕ) (e : Tell) → i < length old → length (get_or tells i e).lists ≡ length old
   pub each : (i : ℕ) (d : Part) → i < length old → CanPart step (get_or old i d)
   pub lists : (i : ℕ) (d : Part) → i < length old → length (get_or old i d).tell.lists ≡ length old
   pub lessen : CanLessen step.bits (flat_map (rising_near step) (flat_map (λ (p : Part). p.stay) old)) old
@@ -55,9 +55,9 @@ abbrev pub rise_told : Crossing → List Part → List ℕ
 rise_told step old = flat_map (λ (p : Part). met_by step (get_or p.meetings (step.level + 1) []) ++ flat_map (next_near step) p.begun) old
 
 -- what `rise_all` asks: each range can rise, each vertex that is told is of its range, and there is room
-pub record CanRiseAll (step : Crossing) (old : List Part) (told : List Tell) : Type 0 where
-  pub told : length told ≡ length old
-  pub heard : (i : ℕ) (e : Tell) → i < length old → length (get_or told i e).lists ≡ length old
+pub record CanRiseAll (step : Crossing) (old : List Part) (tells : List Tell) : Type 0 where
+  pub told : length tells ≡ length old
+  pub heard : (i : ℕ) (e : Tell) → i < length old → length (get_or tells i e).lists ≡ length old
   pub each : (i : ℕ) (d : Part) → i < length old → CanRise step (get_or old i d)
   pub lists : (i : ℕ) (d : Part) → i < length old → length (get_or old i d).tell.lists ≡ length old
   pub held : (v : ℕ) (d : Part) → has_number v (rise_told step old) ≡ true → (range_of step.bits v < length old) × IsHeld (get_or old (range_of step.bits v) d).watch v

@@ -6,7 +6,7 @@ use Rattle.kc_insert.proofs.Shared.{can_hear, hear_first, heard_dealt, next_enou
 use Rattle.kc_insert.proofs.sharing.hear_less.Goals as goal
 
 pub hear_less_each-requires-clause-ready : goal.hear_less_each-requires-clause-ready
-hear_less_each-requires-clause-ready g c = λ i d at. can_hear c.args.layout.bits c.args.told.now c.args.items.now c.requires.ready (subst (λ b. AreTold c.args.layout.bits b (length c.args.items.now) c.args.told.now) c.if-is_dealt.true c.requires.lists) i at d
+hear_less_each-requires-clause-ready g c κs within = λ i d at. can_hear c.args.layout.bits c.args.told.now c.args.items.now c.requires.ready (subst (λ b. AreTold c.args.layout.bits b (length c.args.items.now) c.args.told.now) c.if-is_dealt.true c.requires.lists) i at d
 
 pub returns-then-is_dealt : goal.returns-then-is_dealt
 returns-then-is_dealt g c = record {
@@ -29,6 +29,3 @@ pub loop-i-preserved : goal.loop-i-preserved
 loop-i-preserved g c =
     let is : (get_or c.args.told.now c.loop-i.i c.index-told-i.result).all ≡ c.all.result.now = ap (λ (t : Tell). t.all) (sym c.index-told-i.is) ∙ sym c.all.ensures in
     next_heard c.args.layout.bits c.args.told.now c.args.items.now c.requires.ready c.loop-i.i c.index-told-i.result (omega arith) c.loop-i.items c.loop-i.invariant c.hear_less_all.new.items (subst (λ (xs : List ℕ). HearLess c.args.layout.bits xs c.loop-i.items c.hear_less_all.new.items) (sym is) c.in_ok-hear_less_all.ensures)
-
-pub returns-else-is_dealt : goal.returns-else-is_dealt
-returns-else-is_dealt g c = subst (λ (ts : List Tell). HearLess c.args.layout.bits (told_all ts) c.args.items.now c.loop-i.items) (take_all c.loop-i.i c.args.told.now (omega arith)) c.loop-i.invariant
