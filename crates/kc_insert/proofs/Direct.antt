@@ -14,7 +14,7 @@ use Rattle.kc_insert.proofs.Adding.{times-append, times-filter, times_more, time
 use Rattle.kc_insert.proofs.Meeting.{met_none, met_on, met_one}
 use Rattle.kc_insert.proofs.Watching.{watched_same, watched_on, count_here, count_other}
 
-any_default : {A : Type 0} (xs : List A) (k : ℕ) (d e : A) → k < length xs → get_or xs k d ≡ get_or xs k e
+pub any_default : {A : Type 0} (xs : List A) (k : ℕ) (d e : A) → k < length xs → get_or xs k d ≡ get_or xs k e
 any_default [] k d e h = absurd (omega arith)
 any_default (x ∷ xs) zero d e h = refl
 any_default (x ∷ xs) (suc k) d e h = any_default xs k d e (omega arith)

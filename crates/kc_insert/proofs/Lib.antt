@@ -12,6 +12,7 @@ mod Leaving
 mod Lifting
 mod Looking
 mod Meeting
+mod Nearest
 mod Pairs
 mod Parting
 mod Rows

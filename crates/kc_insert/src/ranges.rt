@@ -1,7 +1,7 @@
 //! All ranges of a graph, and the passes over them: by threads where there is much to do.
 
 ghost use Rattle.std.specs.Prelude.{◌≡◌, ◌+◌, ◌-◌, ◌*◌, ◌++◌, ◌∷◌, ◌<◌, ◌≤◌, ◌^◌, ℕ, [], false, true, All, IfOk, OnOk, length, slice_index_or, slice_set, sum_by};
-ghost use Rattle.kc_insert.specs.private.Ranges.{all_began, count_of, IsIn, part_of};
+ghost use Rattle.kc_insert.specs.private.Ranges.{all_began, count_of, IsIn, meets, part_of, waits};
 ghost use Rattle.kc_insert.specs.private.Sharing.{AllParted, AllRisen, CanPartAll, CanRiseAll};
 ghost use Rattle.kc_insert.specs.private.Telling.{range_of};
 
@@ -98,9 +98,15 @@ impl Ranges {
     }
 
     /// The first level from this one on where a vertex waits, or the number of levels.
-    pub fn next_waiting(&self, from: u16) -> u16 {
+    pub fn next_waiting(&self, from: u16) -> u16
+        requires { All (λ p. from ≤ length p.queue) self.now.parts }
+        ensures from { from ≤ result }
+        ensures none { (k : ℕ) → from ≤ k → k < result → waits self.now k ≡ [] }
+        ensures some { (n : ℕ) → 0 < length self.now.parts → All (λ p. length p.queue ≡ n) self.now.parts → (result ≤ n) × (waits self.now result ≡ [] → n ≤ result) }
+    {
+        let items = self.items.as_slice();
         let mut next = 65_535;
-        for range in &self.items {
+        for range in items {
             let level = range.queue.next(from);
             if level < next {
                 next = level;
@@ -110,9 +116,15 @@ impl Ranges {
     }
 
     /// The first level from this one on where a vertex is to be met, or the number of levels.
-    pub fn next_meeting(&self, from: u16) -> u16 {
+    pub fn next_meeting(&self, from: u16) -> u16
+        requires { All (λ p. from ≤ length p.meetings) self.now.parts }
+        ensures from { from ≤ result }
+        ensures none { (k : ℕ) → from ≤ k → k < result → meets self.now k ≡ [] }
+        ensures some { (n : ℕ) → 0 < length self.now.parts → All (λ p. length p.meetings ≡ n) self.now.parts → (result ≤ n) × (meets self.now result ≡ [] → n ≤ result) }
+    {
+        let items = self.items.as_slice();
         let mut next = 65_535;
-        for range in &self.items {
+        for range in items {
             let level = range.meetings.next(from);
             if level < next {
                 next = level;
