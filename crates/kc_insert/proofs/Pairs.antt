@@ -12,7 +12,7 @@ use Rattle.kc_insert.proofs.Flips.{count_agree, count_less}
 
 count_nothing : (p : ℕ → Bool) (xs : List ℕ) → ((x : ℕ) → p x ≡ false) → count_by p xs ≡ 0
 count_nothing p [] none = refl
-count_nothing p (x ∷ xs) none = count_by-cons p x xs ∙ ap (λ b. cond b 1 0 + count_by p xs) (none x) ∙ count_nothing p xs none
+count_nothing p (x ∷ xs) none = omega (arith, count_by-cons p x xs, ap (λ b. cond b 1 0) (none x), count_nothing p xs none)
 
 -- the pairs whose first vertex is v, where the second passes: `near` has all their second vertices
 module _ (p : ℕ → Bool) (q : ℕ → Bool) (v low : ℕ) (near : List ℕ) (up : RisesFrom low near) (passes : p v ≡ true) where
@@ -39,7 +39,7 @@ module _ (p : ℕ → Bool) (q : ℕ → Bool) (v low : ℕ) (near : List ℕ) (
 
   pub times_firsts : (es : List Pair) → AreApart es → ((u : ℕ) → has_edge (v, u) es ≡ true → has_number u near ≡ true) → times v (firsts es) ≡ count_by (seen_of es) near
   times_firsts [] apart listed = sym (count_nothing (seen_of []) near (λ u. refl))
-  times_firsts (e ∷ es) apart listed = elim (cases_eq e.0 v) [
+  times_firsts (e ∷ es) apart listed = let later : times v (firsts es) ≡ count_by (seen_of es) near = times_firsts es apart.1 (λ u there. listed u (grind (arith, nat_tests, there))) in elim (cases_eq e.0 v) [
     | inr ne ↦ skip ne ∙ later ∙ sym (count_agree (seen_of (e ∷ es)) (seen_of es) near (λ u there. other_pair e es u ne))
     | inl is ↦ elim (cases_Bool (q e.1)) [
       | inr no_ ↦ dropped no_ ∙ later ∙ sym (count_agree (seen_of (e ∷ es)) (seen_of es) near (λ u there. fails_end e es u no_))
@@ -49,9 +49,6 @@ module _ (p : ℕ → Bool) (q : ℕ → Bool) (v low : ℕ) (near : List ℕ) (
     ]
   ]
     where
-      later : times v (firsts es) ≡ count_by (seen_of es) near
-      later = times_firsts es apart.1 (λ u there. listed u (grind (arith, nat_tests, there)))
-
       here : e.0 ≡ v → has_edge (v, e.1) (e ∷ es) ≡ true
       here is = grind (arith, nat_tests, is)
 
@@ -112,7 +109,7 @@ module _ (p : ℕ → Bool) (w low : ℕ) (near : List ℕ) (up : RisesFrom low 
 
   pub times_seconds : (es : List Pair) → AreApart es → ((u : ℕ) → has_edge (u, w) es ≡ true → has_number u near ≡ true) → times w (seconds es) ≡ count_by (seen_by es) near
   times_seconds [] apart listed = sym (count_nothing (seen_by []) near (λ u. refl))
-  times_seconds (e ∷ es) apart listed = elim (cases_Bool (p e.0)) [
+  times_seconds (e ∷ es) apart listed = let later : times w (seconds es) ≡ count_by (seen_by es) near = times_seconds es apart.1 (λ u there. listed u (grind (arith, nat_tests, there))) in elim (cases_Bool (p e.0)) [
     | inr no_ ↦ dropped no_ ∙ later ∙ sym (count_agree (seen_by (e ∷ es)) (seen_by es) near (λ u there. lost_end e es u no_))
     | inl yes_ ↦ kept yes_ ∙ elim (cases_eq e.1 w) [
       | inr ne ↦ ap (λ b. cond b 1 0 + times w (seconds es)) (off e.1 ne) ∙ later ∙ sym (count_agree (seen_by (e ∷ es)) (seen_by es) near (λ u there. strange_pair e es u ne))
@@ -123,9 +120,6 @@ module _ (p : ℕ → Bool) (w low : ℕ) (near : List ℕ) (up : RisesFrom low 
     ]
   ]
     where
-      later : times w (seconds es) ≡ count_by (seen_by es) near
-      later = times_seconds es apart.1 (λ u there. listed u (grind (arith, nat_tests, there)))
-
       here : e.1 ≡ w → has_edge (e.0, w) (e ∷ es) ≡ true
       here is = grind (arith, nat_tests, is)
 

@@ -36,6 +36,21 @@ impl Model for Ranges {
     ghost view = { λ r. record { bits = r.layout.bits; parts = r.items.items; told = r.told.items } };
 }
 
+// The steps of all ranges, which have none afterwards.
+fn steps_of(items: &mut [Range]) -> usize
+    requires { sum_by (λ p. p.steps) items.old < 2 ^ 64 }
+    ensures steps { result ≡ sum_by (λ p. p.steps) items.old }
+    ensures rest { (j : ℕ) (d : _) → j < length items.old → slice_index_or items.new j d ≡ record (slice_index_or items.old j d) { steps = 0 } }
+{
+    let mut steps = 0;
+    for i in 0..items.len() {
+        let range = &mut items[i];
+        steps += range.steps;
+        range.steps = 0;
+    }
+    steps
+}
+
 impl Ranges {
     /// The vertices with these counts, of which none rises or waits.
     pub fn new(
@@ -298,12 +313,9 @@ impl Ranges {
     pub fn take_steps(&mut self) -> usize
         requires { sum_by (λ p. p.steps) self.old.parts < 2 ^ 64 }
         ensures steps { result ≡ sum_by (λ p. p.steps) self.old.parts }
+        ensures rest { (length self.new.parts ≡ length self.old.parts) × ((j : ℕ) (d : _) → j < length self.old.parts → slice_index_or self.new.parts j d ≡ record (slice_index_or self.old.parts j d) { steps = 0 }) }
+        ensures same { (self.new.bits ≡ self.old.bits) × (self.new.told ≡ self.old.told) }
     {
-        let mut steps = 0;
-        for range in &mut self.items {
-            steps += range.steps;
-            range.steps = 0;
-        }
-        steps
+        steps_of(&mut self.items)
     }
 }
