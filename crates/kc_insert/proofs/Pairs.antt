@@ -1,5 +1,5 @@
 -- What meetings tell adds up: how often a vertex is told, as a count over its neighbours.
-use Rattle.std.proofs.Common.{ℕ, suc, ◌+◌, ◌≡◌, ◌≢◌, inl, inr, Bool, true, false, cond, eqb, ◌&&◌, ◌||◌, List, [], ◌∷◌, ◌++◌, map, refl, ap, sym, ◌∙◌, arith}
+use Rattle.std.proofs.Common.{ℕ, suc, zero-add, ◌+◌, ◌≡◌, ◌≢◌, inl, inr, Bool, true, false, cond, eqb, ◌&&◌, ◌||◌, List, [], ◌∷◌, ◌++◌, map, refl, ap, sym, ◌∙◌, arith}
 use Rattle.std.specs.Prelude.{count_by, filter}
 use Rattle.std.proofs.lemmas.Bool.{cases_eq, cases_Bool, true≢false}
 use Rattle.std.proofs.lemmas.Bool.Decides.{nat_tests}
@@ -12,7 +12,7 @@ use Rattle.kc_insert.proofs.Flips.{count_agree, count_less}
 
 count_nothing : (p : ℕ → Bool) (xs : List ℕ) → ((x : ℕ) → p x ≡ false) → count_by p xs ≡ 0
 count_nothing p [] none = refl
-count_nothing p (x ∷ xs) none = omega (arith, count_by-cons p x xs, ap (λ b. cond b 1 0) (none x), count_nothing p xs none)
+count_nothing p (x ∷ xs) none = omega (arith, count_by-cons p x xs, ap {B = ℕ} (λ b. cond b 1 0) (none x), count_nothing p xs none)
 
 -- the pairs whose first vertex is v, where the second passes: `near` has all their second vertices
 module _ (p : ℕ → Bool) (q : ℕ → Bool) (v low : ℕ) (near : List ℕ) (up : RisesFrom low near) (passes : p v ≡ true) where
@@ -69,7 +69,7 @@ module _ (p : ℕ → Bool) (q : ℕ → Bool) (v low : ℕ) (near : List ℕ) (
 
       skip : e.0 ≢ v → times v (firsts (e ∷ es)) ≡ times v (firsts es)
       skip ne = elim (cases_Bool (p e.0 && q e.1)) [
-        | inl yes_ ↦ ap (λ b. times v (map (λ (f : Pair). f.0) (cond b (e ∷ filter (λ (f : Pair). p f.0 && q f.1) es) (filter (λ (f : Pair). p f.0 && q f.1) es)))) yes_ ∙ ap (λ b. cond b 1 0 + times v (firsts es)) (off e.0 ne)
+        | inl yes_ ↦ ap (λ b. times v (map (λ (f : Pair). f.0) (cond b (e ∷ filter (λ (f : Pair). p f.0 && q f.1) es) (filter (λ (f : Pair). p f.0 && q f.1) es)))) yes_ ∙ ap (λ b. cond b 1 0 + times v (firsts es)) (off e.0 ne) ∙ zero-add (times v (firsts es))
         | inr no_ ↦ ap (λ b. times v (map (λ (f : Pair). f.0) (cond b (e ∷ filter (λ (f : Pair). p f.0 && q f.1) es) (filter (λ (f : Pair). p f.0 && q f.1) es)))) no_
       ]
         where
@@ -112,7 +112,7 @@ module _ (p : ℕ → Bool) (w low : ℕ) (near : List ℕ) (up : RisesFrom low 
   times_seconds (e ∷ es) apart listed = let later : times w (seconds es) ≡ count_by (seen_by es) near = times_seconds es apart.1 (λ u there. listed u (grind (arith, nat_tests, there))) in elim (cases_Bool (p e.0)) [
     | inr no_ ↦ dropped no_ ∙ later ∙ sym (count_agree (seen_by (e ∷ es)) (seen_by es) near (λ u there. lost_end e es u no_))
     | inl yes_ ↦ kept yes_ ∙ elim (cases_eq e.1 w) [
-      | inr ne ↦ ap (λ b. cond b 1 0 + times w (seconds es)) (off e.1 ne) ∙ later ∙ sym (count_agree (seen_by (e ∷ es)) (seen_by es) near (λ u there. strange_pair e es u ne))
+      | inr ne ↦ ap (λ b. cond b 1 0 + times w (seconds es)) (off e.1 ne) ∙ zero-add (times w (seconds es)) ∙ later ∙ sym (count_agree (seen_by (e ∷ es)) (seen_by es) near (λ u there. strange_pair e es u ne))
       | inl is ↦
           ap (λ b. cond b 1 0 + times w (seconds es)) (on e.1 is)
           ∙ plus later
