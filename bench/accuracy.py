@@ -1,15 +1,17 @@
 #!/usr/bin/env python3
-"""How near the numbers of a vertex line are to the coreness, and how well they rank: the table of docs/GUIDE.md.
-Runs by hand.
+"""How near the numbers of a vertex line are to the coreness, and how well they rank: the table of docs/GUIDE.md. Runs
+by hand.
 
     bench/accuracy.py KCORE [NAME=EDGES ..]
 
-Makes graphs (uniform, power law, a grid with random diagonals, a power law under a sliding window), takes the karate club from
-`examples/` and the dependencies of Debian's packages where `apt` has their lists, and each edge file of the command line (two numbers a
-line). For both profiles runs `KCORE run 4` and `KCORE exact`, and prints a line for each graph:
+Makes graphs: uniform, power law, a grid with random diagonals, and a power law under a sliding window. Takes the karate
+club from `examples/`, and the dependencies of Debian's packages if `apt` has their lists. Takes each edge file of the
+command line too (two numbers a line). For both profiles runs `KCORE run 4` and `KCORE exact`, and prints a line for
+each graph:
 
 - for `low`, `est` and `high` how many per cent of the vertices have the coreness itself as this number,
-- for `level`, `low`, `est` and `high` the rank correlation with the coreness (Spearman's, ties at their mean), 1 for the same order,
+- for `level`, `low`, `est` and `high` the rank correlation with the coreness (Spearman's, ties at their mean), 1 for
+  the same order,
 - the greatest `est / coreness` and `coreness / est`.
 
 Vertices without edges are left out. Takes some minutes and no package but Python's own.

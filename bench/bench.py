@@ -3,10 +3,10 @@
 
     bench/bench.py [--program PATH] [--other PATH] [--runs N] [--keep DIR] [--only NAME,NAME] [--workers W,W]
 
-It makes its own inputs from fixed seeds, runs each program on each of them N times (5) with one worker, takes the best
-run, and prints seconds of processor time, peak memory, and the ratio of the two programs. With numbers of workers it runs
-the first program alone with each of them, by turns, and prints the seconds that pass in its best run, and their ratio to
-the first. It judges nothing: times on a shared machine are ratios at best.
+Makes its own inputs from fixed seeds, and runs each program on each of them N times (5) with one worker. Takes the best
+run, and prints seconds of processor time, peak memory, and the ratio of the two programs. With numbers of workers it
+runs the first program alone with each of them, by turns. It then prints the seconds that pass in the best run of each
+number, and their ratio to the first number. It judges nothing: times on a shared machine are ratios at best.
 
 Whole runs, each with all its edges inserted:
 
@@ -16,20 +16,22 @@ Whole runs, each with all its edges inserted:
 - snap100000  the same in batches of 100,000
 - power       1,048,576 edges between 65,536 vertices, degrees by a power law (R-MAT), in one batch
 - grid        998,284 edges of a grid of 707 times 707 vertices, as SNAP text in one batch
-- power1000, power100000, grid1000, grid100000     their edges in any order, in batches of so many
-- uniform-window, power-window, grid-window        half of the edges in any order in batches of 100,000, and then each batch
-              takes the oldest 10,000 out and puts the next 10,000 in, until all have been there
-- long        8,000,000 edges between 1,048,576 vertices, each pair as likely as another, in batches of 1,000,000: the rounds
-              are long
-- fours       999,996 edges, the complete graphs of 166,666 times four of 1,048,576 vertices, as SNAP text in one batch: the
-              rounds are long and many, and passes over neighbours short
+- power1000, power100000, grid1000, grid100000     their edges in any order, in batches of that size
+- uniform-window, power-window, grid-window        half of the edges in any order in batches of 100,000; then each
+              batch takes the oldest 10,000 out and puts the next 10,000 in, until all have been there
+- long        8,000,000 edges between 1,048,576 vertices, each pair as likely as another, in batches of 1,000,000: the
+              rounds are long
+- fours       999,996 edges, the complete graphs of 166,666 times four of 1,048,576 vertices, as SNAP text in one
+              batch: the rounds are long and many, and passes over neighbours short
 - greatest    1,000,000 edges between 16,777,216 vertices, each pair as likely as another, in one batch
-- exact       2,000,000 edges between 262,144 vertices, each pair as likely as another, in two batches: the command `exact`
+- exact       2,000,000 edges between 262,144 vertices, each pair as likely as another, in two batches: the command
+              `exact`
 
 Parts of a run, each the difference of two runs that differ in nothing else:
 
 - read        the lines of grid: a batch of them that is refused at its last line, less no batch
-- clean       the items of grid where all edges are there: a second batch of them, less one that is refused at its last line
+- clean       the items of grid when all edges are there: a second batch of them, less one that is refused at its last
+              line
 - print       the vertex lines of grid: no batch, less no batch for one vertex
 - three       these three together
 - link+raise  the rest of grid: its edges come into the graph, and the levels rise

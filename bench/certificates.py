@@ -1,18 +1,18 @@
 #!/usr/bin/env python3
-"""What certificates cost: `kcore final 1` beside `run 1`, and `check` beside reading as many lines of edges.
-Runs by hand.
+"""What certificates cost: `kcore final 1` beside `run 1`, and `check` beside reading as many lines of edges. Runs by
+hand.
 
     bench/certificates.py [--program PATH] [--runs N] [--edges M]
 
-Of graphs whose edges are pairs of vertices by chance, 1,000,000 between 100,000 vertices and 8,000,000 (or M) between 1,048,576, in
-batches of 1,000,000. Prints seconds of processor time, each of the best of N runs (3):
+The edges of the graphs are random pairs of vertices: 1,000,000 between 100,000 vertices, and 8,000,000 (or M) between
+1,048,576. They come in batches of 1,000,000. Prints seconds of processor time, each of the best of N runs (3):
 
 - run, final      of the same batches, and the ratio of the second to the first
-- read            what `run` takes to read and clean all edges once more, where all of them are there already and nobody moves: the
-                  difference of two runs
-- check           of what `final` wrote, and the ratio to `read`
+- read            of `run` reading and cleaning all edges once more, when all of them are there and no vertex moves:
+                  the difference of two runs
+- check           of the text that `final` wrote, and the ratio to `read`
 
-With each peak memory. It judges nothing: times on a shared machine are ratios at best.
+Prints peak memory with each. It judges nothing: times on a shared machine are ratios at best.
 """
 import argparse
 import multiprocessing

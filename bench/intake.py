@@ -3,9 +3,9 @@
 
     bench/intake.py [--program PATH] [--runs N]
 
-It runs `intake_bench`, whose root file says what it measures, N times (41), and prints the median and the best of the runs in updates a
-second, and in how many the updates were fewer than 2,000,000 a second. It judges nothing: times on a shared machine are ratios at best,
-and nine threads run, which take turns where there are fewer processors.
+Runs `intake_bench` N times (41); its root file says what it measures. Prints the median and the best of the runs in
+updates a second, and in how many runs there were fewer than 2,000,000 updates a second. It judges nothing: times on a
+shared machine are ratios at best. Nine threads run, and take turns if there are fewer processors.
 """
 import argparse
 import os

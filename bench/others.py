@@ -3,12 +3,14 @@
 
     bench/others.py [--program PATH] [--runs N] [--batches N] [--keep DIR]
 
-The graph has 1,000,000 edges between 100,000 vertices, each pair as likely as another, from a fixed seed. Then come N (2,000)
-batches, each of which takes ten edges out and puts ten in. Prints
+The graph has 1,000,000 edges between 100,000 vertices, each pair as likely as another, from a fixed seed. Then N
+(2,000) batches each take ten edges out and put ten in. Prints
 
-- for kcore the time of a batch: the difference of two runs with one worker, with the batches and without, by their number;
-- for igraph and for networkx, where they are installed, the time of the one call that computes the coreness of every vertex of
-  the graph: what each batch costs where all is computed again. Reading the input and building the graph isn't counted.
+- for kcore the time of a batch: the difference of two runs with one worker, with the batches and without, by their
+  number;
+- for igraph and for networkx, if they are installed, the time of the one call that computes the coreness of every
+  vertex of the graph. That is the cost of each batch if all is computed again. Reading the input and building the graph
+  isn't counted.
 
 Each is the best of several runs (3). (On Debian and Ubuntu: apt install python3-igraph python3-networkx.)
 """

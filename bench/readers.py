@@ -1,18 +1,20 @@
 #!/usr/bin/env python3
-"""What readers cost beside batches, and how much they see: `kcore run` on one graph without readers, and with eight. Runs by hand.
+"""What readers cost beside batches, and how much they see: `kcore run` on one graph without readers, and with eight.
+Runs by hand.
 
     bench/readers.py [--program PATH] [--other PATH] [--runs N] [--workers W] [--edges M]
 
-1,000,000 edges (or M) between 100,000 vertices, each pair as likely as another, in batches of 1,000 items. Eight readers
-have 65,536 questions each, the most that there may be: 256 vertices 256 times, or 65 vertices 1,000 times. The program
-runs on all inputs by turns, N times (3), and so does another one, if there is one. Prints the seconds that pass in the
-best run of each, and the ratios.
+The graph has 1,000,000 edges (or M) between 100,000 vertices, each pair as likely as another, in batches of 1,000
+items. Eight readers have 65,536 questions each, the most that there may be: 256 vertices 256 times, or 65 vertices
+1,000 times. The program runs on all inputs by turns, N times (3), and so does another one, if there is one. Prints the
+seconds that pass in the best run of each, and the ratios.
 
 Then the graph has degrees by a power law (R-MAT): half as many edges between 65,536 vertices, in batches of 1,000. One
-reader asks 1,000 times for the 65 vertices that have most neighbours at the end. Prints of N runs of each program how
-many different points of the history its replies meet at least (examples/explained.py), and how many of the last 65
-replies are the levels at the end. It judges nothing: times on a shared machine are ratios at best, and readers run in
-threads of their own.
+reader asks 1,000 times for the 65 vertices that have most neighbours at the end. Prints two numbers of N runs of each
+program. The first is how many different points of the history its replies meet at least
+(checks/programs/explained.py). The second is how many of the last 65 replies are the levels at the end.
+
+It judges nothing: times on a shared machine are ratios at best, and readers run in threads of their own.
 """
 import argparse
 import os
@@ -24,7 +26,7 @@ import time
 
 from bench import power_edges
 
-sys.path.append(os.path.join(os.path.dirname(os.path.abspath(__file__)), "../examples"))
+sys.path.append(os.path.join(os.path.dirname(os.path.abspath(__file__)), "../checks/programs"))
 from explained import points_met, replies_of  # noqa: E402
 
 VERTICES = 100_000

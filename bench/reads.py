@@ -3,19 +3,22 @@
 
     bench/reads.py [--program PATH] [--runs N]
 
-It runs `store_bench`, whose root file says what it measures, N times (5), takes the best run of each measurement, and prints how
-many processors there are, and for each number of vertices:
+Runs `store_bench` N times (5), and takes the best run of each measurement; its root file says what it measures. Prints
+the number of processors, and for each number of vertices:
 
-- the nanoseconds of a plain load, of a read of one load (nothing is marked) and of three (all is marked, nothing is
-  published), and of one beside a writer that shows one plan after another, and before each of them reads the levels of the
-  vertices that it moves by passes of its own, each with one reader
-- the ratios of these to a plain load
-- how many times one reader's rate eight readers have together, and so of eight threads that load from one array
-- the nanoseconds of a mark, a publication and a clearing of one move
+- the nanoseconds of a plain load, of a read of one load (nothing is marked), and of a read of three (all is marked,
+  nothing is published), with one reader;
+- the same of a read beside a writer that shows one plan after another. Before each plan the writer reads the levels of
+  the vertices that it moves by passes of its own;
+- the ratios of these to a plain load;
+- how many times one reader's rate eight readers have together, and so of eight threads that load from one array;
+- the nanoseconds of a mark, a publication and a clearing of one move.
 
-and for the largest store how long it takes to open, beside zeroing as much memory. It judges nothing: times on a shared
-machine are ratios at best. Readers and writer take turns where there are fewer processors, and where a writer had ended before
-the readers beside it in the run whose times are printed, which is told, their rate is partly that of a store at rest.
+For the largest store it also prints how long it takes to open, beside zeroing as much memory.
+
+It judges nothing: times on a shared machine are ratios at best. Readers and writer take turns if there are fewer
+processors. A writer may have ended before the readers beside it in the run whose times are printed. Then their rate is
+partly that of a store at rest, and a line says so.
 """
 import argparse
 import os

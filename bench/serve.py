@@ -3,9 +3,10 @@
 
     bench/serve.py [--kserve PATH] [--kcore PATH] [--runs N] [--items N] [--keep DIR]
 
-The scripts have 125,000 items each, insertions of edges by chance among 100,000 vertices, from a fixed seed. `kcore` gets the updates of
-the clients in turn. The seconds are those that pass, of each the best of several runs; the runs of the programs take turns. It judges
-nothing: times on a shared machine are ratios at best.
+The scripts have 125,000 items each, insertions of random edges among 100,000 vertices, from a fixed seed. `kcore` gets
+the first update of each client, then the second of each, and so on. The seconds are those that pass, of each program
+the best of several runs; the runs of the programs take turns. It judges nothing: times on a shared machine are ratios
+at best.
 """
 import argparse
 import itertools

@@ -3,10 +3,12 @@
 
     bench/small.py [--program PATH] [--other PATH] [--runs N] [--batches N] [--keep DIR]
 
-It makes its own inputs from fixed seeds. In each a first batch puts 65,536 edges by chance between the first 16,384 vertices,
-and then each batch has ten edges between these: so the sizes of the graph, 16,384, 131,072 and 1,048,576 vertices, differ in
-nothing but vertices without edges. The time of a batch is the difference of two runs with one worker, of which one has N (2,000)
-batches more, by N; of each run the best of several counts. It judges nothing: times on a shared machine are ratios at best.
+Makes its own inputs from fixed seeds. In each a first batch puts 65,536 random edges between the first 16,384 vertices,
+and then each batch has ten edges between these. So the graphs of 16,384, 131,072 and 1,048,576 vertices differ in
+nothing but vertices without edges.
+
+The time of a batch is the difference of two runs with one worker, one of which has N (2,000) batches more, by N. Of
+each run the best of several counts. It judges nothing: times on a shared machine are ratios at best.
 
 - insert      ten edges come in
 - window      the ten oldest edges leave, and ten come in

@@ -1,4 +1,4 @@
--- Checks a certificate of levels in plain SQL: the same verdict as `kcore check`, in any engine that holds three tables.
+-- Checks a certificate of levels in plain SQL: the verdict of `kcore check`, in any engine that holds three tables.
 -- It runs as it is in SQLite, DuckDB, PostgreSQL and Spark SQL.
 --
 --   edges (u, v)              each edge once, u < v
@@ -6,8 +6,9 @@
 --   thresholds (level, .., most, least, ..)   as `thresholds.py VERTICES [PROFILE]` writes them
 --
 -- All of these columns are whole numbers; they are cast, since an import of CSV may have made them texts.
--- No row: certified, so the coreness of each vertex is at least `low` and at most `high` of its level in `thresholds`. Else one row,
--- `problem` and `vertex`: a table that isn't of this form (malformed), or the least vertex that breaks an invariant, and which.
+-- No row means certified: the coreness of each vertex is at least `low` and at most `high` of its level in
+-- `thresholds`. Otherwise there is one row, `problem` and `vertex`: a table that isn't of this form (malformed), or the
+-- least vertex that breaks an invariant, and which one.
 -- A vertex needs its own edges and its neighbours' levels alone, so the work is one join along the edges.
 WITH pairs AS (
   SELECT CAST(u AS INTEGER) AS u, CAST(v AS INTEGER) AS v FROM edges

@@ -3,9 +3,9 @@
 
     check_sql.py < certificate
 
-Reads a certificate as `kcore final` writes it, puts its edges and levels into tables, runs `check.sql` and says what it found in
-the words of `kcore check`: `certified vertices N edges M`, `upper V` or `lower V`; or `malformed V`. Exit number: 0 certified, 1 not.
-It trusts the form of the text; `kcore check` reads it strictly.
+Reads a certificate as `kcore final` writes it, puts its edges and levels into tables, and runs `check.sql`. Says the
+result in the words of `kcore check`: `certified vertices N edges M`, `upper V` or `lower V`; or `malformed V`. Exit
+number: 0 certified, 1 not. It trusts the form of the text; `kcore check` reads it strictly.
 """
 import os
 import sqlite3

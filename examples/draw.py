@@ -1,20 +1,22 @@
 #!/usr/bin/env python3
-"""Pictures of what `kcore` prints.
+"""Pictures of texts of `kcore`.
 
     draw.py run [--exact EXACT] TEXT PICTURE      bounds by rank of vertex, and moves and groups by batch
     draw.py heat TEXT PICTURE                     how many vertices stand on each level after each batch
     draw.py readers [--reader R] TEXT PICTURE     the replies to a reader by batch, and how many of them it had by then
-    draw.py graph INPUT TEXT PICTURE              the last graph of an input, its vertices coloured by `high` or by coreness
+    draw.py graph INPUT TEXT PICTURE              the last graph of an input, coloured by `high` or by coreness
 
-TEXT is what `kcore run` printed, INPUT what it read. For `graph` TEXT may be a text of `kcore exact`, and then colours are corenesses;
---exact draws the corenesses of such a text over the band from `low` to `high`. Vertices without edges are left out of curves and of
-large graphs. A graph of up to 150 vertices has numbers on its vertices, one of up to 2,000 has dots, larger ones for higher degrees.
-For `readers` a reply is a dot at the batch of the earliest point of the history that explains it, on the line of its vertex's
-levels; --reader picks another reader than 0.
+TEXT is what `kcore run` printed, INPUT what it read. For `graph` TEXT may be a text of `kcore exact`, and then colours
+are corenesses; --exact draws the corenesses of such a text over the band from `low` to `high`. Vertices without edges
+are left out of curves and of large graphs. A graph of up to 150 vertices has numbers on its vertices. One of up to
+2,000 has dots, larger ones for higher degrees.
+
+For `readers` a reply is a dot on the line of its vertex's levels. It stands at the batch of the earliest point of the
+history that explains it. --reader picks another reader than 0.
+
 PICTURE ends with .svg, .png or .pdf. Needs matplotlib and numpy (on Debian and Ubuntu: apt install python3-matplotlib).
-
-The files of one picture have to be of one graph. Exit number: 0 the picture is written, 1 a file can't be read, written or used,
-2 the words of the command line are wrong, 3 matplotlib isn't there.
+The files of one picture have to be of one graph. Exit number: 0 the picture is written, 1 a file can't be read, written
+or used, 2 the words of the command line are wrong, 3 matplotlib isn't there.
 """
 import argparse
 import collections

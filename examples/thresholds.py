@@ -3,11 +3,11 @@
 
     thresholds.py VERTICES [PROFILE]
 
-VERTICES is the number of vertices, 1 or more; PROFILE is 1 or 2, 1 if not given. One line for each level from 0 to
-the top level: `level,band,most,least,low,est,high`. A vertex of this level may have at most `most` neighbours on its level or
-above, and needs at least `least` on the level before it or above; then its coreness is at least `low` and at most `high`, and
-`est` is the estimate. Defined in docs/DEFINITIONS.md, "Thresholds". Exit number: 0 all is written, 1 a write failed, 2 the words
-of the command line are wrong.
+VERTICES is the number of vertices, 1 or more; PROFILE is 1 or 2, 1 if not given. One line for each level from 0 to the
+top level: `level,band,most,least,low,est,high`. A vertex of this level may have at most `most` neighbours on its level
+or above, and needs at least `least` on the level before it or above. Then its coreness is at least `low` and at most
+`high`, and `est` is the estimate. Defined in docs/DEFINITIONS.md, "Thresholds". Exit number: 0 all is written, 1 a
+write failed, 2 the words of the command line are wrong.
 """
 import sys
 

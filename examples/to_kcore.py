@@ -3,29 +3,31 @@
 
     to_kcore.py [options] [FILE] > graph.kc
 
-Reads FILE, or standard input, plain or compressed by gzip, bzip2 or xz. Formats, found by the file's name and first lines:
+Reads FILE, or standard input, plain or compressed by gzip, bzip2 or xz. Formats, found by the file's name and first
+lines:
 
-    edges          two ids a line, with blanks or tabs between them, as SNAP and KONECT have them; # and % begin comments
-    csv            the same with commas; a first line that names the columns is found if ids are numbers (else: --header)
+    edges          two ids a line, with blanks or tabs between them, as in SNAP and KONECT; # and % begin comments
+    csv            the same with commas; a first line of column names is found if ids are numbers (else: --header)
     metis          the k-th line has the neighbours of vertex k (`.graph`, `.metis`, or --format metis)
-    matrix-market  a square matrix in coordinates; each entry is an edge, whatever its value
+    matrix-market  a square matrix in coordinates; each entry is an edge, for any value
 
 An edge has no direction: a directed edge becomes an edge between its two ends. Self loops, repeats and edges that stand
 in both directions are passed on; `kcore` takes care of them, and its batch lines count them.
 
-Ids are numbers. They stay as they are, unless the greatest is more than twice the count of different ones; then they are
-renumbered in ascending order: the least becomes vertex 0, the next one vertex 1. --keep and --renumber decide it by hand.
-With --names an id is any text, with blanks where commas or tabs part the columns, and vertices are numbered in the order in
-which the names come. --map FILE writes a line
-`VERTEX<tab>ID` for each vertex with an id; `with_names.py FILE < text` puts the ids back into whatever `kcore` prints.
+Ids are numbers. They stay as they are, unless the greatest is more than twice the count of different ones. Then they
+are renumbered in ascending order: the least becomes vertex 0, the next one vertex 1. --keep and --renumber decide it by
+hand. With --names an id is any text, with blanks if commas or tabs part the columns. Vertices are then numbered in the
+order in which the names come. --map FILE writes a line `VERTEX<tab>ID` for each vertex with an id.
+`with_names.py FILE < text` puts the ids back into any text of `kcore`.
 
 A sliding window over edges with times: --window N keeps the last N edges, --window-time T those of the last T units of
-time. Edges are sorted by their time, which is in the last column or in --time-column K. Each batch takes the next --batch
-edges in and those out that left the window, and has a comment with the time up to which it goes.
+time. Edges are sorted by their time, which is in the last column or in --time-column K. Each batch takes the next
+--batch edges in and those out that left the window. It has a comment with the time up to which it goes.
 
-One line on standard error says what was done. What can't be used is said there instead, with its line and a remedy, and
-nothing is written. Exit number: 0 all is written, 1 the input can't be used or a read or a write failed, 2 the words of
-the command line are wrong. `kcore` holds at most 16777216 edges, and refuses each batch that would go past that.
+One line on standard error says what was done. If the file can't be used, that line says why instead, with the place and
+a remedy, and nothing is written. Exit number: 0 all is written, 1 the input can't be used or a read or a write failed,
+2 the words of the command line are wrong. `kcore` holds at most 16777216 edges, and refuses each batch that would go
+past that.
 """
 import argparse
 import bz2

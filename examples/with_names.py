@@ -3,12 +3,14 @@
 
     with_names.py MAP < text > text
 
-MAP is the file that `to_kcore.py --map MAP` wrote: a line `VERTEX<tab>ID` for each vertex. Each number of a vertex in the
-text becomes its id: in lines `vertex`, `group`, `reader`, `member`, `edge`, `level`, `take`, `upper` and `lower`. A vertex
-without an id keeps its number. An id with white space, a colon, an equals sign or quotes is written as a JSON string in which
-these stand as `\\u0020` and the like, so that lines can still be cut at blanks. All other lines stay as they are. A line on
-standard error says so if the map is of another graph than the text. Names come last: a text with names is for people, and
-`kcore check` and `kcore audit` don't read it.
+MAP is the file that `to_kcore.py --map MAP` wrote: a line `VERTEX<tab>ID` for each vertex. Each number of a vertex in
+the text becomes its id: in lines `vertex`, `group`, `reader`, `member`, `edge`, `level`, `take`, `upper` and `lower`. A
+vertex without an id keeps its number. All other lines stay as they are.
+
+An id with white space, a colon, an equals sign or quotes is written as a JSON string. In the string these stand as
+`\\u0020` and the like, so that lines can still be cut at blanks. A line on standard error says so if the map is of
+another graph than the text. Put names in last: a text with names is for people, and `kcore check` and `kcore audit`
+don't read it.
 
 Exit number: 0 all is written, 1 the map can't be used or a read or a write failed, 2 the command line is wrong.
 """

@@ -1,16 +1,22 @@
 #!/usr/bin/env python3
-"""Runs kcore and kserve where memory, threads, devices and inputs fail, and checks how each run ends. Runs by hand.
+"""Runs kcore and kserve with memory, threads, devices and inputs that fail, and checks how each run ends. Runs by hand.
 
     hostile/check.py [--program PATH] [--kserve PATH] [--engine-tests PATH] [--of PROGRAM] [--only WORD] [--short]
 
-Each run has to end by itself, with the exit number that is due: 0 or 1 with the whole text; 2 with nothing read or written; 3 after a
-read that failed, 4 after a write that failed, 5 without memory, each with a prefix of the text. Nothing is ever written to the
-standard error. Prints a line for each thing that was tried, with how its runs ended, and below it what was wrong; the last line
-counts, also the things that weren't tried, since a program for them wasn't made. The exit number is 1 where something was wrong.
+Each run has to end by itself, with the right exit number:
 
---of kcore and --of kserve try one of the programs alone; --only WORD tries the things with this word in their name, as `memory`; --short
-leaves out inputs of a gibibyte. Wants Linux and a C compiler, for failing_calls.c, which stands in front of the C library. Which allocation
-is which depends on the machine, so this isn't part of the gate. A new command is a line of COMMANDS.
+- 0 or 1 with the whole text;
+- 2 with nothing read or written;
+- 3 after a read that failed, 4 after a write that failed, 5 without memory, each with a prefix of the text.
+
+Nothing is ever written to the standard error. Prints a line for each thing that was tried, with how its runs ended, and
+below it what was wrong. The last line counts, also the things that weren't tried since a program for them wasn't made.
+The exit number is 1 if something was wrong.
+
+--of kcore and --of kserve try one of the programs alone. --only WORD tries the things with this word in their name, as
+`memory`. --short leaves out inputs of a gibibyte. Wants Linux and a C compiler, for failing_calls.c, which stands in
+front of the C library. The order of allocations depends on the machine, so this isn't part of the gate. A new command
+is a line of COMMANDS.
 """
 import argparse
 import collections

@@ -1,14 +1,15 @@
 #!/usr/bin/env python3
-"""Puts the wrong bodies of hostile/edits into a copy of the repository, and checks that the prover refuses each.
-Runs by hand.
+"""Puts the wrong bodies of hostile/edits into a copy of the repository, and checks that the prover refuses each. Runs
+by hand.
 
     hostile/edits.py [CRATE | CRATE/NAME ..] [--lot N] [--seed S] [--list]
 
-`rt ci` tries the few edits of crates/CRATE/must-fail. This tries the others, of which hostile/edits/TABLE.md says
-what refuses each: all, those of a crate, or those that are named; with --lot, N of these, drawn with the seed S (1).
-It copies the crates to a temporary folder, puts the chosen edits into must-fail/ there, and runs `rt must-fail` for
-these crates. Prints a line for each edit and a count; ends with 1 if an edit isn't refused or doesn't fit the sources
-any more. --list only prints the names of the chosen edits.
+`rt ci` tries the few edits of crates/CRATE/must-fail. This tries the others: all, those of a crate, or those that are
+named. hostile/edits/TABLE.md says what refuses each. --lot tries N of these, drawn with the seed S (1).
+
+Copies the crates to a temporary folder, puts the chosen edits into must-fail/ there, and runs `rt must-fail` for these
+crates. Prints a line for each edit and a count; ends with 1 if an edit isn't refused or doesn't fit the sources any
+more. --list only prints the names of the chosen edits.
 
 Proves each crate once and takes 12 to 80 seconds more for each edit, on all processors that the process may use
 (`taskset`). `rt must-fail` begins with what `rt check` kept on this machine.

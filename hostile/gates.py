@@ -3,11 +3,14 @@
 
     hostile/gates.py [--folder PATH] [--runs N] [--seconds S] [--at-once N] [--only WORD]
 
-A gate holds one thread until another has come to a place, so whether such a test passes could depend on how the system runs its threads:
-here each is run N (200) times in a row. `rt test` in a crate's folder makes its tests, out/NAME_tests. A run that takes S (60) seconds
-counts as one that failed. --at-once has so many runs of a test side by side, so that the threads get less of the processors each. --folder
-is a folder with the programs of tests, in place of those of the crates. Prints a line for each test, and counts in the last line; the exit
-number is 1 where a run failed or a test wasn't found. How threads run depends on the machine, so this isn't part of the gate.
+A gate holds one thread until another has come to a place. So whether such a test passes could depend on how the system
+runs its threads. Runs each N (200) times, one run after another. `rt test` in a crate's folder makes its tests,
+out/NAME_tests. A run that takes S (60) seconds counts as one that failed.
+
+--at-once has N runs of a test side by side, so that the threads get less of the processors each. --folder is a folder
+with the programs of tests, in place of those of the crates. Prints a line for each test, and counts in the last line.
+The exit number is 1 if a run failed or a test wasn't found. How threads run depends on the machine, so this isn't part
+of the gate.
 """
 import argparse
 import concurrent.futures

@@ -1,13 +1,17 @@
 #!/usr/bin/env python3
-"""Runs kserve over and over on scripts by chance, and checks each text that it writes. Runs by hand.
+"""Runs kserve over and over on random scripts, and checks each text that it writes. Runs by hand.
 
     hostile/serving.py [--program PATH] [--kcore PATH] [--runs N] [--clients N] [--items N] [--seed S]
 
-In each of N (200) runs eight clients have scripts of very different lengths. Of what is printed it checks that the updates of each
-client are its script, in order, each once; that batches are numbered and have 1 to 1,024 updates; and that the lines of the vertices
-are those of `kcore run` on the same batches. Two runs on one input may print different batches, and both are right. Prints how many
-batches there were and how often updates of two clients were next to each other; the exit number is 1 where something was wrong. Whether
-threads come in each other's way depends on the machine, so this isn't part of the gate.
+In each of N (200) runs eight clients have scripts of very different lengths. Checks of what is printed:
+
+- the updates of each client are its script, in order, each once;
+- batches are numbered and have 1 to 1,024 updates;
+- the lines of the vertices are those of `kcore run` on the same batches.
+
+Two runs on one input may print different batches, and both are right. Prints how many batches there were, and how often
+updates of two clients were next to each other. The exit number is 1 if something was wrong. Whether threads come in
+each other's way depends on the machine, so this isn't part of the gate.
 """
 import argparse
 import os

@@ -1,4 +1,4 @@
-"""Calls of the system that fail, one after another: allocations, reads, writes, and the starts of threads.
+"""System calls that fail, one after another: allocations, reads, writes, and the starts of threads.
 
 A module of check.py.
 """

@@ -1,5 +1,5 @@
-"""kserve: scripts of clients where calls, devices, memory or inputs fail. Any order of the clients' updates is right
-(`served.py`).
+"""kserve: scripts of clients with calls, devices, memory or inputs that fail. Any order of the clients' updates is
+right (`served.py`).
 
 A module of check.py.
 """

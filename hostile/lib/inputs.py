@@ -1,4 +1,4 @@
-"""Inputs, and what the definition gives for an input that is cut off. A module of check.py."""
+"""Inputs, and the text that the definition gives for an input that is cut off. A module of check.py."""
 import os
 import random
 import re

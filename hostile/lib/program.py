@@ -1,4 +1,4 @@
-"""A program that is run where calls, devices or memory fail, and how it ended. A module of check.py."""
+"""A program run with calls, devices or memory that fail, and how it ended. A module of check.py."""
 import collections
 import os
 import resource

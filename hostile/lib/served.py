@@ -1,5 +1,5 @@
-"""What kserve may write of scripts: the batches that the server drained, in any order of the clients, and the lines
-of the vertices.
+"""The texts that kserve may write for scripts: the batches that the server drained, in any order of the clients, and
+the lines of the vertices.
 
 A module of check.py and serving.py.
 """

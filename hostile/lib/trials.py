@@ -1,4 +1,4 @@
-"""What is tried: a thing in some runs, and how each of them has to end. A module of check.py."""
+"""The things that are tried: each in some runs, with how each run has to end. A module of check.py."""
 import collections
 import sys
 

@@ -17,7 +17,7 @@ use Rattle.kc_text.specs.Kept.{text_of}
 use Rattle.kc_batch.specs.declared.ask.Ask.{Ask}
 use Rattle.kc_batch.specs.Headers.{Accepted, Refused, profile_in, vertices_in, is_ask, number_before, numbers_of, fits_ask, ask_with, ask_in, next_ask, asks_from, after_profile, header_of, IsAsk}
 
--- numbers that were read, and those that the words after them say
+-- the numbers that were read, followed by those of the words after them
 abbrev pub numbers_behind : List ℕ → List (List ℕ) → Option (List ℕ)
 numbers_behind front ws = option_map (λ rest. front ++ rest) (numbers_of ws)
 
@@ -36,11 +36,11 @@ more_at front x (Some xs) = ap Some (sym (append_assoc front (x ∷ []) xs))
 pub numbers_more : (front w : List ℕ) (ws all : List (List ℕ)) (x : ℕ) → all ≡ w ∷ ws → Some x ≡ number_of w → numbers_behind front all ≡ numbers_behind (front ++ x ∷ []) ws
 numbers_more front w ws all x e h = rw (e, ← h) (more_at front x (numbers_of ws))
 
--- a word that says none
+-- a word that is no number
 pub numbers_none : (front w : List ℕ) (ws all : List (List ℕ)) → all ≡ w ∷ ws → None ≡ number_of w → numbers_behind front all ≡ None
 numbers_none front w ws all e h = rw (e, ← h) refl
 
--- no further word
+-- the words end here
 pub numbers_end : (front : List ℕ) (all : List (List ℕ)) → all ≡ [] → numbers_behind front all ≡ Some front
 numbers_end front all e = rw e (ap Some (append-nil front))
 
@@ -70,7 +70,7 @@ fits n times vertices e = record {
   few = grind (arith, nat_tests, e);
 }
 
--- a test that no empty line passes is passed by no end
+-- no end passes a test that no empty line passes
 going : (p : List (List ℕ) → Bool) → p [] ≡ false → (b : Body) → p (words (text_of b)) ≡ true → (rest : List Line) → behind b rest ≡ rest
 unfolding words_from
 going p h (Text text) e rest = refl
@@ -124,7 +124,7 @@ pub ask_there : (p : Profile) (n : ℕ) (asks : List Ask) (line : Line) (ask : A
 unfolding asks_from
 ask_there p n asks line ask e f rest = rw (e, f, going is_ask refl line.body e rest) refl
 
--- where a line is put back
+-- a line that is put back
 pub step_back : {X : Type 0} (F G : List Line → X) (line : Line) (old mid new : Option (List Line)) → old ≡ option_map (onto line) mid → new ≡ option_map (onto line) mid
     → ((rest : List Line) → F (onto line rest) ≡ G (onto line rest)) → option_map F old ≡ option_map G new
 step_back F G line old None new e f h = rw (e, f) refl

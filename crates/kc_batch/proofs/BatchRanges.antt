@@ -41,7 +41,7 @@ turn_is rules full kind.TooLong = tt
 turn_is rules full kind.Limit = tt
 turn_is rules full kind.InputEnd = tt
 
--- what is true of a place
+-- the facts that hold of a place
 abbrev IsPlace : Rules → Place → Type 0
 IsPlace rules Between = Unit {0}
 IsPlace rules (Within items) = (length items ≤ rules.item_limit) × All (IsInside rules.n) items × All (λ item. is_allowed rules.profile item ≡ true) items

@@ -31,7 +31,7 @@ adds rules m front i rest h l =
     let full : nat_le rules.item_limit (length front) ≡ false = grind (arith, nat_tests) in
     rw (h.allowed, inside_tests rules.n i h.inside, full) refl
 
--- and so are several
+-- several allowed items are added
 adds_all : (rules : Rules) (front : List Item) (ls : List (ℕ × Item)) (rest : List Token) → All (λ l. IsItemOf rules l.1) ls → length front + length ls ≤ rules.item_limit
     → items_from rules front (item_lines ls ++ rest) ≡ items_from rules (front ++ items_of ls) rest
 adds_all rules front [] rest h l = rw append-nil refl

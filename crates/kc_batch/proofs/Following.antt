@@ -51,7 +51,7 @@ item_no_limit true false full i r e l = let x : Pass BadVertex ≡ Pass InputLim
 item_no_limit true true true i r e l = let x : Pass TooMany ≡ Pass InputLimit = e ∙ ap Pass l in cc
 item_no_limit true true false i r e l = cc
 
--- no fault after which lines are passed over is the input limit
+-- a fault after which lines are passed over isn't the input limit
 no_limit : (rules : Rules) (full : Bool) (k : Kind) (r : Reason) → turn_of rules full k ≡ Pass r → r ≡ InputLimit → ⊥
 no_limit rules full kind.BatchStart r e l = let x : Pass BadLine ≡ Pass InputLimit = e ∙ ap Pass l in cc
 no_limit rules full (kind.Item i) r e l = item_no_limit (is_allowed rules.profile i) (is_inside rules.n i) full i r e l
@@ -67,7 +67,7 @@ item_stops true false full i r e = cc
 item_stops true true true i r e = cc
 item_stops true true false i r e = cc
 
--- where the input or its limit ends a batch, no batch follows
+-- no batch follows one that the end of the input or its limit ends
 stops : (rules : Rules) (full : Bool) (k : Kind) (t : Token) (r : Reason) → t.kind ≡ k → turn_of rules full k ≡ Stop r
     → behind_batch (Refused t.number r) (batches rules (t ∷ [])) ≡ Refused t.number r ∷ []
 unfolding batches_from
@@ -133,7 +133,7 @@ takes_refused m InputLimit old new h = omega arith
 takes_refused m EdgeLimit old new h = h
 takes_refused m PhaseLimit old new h = h
 
--- what takes some budget takes it as a batch
+-- a step that takes some budget takes it as a batch
 pub takes_batch : (next : Next) (old new : ℕ) → new < old → TakesBatch next old new
 takes_batch (Items b) old new h = h
 takes_batch (Refused m r) old new h = takes_refused m r old new h

@@ -1,4 +1,4 @@
--- What an input says, told or not: its header first, and the batches of what is left.
+-- The content of an input, if the source tells its bytes or not: its header first, and the batches of the rest.
 use Rattle.std.proofs.Common.{ℕ, ◌≡◌, List, refl, ◌∙◌}
 use Rattle.std.specs.Prelude.{Option, None, Some, Result, Ok, Err}
 use Rattle.std.specs.Option.{option_map}
@@ -22,7 +22,7 @@ answer_before rule later before mid now (Err (fault.Refused line)) e h = e ∙ h
 answer_before rule later before mid now (Err fault.ReadFault) e h = tt
 answer_before rule later before mid now (Err (fault.Memory _)) e h = tt
 
--- what the lines say that a reader has still to give, where it stands before the header
+-- the meanings of the lines that a reader has still to give, if it stands before the header
 abbrev pub input_left : ℕ → Option (List Line) → Option BatchInput
 input_left item_limit left = option_map (behind_header item_limit) (option_map header_of left)
 
@@ -32,13 +32,13 @@ pub told_input : (line_limit input_limit item_limit : ℕ) (r : Reading) (left :
 told_input line_limit input_limit item_limit r None e = rw e refl
 told_input line_limit input_limit item_limit r (Some bytes) e = rw e refl
 
--- with a header the input is that header, and the batches of what is left
+-- an input with a header is that header, and the batches of the rest
 pub told_accepted : (item_limit : ℕ) (header : HeaderShape) (before now : Option (List Line)) → option_map header_of before ≡ option_map (Accepted header) now
     → input_left item_limit before ≡ option_map (WithBatches header) (option_map (batches (rules_of header item_limit)) (option_map tokens now))
 told_accepted item_limit header before None e = rw e refl
 told_accepted item_limit header before (Some rest) e = rw e refl
 
--- without one it is refused at that line
+-- an input without a header is refused at that line
 pub told_refused : (item_limit line : ℕ) (before now : Option (List Line)) → option_map header_of before ≡ option_map (refused_at line) now
     → input_left item_limit before ≡ option_map (λ _. HeaderRefused line) now
 told_refused item_limit line before None e = rw e refl

@@ -1,4 +1,4 @@
--- How the lines of an input end.
+-- The end of an input's lines.
 use Rattle.std.proofs.Common.{ℕ, zero, suc, ◌+◌, ◌==◌, ◌≡◌, ◌≤◌, Bool, true, false, List, [], ◌∷◌, ◌++◌, refl, ap, arith, subst, nat_le, length}
 use Rattle.std.specs.Prelude.{All, Option, Some, None, if◌then◌else◌}
 use Rattle.std.proofs.lemmas.List.Elements.{All-nil, All-cons, All-head, All-tail}
@@ -100,7 +100,7 @@ kept_numbered (l ∷ ls) h =
     let more = kept_numbered ls (All-tail (λ line. 1 ≤ line.number) l ls h) in
     numbered_either (is_skipped l.body) (kept ls) (l ∷ kept ls) more (one_more l (kept ls) (All-head (λ line. 1 ≤ line.number) l ls h) more)
 
--- a header that is refused is so at one of its lines
+-- a refused header is refused at one of its lines
 at_line : (n line : ℕ) → 1 ≤ n → Refused n ≡ Refused line → 1 ≤ line
 at_line n line h e = let same : n ≡ line = cc in subst (λ (k : ℕ). 1 ≤ k) same h
 

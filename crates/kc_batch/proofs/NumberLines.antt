@@ -1,4 +1,4 @@
--- Lines of two numbers, with a sign before them or without.
+-- Lines of two numbers, with or without a sign before them.
 use Rattle.std.proofs.Common.{ℕ, ◌≡◌, Bool, true, false, List, [], ◌∷◌, refl, arith}
 use Rattle.std.specs.Prelude.{Option, Some, None, if◌then◌else◌, ◌==◌, slice_index}
 use Rattle.std.proofs.lemmas.Bool.Decides.{nat_tests}
@@ -27,6 +27,6 @@ says_number text None u v a = rw (a.words_are, number_no_hash a.one u a.one_is, 
 says_number text (Some Plus) u v a = rw (a.words_are, a.one_is, a.two_is) refl
 says_number text (Some Minus) u v a = rw (a.words_are, a.one_is, a.two_is) refl
 
--- a line of two numbers tells its item, with a sign before them or without
+-- the meaning of a line of two numbers is its item, with or without a sign before them
 pub number_item : (text : List ℕ) (sign : Option Sign) (u v : ℕ) → SayNumbers (words text) sign u v → Says text (Item (item_of sign u v))
 number_item text sign u v a = says text (Item (item_of sign u v)) (says_number text sign u v a)

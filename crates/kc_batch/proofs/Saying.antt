@@ -1,4 +1,4 @@
--- What lines say, where the lines are told or not.
+-- The meanings of lines, if the source tells its bytes or not.
 use Rattle.std.proofs.Common.{ℕ, ◌≡◌, ◌≤◌, Bool, true, false, List, [], ◌∷◌, refl, sym, ap, subst, arith}
 use Rattle.std.specs.Prelude.{Option, Some, None, if◌then◌else◌, codes}
 use Rattle.std.specs.Str.{bytes_eq}
@@ -67,7 +67,7 @@ words_go_on (sign ∷ u ∷ v ∷ []) =
     (if_goes_on (bytes_eq sign (codes "-")) (deletion (number_of u) (number_of v)) Other (deletion_goes_on (number_of u) (number_of v)) other_goes_on)
 words_go_on (a ∷ b ∷ c ∷ d ∷ more) = other_goes_on
 
--- what is known of a text that says something
+-- the facts about a text that isn't skipped
 pub record Says (text : List ℕ) (k : Kind) : Type 0 where
   pub kept : is_skip (words text) ≡ false
   pub kind : kind_of_words (words text) ≡ k
@@ -105,7 +105,7 @@ told_says : (line : Line) (k : Kind) (old new : Option (List Line)) → kind_of 
 told_says line k old None e h = rw h refl
 told_says line k old (Some rest) e h = rw h (ap Some (onto_says line k rest e))
 
--- a line that says something is the next token
+-- a line that isn't skipped is the next token
 pub told_token : (line : Line) (k : Kind) (old new : Option (List Line)) → is_skipped line.body ≡ false → kind_of line.body ≡ k → old ≡ option_map (onto line) new
     → option_map tokens (option_map kept old) ≡ option_map (onto_token (record { number = line.number; kind = k })) (option_map tokens (option_map kept new))
 told_token line k old new s e h = told_says line k _ _ e (told_goes line old new s h)

@@ -17,13 +17,13 @@ use Rattle.kc_batch.specs.private.Tokens.{onto_token, behind_kind, IsLastKind}
 use Rattle.kc_batch.specs.Turns.{is_inside, is_allowed, turn_of}
 use Rattle.kc_batch.specs.Batches.{whole, pass_by, after_end, items_from, batch_of, with_next}
 
--- what a definition F says of lines with one put before them, G says of the lines after it
+-- the value of F for lines with one put before them is the value of G for the lines after it
 pub step_on : {A B X : Type 0} (F : B → X) (G : A → X) (put : A → B) (old : Option B) (new : Option A) → old ≡ option_map put new
     → ((rest : A) → F (put rest) ≡ G rest) → option_map F old ≡ option_map G new
 step_on F G put old None e h = rw e refl
 step_on F G put old (Some rest) e h = rw e (ap Some (h rest))
 
--- where the line stays
+-- if the line stays
 pub step_last : {X : Type 0} (F G : List Token → X) (t : Token) (old new : Option (List Token)) → old ≡ option_map (onto_token t) new → new ≡ old
     → ((rest : List Token) → behind_kind t.kind rest ≡ []) → F (t ∷ []) ≡ G (t ∷ []) → option_map F old ≡ option_map G new
 step_last F G t old None e s b h = rw e refl
@@ -119,7 +119,7 @@ items_stop rules items t full r f e =
     let e' : turn_of rules (nat_le rules.item_limit (length items)) t.kind ≡ Stop r = ap (λ x. turn_of rules x t.kind) (sym f) ∙ e in
     rw e' refl
 
--- a batch that passes over what follows
+-- a batch after whose fault lines are passed over
 pub passed_over : (F : List Token → Next × List Token) (next : Next) (t : Token) (old mid new : Option (List Token)) → old ≡ option_map (onto_token t) mid
     → ((rest : List Token) → F (onto_token t rest) ≡ (next, after_end rest)) → option_map after_end mid ≡ new → option_map F old ≡ option_map (with_next next) new
 passed_over F next t old None new e h p = rw (e, ← p) refl

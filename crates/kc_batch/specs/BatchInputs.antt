@@ -1,4 +1,4 @@
--- What a batch input says: its header, and its batches.
+-- The content of a batch input: its header, and its batches.
 use Rattle.std.specs.Prelude.{ℕ, List}
 use Rattle.kc_text.specs.Lines.{lines}
 use Rattle.kc_text.specs.Kept.{kept}
@@ -14,15 +14,15 @@ pub data BatchInput : Type 0 where
   WithBatches : (header : HeaderShape) (batches : List Next) → BatchInput
   HeaderRefused : (line : ℕ) → BatchInput
 
--- what batches after a header have to keep to, of which each has at most `item_limit` items
+-- the rules for the batches after a header, of which each has at most `item_limit` items
 abbrev pub rules_of : HeaderShape → ℕ → Rules
 rules_of header item_limit = record { n = header.n; profile = header.profile; item_limit = item_limit }
 
--- with at most `item_limit` items a batch
+-- a header and the batches after it, each with at most `item_limit` items
 abbrev pub behind_header : ℕ → HeaderText → BatchInput
 behind_header item_limit (Accepted header rest) = WithBatches header (batches (rules_of header item_limit) (tokens rest))
 behind_header item_limit (Refused line) = HeaderRefused line
 
--- what bytes say
+-- the content of these bytes
 abbrev pub input_of : ℕ → ℕ → ℕ → List ℕ → BatchInput
 input_of line_limit input_limit item_limit bytes = behind_header item_limit (header_of (kept (lines line_limit input_limit bytes)))

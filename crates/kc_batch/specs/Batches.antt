@@ -1,5 +1,7 @@
--- The batches of an input, each with its items or its first fault. All lines are lines that aren't skipped, told as
--- tokens; `Limit` or `InputEnd` is the last of them, so there is always one, and what stands for no line doesn't matter.
+-- The batches of an input, each with its items or its first fault.
+--
+-- All lines are lines that aren't skipped, as tokens. `Limit` or `InputEnd` is the last of them, so there is always
+-- one, and the cases of the definitions for an empty list don't matter.
 use Rattle.std.specs.Prelude.{ℕ, ◌≡◌, true, ◌<◌, ◌≤◌, nat_le, List, [], ◌∷◌, ◌++◌, length, All, Option}
 use Rattle.std.specs.Option.{option_map}
 use Rattle.kc_graph.specs.declared.items.Item.{Item}
@@ -28,7 +30,7 @@ pass_by kind.Limit here rest later = here
 pass_by kind.InputEnd here rest later = here
 pass_by _ here rest later = later
 
--- the lines after the next `end`; or the end of the input or its limit, if that comes before
+-- the lines after the next `end`; or the end of the input or its limit, if that is first
 unfoldable pub after_end : List Token → List Token
 after_end [] = []
 after_end (t ∷ rest) = pass_by t.kind (t ∷ []) rest (after_end rest)
@@ -39,7 +41,7 @@ take_turn items t Close rest more = (whole items t.number, rest)
 take_turn items t (Pass reason) rest more = (Refused t.number reason, after_end rest)
 take_turn items t (Stop reason) rest more = (Refused t.number reason, t ∷ [])
 
--- the rest of a batch that has these items, and the lines after it
+-- the rest of a batch that has these items so far, and the lines after it
 unfoldable pub items_from : Rules → List Item → List Token → Next × List Token
 items_from rules items [] = (End, [])
 items_from rules items (t ∷ rest) =
@@ -62,7 +64,7 @@ batch_of rules (t ∷ rest) = begin_batch rules t t.kind rest
 abbrev pub with_next : Next → List Token → Next × List Token
 with_next next rest = (next, rest)
 
--- where a line stands: between batches, within a batch that has these items, or after a fault of one
+-- the place of a line: between batches, within a batch that has these items so far, or after a fault of a batch
 pub data Place : Type 0 where
   Between : Place
   Within : (items : List Item) → Place
@@ -89,7 +91,7 @@ step_passing t kind.Limit between passing = Refused t.number InputLimit ∷ []
 step_passing t kind.InputEnd between passing = []
 step_passing t _ between passing = passing
 
--- the batches of lines, of which the first stands there
+-- the batches of lines the first of which stands at this place
 unfoldable pub batches_from : Rules → Place → List Token → List Next
 batches_from rules place [] = []
 batches_from rules Between (t ∷ rest) =
@@ -103,17 +105,19 @@ batches_from rules Passing (t ∷ rest) = step_passing t t.kind (batches_from ru
 abbrev pub batches : Rules → List Token → List Next
 batches rules ts = batches_from rules Between ts
 
--- the batches of the lines that a reader has still to give, where its source tells what it has left
+-- the batches of the lines that a reader has still to give, if its source tells the bytes left
 abbrev pub batches_left : Rules → Reading → Option (List ℕ) → Option (List Next)
 batches_left rules r left = option_map (batches rules) (tokens_left r left)
 
--- a batch and those that follow it: none is the end, and none follows one that is refused for the input limit
+-- a batch, and the batches that follow it
+--
+-- No batch is the end, and none follows a batch that is refused for the input limit.
 abbrev pub behind_batch : Next → List Next → List Next
 behind_batch End rest = []
 behind_batch (Refused line InputLimit) rest = Refused line InputLimit ∷ []
 behind_batch next rest = next ∷ rest
 
--- there is no further batch
+-- there are no more batches
 abbrev pub IsEnd : Next → Type 0
 IsEnd End = Unit {0}
 IsEnd _ = ⊥
@@ -124,7 +128,7 @@ pub record IsBatch (rules : Rules) (batch : Batch) : Type 0 where
   pub inside : All (IsInside rules.n) batch.items
   pub allowed : All (λ item. is_allowed rules.profile item ≡ true) batch.items
 
--- what is true of each answer
+-- the facts that hold of each answer
 abbrev pub IsNext : Rules → Next → Type 0
 IsNext rules (Items batch) = IsBatch rules batch
 IsNext rules (Refused line reason) = IsBatchReason reason

@@ -1,4 +1,4 @@
--- The first fault decides: what a batch of lines comes to, said without its reading.
+-- The first fault decides: the result for a batch of lines, stated without the order of reading.
 use Rattle.std.specs.Prelude.{ℕ, ◌≡◌, ◌≤◌, nat_le, Bool, true, false, List, [], ◌∷◌, ◌++◌, length, All}
 use Rattle.kc_graph.specs.declared.items.Item.{Item}
 use Rattle.kc_text.specs.declared.reason.Reason.{Reason}
@@ -23,14 +23,16 @@ abbrev pub items_of : List (ℕ × Item) → List Item
 items_of [] = []
 items_of (l ∷ ls) = l.1 ∷ items_of ls
 
--- after a fault a line of this kind is passed over, and more follows
+-- after a fault a line of this kind is passed over, and the next line is read
 abbrev pub is_passed : Kind → Bool
 is_passed kind.BatchEnd = false
 is_passed kind.Limit = false
 is_passed kind.InputEnd = false
 is_passed _ = true
 
--- `batch`, some items that are allowed, and then a line that ends the batch: `end`, a fault, or where the input ends
+-- the batch of `batch`, some items that are allowed, and then a line that ends the items
+--
+-- That line is `end`, a fault, or the place where the input ends.
 pub record FirstFaultDecides : Type 0 where
   pub accepted : (rules : Rules) (first last : ℕ) (ls : List (ℕ × Item)) (rest : List Token) → All (λ l. IsItemOf rules l.1) ls → length ls ≤ rules.item_limit
       → batch_of rules (line_at first kind.BatchStart ∷ item_lines ls ++ line_at last kind.BatchEnd ∷ rest) ≡ (whole (items_of ls) last, rest)
@@ -40,9 +42,11 @@ pub record FirstFaultDecides : Type 0 where
   pub stopped : (rules : Rules) (first last : ℕ) (ls : List (ℕ × Item)) (k : Kind) (reason : Reason) (rest : List Token) → All (λ l. IsItemOf rules l.1) ls → length ls ≤ rules.item_limit
       → turn_of rules (nat_le rules.item_limit (length ls)) k ≡ Stop reason
       → batch_of rules (line_at first kind.BatchStart ∷ item_lines ls ++ line_at last k ∷ rest) ≡ (Refused last reason, line_at last k ∷ [])
-  -- all lines go up to the next `end`, and with it
+  -- all lines up to and with the next `end` are passed over
   pub passed : (ts rest : List Token) (last : ℕ) → All (λ t. is_passed t.kind ≡ true) ts → after_end (ts ++ line_at last kind.BatchEnd ∷ rest) ≡ rest
 
--- the batches of lines, as a command applies them, are the one to which the first-fault law leads, and then those of the lines after it
+-- the batches of lines, as a command applies them
+--
+-- They are the batch to which the first-fault law leads, and then the batches of the lines after it.
 abbrev pub BatchesFollow : Type 0
 BatchesFollow = (rules : Rules) (ts : List Token) → batches rules ts ≡ behind_batch (batch_of rules ts).0 (batches rules (batch_of rules ts).1)

@@ -1,4 +1,4 @@
--- Where a header ends: what a header of lines comes to, said without its reading.
+-- The end of a header: the result for the lines of a header, stated without the order of reading.
 use Rattle.std.specs.Prelude.{ℕ, ◌≡◌, ◌≤◌, true, false, List, [], ◌∷◌, ◌++◌, length, All, Some, None}
 use Rattle.kc_levels.specs.declared.profile.Profile.{Profile}
 use Rattle.kc_text.specs.declared.line.Line.{Line}
@@ -10,7 +10,7 @@ use Rattle.kc_batch.specs.Headers.{Accepted, Refused, profile_in, vertices_in, i
 abbrev pub line_words : Line → List (List ℕ)
 line_words line = words (text_of line.body)
 
--- the line is an ask line of n vertices, and tells this ask
+-- the line is an ask line of n vertices, with this ask
 pub record IsAskLine (n : ℕ) (l : Line × Ask) : Type 0 where
   pub first : is_ask (line_words l.0) ≡ true
   pub ask : ask_in n (line_words l.0) ≡ Some l.1
@@ -23,7 +23,7 @@ abbrev pub asks_of : List (Line × Ask) → List Ask
 asks_of [] = []
 asks_of (l ∷ ls) = l.1 ∷ asks_of ls
 
--- a first line that tells the profile, and `vertices N`
+-- a first line with the profile, and `vertices N`
 pub record IsBeginning (p : Profile) (n : ℕ) (first second : Line) : Type 0 where
   pub profile : profile_in (line_words first) ≡ Some p
   pub vertices : vertices_in (line_words second) ≡ Some n

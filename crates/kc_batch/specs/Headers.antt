@@ -1,5 +1,6 @@
--- The header of a batch input: `kcore 1` or `kcore 2`, then `vertices N`, then up to 64 ask lines. All lines are lines that aren't
--- skipped; `Limit` or `End` is the last of them, so there is always one.
+-- The header of a batch input: `kcore 1` or `kcore 2`, then `vertices N`, then up to 64 ask lines.
+--
+-- All lines are lines that aren't skipped. `Limit` or `End` is the last of them, so there is always one.
 use Rattle.std.specs.Prelude.{ℕ, ◌≡◌, ◌<◌, ◌≤◌, ◌*◌, nat_le, nat_lt, Bool, false, ◌&&◌, List, [], ◌∷◌, ◌++◌, length, All, Option, Some, None, Result, Ok, Err, if◌then◌else◌, codes}
 use Rattle.std.specs.Option.{option_map}
 use Rattle.std.specs.List.{list_all}
@@ -16,24 +17,24 @@ use Rattle.kc_batch.specs.HeaderShape.{HeaderShape}
 use Rattle.kc_batch.specs.declared.header.HeaderFault.{HeaderFault}
 use Rattle.kc_batch.specs.declared.header.HeaderFault.TheVariants as fault
 
--- the profile that a version tells: it is the word `1` or the word `2`
+-- the profile of a version, which is the word `1` or the word `2`
 abbrev pub profile_of : List ℕ → Option Profile
 profile_of version =
     if bytes_eq version (codes "1") then Some One
     else if bytes_eq version (codes "2") then Some Two
     else None
 
--- the profile that the two words `kcore` and a version tell
+-- the profile of the two words `kcore` and a version
 unfoldable pub profile_in : List (List ℕ) → Option Profile
 profile_in (name ∷ version ∷ []) = if bytes_eq name (codes "kcore") then profile_of version else None
 profile_in _ = None
 
--- a number of vertices, from 1 to the most that a graph has
+-- a number of vertices, from 1 to the most vertices of a graph
 abbrev pub vertex_count : Option ℕ → Option ℕ
 vertex_count (Some n) = if nat_le 1 n && nat_le n MAX_VERTICES then Some n else None
 vertex_count None = None
 
--- the number N that the two words `vertices` and N tell
+-- the number N of the two words `vertices` and N
 unfoldable pub vertices_in : List (List ℕ) → Option ℕ
 vertices_in (name ∷ count ∷ []) = if bytes_eq name (codes "vertices") then vertex_count (number_of count) else None
 vertices_in _ = None
@@ -49,7 +50,7 @@ number_before (Some x) (Some xs) = Some (x ∷ xs)
 number_before (Some x) None = None
 number_before None rest = None
 
--- the numbers that words say, if each says one
+-- the numbers of these words, if each word is one
 abbrev pub numbers_of : List (List ℕ) → Option (List ℕ)
 numbers_of [] = Some []
 numbers_of (w ∷ ws) = number_before (number_of w) (numbers_of ws)
@@ -63,7 +64,7 @@ ask_with n (Some times) (Some vertices) = if fits_ask n times vertices then Some
 ask_with n (Some times) None = None
 ask_with n None vertices = None
 
--- the ask that the words `ask`, a number and the vertices tell
+-- the ask of the words `ask`, a number and the vertices
 unfoldable pub ask_in : ℕ → List (List ℕ) → Option Ask
 ask_in n (name ∷ times ∷ vertices) = ask_with n (number_of times) (numbers_of vertices)
 ask_in n _ = None
@@ -72,7 +73,7 @@ ask_in n _ = None
 abbrev pub next_ask : ℕ → List Ask → List (List ℕ) → Option Ask
 next_ask n asks ws = if nat_lt (length asks) 64 then ask_in n ws else None
 
--- what lines begin with: a header and the lines after it, or a header that is refused at a line
+-- the beginning of some lines: a header and the lines after it, or a header that is refused at a line
 pub data HeaderText : Type 0 where
   Accepted : (header : HeaderShape) (rest : List Line) → HeaderText
   Refused : (line : ℕ) → HeaderText
@@ -92,7 +93,7 @@ abbrev pub on_vertices : ℕ → Option ℕ → (ℕ → HeaderText) → HeaderT
 on_vertices line None next = Refused line
 on_vertices line (Some n) next = next n
 
--- after the first line the number of vertices is due
+-- the header after its first line: the number of vertices is due
 unfoldable pub after_profile : Profile → List Line → HeaderText
 after_profile p [] = Refused 0
 after_profile p (line ∷ rest) = on_vertices line.number (vertices_in (words (text_of line.body))) (λ n. asks_from p n [] rest)
@@ -101,7 +102,7 @@ abbrev pub on_profile : ℕ → Option Profile → (Profile → HeaderText) → 
 on_profile line None next = Refused line
 on_profile line (Some p) next = next p
 
--- `kcore 1` or `kcore 2` is due, which decides the profile
+-- the header of lines: `kcore 1` or `kcore 2` is due, which decides the profile
 unfoldable pub header_of : List Line → HeaderText
 header_of [] = Refused 0
 header_of (line ∷ rest) = on_profile line.number (profile_in (words (text_of line.body))) (λ p. after_profile p rest)
@@ -120,12 +121,13 @@ pub record IsHeader (header : HeaderShape) : Type 0 where
   pub few : length header.asks ≤ 64
   pub asks : All (IsAsk header.n) header.asks
 
--- a refusal, whatever lines are after it
+-- a refusal, for any lines after it
 abbrev pub refused_at : ℕ → List Line → HeaderText
 refused_at line rest = Refused line
 
--- what an answer says of lines that a rule tells: with Ok the header, and that the lines after it are left; with
--- Refused that they are refused at this line
+-- the answer fits what a rule says of some lines
+--
+-- With Ok that is the header, and the lines after it are left. With Refused the lines are refused at this line.
 abbrev pub Answers : (List Line → HeaderText) → Option (List Line) → Option (List Line) → Result HeaderShape HeaderFault → Type 0
 Answers rule before now (Ok header) = option_map rule before ≡ option_map (Accepted header) now
 Answers rule before now (Err (fault.Refused line)) = option_map rule before ≡ option_map (refused_at line) now

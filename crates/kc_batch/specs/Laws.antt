@@ -1,4 +1,4 @@
--- What the definitions of headers and batches come to, on examples.
+-- What follows from the definitions of headers and batches, on examples.
 use Rattle.std.specs.Prelude.{ℕ, ◌≡◌, List, [], ◌∷◌, ◌++◌, codes}
 use Rattle.kc_graph.specs.declared.items.Item.TheVariants.{Insert, Delete, Isolate}
 use Rattle.kc_levels.specs.declared.profile.Profile.TheVariants.{One, Two}
@@ -8,7 +8,7 @@ use Rattle.kc_batch.specs.declared.batch.Next.TheVariants.{Refused}
 use Rattle.kc_batch.specs.Batches.{whole}
 use Rattle.kc_batch.specs.BatchInputs.{BatchInput, WithBatches, HeaderRefused, input_of}
 
--- what a text says under the limits of the program
+-- the content of a text under the limits of the program
 abbrev pub said : List ℕ → BatchInput
 said text = input_of 65536 1073741824 1048576 text
 
@@ -64,7 +64,7 @@ abbrev pub ReadsBatches : Type 0
 ReadsBatches = among_three (codes "batch\n0 1\nend\nbatch\n1 2\n0 2\n1 3\nend\nbatch\n+ 1 2\n- 2 1\n2 2\nend\nbatch\nend\n")
     ≡ plain 3 (whole (Insert 0 1 ∷ []) 5 ∷ Refused 9 BadVertex ∷ whole (Insert 1 2 ∷ Delete 2 1 ∷ Insert 2 2 ∷ []) 15 ∷ whole [] 17 ∷ [])
 
--- each fault of a batch, and which goes first
+-- each fault of a batch, and which of two faults decides
 pub record RefusesBatches : Type 0 where
   pub line_long : input_of 10 100 9 (codes "kcore 1\nvertices 3\nbatch\n0 1\n0 1 # two words more\nend\n") ≡ plain 3 (Refused 5 LineLong ∷ [])
   pub long_comment : input_of 10 100 9 (codes "kcore 1\nvertices 3\nbatch\n# a comment\nend\n") ≡ plain 3 (Refused 4 LineLong ∷ [])
@@ -81,7 +81,7 @@ pub record RefusesBatches : Type 0 where
   pub truncated : among_three (codes "batch\n0 1\n") ≡ plain 3 (Refused 5 Truncated ∷ [])
   pub input_limit : input_of 65536 24 9 (codes "kcore 1\nvertices 3\nbatch\n0 1\nend\n") ≡ plain 3 (Refused 3 InputLimit ∷ [])
 
--- isolations: items under the second profile, a wrong line under the first; which fault goes first
+-- isolations: items under the second profile, a wrong line under the first; which of two faults decides
 pub record ReadsIsolations : Type 0 where
   pub item : among_five (codes "batch\n+ 0 1\nx 0\n\tx  04\r\n- 1 2\nend\n") ≡ second (whole (Insert 0 1 ∷ Isolate 0 ∷ Isolate 4 ∷ Delete 1 2 ∷ []) 8 ∷ [])
   pub first_profile : among_three (codes "batch\nx 1\nend\n") ≡ plain 3 (Refused 4 BadLine ∷ [])
@@ -94,7 +94,7 @@ pub record ReadsIsolations : Type 0 where
   pub too_many : input_of 65536 1073741824 1 (codes "kcore 2\nvertices 5\nbatch\nx 1\nx 2\nend\n") ≡ second (Refused 5 TooMany ∷ [])
   pub outside : among_five (codes "x 1\nend\n") ≡ second (Refused 3 BadLine ∷ [])
 
--- what is passed over after a fault: all up to the next `end`, with nothing in it a further fault
+-- the lines that are passed over after a fault: all up to the next `end`, and nothing in them is another fault
 pub record PassesOver : Type 0 where
   pub first_fault : among_three (codes "batch\n0 3\n0 1 2 3\nbatch\nend\nbatch\nend\n") ≡ plain 3 (Refused 4 BadVertex ∷ whole [] 9 ∷ [])
   pub wrong_line : among_three (codes "0 1\nbatch\n0 1\nend\nend\nbatch\nend") ≡ plain 3 (Refused 3 BadLine ∷ Refused 7 BadLine ∷ whole [] 9 ∷ [])

@@ -1,4 +1,4 @@
--- How the lines of an input end, and that each line of a refusal is one of them.
+-- The end of an input's lines, and that the line of each refusal is one of them.
 use Rattle.std.specs.Prelude.{ℕ, ◌≡◌, ◌≤◌, List, [], ◌∷◌, ◌++◌, All}
 use Rattle.kc_text.specs.declared.line.Line.{Line}
 use Rattle.kc_text.specs.Lines.{lines}
@@ -6,7 +6,9 @@ use Rattle.kc_text.specs.Kept.{kept}
 use Rattle.kc_text.specs.Following.{IsLast}
 use Rattle.kc_batch.specs.Headers.{Refused, header_of}
 
--- some lines, and then one that ends the input, which is `End` or `Limit`; none before it does, and none follows it
+-- some lines, and then one that ends the input, which is `End` or `Limit`
+--
+-- No line before it ends the input, and no line follows it.
 pub record EndOnce (ls : List Line) : Type 0 where
   pub before : List Line
   pub last : Line
@@ -14,7 +16,9 @@ pub record EndOnce (ls : List Line) : Type 0 where
   pub is_last : IsLast last.body
   pub others : All (λ line. ¬ (IsLast line.body)) before
 
--- so do the lines of each input that aren't skipped; and they are numbered from 1 on, so a refused header has a line of the input
+-- the lines of each input that aren't skipped end once, and are numbered from 1 on
+--
+-- So the line of a refused header is a line of the input.
 pub record LinesEndOnce : Type 0 where
   pub ends : (line_limit input_limit : ℕ) (bytes : List ℕ) → EndOnce (kept (lines line_limit input_limit bytes))
   pub numbered : (line_limit input_limit : ℕ) (bytes : List ℕ) → All (λ line. 1 ≤ line.number) (kept (lines line_limit input_limit bytes))

@@ -1,4 +1,4 @@
--- The ranges of batches, said of the definition.
+-- The ranges of batches, as a law of the definition.
 use Rattle.std.specs.Prelude.{List, All}
 use Rattle.kc_batch.specs.declared.rules.Rules.{Rules}
 use Rattle.kc_batch.specs.declared.token.Token.{Token}

@@ -1,4 +1,4 @@
--- What a line does within a batch, with the order of the faults that one line can have.
+-- The effect of a line within a batch, with the order of the faults that one line can have.
 use Rattle.std.specs.Prelude.{ℕ, ◌≡◌, nat_lt, Bool, true, false, ◌&&◌, if◌then◌else◌}
 use Rattle.kc_graph.specs.declared.items.Item.{Item}
 use Rattle.kc_graph.specs.declared.items.Item.TheVariants.{Insert, Delete, Isolate}
@@ -31,13 +31,13 @@ pub record IsItemOf (rules : Rules) (item : Item) : Type 0 where
   pub allowed : is_allowed rules.profile item ≡ true
   pub inside : IsInside rules.n item
 
--- what an item does: bad-line goes before bad-vertex, and that before too-many
+-- the effect of an item: bad-line goes before bad-vertex, and bad-vertex before too-many
 abbrev pub turn_of_item : Rules → Bool → Item → Turn
 turn_of_item rules full item =
     if is_allowed rules.profile item then (if is_inside rules.n item then (if full then Pass TooMany else Add item) else Pass BadVertex)
     else Pass BadLine
 
--- what a line does; `full` says that the batch has as many items as are allowed
+-- the effect of a line; `full` says that the batch has as many items as are allowed
 abbrev pub turn_of : Rules → Bool → Kind → Turn
 turn_of rules full (kind.Item item) = turn_of_item rules full item
 turn_of rules full kind.BatchEnd = Close

@@ -1,4 +1,4 @@
-//! What a reader asks, as the line `ask TIMES V V ..` of a header says it.
+//! The questions of a reader, read from a line `ask TIMES V V ..` of a header.
 ghost use Rattle.std.specs.Prelude.{◌≡◌, ◌<◌, nat_lt, None, true, if◌then◌else◌, IfOk, IfSome};
 ghost use Rattle.kc_text.specs.Words.{words};
 
@@ -7,33 +7,34 @@ use kc_graph::List;
 use kc_text::{is_named, next_word, read_number};
 use std::alloc::{AllocError, Global};
 
-// The greatest number of ask lines.
+// The most ask lines.
 const MAX_ASKS: usize = 64;
 
-// The greatest number of questions of an ask.
+// The most questions of an ask.
 const MAX_QUESTIONS: u64 = 65_536;
 
-/// Vertices one after another, in the order in which they are asked for, some maybe more than once. Contracts see them as a list.
+/// The asked vertices in the order of their questions. A vertex may occur more than once. Contracts see them as a list.
 pub type Vertices = List<u32>;
 
-/// What one reader asks: the levels of these vertices in order, the whole list `times` times over.
+/// The questions of one reader: the levels of these vertices in order, the whole list `times` times over.
 ///
-/// In each ask of a header `times` is at least 1, and there is at least one vertex. Each is below the header's n, and
-/// `times` times the number of vertices is at most 65,536: `IsAsk` of `specs/Headers`.
+/// In each ask of a header `times` is at least 1, and there is at least one vertex. Each vertex is below the header's
+/// n. The product of `times` and the number of vertices is at most 65,536. `IsAsk` of `specs/Headers` states these
+/// ranges.
 #[derive(Drop, Debug)]
 pub struct Ask {
-    /// How often the whole list is asked for.
+    /// The number of times that the whole list is asked for.
     pub times: u32,
     /// The vertices of the list, in order.
     pub vertices: Vertices,
 }
 
-/// Asks one after another, one for each reader, in the order of the header's lines. Contracts see them as a list.
+/// The asks of all readers, one for each, in the order of the header's lines. Contracts see them as a list.
 pub type Asks = List<Ask>;
 
 ghost use Rattle.kc_batch.specs.Headers.{is_ask, fits_ask, ask_in, IsAsk};
 
-/// Whether the first word is `ask`.
+/// Returns whether the first word is `ask`.
 pub fn is_ask(text: &[u8]) -> bool
     ensures { result ≡ is_ask (words text.now) }
 {
@@ -51,7 +52,7 @@ fn fits_ask(n: u32, times: u32, vertices: &[u32]) -> bool
             && (times as u64).saturating_mul(vertices.len() as u64) <= MAX_QUESTIONS)
 }
 
-// The ask of an ask line, where it has its form.
+// Returns the ask of an ask line, or None if the line doesn't have its form.
 #[tactic(auto, unfolding(crate::specs::Headers::ask_in))]
 fn read_ask(alloc: Global, text: &[u8], n: u32) -> Result<Option<Ask>, AllocError>
     ensures ask { IfOk result (λ found. found ≡ ask_in n (words text.now)) }
@@ -75,7 +76,8 @@ fn read_ask(alloc: Global, text: &[u8], n: u32) -> Result<Option<Ask>, AllocErro
     Ok(Some(Ask { times, vertices }))
 }
 
-/// The ask of an ask line that follows `count` others: none where it doesn't have its form, and no 65th.
+/// Returns the ask of an ask line that follows `count` others. Returns None if the line doesn't have its form, or if it
+/// would be the 65th.
 pub fn next_ask(alloc: Global, text: &[u8], n: u32, count: usize) -> Result<Option<Ask>, AllocError>
     ensures ask { IfOk result (λ found. found ≡ (if nat_lt count 64 then ask_in n (words text.now) else None)) }
     ensures fits { IfOk result (λ found. IfSome found (IsAsk n)) }

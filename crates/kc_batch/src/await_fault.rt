@@ -1,11 +1,11 @@
-//! Why no batch came that was waited for.
+//! The faults of a wait for a batch.
 ghost use Rattle.std.specs.Prelude.{◌≡◌};
 
 use kc_text::LineFault;
 use std::alloc::AllocError;
 use thiserror::Error;
 
-/// Why no batch came, where a sink is flushed before each read.
+/// The reasons for which no batch came in a call that flushes a sink before each read.
 #[derive(Drop, Debug, Error)]
 pub enum AwaitFault {
     /// A read of the source failed.

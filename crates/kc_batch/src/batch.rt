@@ -1,4 +1,4 @@
-//! The next batch of an input: its items, or the line and kind of its first fault.
+//! The next batch of an input: its items, or the line and the reason of its first fault.
 ghost use Rattle.std.specs.Prelude.{◌≡◌, ◌≤◌, [], IfOk, OnOk};
 ghost use Rattle.std.specs.Option.{option_map};
 ghost use Rattle.kc_text.specs.Reading.{budget};
@@ -19,23 +19,23 @@ use thiserror::Error;
 pub struct Batch {
     /// The items in the order of their lines.
     pub items: Items,
-    /// The number of the line of its `end`.
+    /// The number of its `end` line.
     pub line: u32,
 }
 
-/// What comes next of the batches of an input.
+/// The next batch of an input, or its end.
 #[derive(Drop, Debug)]
 pub enum Next {
     /// A batch without a fault.
     Items(Batch),
-    /// A batch with a fault: the line of its first fault, and which it is: `LineLong`, `BadLine`, `BadVertex`, `TooMany`,
-    /// `Truncated` or `InputLimit`.
+    /// A batch with a fault, with the line and the reason of the first one. The reason is `LineLong`, `BadLine`,
+    /// `BadVertex`, `TooMany`, `Truncated` or `InputLimit`.
     Refused { line: u32, reason: Reason },
-    /// There is no further batch, and the input has ended.
+    /// There are no more batches, and the input has ended.
     End,
 }
 
-/// Why no batch was read.
+/// The reasons for which no batch was read.
 #[derive(Drop, Debug, Error)]
 pub enum BatchFault {
     /// A read of the source failed.
@@ -70,7 +70,7 @@ fn pass_to_end<S: Source, K: Sink>(
     }
 }
 
-// Reads the rest of a batch whose `batch` was read.
+// Reads the rest of a batch whose `batch` line was read.
 fn read_items<S: Source, K: Sink>(
     alloc: Global,
     reader: &mut LineReader,
@@ -104,7 +104,7 @@ fn read_items<S: Source, K: Sink>(
     }
 }
 
-// Reads the next batch, and what is passed over after a fault of it.
+// Reads the next batch. After a fault in it, passes over the lines up to its end.
 fn find_batch<S: Source, K: Sink>(
     alloc: Global,
     reader: &mut LineReader,
@@ -152,11 +152,11 @@ fn find_batch<S: Source, K: Sink>(
     }
 }
 
-/// Reads the next batch as [`next_batch`] does, and flushes the sink before each read of the source: a read may wait for
-/// bytes, and what was written before is handed on first.
+/// Reads the next batch as [`next_batch`] does, and flushes the sink before each read of the source. A read may wait
+/// for bytes, so the text written before is passed on first.
 ///
-/// `WriteFault` comes only where a flush failed, and then the reader isn't used again either. No read is made, and nothing
-/// flushed, as long as each next line of the batch lies whole in the reader's memory.
+/// `WriteFault` comes only if a flush failed, and then too the reader isn't used again. As long as each next line of
+/// the batch lies whole in the reader's memory, nothing is read and nothing is flushed.
 pub fn await_batch<S: Source, K: Sink>(
     alloc: Global,
     reader: &mut LineReader,
@@ -169,10 +169,10 @@ pub fn await_batch<S: Source, K: Sink>(
     ensures batch { IfOk result (λ next. option_map (batch_of (record { n = n; profile = profile; item_limit = item_limit })) (tokens_left reader.old (S.left src.old)) ≡ option_map (with_next next) (tokens_left reader.new (S.left src.new))) }
     ensures batches { IfOk result (λ next. batches_left (record { n = n; profile = profile; item_limit = item_limit }) reader.old (S.left src.old) ≡ option_map (behind_batch next) (batches_left (record { n = n; profile = profile; item_limit = item_limit }) reader.new (S.left src.new))) }
 
-    // Whatever the source tells.
+    // The range clause holds whether or not the source tells its bytes.
     ensures sound { IfOk result (IsNext (record { n = n; profile = profile; item_limit = item_limit })) }
 
-    // After the end comes the end again.
+    // After `End` the next call returns `End` again.
     ensures again { IfOk result (λ next. IsEnd next → tokens_left reader.new (S.left src.new) ≡ tokens_left reader.old (S.left src.old)) }
 
     // A caller's loop over the batches ends, since each batch takes some of the budget.
@@ -191,14 +191,18 @@ pub fn await_batch<S: Source, K: Sink>(
     Ok(next)
 }
 
-/// Reads the next batch of a graph of n vertices, as `batch_of` of `specs/Batches` says: its items, at most
-/// `item_limit`, or its first fault. Under the first profile a line `x v` is a fault, `BadLine`. Afterwards the reader stands after it.
+/// Reads the next batch of a graph of n vertices, as `batch_of` of `specs/Batches` defines it. That is its items, at
+/// most `item_limit`, or its first fault. Under the first profile a line `x v` is a fault, `BadLine`. Afterwards the
+/// reader stands after the batch.
 ///
-/// Called again and again it gives the list `batches` of all batches, up to `End`, which each later call gives again,
-/// or up to a batch that is refused for `InputLimit`, which is the last and is refused so again at each later call.
-/// `ReadFault` comes only where the source's count of faults rose, and `Memory` where a line or the items found none.
-/// After either the reader isn't used again, since lines of the batch are gone. Cost: time by the bytes of the lines
-/// that are read or passed over; memory for a line, which is used again, and for the items.
+/// Repeated calls yield the list `batches` of all batches. The last is `End`, or a batch that is refused for
+/// `InputLimit`; each later call returns it again.
+///
+/// `ReadFault` comes only if the source's count of faults rose, and `Memory` if there was no memory for a line or the
+/// items. After either the reader isn't used again, since lines of the batch are gone.
+///
+/// Cost: time for the bytes of the lines that are read or passed over. Memory for the items, and for one line, which
+/// later lines use again.
 pub fn next_batch<S: Source>(
     alloc: Global,
     reader: &mut LineReader,
@@ -210,10 +214,10 @@ pub fn next_batch<S: Source>(
     ensures batch { IfOk result (λ next. option_map (batch_of (record { n = n; profile = profile; item_limit = item_limit })) (tokens_left reader.old (S.left src.old)) ≡ option_map (with_next next) (tokens_left reader.new (S.left src.new))) }
     ensures batches { IfOk result (λ next. batches_left (record { n = n; profile = profile; item_limit = item_limit }) reader.old (S.left src.old) ≡ option_map (behind_batch next) (batches_left (record { n = n; profile = profile; item_limit = item_limit }) reader.new (S.left src.new))) }
 
-    // Whatever the source tells.
+    // The range clause holds whether or not the source tells its bytes.
     ensures sound { IfOk result (IsNext (record { n = n; profile = profile; item_limit = item_limit })) }
 
-    // After the end comes the end again.
+    // After `End` the next call returns `End` again.
     ensures again { IfOk result (λ next. IsEnd next → tokens_left reader.new (S.left src.new) ≡ tokens_left reader.old (S.left src.old)) }
 
     // A caller's loop over the batches ends, since each batch takes some of the budget.

@@ -15,15 +15,15 @@ use std::alloc::{AllocError, AllocFailed, Global};
 use std::marker::Model;
 use thiserror::Error;
 
-/// The header of a batch input. In each, n is 1 to `MAX_VERTICES`, there are at most 64 asks, and each ask keeps the ranges
-/// that [`Ask`] tells: `IsHeader` of `specs/Headers`.
+/// The header of a batch input. In each header n is 1 to `MAX_VERTICES`, there are at most 64 asks, and each ask keeps
+/// the ranges of [`Ask`]. `IsHeader` of `specs/Headers` states this.
 #[derive(Drop, Debug)]
 pub struct Header {
-    /// Which thresholds the levels go by.
+    /// The profile of the levels' thresholds.
     pub profile: Profile,
     /// The number of vertices.
     pub n: u32,
-    /// The asks in the order of their lines; the i-th, counted from 0, makes reader i.
+    /// The asks in the order of their lines. The i-th, counted from 0, is that of reader i.
     pub asks: Asks,
 }
 
@@ -40,7 +40,7 @@ impl Model for Header {
     ghost inverse = { λ h. record { profile = h.profile; n = h.n; asks = h.asks } };
 }
 
-/// Why there is no header.
+/// The reasons for which there is no header.
 #[derive(Drop, Debug, Error)]
 pub enum HeaderFault {
     /// A read of the source failed.
@@ -92,7 +92,7 @@ fn profile_of(version: &[u8]) -> Option<Profile>
     }
 }
 
-// The profile of a line `kcore 1` or `kcore 2`.
+// Returns the profile of a line `kcore 1` or `kcore 2`.
 #[tactic(auto, unfolding(crate::specs::Headers::profile_in))]
 fn profile_in(text: &[u8]) -> Option<Profile>
     ensures { result ≡ profile_in (words text.now) }
@@ -107,7 +107,7 @@ fn profile_in(text: &[u8]) -> Option<Profile>
     profile_of(version)
 }
 
-/// The number of vertices of a line `vertices N`, 1 to `MAX_VERTICES`; None where it has another form.
+/// Returns the number of vertices of a line `vertices N`, 1 to `MAX_VERTICES`, or None if the line has another form.
 #[tactic(auto, unfolding(crate::specs::Headers::vertices_in))]
 pub fn vertices_in(text: &[u8]) -> Option<u32>
     ensures value { result ≡ vertices_in (words text.now) }
@@ -128,7 +128,7 @@ pub fn vertices_in(text: &[u8]) -> Option<u32>
     }
 }
 
-// Reads the ask lines after `vertices N`, up to the first line that is none.
+// Reads the ask lines after `vertices N`, up to the first line of another kind.
 fn read_asks<S: Source>(
     alloc: Global,
     reader: &mut LineReader,
@@ -180,13 +180,18 @@ fn read_vertices<S: Source>(
 }
 
 impl Header {
-    /// Reads the header: `kcore 1` or `kcore 2`, `vertices N` and up to 64 ask lines, as `header_of` of `specs/Headers` says.
-    /// Afterwards the reader stands at the first line after it.
+    /// Reads the header: `kcore 1` or `kcore 2`, `vertices N` and up to 64 ask lines, as `header_of` of `specs/Headers`
+    /// defines it. Afterwards the reader stands at the first line after the header.
     ///
-    /// `Refused` tells the first line that doesn't have its form, the 65th ask line, or the number of the reader's `End`
-    /// or `Limit` in the place of one of the first two. `ReadFault` comes only where the source's count of faults rose,
-    /// and `Memory` where a line or an ask found none. After each of the three the reader isn't used again, since lines
-    /// of the header are gone. Cost: time by the bytes of the lines; a `Vec` for the text of each line and for each ask.
+    /// The faults:
+    ///
+    /// - `Refused` has the number of the first line that doesn't have its form, or of the 65th ask line. If the input
+    ///   ends or passes its limit before the first two lines, it has the number of the reader's `End` or `Limit`.
+    /// - `ReadFault` comes only if the source's count of faults rose.
+    /// - `Memory` comes if there was no memory for a line or an ask.
+    ///
+    /// After each of them the reader isn't used again, since lines of the header are gone. Cost: time for the bytes of
+    /// the lines; a `Vec` for the text of each line and for each ask.
     pub fn read<S: Source>(
         alloc: Global,
         reader: &mut LineReader,

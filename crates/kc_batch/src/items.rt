@@ -1,6 +1,6 @@
-//! Items one after another.
+//! The items of a batch.
 
 use kc_graph::{Item, List};
 
-/// Items one after another, in the order in which they came. Contracts see them as a list.
+/// Items in the order of the input. Contracts see them as a list.
 pub type Items = List<Item>;

@@ -1,7 +1,7 @@
 //! The grammar of a batch input: its header and its batches, each with its first fault.
 //!
-//! [`Header::read`] reads the header, and each call of [`next_batch`] the next batch; [`await_batch`] reads it too, and
-//! flushes a sink before it waits. Contracts say what they give of the whole list of lines that the input has: read
+//! [`Header::read`] reads the header, and each call of [`next_batch`] the next batch. [`await_batch`] reads it too, and
+//! flushes a sink before it waits. Contracts define the results over the whole list of lines of the input: read
 //! `Headers` and then `Batches` of `specs/`.
 #![tactic(auto)]
 

@@ -1,4 +1,4 @@
-//! The words that lines are made of.
+//! Lists of numbers in the words of a line.
 ghost use Rattle.std.specs.Prelude.{◌≡◌, ◌≤◌, length, drop, false, nat_lt, IfOk};
 ghost use Rattle.std.specs.List.{list_all};
 ghost use Rattle.kc_text.specs.Words.{words};
@@ -8,7 +8,7 @@ use crate::Vertices;
 use kc_text::{next_word, read_number};
 use std::alloc::{AllocError, Global};
 
-/// The numbers that the words at or after `from` say; None where a word says none.
+/// Returns the numbers in the words at or after `from`, or None if a word is no number.
 pub fn read_numbers(alloc: Global, text: &[u8], from: usize) -> Result<Option<Vertices>, AllocError>
     requires { from ≤ length text.now }
     ensures { IfOk result (λ numbers. numbers ≡ numbers_of (words (drop from text.now))) }
@@ -25,7 +25,7 @@ pub fn read_numbers(alloc: Global, text: &[u8], from: usize) -> Result<Option<Ve
     Ok(Some(numbers))
 }
 
-/// Whether all numbers are below n.
+/// Returns whether all numbers are below n.
 pub fn all_below(numbers: &[u32], n: u32) -> bool
     ensures { result ≡ list_all (λ v. nat_lt v n) numbers.now }
 {

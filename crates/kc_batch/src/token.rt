@@ -1,4 +1,4 @@
-//! What the lines of batches say.
+//! The meanings of the lines of batches.
 ghost use Rattle.std.specs.Prelude.{◌≡◌, ℕ, ◌<◌, ◌≤◌, [], ◌∷◌, length, drop, Option, IfOk, IfSome};
 ghost use Rattle.std.specs.Option.{option_map};
 ghost use Rattle.kc_text.specs.Reading.{budget};
@@ -12,7 +12,7 @@ use kc_graph::Item;
 use kc_text::{Body, LineReader, NumberLine, Sign, Sink, Source, is_named, next_word, read_number};
 use std::alloc::Global;
 
-/// What a line of batches says by itself, wherever it stands.
+/// The meaning of a line of batches by itself, in whatever place it stands.
 #[derive(Clone, Copy, Debug, PartialEq, Eq)]
 pub enum Kind {
     /// `batch`
@@ -31,12 +31,12 @@ pub enum Kind {
     InputEnd,
 }
 
-/// A line that isn't skipped: its number, counted from 1 over all lines, and what it says.
+/// A line that isn't skipped: its number, counted from 1 over all lines, and its meaning.
 #[derive(Clone, Copy, Debug, PartialEq, Eq)]
 pub struct Token {
     /// The number of the line.
     pub number: u32,
-    /// What the line says.
+    /// The meaning of the line.
     pub kind: Kind,
 }
 
@@ -116,7 +116,7 @@ fn kind_of_three(first: &[u8], second: &[u8], third: &[u8]) -> Kind
     signed(first, read_number(second), read_number(third))
 }
 
-// What the line says whose first word lies there.
+// Returns the meaning of a line whose first word goes from `start` to `end`.
 #[tactic(auto, unfolding(crate::specs::Tokens::kind_of_words))]
 fn kind_of_line(text: &[u8], start: usize, end: usize) -> Kind
     requires { WordAt text.now 0 start end }
@@ -137,7 +137,7 @@ fn kind_of_line(text: &[u8], start: usize, end: usize) -> Kind
     kind_of_three(first, second, third)
 }
 
-// What a line says, unless it is skipped.
+// Returns the meaning of a line, or None if the line is skipped.
 #[tactic(auto, unfolding(crate::specs::private::Tokens::kind_of_text))]
 fn classify(text: &[u8]) -> Option<Kind>
     ensures { result ≡ kind_of_text text.now }
@@ -149,7 +149,7 @@ fn classify(text: &[u8]) -> Option<Kind>
     Some(kind_of_line(text, start, end))
 }
 
-// The item that a line of two numbers tells.
+// Returns the item of a line of two numbers.
 #[inline(always)]
 fn item_of(line: NumberLine) -> Item
     ensures { result ≡ item_of line.sign line.first line.second }
@@ -161,10 +161,11 @@ fn item_of(line: NumberLine) -> Item
     }
 }
 
-/// The next line that isn't skipped. After a fault skipped lines may be gone. The sink is flushed before each read, since
-/// a read may wait for bytes. Cost: one pass over the bytes of a line that lies whole in the reader's memory and is two
-/// numbers with one blank between them, or a sign, a blank and such numbers; a few passes over the bytes of each other
-/// line.
+/// Returns the next line that isn't skipped. After a fault skipped lines may be gone. The sink is flushed before each
+/// read, since a read may wait for bytes.
+///
+/// Cost: one pass over the bytes of a line that lies whole in the reader's memory and is two numbers with one blank
+/// between them. A sign and a blank may stand before them. For each other line a few passes over its bytes.
 #[inline(always)]
 pub fn next_token<S: Source, K: Sink>(
     alloc: Global,
@@ -192,7 +193,7 @@ pub fn next_token<S: Source, K: Sink>(
             };
             return Ok(Token { number, kind });
         }
-        // Only from here is a read made, if at all.
+        // Only from here on is a read made, if at all.
         let Ok(()) = sink.flush() else {
             return Err(AwaitFault::WriteFault);
         };

@@ -1,4 +1,4 @@
-//! What a line does within a batch.
+//! The effect of a line within a batch.
 ghost use Rattle.std.specs.Prelude.{◌≡◌};
 ghost use Rattle.kc_batch.specs.Turns.{is_inside, is_allowed, turn_of};
 ghost use Rattle.kc_batch.specs.private.Turns.{IsTurn};
@@ -9,16 +9,16 @@ use kc_graph::Item;
 use kc_levels::Profile;
 use kc_text::Reason;
 
-/// What a line does within a batch.
+/// The effect of a line within a batch.
 #[derive(Clone, Copy, Debug, PartialEq, Eq)]
 pub enum Turn {
-    /// It adds an item.
+    /// The line adds an item.
     Add(Item),
-    /// It ends the batch.
+    /// The line ends the batch.
     Close,
-    /// It is a fault; what follows is passed over.
+    /// The line is a fault; the lines after it are passed over.
     Pass(Reason),
-    /// The input ends, or its limit is met.
+    /// The input ends, or passes its limit.
     Stop(Reason),
 }
 
@@ -40,8 +40,8 @@ fn is_allowed(profile: Profile, item: Item) -> bool
     }
 }
 
-/// What a line of this kind does within a batch that keeps to the rules. `full` says that the batch has as many items as
-/// are allowed.
+/// Returns the effect of a line of this kind within a batch that keeps to the rules. `full` says that the batch has as
+/// many items as are allowed.
 #[inline(always)]
 pub fn turn_at(rules: Rules, full: bool, kind: Kind) -> Turn
     ensures turn { result ≡ turn_of rules full kind }

@@ -10,7 +10,7 @@ use Rattle.kc_graph.specs.declared.items.Item.TheVariants.{Insert, Delete, Isola
 use Rattle.kc_graph.specs.declared.keys.Key.{Key}
 use Rattle.kc_graph.specs.Shape.{Pair, EdgesFrom, same_edge, has_edge, insert_edge}
 use Rattle.kc_graph.specs.Cleaning.{IsInside, is_loop, proper_items, pair_of, touches, is_touched, deciding_item, is_insertion, inserted_pairs, is_repeat, is_idle, count_with_later}
-use Rattle.kc_graph.specs.private.Keys.{is_pairless, pair_items, key_at, keys_from, same_pair}
+use Rattle.kc_graph.specs.private.Keys.{is_pairless, pair_items, key_at, keys_of, same_pair}
 use Rattle.kc_graph.specs.Keys.{edge_of, removes, adds}
 use Rattle.kc_graph.proofs.CountLemmas.{count_by-cons}
 use Rattle.kc_graph.proofs.EdgeLemmas.{not_before_first, has_edge-insert_edge, edges_from_insert}
@@ -79,43 +79,43 @@ abbrev pub asks : (Bool → Bool) → Option Item → Bool
 asks q None = false
 asks q (Some item) = q (inserts item)
 
-pub key_inserts : (item : Item) (place : ℕ) → (key_at item place).insert ≡ inserts item
-key_inserts (Insert u v) place = refl
-key_inserts (Delete u v) place = refl
-key_inserts (Isolate v) place = refl
+pub key_inserts : (item : Item) → (key_at item).insert ≡ inserts item
+key_inserts (Insert u v) = refl
+key_inserts (Delete u v) = refl
+key_inserts (Isolate v) = refl
 
-pub key_touches : (e : Pair) (item : Item) (place : ℕ) → is_pairless item ≡ false → same_edge e (edge_of (key_at item place)) ≡ touches e item
-key_touches e (Insert u v) place paired = refl
-key_touches e (Delete u v) place paired = refl
-key_touches e (Isolate v) place paired = absurd (cc)
+pub key_touches : (e : Pair) (item : Item) → is_pairless item ≡ false → same_edge e (edge_of (key_at item)) ≡ touches e item
+key_touches e (Insert u v) paired = refl
+key_touches e (Delete u v) paired = refl
+key_touches e (Isolate v) paired = absurd (cc)
 
-pub key_repeats : (item : Item) (place : ℕ) (later : List Item) → is_pairless item ≡ false → is_touched (edge_of (key_at item place)) later ≡ is_repeat item later
-key_repeats (Insert u v) place later paired = refl
-key_repeats (Delete u v) place later paired = refl
-key_repeats (Isolate v) place later paired = absurd (cc)
+pub key_repeats : (item : Item) (later : List Item) → is_pairless item ≡ false → is_touched (edge_of (key_at item)) later ≡ is_repeat item later
+key_repeats (Insert u v) later paired = refl
+key_repeats (Delete u v) later paired = refl
+key_repeats (Isolate v) later paired = absurd (cc)
 
 -- whether a key that decides is idle
-pub key_is_idle : (edges : List Pair) (item : Item) (place : ℕ) (later : List Item) → is_pairless item ≡ false → is_idle edges item later ≡ not (is_touched (edge_of (key_at item place)) later) && not (removes edges (key_at item place) || adds edges (key_at item place))
-key_is_idle edges (Insert u v) place later paired = ap (λ b. not (is_touched (pair_of u v) later) && b) (not_not (has_edge (pair_of u v) edges))
+pub key_is_idle : (edges : List Pair) (item : Item) (later : List Item) → is_pairless item ≡ false → is_idle edges item later ≡ not (is_touched (edge_of (key_at item)) later) && not (removes edges (key_at item) || adds edges (key_at item))
+key_is_idle edges (Insert u v) later paired = ap (λ b. not (is_touched (pair_of u v) later) && b) (not_not (has_edge (pair_of u v) edges))
   where
     not_not : (b : Bool) → b ≡ not (not b)
     not_not true = refl
     not_not false = refl
-key_is_idle edges (Delete u v) place later paired = ap (λ b. not (is_touched (pair_of u v) later) && b) (or_none (has_edge (pair_of u v) edges))
+key_is_idle edges (Delete u v) later paired = ap (λ b. not (is_touched (pair_of u v) later) && b) (or_none (has_edge (pair_of u v) edges))
   where
     or_none : (b : Bool) → not b ≡ not (b || false)
     or_none true = refl
     or_none false = refl
-key_is_idle edges (Isolate v) place later paired = absurd (cc)
+key_is_idle edges (Isolate v) later paired = absurd (cc)
 
 -- the keys of a batch touch the pairs that its items touch
-pub keys_touch : (e : Pair) (place : ℕ) (items : List Item) → list_any (λ k. same_edge e (edge_of k)) (keys_from place items) ≡ is_touched e (pair_items items)
-keys_touch e place [] = refl
-keys_touch e place (item ∷ items) = go (is_pairless item) refl (keys_touch e (place + 1) items)
+pub keys_touch : (e : Pair) (items : List Item) → list_any (λ k. same_edge e (edge_of k)) (keys_of items) ≡ is_touched e (pair_items items)
+keys_touch e [] = refl
+keys_touch e (item ∷ items) = go (is_pairless item) refl (keys_touch e items)
   where
-    go : (b : Bool) → is_pairless item ≡ b → list_any (λ k. same_edge e (edge_of k)) (keys_from (place + 1) items) ≡ is_touched e (pair_items items) → list_any (λ k. same_edge e (edge_of k)) (cond b (keys_from (place + 1) items) (key_at item place ∷ keys_from (place + 1) items)) ≡ is_touched e (cond (not b) (item ∷ pair_items items) (pair_items items))
+    go : (b : Bool) → is_pairless item ≡ b → list_any (λ k. same_edge e (edge_of k)) (keys_of items) ≡ is_touched e (pair_items items) → list_any (λ k. same_edge e (edge_of k)) (cond b (keys_of items) (key_at item ∷ keys_of items)) ≡ is_touched e (cond (not b) (item ∷ pair_items items) (pair_items items))
     go true is rest = rest
-    go false is rest = rw (key_touches e item place is, rest) refl
+    go false is rest = rw (key_touches e item is, rest) refl
 
 or_false : (b : Bool) → (b || false) ≡ b
 or_false true = refl
@@ -135,61 +135,61 @@ decided_later e items = go (is_touched e items) refl
     go false is = sym (deciding_none e items is)
 
 -- one more item, in front
-alike_more : (q : Bool → Bool) (r : Pair → Bool) (e : Pair) (item : Item) (place : ℕ) (ks : List Key) (items : List Item) → ((f : Pair) → list_any (λ k. same_edge f (edge_of k)) ks ≡ is_touched f items) → is_pairless item ≡ false → DecideAlike q r e ks items → DecideAlike q r e (key_at item place ∷ ks) (item ∷ items)
-alike_more q r e item place ks items touched paired rest =
-    go (list_any (same_pair (key_at item place)) ks) refl (touches e item) refl
+alike_more : (q : Bool → Bool) (r : Pair → Bool) (e : Pair) (item : Item) (ks : List Key) (items : List Item) → ((f : Pair) → list_any (λ k. same_edge f (edge_of k)) ks ≡ is_touched f items) → is_pairless item ≡ false → DecideAlike q r e ks items → DecideAlike q r e (key_at item ∷ ks) (item ∷ items)
+alike_more q r e item ks items touched paired rest =
+    go (list_any (same_pair (key_at item)) ks) refl (touches e item) refl
   where
-    go : (a : Bool) → list_any (same_pair (key_at item place)) ks ≡ a → (t : Bool) → touches e item ≡ t → list_any (λ k. same_edge e (edge_of k) && (q k.insert && r (edge_of k))) (cond a (deciding_keys ks) (key_at item place ∷ deciding_keys ks)) ≡ (asks q (cond (is_touched e items) (deciding_item e items) (cond t (Some item) None)) && r e)
+    go : (a : Bool) → list_any (same_pair (key_at item)) ks ≡ a → (t : Bool) → touches e item ≡ t → list_any (λ k. same_edge e (edge_of k) && (q k.insert && r (edge_of k))) (cond a (deciding_keys ks) (key_at item ∷ deciding_keys ks)) ≡ (asks q (cond (is_touched e items) (deciding_item e items) (cond t (Some item) None)) && r e)
     go true again true here =
-        let same : e ≡ edge_of (key_at item place) = edge_is e (edge_of (key_at item place)) (key_touches e item place paired ∙ here) in
-        let later : is_touched e items ≡ true = ap (λ f. is_touched f items) same ∙ sym (touched (edge_of (key_at item place))) ∙ again in
+        let same : e ≡ edge_of (key_at item) = edge_is e (edge_of (key_at item)) (key_touches e item paired ∙ here) in
+        let later : is_touched e items ≡ true = ap (λ f. is_touched f items) same ∙ sym (touched (edge_of (key_at item))) ∙ again in
         rw later rest
     go false last true here =
-        let same : e ≡ edge_of (key_at item place) = edge_is e (edge_of (key_at item place)) (key_touches e item place paired ∙ here) in
-        let none : is_touched e items ≡ false = ap (λ f. is_touched f items) same ∙ sym (touched (edge_of (key_at item place))) ∙ last in
+        let same : e ≡ edge_of (key_at item) = edge_is e (edge_of (key_at item)) (key_touches e item paired ∙ here) in
+        let none : is_touched e items ≡ false = ap (λ f. is_touched f items) same ∙ sym (touched (edge_of (key_at item))) ∙ last in
         let nothing : list_any (λ k. same_edge e (edge_of k) && (q k.insert && r (edge_of k))) (deciding_keys ks) ≡ false = rest ∙ ap (λ (o : Option Item). asks q o && r e) (deciding_none e items none) in
-        rw (none, key_touches e item place paired, here, nothing, or_false (q (key_at item place).insert && r (edge_of (key_at item place))), key_inserts item place, ← same) refl
+        rw (none, key_touches e item paired, here, nothing, or_false (q (key_at item).insert && r (edge_of (key_at item))), key_inserts item, ← same) refl
     go true again false other = rw (decided_later e items) rest
-    go false last false other = rw (decided_later e items, key_touches e item place paired, other) rest
+    go false last false other = rw (decided_later e items, key_touches e item paired, other) rest
 
-pub keys_decide : (q : Bool → Bool) (r : Pair → Bool) (e : Pair) (place : ℕ) (items : List Item) → DecideAlike q r e (keys_from place items) (pair_items items)
-keys_decide q r e place [] = refl
-keys_decide q r e place (item ∷ items) =
-    let rest = keys_decide q r e (place + 1) items in
-    go (is_pairless item) refl rest (λ is. alike_more q r e item place (keys_from (place + 1) items) (pair_items items) (λ f. keys_touch f (place + 1) items) is rest)
+pub keys_decide : (q : Bool → Bool) (r : Pair → Bool) (e : Pair) (items : List Item) → DecideAlike q r e (keys_of items) (pair_items items)
+keys_decide q r e [] = refl
+keys_decide q r e (item ∷ items) =
+    let rest = keys_decide q r e items in
+    go (is_pairless item) refl rest (λ is. alike_more q r e item (keys_of items) (pair_items items) (λ f. keys_touch f items) is rest)
   where
-    go : (b : Bool) → is_pairless item ≡ b → DecideAlike q r e (keys_from (place + 1) items) (pair_items items) → (is_pairless item ≡ false → DecideAlike q r e (key_at item place ∷ keys_from (place + 1) items) (item ∷ pair_items items)) → DecideAlike q r e (cond b (keys_from (place + 1) items) (key_at item place ∷ keys_from (place + 1) items)) (cond (not b) (item ∷ pair_items items) (pair_items items))
+    go : (b : Bool) → is_pairless item ≡ b → DecideAlike q r e (keys_of items) (pair_items items) → (is_pairless item ≡ false → DecideAlike q r e (key_at item ∷ keys_of items) (item ∷ pair_items items)) → DecideAlike q r e (cond b (keys_of items) (key_at item ∷ keys_of items)) (cond (not b) (item ∷ pair_items items) (pair_items items))
     go true is rest more = rest
     go false is rest more = more is
 
 -- the items that don't decide are the keys that don't
-pub keys_repeat : (place : ℕ) (items : List Item) → count_with_later is_repeat (pair_items items) + length (deciding_keys (keys_from place items)) ≡ length (keys_from place items)
-keys_repeat place [] = refl
-keys_repeat place (item ∷ items) = go (is_pairless item) refl (keys_repeat (place + 1) items)
+pub keys_repeat : (items : List Item) → count_with_later is_repeat (pair_items items) + length (deciding_keys (keys_of items)) ≡ length (keys_of items)
+keys_repeat [] = refl
+keys_repeat (item ∷ items) = go (is_pairless item) refl (keys_repeat items)
   where
-    go : (b : Bool) → is_pairless item ≡ b → count_with_later is_repeat (pair_items items) + length (deciding_keys (keys_from (place + 1) items)) ≡ length (keys_from (place + 1) items) → count_with_later is_repeat (cond (not b) (item ∷ pair_items items) (pair_items items)) + length (deciding_keys (cond b (keys_from (place + 1) items) (key_at item place ∷ keys_from (place + 1) items))) ≡ length (cond b (keys_from (place + 1) items) (key_at item place ∷ keys_from (place + 1) items))
+    go : (b : Bool) → is_pairless item ≡ b → count_with_later is_repeat (pair_items items) + length (deciding_keys (keys_of items)) ≡ length (keys_of items) → count_with_later is_repeat (cond (not b) (item ∷ pair_items items) (pair_items items)) + length (deciding_keys (cond b (keys_of items) (key_at item ∷ keys_of items))) ≡ length (cond b (keys_of items) (key_at item ∷ keys_of items))
     go true is rest = rest
     go false is rest =
-        let touched = keys_touch (edge_of (key_at item place)) (place + 1) items ∙ key_repeats item place (pair_items items) is in
-        rw (← touched) (at (list_any (same_pair (key_at item place)) (keys_from (place + 1) items)))
+        let touched = keys_touch (edge_of (key_at item)) items ∙ key_repeats item (pair_items items) is in
+        rw (← touched) (at (list_any (same_pair (key_at item)) (keys_of items)))
       where
-        at : (t : Bool) → (cond t 1 0 + count_with_later is_repeat (pair_items items)) + length (cond t (deciding_keys (keys_from (place + 1) items)) (key_at item place ∷ deciding_keys (keys_from (place + 1) items))) ≡ suc (length (keys_from (place + 1) items))
+        at : (t : Bool) → (cond t 1 0 + count_with_later is_repeat (pair_items items)) + length (cond t (deciding_keys (keys_of items)) (key_at item ∷ deciding_keys (keys_of items))) ≡ suc (length (keys_of items))
         at true = omega arith
         at false = omega arith
 
 -- the idle items are the deciding keys that neither remove nor add
-pub keys_idle : (edges : List Pair) (place : ℕ) (items : List Item) → count_by (λ k. not (removes edges k || adds edges k)) (deciding_keys (keys_from place items)) ≡ count_with_later (is_idle edges) (pair_items items)
-keys_idle edges place [] = refl
-keys_idle edges place (item ∷ items) = go (is_pairless item) refl (keys_idle edges (place + 1) items)
+pub keys_idle : (edges : List Pair) (items : List Item) → count_by (λ k. not (removes edges k || adds edges k)) (deciding_keys (keys_of items)) ≡ count_with_later (is_idle edges) (pair_items items)
+keys_idle edges [] = refl
+keys_idle edges (item ∷ items) = go (is_pairless item) refl (keys_idle edges items)
   where
-    go : (b : Bool) → is_pairless item ≡ b → count_by (λ k. not (removes edges k || adds edges k)) (deciding_keys (keys_from (place + 1) items)) ≡ count_with_later (is_idle edges) (pair_items items) → count_by (λ k. not (removes edges k || adds edges k)) (deciding_keys (cond b (keys_from (place + 1) items) (key_at item place ∷ keys_from (place + 1) items))) ≡ count_with_later (is_idle edges) (cond (not b) (item ∷ pair_items items) (pair_items items))
+    go : (b : Bool) → is_pairless item ≡ b → count_by (λ k. not (removes edges k || adds edges k)) (deciding_keys (keys_of items)) ≡ count_with_later (is_idle edges) (pair_items items) → count_by (λ k. not (removes edges k || adds edges k)) (deciding_keys (cond b (keys_of items) (key_at item ∷ keys_of items))) ≡ count_with_later (is_idle edges) (cond (not b) (item ∷ pair_items items) (pair_items items))
     go true is rest = rest
     go false is rest =
-        let touched = keys_touch (edge_of (key_at item place)) (place + 1) items in
-        rw (key_is_idle edges item place (pair_items items) is, ← touched) (at (list_any (same_pair (key_at item place)) (keys_from (place + 1) items)))
+        let touched = keys_touch (edge_of (key_at item)) items in
+        rw (key_is_idle edges item (pair_items items) is, ← touched) (at (list_any (same_pair (key_at item)) (keys_of items)))
       where
-        at : (t : Bool) → count_by (λ k. not (removes edges k || adds edges k)) (cond t (deciding_keys (keys_from (place + 1) items)) (key_at item place ∷ deciding_keys (keys_from (place + 1) items))) ≡ cond (not t && not (removes edges (key_at item place) || adds edges (key_at item place))) 1 0 + count_with_later (is_idle edges) (pair_items items)
+        at : (t : Bool) → count_by (λ k. not (removes edges k || adds edges k)) (cond t (deciding_keys (keys_of items)) (key_at item ∷ deciding_keys (keys_of items))) ≡ cond (not t && not (removes edges (key_at item) || adds edges (key_at item))) 1 0 + count_with_later (is_idle edges) (pair_items items)
         at true = rest ∙ sym (zero-add (count_with_later (is_idle edges) (pair_items items)))
         at false =
-            count_by-cons (λ k. not (removes edges k || adds edges k)) (key_at item place) (deciding_keys (keys_from (place + 1) items))
+            count_by-cons (λ k. not (removes edges k || adds edges k)) (key_at item) (deciding_keys (keys_of items))
             ∙ rw rest refl

@@ -1,11 +1,11 @@
 -- What a walk over the sorted keys of a batch finds out is what the batch comes to.
-use Rattle.std.proofs.Common.{ℕ, ◌+◌, ◌^◌, ◌≤◌, ◌<◌, ◌≡◌, Bool, true, false, ◌||◌, ◌&&◌, cond, List, [], ◌∷◌, ◌++◌, length, refl, ap, sym, ◌∙◌, arith, map, append_assoc, get_or, zero-add}
-use Rattle.std.proofs.lemmas.List.{append-nil}
-use Rattle.std.proofs.lemmas.List.Elements.{All-head, All-tail, All-same}
-use Rattle.std.proofs.lemmas.List.Sorted.{All-permutation, length_permutation}
+use Rattle.std.proofs.Common.{ℕ, ◌+◌, ◌*◌, ◌^◌, ◌≤◌, ◌<◌, ◌≡◌, Bool, true, false, ◌||◌, ◌&&◌, cond, List, [], ◌∷◌, ◌++◌, length, refl, ap, sym, ◌∙◌, arith, map, append_assoc, get_or, zero-add}
+use Rattle.std.proofs.lemmas.Bool.{cond_both}
+use Rattle.std.proofs.lemmas.List.{append-nil, length-map}
+use Rattle.std.proofs.lemmas.List.Elements.{All-nil, All-cons, All-head, All-tail, All-same, All-weaker}
+use Rattle.std.proofs.lemmas.List.Sorted.{length_permutation, list_any-IsPermutation, sum_by-IsPermutation}
 use Rattle.std.specs.List.{list_any}
-use Rattle.std.specs.Ordering.{nat_cmp}
-use Rattle.std.specs.List.Sorted.{IsPermutation, IsSortedByKey}
+use Rattle.std.specs.List.Sorted.{IsPermutation}
 use Rattle.std.specs.Prelude.{All, not, count_by, filter, Option, Some, None}
 use Rattle.kc_graph.specs.declared.items.Item.{Item}
 use Rattle.kc_graph.specs.declared.items.Item.TheVariants.{Insert, Delete, Isolate}
@@ -13,13 +13,18 @@ use Rattle.kc_graph.specs.declared.keys.Key.{Key}
 use Rattle.kc_graph.specs.declared.cleaning.Cleaned.{Cleaned}
 use Rattle.kc_graph.specs.Shape.{GraphShape, Pair, EdgesFrom, IsGraph, same_edge, has_edge}
 use Rattle.kc_graph.specs.Cleaning.{IsInside, is_loop, proper_items, is_repeat, is_idle, count_with_later, deciding_item, takes_out, is_insertion, removed_edges, inserted_pairs, added_edges, cleaned}
-use Rattle.kc_graph.specs.private.Keys.{is_pairless, is_isolation, pair_items, keys_from, rank, same_pair, is_last_of_pair, repeated}
+use Rattle.kc_graph.specs.private.Keys.{is_pairless, is_isolation, pair_items, keys_of, same_pair, is_last_of_pair, repeated, IsKeyBelow, pair_number, packed, unpacked, number_of_pair}
+use Rattle.kc_graph.specs.private.Buckets.{dealt, IsDealtBy}
 use Rattle.kc_graph.specs.Keys.{edge_of, removes, adds, decided}
 use Rattle.kc_graph.proofs.CountLemmas.{count_by-cons}
 use Rattle.kc_graph.proofs.EdgeLemmas.{not_before_first, same_edges}
 use Rattle.kc_graph.proofs.EdgeListLemmas.{has_edge-filter, edges_from_filter}
-use Rattle.kc_graph.proofs.DecidingLemmas.{deciding_keys, PlacesRise, deciding_keys_found, deciding_keys_counted}
-use Rattle.kc_graph.proofs.KeyLemmas.{Ascend, IsSmall, keys_from_below, ascend_from_sorted, apart_permuted, places_rise_sorted, is_last-sorted, edges_from_deciding, has_edge-edges_of, keys_apart, places_rise_in_batch, keys_inside, length-keys_from}
+use Rattle.kc_graph.proofs.BucketLemmas.{dealt_moves}
+use Rattle.kc_graph.proofs.DealtLemmas.{All-dealt, climbs_dealt, climbs_level, climbs_other}
+use Rattle.kc_graph.proofs.OrderLemmas.{dealt_map, dealt_agree}
+use Rattle.kc_graph.specs.private.Digits.{Climbs}
+use Rattle.kc_graph.proofs.DecidingLemmas.{deciding_keys, deciding_dealt}
+use Rattle.kc_graph.proofs.KeyLemmas.{Ascend, ascend_from_climbs, is_last-sorted, edges_from_deciding, has_edge-edges_of, keys_inside, keys_below, inside_more, length-keys_of, pair_number_below, pair_of_packed, unpacked_all, pair_number-same, numbers_below}
 use Rattle.kc_graph.proofs.BatchLemmas.{asks, inserted_if_decided, edges_from_inserted, keys_decide, keys_repeat, keys_idle}
 
 -- a walk
@@ -80,18 +85,32 @@ walks edges (k ∷ ks) c up =
 
 -- what sorted keys of a batch are to one who walks over them
 record Sorts (n : ℕ) (items : List Item) (ks : List Key) : Type 0 where
-  same : IsPermutation (keys_from 0 items) ks
+  same : IsPermutation (keys_of items) ks
+  decide : IsPermutation (deciding_keys (keys_of items)) (deciding_keys ks)
   ascend : Ascend ks
-  rise : PlacesRise ks
   inside : All (λ k. (k.a < k.b) × (k.b < n)) ks
 
-sorts : (n : ℕ) (items : List Item) (ks : List Key) → All (IsInside n) items → IsPermutation (keys_from 0 items) ks → Ascend ks → Sorts n items ks
-sorts n items ks inside same ascend =
+deciding_below : (P : Key → Type 0) (ks : List Key) → All P ks → All P (deciding_keys ks)
+deciding_below P [] h = All-nil P
+deciding_below P (k ∷ ks) h =
+    let rest = deciding_below P ks (All-tail P k ks h) in
+    cond_both (list_any (same_pair k) ks) (deciding_keys ks) (k ∷ deciding_keys ks) (All P) (λ is. rest) (λ is. All-cons P k (deciding_keys ks) (All-head P k ks h) rest)
+
+-- the keys of a batch, dealt by their pairs
+sorts : (n bits : ℕ) (items : List Item) → n ≤ 2 ^ bits → All (IsInside n) items → Sorts n items (dealt (pair_number bits) (2 ^ bits * 2 ^ bits) (keys_of items))
+sorts n bits items enough inside =
+    let d = pair_number bits in
+    let m = 2 ^ bits * 2 ^ bits in
+    let ks = keys_of items in
+    let below : All (IsKeyBelow (2 ^ bits)) ks = keys_below (2 ^ bits) items (All-weaker (IsInside n) (IsInside (2 ^ bits)) (inside_more n (2 ^ bits) enough) items inside) in
+    let small : All (λ k. d k < m) ks = All-weaker (IsKeyBelow (2 ^ bits)) (λ k. d k < m) (pair_number_below bits) ks below in
+    let climbs : Climbs (λ k. d k * 1 + 0) (dealt d m ks) = climbs_dealt d (λ k. 0) 1 m ks (λ i e h. omega arith) (climbs_level ks) in
+    let below' : All (IsKeyBelow (2 ^ bits)) (dealt d m ks) = All-dealt (IsKeyBelow (2 ^ bits)) d m ks below in
     record {
-      same = same;
-      ascend = ascend;
-      rise = places_rise_sorted ks ascend (apart_permuted (keys_from 0 items) ks same (keys_apart 0 items));
-      inside = All-permutation (λ k. (k.a < k.b) × (k.b < n)) (keys_from 0 items) ks same (keys_inside n 0 items inside);
+      same = dealt_moves d m ks small;
+      decide = rw (deciding_dealt d m (pair_number-same bits) ks) (dealt_moves d m (deciding_keys ks) (deciding_below (λ k. d k < m) ks small));
+      ascend = ascend_from_climbs bits (dealt d m ks) below' (climbs_other (λ k. d k * 1 + 0) d (IsKeyBelow (2 ^ bits)) (λ k l p q h. omega (arith, h)) (dealt d m ks) below' climbs);
+      inside = All-dealt (λ k. (k.a < k.b) × (k.b < n)) d m ks (keys_inside n items inside);
     }
 
 pairs_ascend : (n : ℕ) (p : Key → Bool) (items : List Item) (ks : List Key) → Sorts n items ks → EdgesFrom n 0 0 (map edge_of (filter p (deciding_keys ks)))
@@ -113,8 +132,8 @@ no_isolations (Isolate v ∷ items) none = absurd (cc)
 pairs_found : (n : ℕ) (q : Bool → Bool) (r : Pair → Bool) (items : List Item) (ks : List Key) → list_any is_isolation items ≡ false → Sorts n items ks → (e : Pair) → has_edge e (map edge_of (filter (λ k. q k.insert && r (edge_of k)) (deciding_keys ks))) ≡ (asks q (deciding_item e (proper_items items)) && r e)
 pairs_found n q r items ks none s e =
     has_edge-edges_of e (λ k. q k.insert && r (edge_of k)) (deciding_keys ks)
-    ∙ sym (deciding_keys_found (λ k. same_edge e (edge_of k) && (q k.insert && r (edge_of k))) (keys_from 0 items) ks s.same (places_rise_in_batch 0 items) s.rise)
-    ∙ keys_decide q r e 0 items
+    ∙ sym (list_any-IsPermutation (λ k. same_edge e (edge_of k) && (q k.insert && r (edge_of k))) (deciding_keys (keys_of items)) (deciding_keys ks) s.decide)
+    ∙ keys_decide q r e items
     ∙ ap (λ (is : List Item). asks q (deciding_item e is) && r e) (no_isolations items none).0
 
 asks_removal : (o : Option Item) → asks not o ≡ takes_out o
@@ -164,10 +183,6 @@ added_found g items ks plain inside s =
         ∙ both_pass (is_insertion (deciding_item e (proper_items items))) (has_edge e g.edges) (has_edge e (inserted_pairs (proper_items items))) (inserted_if_decided e (proper_items items))
         ∙ sym (has_edge-filter e (λ e. not (has_edge e g.edges) && is_insertion (deciding_item e (proper_items items))) (inserted_pairs (proper_items items)))
 
-count_by_all : (ks : List Key) → count_by (λ k. true) ks ≡ length ks
-count_by_all [] = refl
-count_by_all (k ∷ ks) = count_by-cons (λ l. true) k ks ∙ omega (arith, count_by_all ks)
-
 pub same_cleaned : (c d : Cleaned) → c.removed ≡ d.removed → c.added ≡ d.added → c.loops ≡ d.loops → c.repeats ≡ d.repeats → c.idle ≡ d.idle → c ≡ d
 same_cleaned c d removed added loops repeats idle =
     ap (λ (x : List Pair). record c { removed = x }) removed
@@ -176,28 +191,35 @@ same_cleaned c d removed added loops repeats idle =
     ∙ ap (λ (x : ℕ). record c { removed = d.removed; added = d.added; loops = d.loops; repeats = x }) repeats
     ∙ ap (λ (x : ℕ). record d { idle = x }) idle
 
-small_keys : (n : ℕ) (items : List Item) (ks : List Key) → All (IsInside n) items → IsPermutation (keys_from 0 items) ks → n ≤ 2 ^ 32 → length items ≤ 2 ^ 32 → All IsSmall ks
-small_keys n items ks inside same low few =
-    All-permutation IsSmall (keys_from 0 items) ks same
-    (λ k d lt. (omega (arith, (keys_inside n 0 items inside k d lt).1), omega (arith, keys_from_below 0 items k d lt)))
+-- the numbers of the keys of a batch, sorted, are those of its keys dealt by their pairs
+pub sorted_numbers : (n bits : ℕ) (items : List Item) (xs : List ℕ) → n ≤ 2 ^ bits → All (IsInside n) items → IsDealtBy number_of_pair (map (packed bits) (keys_of items)) xs → map (unpacked bits) xs ≡ dealt (pair_number bits) (2 ^ bits * 2 ^ bits) (keys_of items)
+sorted_numbers n bits items xs enough inside is =
+    let m = 2 ^ bits * 2 ^ bits in
+    let ks = keys_of items in
+    let d : Key → ℕ = λ k. number_of_pair (packed bits k) in
+    let below : All (IsKeyBelow (2 ^ bits)) ks = keys_below (2 ^ bits) items (All-weaker (IsInside n) (IsInside (2 ^ bits)) (inside_more n (2 ^ bits) enough) items inside) in
+    ap (map (unpacked bits)) (is m (numbers_below bits ks below) ∙ dealt_map (packed bits) number_of_pair m ks)
+    ∙ unpacked_all bits (dealt d m ks) (All-dealt (IsKeyBelow (2 ^ bits)) d m ks below)
+    ∙ dealt_agree d (pair_number bits) m ks (λ i e h. pair_of_packed bits (get_or ks i e))
 
 -- a walk over the sorted keys of a batch without isolations finds out what it comes to
-pub walked_is_cleaned : (g : GraphShape) (items : List Item) (ks : List Key) (loops : ℕ) → list_any is_isolation items ≡ false → IsGraph g → All (IsInside g.vertices) items → IsPermutation (keys_from 0 items) ks → IsSortedByKey rank nat_cmp ks → g.vertices ≤ 2 ^ 32 → length items ≤ 2 ^ 32 → loops + length ks ≡ length items → walked g.edges ks (record { removed = []; added = []; loops = loops; repeats = 0; idle = 0 }) ≡ cleaned g items
-walked_is_cleaned g items ks loops none graph inside same up low few rest =
-    let s = sorts g.vertices items ks inside same (ascend_from_sorted ks (small_keys g.vertices items ks inside same low few) up) in
+pub walked_is_cleaned : (g : GraphShape) (bits : ℕ) (items : List Item) (ks : List Key) (loops : ℕ) → list_any is_isolation items ≡ false → IsGraph g → All (IsInside g.vertices) items → g.vertices ≤ 2 ^ bits → ks ≡ dealt (pair_number bits) (2 ^ bits * 2 ^ bits) (keys_of items) → loops + length ks ≡ length items → walked g.edges ks (record { removed = []; added = []; loops = loops; repeats = 0; idle = 0 }) ≡ cleaned g items
+walked_is_cleaned g bits items ks loops none graph inside enough is rest =
+    let s : Sorts g.vertices items ks = rw is (sorts g.vertices bits items enough inside) in
     let start : Cleaned = record { removed = []; added = []; loops = loops; repeats = 0; idle = 0 } in
     let w = walks g.edges ks start s.ascend in
     let idles : Key → Bool = λ k. not (removes g.edges k || adds g.edges k) in
-    let counted = λ (q : Key → Bool). deciding_keys_counted q (keys_from 0 items) ks same (places_rise_in_batch 0 items) s.rise in
-    let long : length ks ≡ length (keys_from 0 items) = length_permutation (keys_from 0 items) ks same in
+    let long : length ks ≡ length (keys_of items) = length_permutation (keys_of items) ks s.same in
+    let few : length (deciding_keys ks) ≡ length (deciding_keys (keys_of items)) = length_permutation (deciding_keys (keys_of items)) (deciding_keys ks) s.decide in
+    let idle : count_by idles (deciding_keys (keys_of items)) ≡ count_by idles (deciding_keys ks) = sym (sum_by-IsPermutation (λ k. cond (idles k) 1 0) (deciding_keys (keys_of items)) (deciding_keys ks) s.decide) in
     let plain = no_isolations items none in
     let repeats = ap (count_with_later is_repeat) plain.0 in
     same_cleaned (walked g.edges ks start) (cleaned g items)
     (w.removed ∙ removed_found g items ks none graph s)
     (w.added ∙ added_found g items ks none inside s)
-    (w.loops ∙ omega (arith, long, rest, length-keys_from 0 items, plain.1))
-    (omega (arith, w.repeats, long, repeats, keys_repeat 0 items, counted (λ k. true), count_by_all (deciding_keys ks), count_by_all (deciding_keys (keys_from 0 items))))
-    (w.idle ∙ zero-add (count_by idles (deciding_keys ks)) ∙ sym (counted idles) ∙ keys_idle g.edges 0 items ∙ ap (count_with_later (is_idle g.edges)) plain.0)
+    (w.loops ∙ omega (arith, long, rest, length-keys_of items, plain.1))
+    (omega (arith, w.repeats, long, few, repeats, keys_repeat items))
+    (w.idle ∙ zero-add (count_by idles (deciding_keys ks)) ∙ sym idle ∙ keys_idle g.edges items ∙ ap (count_with_later (is_idle g.edges)) plain.0)
 
 -- the loop that walks
 
@@ -228,8 +250,11 @@ decided_counts edges k c d is = (ap (λ (e : Cleaned). e.repeats) is, rw is (go 
     go false = omega arith
 
 -- a batch has no more keys than items
-pub length_sorted : (items : List Item) (ks : List Key) → IsPermutation (keys_from 0 items) ks → length ks ≤ length items
-length_sorted items ks same = omega (arith, length_permutation (keys_from 0 items) ks same, length-keys_from 0 items)
+pub length_sorted : (n bits : ℕ) (items : List Item) (xs : List ℕ) → n ≤ 2 ^ bits → All (IsInside n) items → IsDealtBy number_of_pair (map (packed bits) (keys_of items)) xs → length xs ≤ length items
+length_sorted n bits items xs enough inside is =
+    let s = sorts n bits items enough inside in
+    let ks = dealt (pair_number bits) (2 ^ bits * 2 ^ bits) (keys_of items) in
+    omega (arith, sym (length-map xs (unpacked bits)) ∙ ap (λ (l : List Key). length l) (sorted_numbers n bits items xs enough inside is), length_permutation (keys_of items) ks s.same, length-keys_of items)
 
-pub sorted_inside : (n : ℕ) (items : List Item) (ks : List Key) → All (IsInside n) items → IsPermutation (keys_from 0 items) ks → All (IsKeyInside n) ks
-sorted_inside n items ks inside same = All-permutation (IsKeyInside n) (keys_from 0 items) ks same (keys_inside n 0 items inside)
+pub sorted_inside : (n bits : ℕ) (items : List Item) (xs : List ℕ) → n ≤ 2 ^ bits → All (IsInside n) items → IsDealtBy number_of_pair (map (packed bits) (keys_of items)) xs → All (IsKeyInside n) (map (unpacked bits) xs)
+sorted_inside n bits items xs enough inside is = rw (sorted_numbers n bits items xs enough inside is) (sorts n bits items enough inside).inside

@@ -27,6 +27,7 @@ use Rattle.kc_graph.proofs.EdgeLemmas.{not_before_first, has_edge_before, edge_i
 use Rattle.kc_graph.proofs.EdgeListLemmas.{edge_is, has_edge-filter, edges_from_filter}
 use Rattle.kc_graph.proofs.DecidingLemmas.{list_any_agree}
 use Rattle.kc_graph.proofs.BatchLemmas.{deciding_none, inserted_if_decided, edges_from_inserted, key_touches, key_repeats, key_is_idle, key_inserts, inserts}
+use Rattle.kc_graph.proofs.KeyLemmas.{key_found}
 use Rattle.kc_graph.proofs.CleaningLemmas.{same_cleaned}
 
 -- counts
@@ -259,15 +260,15 @@ once_pushed f true es once absent = once_append es (f ∷ []) once (once_one f) 
 once_pushed f false es once absent = once
 
 -- the key of an item that a later one follows on its pair
-settles_repeat : (edges : List Pair) (item : Item) (items : List Item) (old new : Later) → is_pairless item ≡ false → is_touched (edge_of (key_at item 0)) items ≡ true → Settles edges items old → new.cleaned ≡ repeated old.cleaned → ((e : Pair) → is_noted new.touched e ≡ is_touched e (item ∷ items)) → Settles edges (item ∷ items) new
+settles_repeat : (edges : List Pair) (item : Item) (items : List Item) (old new : Later) → is_pairless item ≡ false → is_touched (edge_of (key_at item)) items ≡ true → Settles edges items old → new.cleaned ≡ repeated old.cleaned → ((e : Pair) → is_noted new.touched e ≡ is_touched e (item ∷ items)) → Settles edges (item ∷ items) new
 settles_repeat edges item items old new paired again s is notes = record {
   noted = notes;
   removed = λ e. rw (is, as_later e) (s.removed e);
   removed_once = rw is s.removed_once;
   added = λ e. rw (is, as_later e) (s.added e);
   added_once = rw is s.added_once;
-  repeats = ap (λ (c : Cleaned). c.repeats) is ∙ rw (sym (key_repeats item 0 items paired) ∙ again) (omega (arith, s.repeats));
-  idle = ap (λ (c : Cleaned). c.idle) is ∙ s.idle ∙ rw (key_is_idle edges item 0 items paired, again) (sym (zero-add (count_with_later (is_idle edges) items)));
+  repeats = ap (λ (c : Cleaned). c.repeats) is ∙ rw (sym (key_repeats item items paired) ∙ again) (omega (arith, s.repeats));
+  idle = ap (λ (c : Cleaned). c.idle) is ∙ s.idle ∙ rw (key_is_idle edges item items paired, again) (sym (zero-add (count_with_later (is_idle edges) items)));
 }
   where
     as_later : (e : Pair) → deciding_item e (item ∷ items) ≡ deciding_item e items
@@ -275,69 +276,62 @@ settles_repeat edges item items old new paired again s is notes = record {
       where
         other : (t : Bool) → touches e item ≡ t → is_touched e items ≡ false → t ≡ false
         other true here none =
-            let same : e ≡ edge_of (key_at item 0) = edge_is e (edge_of (key_at item 0)) (key_touches e item 0 paired ∙ here) in
+            let same : e ≡ edge_of (key_at item) = edge_is e (edge_of (key_at item)) (key_touches e item paired ∙ here) in
             sym again ∙ sym (ap (λ f. is_touched f items) same) ∙ none
         other false here none = refl
 
 -- the key of an item that decides
-settles_decision : (edges : List Pair) (item : Item) (items : List Item) (old new : Later) → is_pairless item ≡ false → is_touched (edge_of (key_at item 0)) items ≡ false → Settles edges items old → new.cleaned ≡ decided edges (key_at item 0) old.cleaned → ((e : Pair) → is_noted new.touched e ≡ is_touched e (item ∷ items)) → Settles edges (item ∷ items) new
+settles_decision : (edges : List Pair) (item : Item) (items : List Item) (old new : Later) → is_pairless item ≡ false → is_touched (edge_of (key_at item)) items ≡ false → Settles edges items old → new.cleaned ≡ decided edges (key_at item) old.cleaned → ((e : Pair) → is_noted new.touched e ≡ is_touched e (item ∷ items)) → Settles edges (item ∷ items) new
 settles_decision edges item items old new paired none s is notes = record {
   noted = notes;
-  removed = λ e. rw is (has_edge_pushed e (edge_of (key_at item 0)) (removes edges (key_at item 0)) old.cleaned.removed ∙ out e (touches e item) refl);
-  removed_once = rw is (once_pushed (edge_of (key_at item 0)) (removes edges (key_at item 0)) old.cleaned.removed s.removed_once (untouched_not_removed edges items old (edge_of (key_at item 0)) s none));
-  added = λ e. rw is (has_edge_pushed e (edge_of (key_at item 0)) (adds edges (key_at item 0)) old.cleaned.added ∙ in_ e (touches e item) refl);
-  added_once = rw is (once_pushed (edge_of (key_at item 0)) (adds edges (key_at item 0)) old.cleaned.added s.added_once (untouched_not_added edges items old (edge_of (key_at item 0)) s none));
-  repeats = ap (λ (c : Cleaned). c.repeats) is ∙ s.repeats ∙ rw (sym (key_repeats item 0 items paired) ∙ none) (sym (zero-add (count_with_later is_repeat items)));
-  idle = ap (λ (c : Cleaned). c.idle) is ∙ rw (key_is_idle edges item 0 items paired, none) (idle_more (removes edges (key_at item 0) || adds edges (key_at item 0)));
+  removed = λ e. rw is (has_edge_pushed e (edge_of (key_at item)) (removes edges (key_at item)) old.cleaned.removed ∙ out e (touches e item) refl);
+  removed_once = rw is (once_pushed (edge_of (key_at item)) (removes edges (key_at item)) old.cleaned.removed s.removed_once (untouched_not_removed edges items old (edge_of (key_at item)) s none));
+  added = λ e. rw is (has_edge_pushed e (edge_of (key_at item)) (adds edges (key_at item)) old.cleaned.added ∙ in_ e (touches e item) refl);
+  added_once = rw is (once_pushed (edge_of (key_at item)) (adds edges (key_at item)) old.cleaned.added s.added_once (untouched_not_added edges items old (edge_of (key_at item)) s none));
+  repeats = ap (λ (c : Cleaned). c.repeats) is ∙ s.repeats ∙ rw (sym (key_repeats item items paired) ∙ none) (sym (zero-add (count_with_later is_repeat items)));
+  idle = ap (λ (c : Cleaned). c.idle) is ∙ rw (key_is_idle edges item items paired, none) (idle_more (removes edges (key_at item) || adds edges (key_at item)));
 }
   where
     idle_more : (b : Bool) → old.cleaned.idle + cond b 0 1 ≡ cond (not b) 1 0 + count_with_later (is_idle edges) items
     idle_more true = omega (arith, s.idle)
     idle_more false = omega (arith, s.idle)
 
-    is_it : (e : Pair) → touches e item ≡ true → e ≡ edge_of (key_at item 0)
-    is_it e here = edge_is e (edge_of (key_at item 0)) (key_touches e item 0 paired ∙ here)
+    is_it : (e : Pair) → touches e item ≡ true → e ≡ edge_of (key_at item)
+    is_it e here = edge_is e (edge_of (key_at item)) (key_touches e item paired ∙ here)
 
     here_decides : (e : Pair) → touches e item ≡ true → deciding_item e (item ∷ items) ≡ Some item
     here_decides e here = rw (ap (λ f. is_touched f items) (is_it e here) ∙ none, here) refl
 
-    out : (e : Pair) (t : Bool) → touches e item ≡ t → ((same_edge e (edge_of (key_at item 0)) && removes edges (key_at item 0)) || has_edge e old.cleaned.removed) ≡ (takes_out (deciding_item e (item ∷ items)) && has_edge e edges)
+    out : (e : Pair) (t : Bool) → touches e item ≡ t → ((same_edge e (edge_of (key_at item)) && removes edges (key_at item)) || has_edge e old.cleaned.removed) ≡ (takes_out (deciding_item e (item ∷ items)) && has_edge e edges)
     out e true here =
         let absent = untouched_not_removed edges items old e s (ap (λ f. is_touched f items) (is_it e here) ∙ none) in
-        rw (here_decides e here, takes_out_item item, absent, key_touches e item 0 paired ∙ here, key_inserts item 0, ← is_it e here) (or_false (not (inserts item) && has_edge e edges))
-    out e false other = rw (key_touches e item 0 paired ∙ other, decides_as_later e item items (λ h. other)) (s.removed e)
+        rw (here_decides e here, takes_out_item item, absent, key_touches e item paired ∙ here, key_inserts item, ← is_it e here) (or_false (not (inserts item) && has_edge e edges))
+    out e false other = rw (key_touches e item paired ∙ other, decides_as_later e item items (λ h. other)) (s.removed e)
 
-    in_ : (e : Pair) (t : Bool) → touches e item ≡ t → ((same_edge e (edge_of (key_at item 0)) && adds edges (key_at item 0)) || has_edge e old.cleaned.added) ≡ (is_insertion (deciding_item e (item ∷ items)) && not (has_edge e edges))
+    in_ : (e : Pair) (t : Bool) → touches e item ≡ t → ((same_edge e (edge_of (key_at item)) && adds edges (key_at item)) || has_edge e old.cleaned.added) ≡ (is_insertion (deciding_item e (item ∷ items)) && not (has_edge e edges))
     in_ e true here =
         let absent = untouched_not_added edges items old e s (ap (λ f. is_touched f items) (is_it e here) ∙ none) in
-        rw (here_decides e here, insertion_item item, absent, key_touches e item 0 paired ∙ here, key_inserts item 0, ← is_it e here) (or_false (inserts item && not (has_edge e edges)))
-    in_ e false other = rw (key_touches e item 0 paired ∙ other, decides_as_later e item items (λ h. other)) (s.added e)
+        rw (here_decides e here, insertion_item item, absent, key_touches e item paired ∙ here, key_inserts item, ← is_it e here) (or_false (inserts item && not (has_edge e edges)))
+    in_ e false other = rw (key_touches e item paired ∙ other, decides_as_later e item items (λ h. other)) (s.added e)
 
-comes_to_key : (edges : List Pair) (item : Item) (items : List Item) (old new : Later) → is_pairless item ≡ false → ComesTo edges items old → new.cleaned ≡ cond (is_noted old.touched (edge_of (key_at item 0))) (repeated old.cleaned) (decided edges (key_at item 0) old.cleaned) → ((e : Pair) → is_noted new.touched e ≡ (same_edge e (edge_of (key_at item 0)) || is_noted old.touched e)) → ComesTo edges (item ∷ items) new
+comes_to_key : (edges : List Pair) (item : Item) (items : List Item) (old new : Later) → is_pairless item ≡ false → ComesTo edges items old → new.cleaned ≡ cond (is_noted old.touched (edge_of (key_at item))) (repeated old.cleaned) (decided edges (key_at item) old.cleaned) → ((e : Pair) → is_noted new.touched e ≡ (same_edge e (edge_of (key_at item)) || is_noted old.touched e)) → ComesTo edges (item ∷ items) new
 comes_to_key edges item items old new paired s is notes = record {
-  loops = loops (is_noted old.touched (edge_of (key_at item 0))) is ∙ s.loops ∙ sym (count_other is_loop item items (not_loop item paired));
-  others = rw (not_loop item paired) (go (is_noted old.touched (edge_of (key_at item 0))) refl is);
+  loops = loops (is_noted old.touched (edge_of (key_at item))) is ∙ s.loops ∙ sym (count_other is_loop item items (not_loop item paired));
+  others = rw (not_loop item paired) (go (is_noted old.touched (edge_of (key_at item))) refl is);
 }
   where
-    loops : (b : Bool) → new.cleaned ≡ cond b (repeated old.cleaned) (decided edges (key_at item 0) old.cleaned) → new.cleaned.loops ≡ old.cleaned.loops
+    loops : (b : Bool) → new.cleaned ≡ cond b (repeated old.cleaned) (decided edges (key_at item) old.cleaned) → new.cleaned.loops ≡ old.cleaned.loops
     loops true is = ap (λ (c : Cleaned). c.loops) is
     loops false is = ap (λ (c : Cleaned). c.loops) is
 
     notes' : (e : Pair) → is_noted new.touched e ≡ is_touched e (item ∷ proper_items items)
-    notes' e = notes e ∙ rw (key_touches e item 0 paired, s.others.noted e) refl
+    notes' e = notes e ∙ rw (key_touches e item paired, s.others.noted e) refl
 
-    go : (b : Bool) → is_noted old.touched (edge_of (key_at item 0)) ≡ b → new.cleaned ≡ cond b (repeated old.cleaned) (decided edges (key_at item 0) old.cleaned) → Settles edges (item ∷ proper_items items) new
-    go true again is = settles_repeat edges item (proper_items items) old new paired (sym (s.others.noted (edge_of (key_at item 0))) ∙ again) s.others is notes'
-    go false first is = settles_decision edges item (proper_items items) old new paired (sym (s.others.noted (edge_of (key_at item 0))) ∙ first) s.others is notes'
+    go : (b : Bool) → is_noted old.touched (edge_of (key_at item)) ≡ b → new.cleaned ≡ cond b (repeated old.cleaned) (decided edges (key_at item) old.cleaned) → Settles edges (item ∷ proper_items items) new
+    go true again is = settles_repeat edges item (proper_items items) old new paired (sym (s.others.noted (edge_of (key_at item))) ∙ again) s.others is notes'
+    go false first is = settles_decision edges item (proper_items items) old new paired (sym (s.others.noted (edge_of (key_at item))) ∙ first) s.others is notes'
 
-key_found : (item : Item) (key : Key) → key_of item 0 ≡ Some key → (is_pairless item ≡ false) × (key ≡ key_at item 0)
-key_found item key found = go (is_pairless item) refl found
-  where
-    go : (b : Bool) → is_pairless item ≡ b → cond b None (Some (key_at item 0)) ≡ Some key → (is_pairless item ≡ false) × (key ≡ key_at item 0)
-    go true is found = absurd (cc)
-    go false is found = (is, sym (cc))
-
-pub comes_to_found_key : (edges : List Pair) (item : Item) (items : List Item) (key : Key) (old new : Later) → key_of item 0 ≡ Some key → ComesTo edges items old → new.cleaned ≡ cond (is_noted old.touched (edge_of key)) (repeated old.cleaned) (decided edges key old.cleaned) → ((e : Pair) → is_noted new.touched e ≡ (same_edge e (edge_of key) || is_noted old.touched e)) → ComesTo edges (item ∷ items) new
+pub comes_to_found_key : (edges : List Pair) (item : Item) (items : List Item) (key : Key) (old new : Later) → key_of item ≡ Some key → ComesTo edges items old → new.cleaned ≡ cond (is_noted old.touched (edge_of key)) (repeated old.cleaned) (decided edges key old.cleaned) → ((e : Pair) → is_noted new.touched e ≡ (same_edge e (edge_of key) || is_noted old.touched e)) → ComesTo edges (item ∷ items) new
 comes_to_found_key edges item items key old new found s is notes =
     let known = key_found item key found in
     comes_to_key edges item items old new known.0 s (is ∙ ap (λ (k : Key). cond (is_noted old.touched (edge_of k)) (repeated old.cleaned) (decided edges k old.cleaned)) known.1) (λ e. notes e ∙ ap (λ (k : Key). same_edge e (edge_of k) || is_noted old.touched e) known.1)

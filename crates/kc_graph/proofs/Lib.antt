@@ -8,6 +8,10 @@ mod ChangeLemmas
 mod RowLemmas
 mod KeptLemmas
 mod EdgeListLemmas
+mod DigitLemmas
+mod OrderLemmas
+mod RangeLemmas
+mod PlaceLemmas
 mod DecidingLemmas
 mod KeyLemmas
 mod BatchLemmas

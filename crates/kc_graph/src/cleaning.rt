@@ -1,18 +1,19 @@
 //! Cleaning: the edges that the items of a batch take out of a graph and put in, and the counts of items that change
 //! nothing.
 
-ghost use Rattle.std.specs.Prelude.{◌≡◌, ◌<◌, ◌≤◌, [], true, false, length, All, IfOk, OnOk};
+ghost use Rattle.std.specs.Prelude.{◌≡◌, ◌<◌, ◌≤◌, ◌^◌, [], true, false, length, map, All, IfOk, OnOk};
 ghost use Rattle.std.specs.List.{list_any};
 ghost use Rattle.kc_graph.specs.Cleaning.{IsInside, cleaned};
-ghost use Rattle.kc_graph.specs.private.Keys.{is_isolation, is_last_of_pair};
+ghost use Rattle.kc_graph.specs.private.Keys.{is_isolation, is_last_of_pair, unpacked};
 ghost use Rattle.kc_graph.specs.Keys.{decided};
 
 use crate::edge_lists::Edges;
 use crate::graphs::Graph;
 use crate::items::Item;
-use crate::keys::{Key, sorted_keys};
+use crate::keys::Key;
 use crate::later::walk_back;
-use crate::limits::MAX_ITEMS;
+use crate::limits::{MAX_ITEMS, MAX_VERTICES};
+use crate::sorted_keys::sorted_keys;
 use std::alloc::{AllocError, Global};
 use std::thread::Threads;
 
@@ -77,26 +78,52 @@ const TOGETHER: usize = 16;
 
 // Prefetches the rows of the lesser vertices of the first keys. Always true; the compiler can't know that, so it keeps
 // the loads.
-fn are_at_hand(graph: &Graph, keys: &[Key]) -> bool
+fn are_at_hand(graph: &Graph, bits: u32, keys: &[u64]) -> bool
+    requires { bits ≤ 24 }
     ensures { result ≡ true }
 {
     for k in 0..keys.len().min(TOGETHER) {
-        if !graph.is_at_hand(keys[k].a) {
+        let a = keys[k] / 2 >> bits;
+        if a < MAX_VERTICES as u64 && !graph.is_at_hand(a as u32) {
             return false;
         }
     }
     true
 }
 
+// Returns whether the key is the last of its pair in a sorted list (`is_last_of_pair`), which the next key decides.
+fn ends_pair(key: u64, later: &[u64]) -> bool
+    ensures { (bits : _) → result ≡ is_last_of_pair (unpacked bits key) (map (unpacked bits) later.now) }
+{
+    match later {
+        [next, ..] => key / 2 != *next / 2,
+        [] => true,
+    }
+}
+
 // Returns whether the key is the last of its pair (`is_last_of_pair`). At every 16th key it prefetches the rows of the
 // next 16.
-fn is_last_in_turn(graph: &Graph, key: &Key, later: &[Key]) -> bool
-    ensures { result ≡ is_last_of_pair key.now later.now }
+fn is_last_in_turn(graph: &Graph, bits: u32, key: u64, later: &[u64]) -> bool
+    requires { bits ≤ 24 }
+    ensures { result ≡ is_last_of_pair (unpacked bits key) (map (unpacked bits) later.now) }
 {
-    if later.len() % TOGETHER == 0 && !are_at_hand(graph, later) {
+    if later.len() % TOGETHER == 0 && !are_at_hand(graph, bits, later) {
         return false;
     }
-    key.is_last_of_pair(later)
+    ends_pair(key, later)
+}
+
+// Returns a number of bits that a vertex below n has at most.
+fn bits_below(n: u32) -> u32
+    requires { n ≤ MAX_VERTICES }
+    ensures few { result ≤ 24 }
+    ensures enough { n ≤ 2 ^ result }
+{
+    let mut bits = 0;
+    while bits < 24 && 1u32 << bits < n {
+        bits += 1;
+    }
+    bits
 }
 
 // Returns the net effect of a batch without isolations, by a walk over its sorted keys.
@@ -112,14 +139,13 @@ fn clean_pairs<R: Threads + Sync>(
     requires none { list_any is_isolation items.now ≡ false }
     ensures { IfOk result (λ c. c ≡ cleaned graph.now items.now) }
 {
-    // The contract of `vertices` says that the edges of the graph ascend.
-    let _ = graph.vertices();
-    let keys = sorted_keys(rt, alloc, workers, items)?;
+    let bits = bits_below(graph.vertices());
+    let keys = sorted_keys(rt, alloc, workers, bits, items)?;
     let mut cleaned = Cleaned::of_loops(alloc, (items.len() - keys.len()) as u32);
     let mut rest = keys.as_slice();
     while let Some((key, later)) = rest.split_first() {
-        if is_last_in_turn(graph, key, later) {
-            cleaned.decide(graph, key)?;
+        if is_last_in_turn(graph, bits, *key, later) {
+            cleaned.decide(graph, &Key::unpacked(bits, *key))?;
         } else {
             cleaned.repeats += 1;
         }
@@ -189,7 +215,7 @@ pub fn clean_by<R: Threads + Sync>(
 ///
 /// Costs, for a batch without isolations:
 ///
-/// - a sort of one key an item, of 16 bytes, and one look-up in the graph for each pair that the items name;
+/// - a sort of one key an item, of 8 bytes, and one look-up in the graph for each pair that the items name;
 /// - memory for the keys and for the two lists.
 ///
 /// Costs, for a batch with an isolation:
@@ -199,8 +225,8 @@ pub fn clean_by<R: Threads + Sync>(
 ///
 /// As many threads as the runtime has sort a list of 65,536 keys or edges or more. The calling thread alone sorts a
 /// shorter one. If it has 2,048 keys or more, it deals them to buckets four times, with two passes each time. Meanwhile
-/// it takes memory for the keys twice and for 4,096 counters. It sorts them in place if it doesn't get that memory.
-/// Keys that come in order cost one pass.
+/// it takes memory for the keys twice and for at most 4,096 counters. Keys that come in order cost one pass. With one
+/// worker (`clean_by`) 65,536 keys or more are dealt once before, to at most 4,096 ranges, and then range by range.
 pub fn clean<R: Threads + Sync>(
     rt: &R,
     alloc: Global,

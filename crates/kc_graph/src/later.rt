@@ -116,7 +116,7 @@ impl Later {
         requires idle_room { self.old.cleaned.idle < MAX_ITEMS }
         ensures { OnOk result ((later : _) → ComesTo graph.now.edges later self.old → ComesTo graph.now.edges (item ∷ later) self.new) }
     {
-        match (Key::of(item, 0), item) {
+        match (Key::of(item), item) {
             (Some(key), _) => {
                 self.take_key(graph, &key)?;
                 Ok(())

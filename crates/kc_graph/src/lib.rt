@@ -26,6 +26,7 @@ mod merging;
 mod numbers;
 mod rows;
 mod sharing;
+mod sorted_keys;
 mod sorting;
 mod touched;
 

@@ -1,4 +1,4 @@
--- The drainer's pops keep the rule, and what it learns from it.
+-- The drainer's pops keep the rule, and the facts that the drainer learns from it.
 use Rattle.std.proofs.Common.{◌≡◌, ◌≢◌, ℕ, ◌<◌, ◌≤◌, List, [], ◌∷◌, ◌++◌, Contains, set, sym, refl, ap, ◌∙◌, subst, append_assoc, arith}
 use mathlib.Core.Option.{some}
 use mathlib.Core.Logic.{dite}

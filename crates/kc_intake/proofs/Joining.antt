@@ -1,4 +1,4 @@
--- Opening the queue, and the steps by which a client comes and is taken in.
+-- Opening of the queue, and the steps in which a client comes and is taken in.
 use Rattle.std.proofs.Common.{◌≡◌, ◌≢◌, ◌⊎◌, ℕ, zero, suc, ◌+◌, ◌<◌, ◌≤◌, List, [], ◌∷◌, ◌++◌, Option, Some, None, Contains, length, set, sym, refl, ap, ◌∙◌, subst, inl, inr, ⊎_elim, arith, le_refl}
 use Rattle.std.proofs.lemmas.List.Elements.{Contains-push_cases}
 use mathlib.Core.Option.{some, some-injective, some-ne-none}

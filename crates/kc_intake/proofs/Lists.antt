@@ -9,7 +9,7 @@ use Rattle.kc_intake.specs.declared.updates.Update.{Update}
 use Rattle.kc_intake.specs.Updates.{updates_of, numbered, all_updates}
 use Rattle.kc_intake.specs.private.Steps.{with_last}
 
--- f, but x at k
+-- f, with x at k
 abbrev pub changed : {A : Type 0} → (ℕ → A) → ℕ → A → ℕ → A
 changed f k x c = cond (c == k) x (f c)
 
@@ -34,7 +34,7 @@ numbered_more c n (x ∷ xs) item =
     let e : (n + 1) + length xs ≡ n + suc (length xs) = omega arith in
     ap (λ us. record { client = c; serial = n; item = x } ∷ us) (numbered_more c (n + 1) xs item ∙ ap (λ k. numbered c (n + 1) xs ++ record { client = c; serial = k; item = item } ∷ []) e)
 
--- the first ones of numbered updates are numbered
+-- the first of numbered updates are numbered
 pub first_numbered : (c n : ℕ) (us vs : List Update) (items : List Item) → us ++ vs ≡ numbered c n items → us ≡ numbered c n (map (λ u. u.item) us)
 first_numbered c n [] vs items e = refl
 first_numbered c n (u ∷ us) vs [] e = cc
@@ -53,13 +53,13 @@ drained_added [] u = refl
 drained_added (batch ∷ []) u = append-nil (batch ++ u ∷ []) ∙ ap (λ us. us ++ u ∷ []) (sym (append-nil batch))
 drained_added (batch ∷ next ∷ batches) u = ap (λ us. batch ++ us) (drained_added (next ∷ batches) u) ∙ sym (append_assoc batch (all_updates (next ∷ batches)) (u ∷ []))
 
--- the last batch with an update more
+-- the last batch with one more update
 pub last_added : (batches : List (List Update)) (batch : List Update) (u : Update) → with_last u (batches ++ batch ∷ []) ≡ batches ++ (batch ++ u ∷ []) ∷ []
 last_added [] batch u = refl
 last_added (first ∷ []) batch u = refl
 last_added (first ∷ next ∷ batches) batch u = ap (λ bs. first ∷ bs) (last_added (next ∷ batches) batch u)
 
--- one more update of client c, and what it says of the numbers
+-- one more update of client c, and its effect on the numbers
 pub of_more : (c : ℕ) (us : List Update) (u : Update) (items : List Item) → u.client ≡ c → u.serial ≡ length items → updates_of c us ≡ numbered c 0 items → updates_of c (us ++ u ∷ []) ≡ numbered c 0 (items ++ u.item ∷ [])
 of_more c us u items own next whole =
     let e : length items ≡ 0 + length items = omega arith in

@@ -1,4 +1,4 @@
--- What each pass knows, after the role of one was changed.
+-- The knowledge of each pass, after the role of one was changed.
 use Rattle.std.proofs.Common.{◌≡◌, ◌≢◌, ℕ, List, Option, Some, set, sym, ap, ◌∙◌, subst, ⊎_elim}
 use mathlib.Core.Option.{some}
 use lib.ListN.{get_elem?}

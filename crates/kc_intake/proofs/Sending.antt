@@ -1,4 +1,4 @@
--- A client's push keeps the rule, and what it learns where the queue is full.
+-- A client's push keeps the rule, and the facts that the client learns if the queue is full.
 use Rattle.std.proofs.Common.{◌≡◌, ◌≢◌, ℕ, List, [], ◌∷◌, ◌++◌, Option, Some, None, length, sym, refl, ap, ◌∙◌, subst, append_assoc}
 use mathlib.Core.Logic.{dite}
 use native.Mathlib.Decide.{ℕ_discrete}
@@ -20,7 +20,7 @@ use Rattle.kc_intake.proofs.Passes.{views_set, same_pass}
 pub seen : (holds : Holds) (pass : ℕ) (v : Role) → Learns (IsKept holds) pass v (MayWait holds v)
 seen holds pass v items views r at = record { views = views; pass = pass; kept = r; at = at }
 
--- what another pass knows stays so
+-- the knowledge of another pass stays true
 others_stay : (drainer : ℕ) (state : Drained) (pass : ℕ → Option ℕ) (sent : ℕ → List Item) (c j : ℕ) (new : List Item) → pass c ≡ Some j → (k : ℕ) (v : Role) → k ≢ j → PassHolds drainer state pass sent k v → PassHolds drainer state pass (changed sent c new) k v
 others_stay drainer state pass sent c j new mine k Spent other so = so
 others_stay drainer state pass sent c j new mine k (Submits s) other so = (so.0, so.1 ∙ sym (changed_else sent c new s.client (λ e. other (same_pass pass s.client c k j so.0 mine e))))

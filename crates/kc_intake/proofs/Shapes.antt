@@ -19,7 +19,7 @@ use Rattle.kc_intake.specs.Updates.{updates_of, updates_in, all_updates, AreNumb
 use Rattle.kc_intake.specs.Views.{IntakeShape, ClientShape, DrainerShape, intake_of, submitted_of, drained_of, client_shape, drainer_shape, IsClient, IsDrainer, AreAllDrained, submitted, new_client}
 use Rattle.kc_intake.proofs.Lists.{of_append, last_added}
 
--- a cause that a pass was told of, in the words of what callers see
+-- a cause that a pass has learned, in the words of what callers see
 pub held_as : (holds : Holds) (n m : ℕ) (v w : Role) → n ≡ m → v ≡ w → HeldAtStep holds n v → HeldAtStep holds m w
 held_as holds n m v w e f h = subst (λ (z : ℕ × Role). HeldAtStep holds z.0 z.1) (λ i. (e i, f i)) h
 
@@ -43,7 +43,7 @@ stays_as holds n m s t item e f stays = subst (λ (z : ℕ × Submitted). StaysA
 pub client_stays : (old new : Pass Update Role) (c : ClientShape) → client_shape old ≡ c → new.table_id ≡ old.table_id → view new ≡ view old → client_shape new ≡ c
 client_stays old new c is table same = (λ i. record { intake = intake_of (table i); number = (submitted_of (same i)).client; sent = (submitted_of (same i)).items }) ∙ is
 
--- the drainer after a step by which its state became f of what it was
+-- the drainer after a step in which its state became f of its old state
 pub drainer_went : (f : Drained → Drained) (old new : Pass Update Role) → IsDrainer old → IsSamePass old new → view new ≡ at_drainer f (view old) → IsDrainer new × (drained_of (view new) ≡ f (drained_of (view old)))
 drainer_went f old new is same went =
     let now : view new ≡ Drains (f (drained_of (view old))) = went ∙ ap (at_drainer f) is.role_is in
@@ -69,7 +69,7 @@ added holds old new batch more u d is look same went all_are all =
       subst (λ (batches : List (List Update)). HoldsOf holds (all_updates batches)) taken went.1.invariant,
     )
 
--- client n was split off, and is put at the end of those that were split off before
+-- client n was split off, and is put at the end of the clients that were split off before
 pub client_came : (old new client : Pass Update Role) (intake : IntakeShape) (n : ℕ) (before after : List ClientShape)
     → IsDrainer old → IsSamePass old new → view new ≡ with_client (view old) → drained_of (view old) ≡ record { clients = n; taken = []; joined = [] } → view client ≡ client_of (view old) → intake_of client.table_id ≡ intake
     → before ≡ map (new_client intake) (range_with_len 0 n) → after ≡ before ++ client_shape client ∷ []
@@ -89,7 +89,7 @@ is_client old client came free = record { role_is = came ∙ ap Submits (sym (ap
 pub joined_now : (old new client : Pass Update Role) → IsDrainer old → IsSamePass old new → view new ≡ took_in (view old) (view client) → IsDrainer new × (drained_of (view new) ≡ record (drained_of (view old)) { joined = (drained_of (view old)).joined ++ submitted_of (view client) ∷ [] })
 joined_now old new client is same went = drainer_went (λ d. record d { joined = d.joined ++ submitted_of (view client) ∷ [] }) old new is same went
 
--- what was drained of the client that was taken in
+-- the updates drained of the client that was taken in
 pub joined_prefix : (holds : Holds) (old now new client : Pass Update Role) (c : ClientShape) → drained_of (view now) ≡ record (drained_of (view old)) { joined = (drained_of (view old)).joined ++ submitted_of (view client) ∷ [] } → client_shape client ≡ c → view new ≡ view now → (items : List Update) → drain_learns holds (view now) items
     → IsPrefix (updates_of c.number (all_updates (drained_of (view new)).taken)) (updates_in (submitted c))
 joined_prefix holds old now new client c state is same items learned =

@@ -1,4 +1,4 @@
--- When a queue counts as full or empty, and what a user's invariant has to bear.
+-- When a queue counts as full or empty, and when a user's invariant stays true.
 use Rattle.std.specs.Prelude.{◌≡◌, ℕ, ◌<◌, List, [], ◌∷◌, ◌++◌, length}
 use mathlib.Core.Option.{some}
 use lib.ListN.{get_elem?}
@@ -10,7 +10,7 @@ use Rattle.kc_intake.specs.declared.roles.Role.{Role}
 use Rattle.kc_intake.specs.Rule.{IsKept}
 use Rattle.kc_intake.specs.Updates.{updates_of, updates_in}
 
--- of what was drained of an intake, and what waits in it, both oldest first
+-- invariants of the updates drained of an intake and of those that wait in it, both oldest first
 abbrev pub Holds : Type 1
 Holds = List Update → List Update → Type 0
 
@@ -18,20 +18,22 @@ Holds = List Update → List Update → Type 0
 abbrev pub next_update : Submitted → Item → Update
 next_update s item = record { client = s.client; serial = length s.items; item = item }
 
--- the invariant stays where a client that submitted s submits one more item, while fewer than n updates wait
+-- the invariant stays true when a client that submitted s submits one more item, while fewer than n updates wait
 abbrev pub StaysAtSubmit : Holds → ℕ → Submitted → Item → Type 0
 StaysAtSubmit holds n s item = (drained waiting : List Update) → length waiting < n → updates_of s.client (drained ++ waiting) ≡ updates_in s → holds drained waiting → holds drained (waiting ++ next_update s item ∷ [])
 
--- the invariant stays where the update that waits longest is drained
+-- the invariant stays true when the update that waits longest is drained
 abbrev pub StaysAtDrain : Holds → Type 0
 StaysAtDrain holds = (drained waiting : List Update) (u : Update) → holds drained (u ∷ waiting) → holds (drained ++ u ∷ []) waiting
 
--- the invariant holds of what was drained and of what waits
+-- the invariant holds of the drained updates and of those that wait
 pub record HoldsOf (holds : Holds) (drained : List Update) : Type 0 where
   pub waiting : List Update
   pub invariant : holds drained waiting
 
--- the queue may hold these updates beside a pass that knows `role`: there are views of all passes with which the rule is kept
+-- the queue may hold these updates beside a pass that knows `role`
+--
+-- There are views of all passes with which the rule is kept.
 pub record MayWait (holds : Holds) (role : Role) (items : List Update) : Type 0 where
   pub views : List Role
   pub pass : ℕ

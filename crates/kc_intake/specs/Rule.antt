@@ -1,4 +1,4 @@
--- The rule of the queue: what holds between any two steps, of the updates in it and of what each pass knows.
+-- The rule of the queue: the facts between any two steps about the updates in it and about the knowledge of each pass.
 use Rattle.std.specs.Prelude.{◌≡◌, ℕ, ◌<◌, ◌≤◌, List, [], ◌++◌, Option, Some, None, Contains}
 use mathlib.Core.Option.{some}
 use lib.ListN.{get_elem?}
@@ -10,19 +10,23 @@ use Rattle.kc_intake.specs.declared.roles.Role.{Role}
 use Rattle.kc_intake.specs.declared.roles.Role.TheVariants.{Spent, Submits, Drains}
 use Rattle.kc_intake.specs.Updates.{updates_of, numbered, all_updates}
 
--- what pass j knows is so, where the drainer has pass `drainer`, client c has pass `pass c`, and it has sent `sent c`
+-- the knowledge of pass j is true
+--
+-- The drainer has pass `drainer`, client c has pass `pass c`, and it has sent `sent c`.
 abbrev pub PassHolds : ℕ → Drained → (ℕ → Option ℕ) → (ℕ → List Item) → ℕ → Role → Type 0
 PassHolds drainer state pass sent j Spent = Unit {0}
 PassHolds drainer state pass sent j (Submits s) = (pass s.client ≡ Some j) × (s.items ≡ sent s.client)
 PassHolds drainer state pass sent j (Drains d) = (j ≡ drainer) × (d ≡ state)
 
--- `items` are the updates in the queue, oldest first; `holds` is the invariant of the intake's user, of what was drained and what waits
+-- the rule of a queue that holds `items`, oldest first
+--
+-- `holds` is the invariant of the intake's user, of the drained updates and of those that wait.
 pub record IsKept (holds : List Update → List Update → Type 0) (items : List Update) (views : List Role) : Type 0 where
   pub drainer : ℕ
   pub state : Drained
   pub pass : ℕ → Option ℕ
   pub sent : ℕ → List Item
-  -- what each client sent is what was drained of it, and then what the queue holds of it
+  -- the items that each client sent are those drained of it, followed by those that the queue holds of it
   pub whole : (c : ℕ) → updates_of c (all_updates state.taken ++ items) ≡ numbered c 0 (sent c)
   -- later clients have sent nothing
   pub later : (c : ℕ) → state.clients ≤ c → (pass c ≡ None) × (sent c ≡ [])

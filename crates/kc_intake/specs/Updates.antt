@@ -22,6 +22,6 @@ updates_in s = numbered s.client 0 s.items
 abbrev pub all_updates : List (List Update) → List Update
 all_updates batches = flat_map (λ batch. batch) batches
 
--- of each client the updates of these batches are numbered from 0
+-- the updates of each client in these batches are numbered from 0
 abbrev pub AreNumbered : List (List Update) → Type 0
 AreNumbered batches = (c : ℕ) → updates_of c (all_updates batches) ≡ numbered c 0 (map (λ u. u.item) (updates_of c (all_updates batches)))

@@ -1,4 +1,4 @@
--- What contracts see of an intake, a client and a drainer, and what their passes know.
+-- What contracts see of an intake, a client and a drainer, and the knowledge of their passes.
 use Rattle.std.specs.Prelude.{◌≡◌, ℕ, List, [], All}
 use Rattle.atomic_table.specs.Seated.{TableId}
 use Rattle.crossbeam_queue.specs.Passes.{Pass, view}
@@ -10,7 +10,7 @@ use Rattle.kc_intake.specs.declared.roles.Role.{Role}
 use Rattle.kc_intake.specs.declared.roles.Role.TheVariants.{Submits, Drains}
 use Rattle.kc_intake.specs.Updates.{updates_of, updates_in, all_updates}
 
--- an intake: which queue it is, and how many updates it holds at most
+-- an intake: which queue it is, and the most updates that it holds
 pub record IntakeShape : Type 0 where
   pub queue : TableId
   pub capacity : ℕ
@@ -21,8 +21,10 @@ pub record ClientShape : Type 0 where
   pub number : ℕ
   pub sent : List Item
 
--- a drainer: its intake, the last drained batch, the number of clients, all drained batches, and what each client that was taken in
--- had sent
+-- a drainer
+--
+-- The fields are its intake, the last drained batch, the number of clients, and all drained batches. The last field has
+-- the items that each client sent that was taken in.
 pub record DrainerShape : Type 0 where
   pub intake : IntakeShape
   pub batch : List Update
@@ -57,22 +59,22 @@ pub record IsDrainer (p : Pass Update Role) : Type 0 where
   pub role_is : view p ≡ Drains (drained_of (view p))
   pub free : p.me.1 ≡ []
 
--- what a client submitted
+-- the items that a client submitted
 abbrev pub submitted : ClientShape → Submitted
 submitted c = record { client = c.number; items = c.sent }
 
--- what the pass of a client knows
+-- the knowledge of a client's pass
 abbrev pub client_role : ClientShape → Role
 client_role c = Submits (submitted c)
 
--- what the pass of a drainer knows
+-- the knowledge of a drainer's pass
 abbrev pub drainer_role : DrainerShape → Role
 drainer_role d = Drains (record { clients = d.clients; taken = d.taken; joined = d.joined })
 
--- of each client that was taken in, all that it sent is drained
+-- all items are drained that were sent by the clients taken in
 abbrev pub AreAllDrained : DrainerShape → Type 0
 AreAllDrained d = All (λ s. updates_of s.client (all_updates d.taken) ≡ updates_in s) d.joined
 
--- client number c of an intake, which has submitted nothing
+-- client number c of an intake; it has submitted nothing
 abbrev pub new_client : IntakeShape → ℕ → ClientShape
 new_client intake c = record { intake = intake; number = c; sent = [] }

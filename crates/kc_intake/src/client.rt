@@ -1,16 +1,17 @@
-//! A client: the one who may submit to an intake under its number.
+//! A client, which submits items to an intake under its number.
 
 use crate::rule::Pass;
 use std::marker::Model;
 
-/// One that submits items to an intake. Contracts see its intake, its number, and `sent`, the items that it submitted.
+/// A client that submits items to an intake. Contracts see its intake, its number, and `sent`, the items that it
+/// submitted.
 #[derive(Drop)]
 pub struct Client {
-    // What it may do to the queue, and all that it has sent: the pass is for its number.
+    // The rights of the client at the queue, and all items that it has sent. The pass is for the client's number.
     pub(crate) pass: Pass,
-    // Its number, from 0 on, which no other client of its intake has.
+    // The number of the client, from 0 on. No other client of its intake has it.
     pub(crate) number: u32,
-    // How many items it has sent: the serial of the next.
+    // The number of items that the client has sent: the serial of the next item.
     pub(crate) serial: u32,
 }
 

@@ -1,17 +1,19 @@
-//! The drainer: the one who may take updates out of an intake, with the batch that it took last.
+//! The drainer, which takes updates out of an intake, with the batch that it took last.
 ghost use Rattle.std.specs.Prelude.{◌≡◌};
 
 use crate::rule::Pass;
 use crate::updates::Update;
 use std::marker::Model;
 
-/// The one that takes updates out of an intake. Contracts see its intake, the last `batch`, how many clients there are,
-/// `taken`, the drained batches, and `joined`, what each client that was taken in had sent.
+/// The drainer that takes updates out of an intake.
+///
+/// Contracts see its intake, the last `batch`, and the number of clients. They also see `taken`, the drained batches,
+/// and `joined`, the items that each client sent that was taken in.
 #[derive(Drop)]
 pub struct Drainer {
-    // What it may do to the queue, and all that was drained and who was taken in.
+    // The rights of the drainer at the queue, all drained updates, and the clients that were taken in.
     pub(crate) pass: Pass,
-    // The updates of the last drain. Has room for the capacity of the intake, so that no drain takes memory.
+    // The updates of the last drain. It has room for the capacity of the intake, so that no drain takes memory.
     pub(crate) batch: Vec<Update>,
 }
 
@@ -27,8 +29,8 @@ impl Model for Drainer {
 }
 
 impl Drainer {
-    /// The updates of the last drain, oldest first. It is empty before the first drain, and after one that found the
-    /// intake empty.
+    /// Returns the updates of the last drain, oldest first. There are none before the first drain, and after a drain
+    /// that found the intake empty.
     pub fn batch(&self) -> &[Update]
         ensures { result.now ≡ self.now.batch }
     {

@@ -1,4 +1,5 @@
-//! The intake: it is opened with its clients and its drainer, items are submitted, and batches of them are drained.
+//! The intake: it is opened with its clients and its drainer; clients submit items, and the drainer drains batches of
+//! them.
 ghost use Rattle.std.specs.Prelude.{◌≡◌, ◌≤◌, ◌<◌, [], ◌∷◌, ◌++◌, length, map, All, IfOk, OnOk, OnErr};
 ghost use Rattle.std.specs.List.{range_with_len};
 ghost use mathlib.Core.List.{IsPrefix};
@@ -19,11 +20,11 @@ use std::sync::Wait;
 use std::thread::Threads;
 
 /// The queue between clients and their server. Contracts see which queue it is, and its capacity. `I` is an invariant
-/// of its updates that its user picks.
+/// of its updates, which its user picks.
 #[derive(Drop)]
 pub struct Intake<I: Invariant = Anything> {
-    // Holds at most as many updates as its capacity, 1 to `MAX_CAPACITY`, and keeps `Rule` whatever clients and drainer
-    // do.
+    // Holds at most as many updates as its capacity, 1 to `MAX_CAPACITY`. It keeps `Rule` in all steps of clients and
+    // drainer.
     queue: Queue<I>,
 }
 
@@ -57,12 +58,12 @@ impl Intake {
 }
 
 impl<I: Invariant> Intake<I> {
-    /// Opens an intake that holds up to `capacity` updates, its drainer, and its clients, numbered from 0
-    /// (`new_client`). The capacity is 1 to `MAX_CAPACITY`, and there are 1 to `MAX_CLIENTS` clients. The invariant
-    /// holds where nothing was drained and nothing waits.
+    /// Opens an intake that holds up to `capacity` updates. Returns it with its drainer, and with its clients, numbered
+    /// from 0 (`new_client`). The capacity is 1 to `MAX_CAPACITY`, and there are 1 to `MAX_CLIENTS` clients. The
+    /// invariant holds if nothing was drained and nothing waits.
     ///
-    /// This takes all memory that the intake, its drainer and its clients ever need: room for `capacity` updates in the
-    /// queue, and as much in the drainer's batch. No other call takes memory.
+    /// The call takes all memory that the intake, its drainer and its clients ever need. That is room for `capacity`
+    /// updates in the queue, and as much in the drainer's batch. No other call takes memory.
     pub fn open_with(
         alloc: Global,
         capacity: u32,
@@ -89,16 +90,18 @@ impl<I: Invariant> Intake<I> {
         Ok((Intake { queue }, Drainer { pass, batch }, opened))
     }
 
-    /// Submits an item: it is queued as an update with the client's number, and with the number of items that the
-    /// client sent before as its serial. The client is of this intake, and has sent fewer than `MAX_SENT` items. The
-    /// invariant stays where the item is queued (`StaysAtSubmit`).
+    /// Submits an item. It is queued as an update with the client's number; its serial is the number of items that the
+    /// client sent before. The client is of this intake, and has sent fewer than `MAX_SENT` items. The invariant stays
+    /// true when the item is queued (`StaysAtSubmit`).
     ///
-    /// `Full` comes only where the queue held its capacity at a step since the client's last `Ok` (`HeldAtStep`); then
-    /// nothing was queued, and the client is as it was. The invariant holds of the updates that waited at this step
-    /// (`MayWait`). No body answers `Full` without such a step: it is proved for every invariant, and can't show of
-    /// updates which it made up that an invariant holds of them.
+    /// `Full` comes only if the queue held its capacity at a step since the client's last `Ok` (`HeldAtStep`). Then
+    /// nothing was queued, and the client is unchanged. The invariant holds of the updates that waited at this step
+    /// (`MayWait`).
     ///
-    /// The call takes constant time, but that it tries again while other threads are at the same place of the queue.
+    /// No body can answer `Full` without such a step. The reason: the call is proved for every invariant, so no body
+    /// can show that an invariant holds of updates that it made up.
+    ///
+    /// Cost: constant time, except that the call tries again while other threads are at the same place of the queue.
     pub fn submit<R: Threads + Wait + Sync>(
         &self,
         rt: &R,
@@ -128,16 +131,19 @@ impl<I: Invariant> Intake<I> {
         }
     }
 
-    /// Drains a batch of 1 to `capacity` updates, oldest first, which the drainer then has as its `batch`. The updates
-    /// of each client are numbered from 0 over all batches (`AreNumbered`), and the invariant holds of all that was
-    /// drained, with what then waited (`HoldsOf`). The drainer is of this intake. The invariant stays where an update
+    /// Drains a batch of 1 to `capacity` updates, oldest first. The batch is then the drainer's `batch`. The updates of
+    /// each client are numbered from 0 over all batches (`AreNumbered`). The invariant holds of all drained updates,
+    /// with those that then waited (`HoldsOf`). The drainer is of this intake. The invariant stays true when an update
     /// is drained (`StaysAtDrain`).
     ///
-    /// The batch is shorter than `capacity` only where the queue was empty at a step after the last update was drained
-    /// (`HeldAtStep`). `Empty` comes only there too; then the batch is empty, and nothing was drained. In both cases
-    /// the invariant held of what was drained with nothing that waits, and all is drained that the clients sent that
-    /// were taken in (`AreAllDrained`). The call takes time in proportion to the batch, but that it tries again while
-    /// other threads are at the same place of the queue.
+    /// The batch is shorter than `capacity` only if the queue was empty at a step after the last update was drained
+    /// (`HeldAtStep`). `Empty` comes only in that case too; then the batch is empty, and nothing was drained.
+    ///
+    /// In both cases the invariant held of the drained updates while none waited. All items are drained that were sent
+    /// by the clients taken in (`AreAllDrained`).
+    ///
+    /// Cost: time in proportion to the batch, except that the call tries again while other threads are at the same
+    /// place of the queue.
     pub fn drain<R: Threads + Wait + Sync>(
         &self,
         rt: &R,
@@ -167,9 +173,9 @@ impl<I: Invariant> Intake<I> {
         Ok(())
     }
 
-    /// Takes in a client that has ended. The updates that were drained of it (`updates_of`) are the first ones of those
-    /// that it sent (`updates_in`), in its order, each once. Where a later drain finds the intake empty, they are all
-    /// of them (`AreAllDrained`). The drainer and the client are of this intake. The call takes constant time.
+    /// Takes in a client that has ended. The updates that were drained of it (`updates_of`) are the first of those that
+    /// it sent (`updates_in`), in its order, each once. If a later drain finds the intake empty, they are all of them
+    /// (`AreAllDrained`). The drainer and the client are of this intake. Cost: constant time.
     pub fn take_in<R: Threads + Wait + Sync>(&self, _rt: &R, drainer: &mut Drainer, client: Client)
         requires intake { (drainer.old.intake ≡ self.now) × (client.intake ≡ self.now) }
         ensures same { drainer.new ≡ record drainer.old { joined = drainer.old.joined ++ submitted client ∷ [] } }

@@ -1,4 +1,4 @@
-//! The greatest numbers of updates that wait, of clients, and of items of one client.
+//! The most updates that wait, the most clients, and the most items of one client.
 
 /// The greatest capacity of an intake.
 pub const MAX_CAPACITY: u32 = 65_536;

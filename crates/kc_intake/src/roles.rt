@@ -1,10 +1,10 @@
-//! What each pass of the queue knows. No value of these types is made: they are what contracts and the queue's rule
-//! speak of.
+//! The knowledge of each pass of the queue. No value of these types is made: contracts and the queue's rule speak of
+//! them.
 use crate::updates::Update;
 use kc_graph::Item;
 use std::collections::LinkedList;
 
-/// What a client sent.
+/// The items that a client sent.
 pub struct Submitted {
     /// The client's number.
     pub client: u32,
@@ -12,22 +12,22 @@ pub struct Submitted {
     pub items: LinkedList<Item>,
 }
 
-/// What the drainer knows.
+/// The knowledge of the drainer.
 pub struct Drained {
     /// The number of clients.
     pub clients: u32,
     /// The drained batches, in order.
     pub taken: LinkedList<LinkedList<Update>>,
-    /// What each client that was taken in had sent.
+    /// The items that each client sent that was taken in.
     pub joined: LinkedList<Submitted>,
 }
 
-/// What a pass of the queue is for, with what it knows.
+/// The use of a pass of the queue, with its knowledge.
 pub enum Role {
-    /// Nothing any more.
+    /// The pass has no more use.
     Spent,
-    /// A client's.
+    /// The pass of a client.
     Submits(Submitted),
-    /// The drainer's.
+    /// The pass of the drainer.
     Drains(Drained),
 }

@@ -1,4 +1,4 @@
-//! The rule of the queue, and what each kind of step tells.
+//! The rule of the queue, and the facts that each kind of step shows.
 use crate::invariant::Invariant;
 use crate::roles::Role;
 use crate::updates::Update;
@@ -68,7 +68,7 @@ impl<I: Invariant> Lesson<Update, Role> for Begins<I> {
     ghost fact = { drain_learns I.holds };
 }
 
-// The drainer pops a further update of the batch, or finds the queue empty.
+// The drainer pops another update of the batch, or finds the queue empty.
 pub(crate) struct Adds<I> {
     invariant: PhantomData<I>,
 }
@@ -97,7 +97,7 @@ impl Join<Role> for TakesIn {
     ghost spent = { Spent };
 }
 
-// What the clients that were taken in had sent.
+// The items that the clients sent that were taken in.
 pub(crate) struct Compares<I> {
     invariant: PhantomData<I>,
 }

@@ -8,7 +8,7 @@ use thiserror::Error;
 pub struct Update {
     /// The client's number, from 0.
     pub client: u32,
-    /// How many items the client had sent before.
+    /// The number of items that the client sent before.
     pub serial: u32,
     /// The item.
     pub item: Item,

@@ -15,7 +15,7 @@ use Rattle.kc_service.specs.declared.applied.Applied.{Applied}
 use Rattle.kc_service.specs.Services.{ServiceView, view_of, IsDue, IsApplied}
 use Rattle.kc_service.specs.private.Planning.{IsShownPlan}
 
--- what a cleaned batch that was planned is told as
+-- the view of a cleaned batch that was planned
 abbrev pub applied_of : Cleaned → BatchPlan → Applied
 applied_of c plan = record { added = length c.added; removed = length c.removed; moves = plan.moves; phases = plan.phases }
 

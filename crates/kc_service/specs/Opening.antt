@@ -1,4 +1,4 @@
--- What a service is opened with, and as what.
+-- The options of a service, and the service that was just opened.
 use Rattle.std.specs.Prelude.{ℕ, ◌≡◌, ◌<◌, ◌≤◌, false, []}
 use Rattle.atomic_table.specs.Seated.{TableId}
 use Rattle.kc_graph.specs.declared.limits.TheConstants.{MAX_EDGES, MAX_VERTICES}
@@ -9,12 +9,12 @@ use Rattle.kc_service.specs.declared.faults.OpenFault.{OpenFault}
 use Rattle.kc_service.specs.declared.faults.OpenFault.TheVariants.{Vertices, Workers, EdgeLimit, Memory}
 use Rattle.kc_service.specs.Services.{ServiceView}
 
--- there may be so many vertices
+-- the range of the number of vertices
 pub record IsVertexCount (n : ℕ) : Type 0 where
   pub some : 1 ≤ n
   pub few : n ≤ MAX_VERTICES
 
--- there may be so many workers
+-- the range of the number of workers
 pub record IsWorkerCount (n : ℕ) : Type 0 where
   pub some : 1 ≤ n
   pub few : n ≤ MAX_WORKERS
@@ -32,7 +32,7 @@ RangeCause o (Workers n) = IsVertexCount o.vertices × ((n ≡ o.workers) × (Is
 RangeCause o (EdgeLimit n) = IsVertexCount o.vertices × (IsWorkerCount o.workers × ((n ≡ o.edge_limit) × (MAX_EDGES < n)))
 RangeCause o (Memory _) = ⊥
 
--- why a service with these options isn't opened: `Memory` only if each number is in its range
+-- the cause for which a service with these options isn't opened: `Memory` only if each number is in its range
 abbrev pub OpenCause : Options → OpenFault → Type 0
 OpenCause o (Vertices n) = RangeCause o (Vertices n)
 OpenCause o (Workers n) = RangeCause o (Workers n)

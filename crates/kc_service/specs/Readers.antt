@@ -1,4 +1,4 @@
--- What contracts see of a reader, and what one reading says.
+-- What contracts see of a reader, and the answer to one reading.
 use Rattle.std.specs.Prelude.{ℕ, List, length, min}
 use Rattle.atomic_table.specs.Seated.{TableId}
 use Rattle.kc_levels.specs.declared.profile.Profile.{Profile}
@@ -9,13 +9,13 @@ use Rattle.kc_service.specs.Services.{ServiceView}
 
 -- what contracts see of a reader
 pub record ReaderView : Type 0 where
-  -- the table in which the levels are shown that it reads
+  -- the table of the levels that it reads
   pub table : TableId
   pub profile : Profile
   pub vertices : ℕ
   -- the part of the history that it has seen
   pub seen : List Entry
-  -- how long the history was when the reader was made
+  -- the length of the history when the reader was made
   pub made : ℕ
 
 -- a reader of the service that has read nothing yet
@@ -26,6 +26,6 @@ first_view s = record { table = s.table; profile = s.state.profile; vertices = s
 abbrev pub group_below_top : Profile → ℕ → ℕ → ℕ
 group_below_top p n level = group_of p n (min level (top_level p n))
 
--- a level of a graph with n vertices, and what its group says of coreness
+-- a level of a graph with n vertices, and the bounds and the estimate of its group
 abbrev pub bounds_at : Profile → ℕ → ℕ → Bounds
 bounds_at p n level = record { level = level; low = lo p (group_below_top p n level); est = est p (group_below_top p n level); high = high p (group_below_top p n level) }

@@ -1,4 +1,4 @@
--- What contracts see of a service, and what becomes of a batch.
+-- What contracts see of a service, and the results of batches.
 use Rattle.std.specs.Prelude.{ℕ, ◌≡◌, ◌⊎◌, ◌<◌, ◌≤◌, Bool, true, false, List, ◌++◌, length, take, All, Option, Some, None, Result, Ok, Err}
 use Rattle.std.specs.List.{HoldsAt}
 use Rattle.std.specs.Io.KnownBytes.{append_known}
@@ -30,7 +30,7 @@ pub record ServiceView : Type 0 where
   pub table : TableId
   pub vertices : ℕ
   pub state : State
-  -- what readers see: the entries of all batches
+  -- the entries of all batches, which readers see
   pub history : List Entry
   pub edge_limit : ℕ
   pub halted : Bool
@@ -39,7 +39,7 @@ pub record ServiceView : Type 0 where
 abbrev pub view_of : StoreShape → EngineView → WriterShape → ServiceView
 view_of s e w = record { table = s.table; vertices = s.vertices; state = e.state; history = w.state.history; edge_limit = e.edge_limit; halted = e.halted }
 
--- i is the index of the first of the items of which a vertex isn't below n
+-- i is the index of the first item with a vertex that isn't below n
 pub record IsFirstOutside (n : ℕ) (items : List Item) (i : ℕ) : Type 0 where
   pub inside : i < length items
   pub outside : HoldsAt (λ (item : Item). IsInside n item → ⊥) items i
@@ -51,8 +51,9 @@ pub record IsDue (s : ServiceView) (items : List Item) : Type 0 where
   pub few : length items ≤ MAX_ITEMS
   pub inside : All (IsInside s.vertices) items
 
--- the batch was applied: t is the service s after it. The levels are lowered and then raised (`IsAfterPhases`), and readers see the
--- entries of the phases after those before
+-- the batch was applied: t is the service s after it
+--
+-- The levels are lowered and then raised (`IsAfterPhases`). Readers see the entries of the phases after those before.
 pub record IsApplied (s : ServiceView) (items : List Item) (a : Applied) (t : ServiceView) : Type 0 where
   pub due : IsDue s items
   pub accepted : refusal_of s.edge_limit s.state (cleaned s.state.graph items) ≡ None
@@ -69,7 +70,7 @@ pub record IsCutOff (s : ServiceView) (items : List Item) (t : ServiceView) : Ty
   pub halted : t.halted ≡ true
   pub rest : t ≡ record s { state = t.state; halted = true }
 
--- what `apply` answers to items, and the service before and after it
+-- the answer of `apply` to items, and the service before and after it
 abbrev pub Applies : ServiceView → List Item → Result Applied ApplyFault → ServiceView → Type 0
 Applies s items (Ok a) t = IsApplied s items a t
 Applies s items (Err Halted) t = (s.halted ≡ true) × (t ≡ s)
@@ -79,24 +80,24 @@ Applies s items (Err (EdgeLimit edges)) t = IsDue s items × ((refusal_of s.edge
 Applies s items (Err (PhaseLimit phase)) t = IsDue s items × ((refusal_of s.edge_limit s.state (cleaned s.state.graph items) ≡ Some (engine.PhaseLimit phase)) × (t ≡ s))
 Applies s items (Err (Memory error)) t = IsDue s items × ((t ≡ s) ⊎ IsCutOff s items t)
 
--- `coreness` answers `Halted` exactly when the service has halted
+-- `coreness` answers `Halted` exactly if the service has halted
 abbrev pub CorenessCause : {T : Type 0} → Bool → Result T CorenessFault → Type 0
 CorenessCause halted (Ok _) = halted ≡ false
 CorenessCause halted (Err coreness.Halted) = halted ≡ true
 CorenessCause halted (Err (coreness.Memory _)) = halted ≡ false
 
--- the text of the state
+-- the certificate of the state
 abbrev pub text_of : State → List ℕ
 text_of s = certificate_text (record { profile = s.profile; graph = s.graph; levels = s.levels })
 
--- what `certificate` makes of what a sink had taken
+-- the bytes that a sink took before and after `certificate`
 abbrev pub Certifies : {T : Type 0} → ServiceView → Option (List ℕ) → Option (List ℕ) → Result T CertificateFault → Type 0
 Certifies s before now (Ok _) = (s.halted ≡ false) × (now ≡ append_known before (text_of s.state))
 Certifies s before now (Err certificate.Halted) = (s.halted ≡ true) × (now ≡ before)
 Certifies s before now (Err certificate.WriteFault) = (s.halted ≡ false) × IsPrefix before now (text_of s.state)
 Certifies s before now (Err (certificate.Memory _)) = (s.halted ≡ false) × IsPrefix before now (text_of s.state)
 
--- `WriteFault` comes only if the sink's count of faults rose, and else the count stays
+-- `WriteFault` comes only if the sink's count of faults rose, and otherwise the count stays
 abbrev pub CertificateCause : {T : Type 0} → ℕ → ℕ → Result T CertificateFault → Type 0
 CertificateCause before now (Ok _) = now ≡ before
 CertificateCause before now (Err certificate.Halted) = now ≡ before

@@ -1,17 +1,17 @@
-//! What a batch did.
+//! The result of a batch.
 
 use kc_engine::PhasePlans;
 
-/// What a batch did to the graph and to the levels.
+/// The effect of a batch on the graph and on the levels.
 #[derive(Drop)]
 pub struct Applied {
-    /// How many edges came in.
+    /// The number of edges that came in.
     pub added: usize,
-    /// How many edges left.
+    /// The number of edges that left.
     pub removed: usize,
-    /// How many moves its phases have together: at most twice the number of vertices.
+    /// The number of moves in all phases of the batch: at most twice the number of vertices.
     pub moves: u32,
-    /// Its phases in order, each with the groups of vertices that moved together: the phase in which edges left, if some did, and
-    /// then the phase in which edges came in, if some did.
+    /// The phases of the batch in order, each with the groups of vertices that moved together. The edges that left are
+    /// the first phase, and those that came in the last one. A phase without edges is left out.
     pub phases: PhasePlans,
 }

@@ -1,4 +1,4 @@
-//! What a service and its readers share.
+//! The part that a service and its readers share.
 ghost use Rattle.std.specs.Prelude.{◌≡◌, IfOk};
 ghost use Rattle.std.specs.Arc.{arc_value};
 ghost use Rattle.kc_store.specs.States as states;
@@ -10,12 +10,12 @@ use kc_store::{Store, Writer};
 use std::alloc::{AllocError, Global};
 use std::sync::Arc;
 
-/// What a service and its readers share: the levels that are shown, and what a level says of coreness.
+/// The part that a service and its readers share: the levels that are shown, and the bounds of coreness for each level.
 #[derive(Drop)]
 pub struct Board {
     /// The levels that are shown.
     pub store: Store,
-    /// Which thresholds the levels go by.
+    /// The profile of the levels' thresholds.
     pub profile: Profile,
     /// The thresholds of this profile.
     pub thresholds: Thresholds,
@@ -23,7 +23,7 @@ pub struct Board {
     ghost scale: { thresholds.vertices ≡ store.vertices },
 }
 
-/// A board for options that are in range, and the writer of its store.
+/// Makes a board for options that are in range, and the writer of its store.
 pub(crate) fn open_board(
     alloc: Global,
     options: Options,

@@ -1,11 +1,12 @@
-//! The faults of a service's calls: what each call was asked that it doesn't do, or that memory ran out.
+//! The faults of a service's calls: arguments out of range, a halted service, refused batches, failed writes, no
+//! memory.
 ghost use Rattle.std.specs.Prelude.{◌≡◌};
 
 use kc_engine::EngineFault;
 use std::alloc::AllocError;
 use thiserror::Error;
 
-/// Why a service wasn't opened.
+/// The reasons for which a service wasn't opened.
 #[derive(Debug, Drop, Error)]
 pub enum OpenFault {
     /// The number of vertices is 0 or above `MAX_VERTICES`.
@@ -22,25 +23,25 @@ pub enum OpenFault {
     Memory(AllocError),
 }
 
-/// Why a batch wasn't applied.
+/// The reasons for which a batch wasn't applied.
 #[derive(Debug, Drop, Error)]
 pub enum ApplyFault {
     /// An earlier batch ran out of memory while it was applied. Readers still answer, from the state before that batch.
     #[error("the service has halted")]
     Halted,
-    /// The batch has more than `MAX_ITEMS` items: this many.
+    /// The batch has this number of items, more than `MAX_ITEMS`.
     #[error("{items} items are too many for a batch")]
     TooMany { items: usize },
-    /// A vertex of the item at this index isn't one of the graph. The vertices of all items before it are.
+    /// A vertex of the item at this index isn't a vertex of the graph. The vertices of all items before it are.
     #[error("a vertex of item {item} is out of range")]
     OutOfRange { item: usize },
-    /// The graph would have more edges than the edge limit: this many.
+    /// The graph would have this many edges, more than the edge limit.
     #[error("the graph would have {edges} edges")]
     EdgeLimit { edges: u32 },
-    /// The batch's last phase would have a number above `MAX_PHASE`: this one.
+    /// The batch's last phase would have this number, above `MAX_PHASE`.
     #[error("the last phase would have the number {phase}")]
     PhaseLimit { phase: u32 },
-    /// There was no memory. Nothing changed, or the service has halted: `Service::has_halted` tells which.
+    /// There was no memory. Nothing changed, or the service has halted: `Service::has_halted` says which.
     #[error(transparent)]
     Memory(AllocError),
 }
@@ -65,7 +66,7 @@ impl From<EngineFault> for ApplyFault {
 #[error("the service has halted")]
 pub struct Halted;
 
-/// Why there is no coreness.
+/// The reasons for which there is no coreness.
 #[derive(Debug, Drop, Error)]
 pub enum CorenessFault {
     /// The service has halted.
@@ -76,7 +77,7 @@ pub enum CorenessFault {
     Memory(AllocError),
 }
 
-/// Why a certificate wasn't written whole.
+/// The reasons for which a certificate wasn't written whole.
 #[derive(Debug, Drop, Error)]
 pub enum CertificateFault {
     /// The service has halted, and nothing was written.

@@ -1,4 +1,4 @@
-//! Whether items are of vertices that there are.
+//! The test whether the vertices of items are vertices of the graph.
 ghost use Rattle.std.specs.Prelude.{◌≡◌, ◌<◌, All, take, length, MatchOption};
 ghost use Rattle.std.specs.Bool.{OnTrue, OnFalse};
 ghost use Rattle.kc_graph.specs.Cleaning.{IsInside};
@@ -6,7 +6,7 @@ ghost use Rattle.kc_service.specs.Services.{IsFirstOutside};
 
 use kc_graph::Item;
 
-// Whether the vertices of the item are below n.
+// Returns whether the vertices of the item are below n.
 fn is_inside(item: Item, n: u32) -> bool
     ensures inside { OnTrue result (IsInside n item) }
     ensures outside { OnFalse result (IsInside n item → ⊥) }
@@ -17,7 +17,7 @@ fn is_inside(item: Item, n: u32) -> bool
     }
 }
 
-/// The index of the first item of which a vertex isn't below n.
+/// Returns the index of the first item with a vertex that isn't below n.
 pub(crate) fn first_outside(items: &[Item], n: u32) -> Option<usize>
     ensures { MatchOption result (All (IsInside n) items.now) (IsFirstOutside n items.now) }
 {

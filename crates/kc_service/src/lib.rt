@@ -1,8 +1,10 @@
-//! A service: a graph with levels that batches change, and readers in threads of their own that ask for levels meanwhile.
+//! A service: a graph with levels that batches change, and readers in threads of their own that ask for levels
+//! meanwhile.
 //!
-//! [`Service::open`] takes [`Options`]; [`Service::apply`] applies a batch of items whole, or refuses it with a cause and changes
-//! nothing. [`Service::reader`] gives a [`Reader`], which any thread may own: [`Reader::level`] and [`Reader::bounds`] answer while
-//! batches are applied. No call asks its caller for a proof: what a caller could get wrong is tested when it runs.
+//! [`Service::open`] takes [`Options`]. [`Service::apply`] applies a batch of items whole, or refuses it with a cause
+//! and changes nothing. [`Service::reader`] returns a [`Reader`], which any thread may own. [`Reader::level`] and
+//! [`Reader::bounds`] answer while batches are applied. No call asks its caller for a proof: arguments that could be
+//! wrong are tested at run time.
 //!
 //! ```text
 //! let mut service = Service::open(&rt, rt.alloc(), Options::for_vertices(5))?;
@@ -11,7 +13,7 @@
 //! let bounds = reader.bounds(1);
 //! ```
 //!
-//! `specs/` has the definitions: `Services` says what becomes of a service, `Readers` what a reader answers.
+//! `specs/` has the definitions: `Services` for the changes of a service, `Readers` for the answers of a reader.
 #![tactic(auto)]
 
 mod applied;

@@ -1,4 +1,4 @@
-//! What a service is opened with.
+//! The options with which a service is opened.
 ghost use Rattle.std.specs.Prelude.{◌≡◌};
 ghost use Rattle.std.specs.Prelude.{OnOk, IfErr};
 ghost use Rattle.kc_graph.specs.declared.limits.TheConstants.{MAX_EDGES};
@@ -12,21 +12,22 @@ use kc_levels::Profile;
 /// The most workers that a service may have.
 pub const MAX_WORKERS: u32 = 64;
 
-/// What a service is opened with. [`Options::for_vertices`] has the usual numbers.
+/// The options with which a service is opened. [`Options::for_vertices`] has the usual numbers.
 #[derive(Clone, Copy, Debug, PartialEq, Eq)]
 pub struct Options {
-    /// The number of vertices, 1 to `MAX_VERTICES`: they are 0 to this number less 1.
+    /// The number of vertices, 1 to `MAX_VERTICES`. The vertices are 0 to this number less 1.
     pub vertices: u32,
-    /// Which thresholds the levels go by: `One` is coarser and cheaper, `Two` finer.
+    /// The profile of the levels' thresholds: `One` is coarser and cheaper, `Two` finer.
     pub profile: Profile,
-    /// The most threads that a batch may use, 1 to `MAX_WORKERS`. No answer depends on it.
+    /// The most threads that a batch may use, 1 to `MAX_WORKERS`. No answer depends on this number.
     pub workers: u32,
     /// The most edges that the graph may have, 0 to `MAX_EDGES`.
     pub edge_limit: u32,
 }
 
 impl Options {
-    /// Returns the options of a service with this many vertices: profile `One`, one worker, and up to `MAX_EDGES` edges.
+    /// Returns the options of a service with this many vertices: profile `One`, one worker, and up to `MAX_EDGES`
+    /// edges.
     pub fn for_vertices(vertices: u32) -> Options
         ensures { result ≡ record { vertices = vertices; profile = One; workers = 1; edge_limit = MAX_EDGES } }
     {

@@ -1,4 +1,4 @@
-//! A cleaned batch is planned and shown.
+//! Planning and showing of a cleaned batch.
 ghost use Rattle.std.specs.Prelude.{◌≡◌, false, OnOk};
 ghost use Rattle.kc_levels.specs.LevelList.{MeetsBoth};
 ghost use Rattle.kc_engine.specs.Batches.{IsCleaning};
@@ -13,8 +13,8 @@ use kc_store::{Store, Writer};
 use std::alloc::Global;
 use std::thread::Threads;
 
-/// Plans a cleaned batch, and shows the plan in the store. The writer's history leads to the engine's state, before and, unless the
-/// engine has halted, afterwards.
+/// Plans a cleaned batch, and shows the plan in the store. Before the call the writer's history leads to the engine's
+/// state. Unless the engine has halted, it does so afterwards too.
 pub(crate) fn plan_and_show<R: Threads + Sync>(
     rt: &R,
     alloc: Global,
@@ -33,7 +33,7 @@ pub(crate) fn plan_and_show<R: Threads + Sync>(
     ensures abreast { OnOk result (IsAbreast writer.new.state engine.new.state) }
     ensures both { OnOk result (MeetsBoth engine.new.state.profile engine.new.state.graph engine.new.state.levels) }
 {
-    // Its contract says that the state is sound.
+    // Evidence for the check: the state is sound.
     let _graph = engine.graph();
     let plan = engine.plan(rt, alloc, &OpenGate::new(), cleaned)?;
     phases_continue();

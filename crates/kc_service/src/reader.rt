@@ -10,7 +10,7 @@ use std::alloc::Global;
 use std::marker::Model;
 use std::sync::Arc;
 
-/// What one reading of a vertex says.
+/// The answer to one reading of a vertex.
 #[derive(Clone, Copy, Debug, PartialEq, Eq)]
 pub struct Bounds {
     /// The vertex's level.
@@ -25,14 +25,14 @@ pub struct Bounds {
 
 /// Reads the levels of a service while batches are applied. Any thread may own a reader, and it outlives its service.
 ///
-/// Contracts see it as a `ReaderView`: which table of levels it reads, the profile and the number of vertices, the part of the
-/// history that it has seen, and how long the history was when the reader was made. What it has seen only grows, so it never goes
-/// back to a state before one that it has seen.
+/// Contracts see a `ReaderView`: the table of levels that it reads, the profile and the number of vertices. They also
+/// see the part of the history that it has seen, and how long the history was when the reader was made. The part seen
+/// only grows, so a reader never goes back to a state before one that it has seen.
 #[derive(Drop)]
 pub struct Reader {
-    // Shared with the service.
+    // The part shared with the service.
     pub(crate) board: Arc<Board, Global>,
-    // Of the board's store.
+    // The pass of the board's store.
     pub(crate) pass: Pass,
 }
 
@@ -56,10 +56,10 @@ impl Reader {
         self.board.store.vertices()
     }
 
-    /// Returns the level of `v` at a point of the history that isn't before what the reader had seen, or `None` if there is no such
-    /// vertex. The reader has then seen the history up to that point.
+    /// Returns the level of `v`, or `None` if there is no such vertex. It is the level at a point of the history that
+    /// isn't before the part that the reader had seen. Afterwards the reader has seen the history up to that point.
     ///
-    /// Never waits and takes no memory. Costs one to three loads.
+    /// Never waits and takes no memory. Cost: one to three loads.
     pub fn level(&mut self, v: u32) -> Option<u16>
         ensures some { IsSome result ↔ (v < self.old.vertices) }
         ensures same { self.new ≡ record self.old { seen = self.new.seen } }
@@ -73,10 +73,10 @@ impl Reader {
         Some(store.read(&mut self.pass, v))
     }
 
-    /// Returns the level of `v`, as [`Reader::level`] reads it, with what it says of the coreness of `v` (`bounds_at`). `None` if there
-    /// is no such vertex.
+    /// Returns the level of `v`, as [`Reader::level`] reads it, with its bounds and estimate of the coreness of `v`
+    /// (`bounds_at`). Returns `None` if there is no such vertex.
     ///
-    /// Never waits and takes no memory. Costs one to three loads.
+    /// Never waits and takes no memory. Cost: one to three loads.
     pub fn bounds(&mut self, v: u32) -> Option<Bounds>
         ensures some { IsSome result ↔ (v < self.old.vertices) }
         ensures same { self.new ≡ record self.old { seen = self.new.seen } }
@@ -85,7 +85,7 @@ impl Reader {
     {
         let level = self.level(v)?;
         let thresholds = &self.board.thresholds;
-        // No batch puts a vertex above the top, but that isn't a clause of the store.
+        // No batch puts a vertex above the top, but the store has no clause for that.
         let estimate = thresholds.estimate(level.min(thresholds.top()));
         Some(Bounds {
             level,

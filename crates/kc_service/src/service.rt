@@ -1,4 +1,4 @@
-//! The service itself: it is opened, applies batches, gives readers, and tells its state.
+//! The service itself: it is opened, applies batches, makes readers, and returns its state.
 ghost use Rattle.std.specs.Prelude.{◌≡◌, ◌≤◌, ◌<◌, true, false, length, All, IfOk, OnOk, OnErr, IfErr, is_err, ℕ, slice_index};
 ghost use Rattle.kc_graph.specs.Cleaning.{IsInside};
 ghost use Rattle.kc_graph.specs.declared.limits.TheConstants.{MAX_ITEMS};
@@ -33,22 +33,22 @@ use std::thread::Threads;
 
 /// A graph with levels that batches change, one after another, and that readers look up meanwhile.
 ///
-/// Contracts see it as a `ServiceView`: which table shows its levels, the number of vertices, its state (profile, graph, levels and
-/// number of phases), the history that readers see, the edge limit, and whether it has halted. Unless it has halted both invariants
-/// hold, and the history leads to the state.
+/// Contracts see a `ServiceView`: the table that shows its levels, the number of vertices, the edge limit, and whether
+/// it has halted. They also see its state, which is profile, graph, levels and number of phases, and the history that
+/// readers see. Unless it has halted, both invariants hold, and the history leads to the state.
 ///
 /// Besides the graph it takes 49 bytes a vertex.
 #[derive(Drop)]
 pub struct Service<'a, R> {
-    // Starts the threads of a batch.
+    // The runtime that starts the threads of a batch.
     rt: &'a R,
     alloc: Global,
     engine: Engine,
-    // Shared with the readers.
+    // The part shared with the readers.
     board: Arc<Board, Global>,
-    // Of the board's store.
+    // The writer of the board's store.
     writer: Writer,
-    // Whether the engine has.
+    // Whether the engine has halted.
     halted: bool,
 }
 
@@ -65,10 +65,10 @@ impl<'a, R> Model for Service<'a, R> {
     ghost invariant = { λ s. IsKept (arc_value s.board).store (arc_value s.board).thresholds s.engine s.writer s.halted };
 }
 
-/// What a service consists of, for a program that goes on with the crates below.
+/// The parts of a service, for a program that goes on with the crates below.
 #[derive(Drop)]
 pub struct Parts {
-    /// The engine. No plan waits in it.
+    /// The engine. No plan is pending in it.
     pub engine: Engine,
     /// The store, with the thresholds.
     pub board: Arc<Board, Global>,
@@ -79,8 +79,8 @@ pub struct Parts {
 impl<'a, R: Threads + Sync> Service<'a, R> {
     /// Opens a service without edges, each vertex on level 0 (`opened`).
     ///
-    /// `Vertices`, `Workers` and `EdgeLimit` come exactly when that number of the options is out of its range, the first of them if
-    /// several are. `Memory` comes only if memory ran out. Takes memory and time for the vertices.
+    /// `Vertices`, `Workers` and `EdgeLimit` come exactly if that number of the options is out of its range. If several
+    /// are, the first of them comes. `Memory` comes only if memory ran out. Takes memory and time for the vertices.
     pub fn open(rt: &'a R, alloc: Global, options: Options) -> Result<Service<'a, R>, OpenFault>
         ensures ok { IfOk result (λ service. service ≡ opened service.table options) }
         ensures err { IfErr result (OpenCause options) }
@@ -89,7 +89,7 @@ impl<'a, R: Threads + Sync> Service<'a, R> {
         Service::open_checked(rt, alloc, options).map_err(OpenFault::Memory)
     }
 
-    // The same of options that are in range.
+    // Opens a service as `open` does. The options are in range.
     fn open_checked(
         rt: &'a R,
         alloc: Global,
@@ -119,22 +119,24 @@ impl<'a, R: Threads + Sync> Service<'a, R> {
 
     /// Applies a batch of items whole, shows it to the readers group by group, and returns its phases (`Applies`).
     ///
-    /// Loops, repeats and items that ask for what is so already drop out. First the edges that leave do, and the levels fall to the
-    /// greatest list that meets the lower invariant. Then the edges that come in do, and the levels rise to the least list that meets
-    /// the upper invariant. Afterwards both invariants hold.
+    /// Loops, repeats and items that would change nothing drop out. First edges leave, and the levels fall to the
+    /// greatest list that meets the lower invariant. Then edges come in, and the levels rise to the least list that
+    /// meets the upper invariant. Afterwards both invariants hold.
     ///
-    /// The faults, of which the first that applies comes:
-    /// - `Halted` exactly when an earlier batch ran out of memory while it was applied;
-    /// - `TooMany` exactly when there are more than `MAX_ITEMS` items;
-    /// - `OutOfRange` exactly when a vertex of an item isn't below the number of vertices, with the index of the first such item;
-    /// - `EdgeLimit` and `PhaseLimit` exactly when the graph would have more edges than the limit, or the last phase a number above
-    ///   `MAX_PHASE`, with that number;
+    /// Of these faults the first that applies is returned:
+    ///
+    /// - `Halted` exactly if an earlier batch ran out of memory while it was applied;
+    /// - `TooMany` exactly if there are more than `MAX_ITEMS` items;
+    /// - `OutOfRange` exactly if a vertex of an item isn't below the number of vertices, with the index of the first
+    ///   such item;
+    /// - `EdgeLimit` exactly if the graph would have more edges than the limit, with their number;
+    /// - `PhaseLimit` exactly if the last phase would have a number above `MAX_PHASE`, with that number;
     /// - `Memory` only if memory ran out.
     ///
-    /// After each fault but `Memory` the service is unchanged. After `Memory` it is unchanged too, or it has halted: then its graph
-    /// and levels can't be had any more, and readers keep the state before the batch.
+    /// After each fault but `Memory` the service is unchanged. After `Memory` it is unchanged too, or it has halted.
+    /// Once it has halted, its graph and levels are gone, and readers keep the state before the batch.
     ///
-    /// Costs what `clean_by`, `Engine::plan` and `Engine::show` cost: no pass over all vertices or edges.
+    /// Cost: that of `clean_by`, `Engine::plan` and `Engine::show`, with no pass over all vertices or edges.
     pub fn apply(&mut self, items: &[Item]) -> Result<Applied, ApplyFault>
         ensures table { self.new.table ≡ self.old.table }
         ensures vertices { self.new.vertices ≡ self.old.vertices }
@@ -153,7 +155,7 @@ impl<'a, R: Threads + Sync> Service<'a, R> {
         self.apply_due(items)
     }
 
-    // The same of items that may be a batch, by a service that hasn't halted.
+    // Applies items as `apply` does. They may be a batch, and the service hasn't halted.
     fn apply_due(&mut self, items: &[Item]) -> Result<Applied, ApplyFault>
         requires running { self.old.halted ≡ false }
         requires few { length items.now ≤ MAX_ITEMS }
@@ -185,8 +187,8 @@ impl<'a, R: Threads + Sync> Service<'a, R> {
 
     /// Returns a reader that has seen all batches so far. It may go to any thread.
     ///
-    /// Fails only if memory runs out, and the service is then unchanged. A service that has halted gives readers of the last state that it
-    /// showed. Costs O(1).
+    /// Fails only if memory runs out, and the service is then unchanged. The readers of a halted service have the last
+    /// state that it showed. Costs O(1).
     pub fn reader(&mut self) -> Result<Reader, AllocError>
         ensures same { self.new ≡ self.old }
         ensures reader { IfOk result (λ reader. reader ≡ first_view self.old) }
@@ -205,7 +207,8 @@ impl<'a, R> Service<'a, R> {
         self.board.store.vertices()
     }
 
-    /// Returns whether a batch ran out of memory while it was applied. Then no batch is applied any more, and only readers answer.
+    /// Returns whether a batch ran out of memory while it was applied. If so, no more batches are applied, and only
+    /// readers answer.
     pub fn has_halted(&self) -> bool
         ensures { result ≡ self.now.halted }
     {
@@ -240,8 +243,8 @@ impl<'a, R> Service<'a, R> {
 
     /// Returns the coreness of each vertex after the last batch (`IsCoreness`).
     ///
-    /// `Halted` comes exactly when the service has halted, `Memory` only if memory ran out. Costs one pass over the vertices and edges,
-    /// and memory for four numbers a vertex.
+    /// `Halted` comes exactly if the service has halted, and `Memory` only if memory ran out. Cost: one pass over the
+    /// vertices and edges, and memory for four numbers a vertex.
     pub fn coreness(&self) -> Result<Vec<u32>, CorenessFault>
         ensures sized { IfOk result (λ r. length r.items ≡ self.now.vertices) }
         ensures coreness { IfOk result (λ r. (v : ℕ) → v < self.now.vertices → IsCoreness self.now.state.graph v (slice_index r.items v)) }
@@ -256,8 +259,9 @@ impl<'a, R> Service<'a, R> {
     /// Writes the certificate of the graph and levels after the last batch, which anyone can check without the history
     /// (`Certifies`).
     ///
-    /// `Halted` comes exactly when the service has halted; then nothing was written. `WriteFault` comes only if a write failed, and
-    /// `Memory` only if memory ran out; after both the sink took a prefix of the text. Costs one pass over the vertices and edges.
+    /// `Halted` comes exactly if the service has halted; then nothing was written. `WriteFault` comes only if a write
+    /// failed, and `Memory` only if memory ran out. After both the sink took a prefix of the text. Cost: one pass over
+    /// the vertices and edges.
     pub fn certificate<K: Sink>(&self, sink: &mut K) -> Result<(), CertificateFault>
         ensures text { Certifies self.now (K.taken sink.old) (K.taken sink.new) result }
         ensures cause { CertificateCause (K.faults sink.old) (K.faults sink.new) result }
@@ -274,8 +278,8 @@ impl<'a, R> Service<'a, R> {
         }
     }
 
-    /// Ends the service, and returns its parts: a proof may go on with the calls of the crates below, `Writer::take_in` among them, which
-    /// says that what a reader has seen is how the history begins.
+    /// Ends the service, and returns its parts. A proof may go on with the calls of the crates below. One of them is
+    /// `Writer::take_in`, which says that the part seen by a reader is a beginning of the history.
     pub fn into_parts(self) -> Parts
         ensures store { (arc_value result.board).store ≡ record { table = self.entry.table; vertices = self.entry.vertices } }
         ensures writer { result.writer.table ≡ self.entry.table }

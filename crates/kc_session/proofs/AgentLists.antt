@@ -14,7 +14,7 @@ use Rattle.kc_session.specs.Agents.{AgentShape, agent_for, questions}
 use Rattle.kc_session.proofs.Lists.{take_all}
 use Rattle.kc_session.specs.Asking.{HasRun, HaveRun, agents_for, Fit, AreClosed}
 
--- one agent more
+-- one more agent
 pub agents_more : (store : StoreShape) (history : List Entry) (k : ℕ) (asks : List Ask) (ask : Ask) → agents_for store history k (asks ++ ask ∷ []) ≡ agents_for store history k asks ++ agent_for store history (k + length asks) ask ∷ []
 agents_more store history k [] ask = let e : k ≡ k + 0 = omega arith in ap (λ j. agent_for store history j ask ∷ []) e
 agents_more store history k (a ∷ asks) ask =
@@ -36,7 +36,7 @@ pub ready_to_run : (store : StoreShape) (history : List Entry) (k : ℕ) (asks :
 ready_to_run store history k [] = All-nil (λ (a : AgentShape). (a.store ≡ store) × (a.has_run ≡ false))
 ready_to_run store history k (ask ∷ asks) = All-cons (λ (a : AgentShape). (a.store ≡ store) × (a.has_run ≡ false)) (agent_for store history k ask) (agents_for store history (k + 1) asks) (refl, refl) (ready_to_run store history (k + 1) asks)
 
--- what is known of each place
+-- the facts that hold of each place
 pub have_run : (old new : List AgentShape) → length new ≡ length old → ((i : ℕ) (d : AgentShape) → i < length old → HasRun (get_or old i d) (get_or new i d)) → HaveRun old new
 have_run [] [] e h = tt
 have_run [] (b ∷ bs) e h = absurd (omega (arith, e))
@@ -51,7 +51,7 @@ ready_to_close store history k (ask ∷ asks) [] h = absurd h
 ready_to_close store history k (ask ∷ asks) (b ∷ bs) h =
     All-cons (λ (a : AgentShape). (a.store ≡ store) × (a.has_run ≡ true)) b bs (ap (λ (z : AgentShape). z.store) h.0.same, ap (λ (z : AgentShape). z.has_run) h.0.same) (ready_to_close store history (k + 1) asks bs h.1)
 
--- one agent more was closed
+-- one more agent was closed
 pub closed_more : (history : List Entry) (agents : List AgentShape) (lists : List (List Reply)) (a : AgentShape) (rs : List Reply) → AreClosed history agents lists → rs ≡ a.replies → vertices_of rs ≡ questions a.ask → AreExplained a.store.vertices history a.made rs
     → AreClosed history (agents ++ a ∷ []) (lists ++ rs ∷ [])
 closed_more history [] [] a rs h e f g = ((e, (f, g)), tt)
@@ -59,7 +59,7 @@ closed_more history [] (ss ∷ more) a rs h e f g = absurd h
 closed_more history (b ∷ bs) [] a rs h e f g = absurd h
 closed_more history (b ∷ bs) (ss ∷ more) a rs h e f g = (h.0, closed_more history bs more a rs h.1 e f g)
 
--- the replies of agents that were opened for these asks at a history, ran, and were closed, fit the asks
+-- the replies of agents that were opened for these asks, ran, and were closed fit the asks
 pub closed_fit : (store : StoreShape) (first history : List Entry) (k : ℕ) (asks : List Ask) (ran : List AgentShape) (lists : List (List Reply)) → HaveRun (agents_for store first k asks) ran → AreClosed history ran lists → Fit asks lists
 closed_fit store first history k [] [] [] r h = tt
 closed_fit store first history k [] [] (rs ∷ more) r h = absurd h
@@ -70,7 +70,7 @@ closed_fit store first history k (ask ∷ asks) (b ∷ bs) (rs ∷ more) r h =
     let asked : b.ask ≡ ask = ap (λ (z : AgentShape). z.ask) r.0.same in
     (h.0.1.0 ∙ ap (λ (q : Ask). questions q) asked, closed_fit store first history (k + 1) asks bs more r.1 h.1)
 
--- and are explained by the history at their end, from its start on
+-- the history at the end explains the replies, from the start of the agents on
 pub closed_explained : (store : StoreShape) (first history : List Entry) (k : ℕ) (asks : List Ask) (ran : List AgentShape) (lists : List (List Reply)) → HaveRun (agents_for store first k asks) ran → AreClosed history ran lists → All (AreExplained store.vertices history 0) lists
 closed_explained store first history k [] [] [] r h = All-nil (AreExplained store.vertices history 0)
 closed_explained store first history k [] [] (rs ∷ more) r h = absurd h
@@ -97,6 +97,6 @@ all_have_run k first slice new same long size h =
     subst (λ (xs : List AgentShape). HaveRun first xs) (sym (written k first new all both))
     (have_run first new both (subst (λ (xs : List AgentShape). (i : ℕ) (d : AgentShape) → i < length xs → HasRun (get_or xs i d) (get_or new i d)) same h))
 
--- a pass more was taken in, and nothing else is new
+-- one more pass was taken in, and nothing else is new
 pub joined_on : (first now next : WriterState) (passes : List (List Entry)) → now ≡ record first { joined = now.joined } → next ≡ record now { joined = passes } → next ≡ record first { joined = next.joined }
 joined_on first now next passes e f = f ∙ (ap (λ (s : WriterState). record s { joined = passes }) e ∙ sym (ap (λ (s : WriterState). record first { joined = s.joined }) f))

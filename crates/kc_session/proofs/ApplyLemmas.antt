@@ -13,7 +13,7 @@ use Rattle.kc_session.specs.declared.audience.Audience.{Audience}
 use Rattle.kc_session.specs.private.Audiences.{IsAbreast, LeadOver}
 use Rattle.kc_session.specs.States.{IsOpen}
 
--- items of a batch for an engine that takes batches
+-- items of a batch, for an engine that takes batches
 pub record IsDue (e : EngineView) (items : List Item) : Type 0 where
   pub open_for : IsOpen e
   pub inside : All (IsInside e.state.graph.vertices) items
@@ -22,7 +22,7 @@ pub record IsDue (e : EngineView) (items : List Item) : Type 0 where
 pub after_phases : (e f : EngineView) (items : List Item) (d : Cleaned) (plan : BatchPlan) → d ≡ cleaned e.state.graph items → IsPlanned e d plan f → IsAfterPhases e.state (cleaned e.state.graph items) f.state plan.phases
 after_phases e f items d plan same p = let q = subst (λ (x : Cleaned). IsPlanned e x plan f) same p in record { after = q.after; phases = q.phases }
 
--- its phases may be shown to an audience that is abreast of the state before it
+-- the phases of a batch may be shown to an audience that is up to date with the state before it
 pub lead_over : (a : Audience) (e f : EngineView) (items : List Item) (d : Cleaned) (plan : BatchPlan) → IsDue e items → IsAbreast a e.state → d ≡ cleaned e.state.graph items → IsPlanned e d plan f → LeadOver a plan.phases f.state
 lead_over a e f items d plan h abreast same p = record {
   before = e.state;
@@ -33,7 +33,7 @@ lead_over a e f items d plan h abreast same p = record {
   abreast = abreast;
 }
 
--- the engine takes further batches
+-- the engine takes more batches
 pub open_after : (e f h : EngineView) (d : Cleaned) (plan : BatchPlan) → IsOpen e → IsPlanned e d plan f → IsSound f.edge_limit f.state → h ≡ record f { waits = false } → IsOpen h
 open_after e f h d plan o p sound is =
     let limit : f.edge_limit ≡ MAX_EDGES = ap (λ (z : EngineView). z.edge_limit) p.rest ∙ o.limit in

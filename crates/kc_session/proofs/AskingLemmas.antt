@@ -17,7 +17,7 @@ zeros-append : (vs ws : List ℕ) → zeros (vs ++ ws) ≡ zeros vs ++ zeros ws
 zeros-append [] ws = refl
 zeros-append (v ∷ vs) ws = ap (λ (rs : List Reply). record { vertex = v; level = 0 } ∷ rs) (zeros-append vs ws)
 
--- replies of level 0 as they are put together
+-- replies of level 0, as they are appended
 pub zeros_more : (vs : List ℕ) (i : ℕ) (d v : ℕ) (first rs more : List Reply) → i < length vs → v ≡ get_or vs i d → rs ≡ first ++ zeros (take i vs) → more ≡ rs ++ record { vertex = v; level = 0 } ∷ [] → more ≡ first ++ zeros (take (i + 1) vs)
 zeros_more vs i d v first rs more lt is h e =
     e ∙ (ap (λ (ts : List Reply). ts ++ record { vertex = v; level = 0 } ∷ []) h ∙ (append_assoc first (zeros (take i vs)) (record { vertex = v; level = 0 } ∷ [])
@@ -26,7 +26,7 @@ zeros_more vs i d v first rs more lt is h e =
 pub repeated_more : (k : ℕ) (vs : List ℕ) (rs more : List Reply) → rs ≡ zeros (repeated k vs) → more ≡ rs ++ zeros vs → more ≡ zeros (repeated (k + 1) vs)
 repeated_more k vs rs more h is = let e : k + 1 ≡ suc k = omega arith in is ∙ (ap (λ (ts : List Reply). ts ++ zeros vs) h ∙ (sym (zeros-append (repeated k vs) vs) ∙ ap (λ j. zeros (repeated j vs)) (sym e)))
 
--- vertices of replies
+-- the vertices of replies
 vertices_set : (xs : List Reply) (i : ℕ) (d r : Reply) → i < length xs → r.vertex ≡ (get_or xs i d).vertex → vertices_of (set xs i r) ≡ vertices_of xs
 vertices_set [] i d r lt is = absurd (omega (arith, lt))
 vertices_set (x ∷ xs) zero d r lt is = ap (λ (v : ℕ). v ∷ vertices_of xs) is

@@ -102,7 +102,7 @@ refused_prefix report number s t b reason before now r p =
     let v : IsPrefix before now (refused_text report number b.line (reason_of r.fault)) = subst (λ (x : Reason). IsPrefix before now (refused_text report number b.line x)) r.word p in
     record { step = stay s; is_step = rw r.refused refl; prefix = rw r.refused v }
 
--- a batch of which nothing was written
+-- a batch of whose text nothing was written
 pub nothing_of : (report : Report) (number : ℕ) (header : HeaderShape) (b : Next) (s : State) (before now : Option (List ℕ)) → IsSound MAX_EDGES s → s.graph.vertices ≡ header.n → IsNext (rules_of header MAX_ITEMS) b → now ≡ before
     → WroteSome report number b s before now
 nothing_of report number header b s before now k e i same =

@@ -1,4 +1,4 @@
--- Counts that stop at the greatest number of 32 bits, as they are added up.
+-- Counts that stop at the greatest number of 32 bits, while they are added up.
 use Rattle.std.proofs.Common.{ℕ, suc, ◌≡◌, ◌<◌, ◌≤◌, ◌+◌, List, take, length, get_or, min, refl, sym, ap, ◌∙◌, arith}
 use Rattle.std.specs.List.{sum_by}
 use Rattle.std.proofs.Math.Seq.{take-suc, take-length}
@@ -12,7 +12,7 @@ capped_more a b c e = let m = min_cases a 4294967295 in let n = min_cases (c + b
     min_cases : (x y : ℕ) → min x y ≤ x
     min_cases x y = omega arith
 
--- one more of a list was added
+-- one more item of a list was added
 pub capped_next : (X : Type 0) (f : X → ℕ) (xs : List X) (i : ℕ) (d : X) (first old more new : ℕ) → i < length xs → old ≡ capped (first + sum_by f (take i xs)) → more ≡ f (get_or xs i d) → new ≡ capped (old + more)
     → new ≡ capped (first + sum_by f (take (i + 1) xs))
 capped_next X f xs i d first old more new lt h m e =
@@ -22,7 +22,7 @@ capped_next X f xs i d first old more new lt h m e =
     let whole : (first + sum_by f (take i xs)) + more ≡ first + sum_by f (take (i + 1) xs) = omega (arith, sum) in
     e ∙ (capped_more (first + sum_by f (take i xs)) more old h ∙ ap capped whole)
 
--- all of it was added
+-- the whole list was added
 pub capped_all : (X : Type 0) (f : X → ℕ) (xs : List X) (i : ℕ) (first old : ℕ) → i ≡ length xs → old ≡ capped (first + sum_by f (take i xs)) → old ≡ capped (first + sum_by f xs)
 capped_all X f xs i first old all h = h ∙ ap (λ (ys : List X). capped (first + sum_by f ys)) (ap (λ j. take j xs) all ∙ take-length xs)
 

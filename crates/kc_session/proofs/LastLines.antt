@@ -5,11 +5,11 @@ use Rattle.kc_store.specs.declared.roles.WriterState.{WriterState}
 use Rattle.kc_engine.specs.States.{State}
 use Rattle.kc_engine.specs.Showing.{IsAbreast}
 
--- the levels that it reads are those of a state that the writer is abreast of
+-- the levels that the pass reads are those of a state with which the writer is up to date
 pub last_levels : (w : WriterState) (s : State) (n k : ℕ) (levels : List ℕ) → IsAbreast w s → s.graph.vertices ≡ n → k ≡ n → levels ≡ levels_at k w.history (length w.history) → levels ≡ s.levels
 last_levels w s n k levels a e size f = subst (λ (j : ℕ). levels ≡ levels_at j w.history (length w.history)) (size ∙ sym e) f ∙ a.history.levels
 
--- a pass that was taken in leaves a writer abreast
+-- a writer that takes in a pass stays up to date
 pub joined_abreast : (w x : WriterState) (s : State) → IsAbreast w s → x ≡ record w { joined = x.joined } → IsAbreast x s
 joined_abreast w x s a e = subst (λ (z : WriterState). IsAbreast z s) (sym e) record {
   vertices = a.vertices;

@@ -7,7 +7,7 @@ take_suc [] i d x lt is = absurd (omega (arith, lt))
 take_suc (y ∷ ys) zero d x lt is = ap (λ z. z ∷ []) (sym is)
 take_suc (y ∷ ys) (suc i) d x lt is = ap (λ zs. y ∷ zs) (take_suc ys i d x (omega (arith, lt)) is)
 
--- one item more
+-- one more item
 pub take_snoc : {A : Type 0} → (xs : List A) (i : ℕ) (d x : A) → i < length xs → x ≡ get_or xs i d → take (i + 1) xs ≡ take i xs ++ x ∷ []
 take_snoc xs i d x lt is = let e : i + 1 ≡ suc i = omega arith in ap (λ k. take k xs) e ∙ take_suc xs i d x lt is
 
@@ -41,7 +41,7 @@ moved_over all past rest later x e f = append_assoc past (x ∷ []) later ∙ (a
 pub all_over : {A : Type 0} → (all past rest : List A) → past ++ rest ≡ all → length rest ≡ 0 → past ≡ all
 all_over all past rest e none = sym (append-nil past) ∙ (ap (λ zs. past ++ zs) (sym (no_items rest none)) ∙ e)
 
--- what is true of all items is true of the next
+-- a fact about all items holds of the next one
 pub next_of_all : {A : Type 0} → (P : A → Type 0) (all past rest later : List A) (x : A) → All P all → past ++ rest ≡ all → rest ≡ x ∷ later → P x
 next_of_all P all past rest later x every e f =
     let whole : past ++ x ∷ later ≡ all = ap (λ zs. past ++ zs) (sym f) ∙ e in
@@ -49,7 +49,7 @@ next_of_all P all past rest later x every e f =
     let here : get_or all (length past) x ≡ x = ap (λ zs. get_or zs (length past) x) (sym whole) ∙ at_end past x later x in
     subst P here (every (length past) x size)
 
--- there are fewer before an item than in all
+-- before an item there are fewer than in all
 pub fewer_past : {A : Type 0} → (all past rest later : List A) (x : A) → past ++ rest ≡ all → rest ≡ x ∷ later → length past < length all
 fewer_past all past rest later x e f =
     let whole : past ++ x ∷ later ≡ all = ap (λ zs. past ++ zs) (sym f) ∙ e in

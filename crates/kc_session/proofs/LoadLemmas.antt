@@ -13,7 +13,7 @@ use Rattle.kc_session.specs.Generated.{first_numbers, ask_words, drawn_item, aft
 use Rattle.kc_session.specs.Generating.{words_left}
 use Rattle.kc_session.specs.private.Generating.{Makes, MakesIf}
 
--- one more number was put together
+-- one more number was appended
 pub number_added : (k : ℕ) (old line more : List ℕ) → line ≡ old ++ flat_map (λ (w : ℕ). 32 ∷ decimal w) (first_numbers k) → more ≡ (line ++ codes " ") ++ decimal k
     → more ≡ old ++ flat_map (λ (w : ℕ). 32 ∷ decimal w) (first_numbers (k + 1))
 unfolding first_numbers
@@ -76,7 +76,7 @@ pub item_made : (g : Generator) (left : ℕ) (line : List ℕ) → g.place ≡ I
 unfolding words_left
 item_made g left line p h e = record { words = drawn_item g.n g.state; first = rw (p, item_drawn g.n g.state left h, item_passed g.state left h) refl; line_is = e; vertices = refl }
 
--- a line is printed ahead of those after it
+-- a line is printed before those after it
 printed_first : (words : List (List ℕ)) (rest : List (List (List ℕ))) → printed (words ∷ rest) ≡ printed_line words ++ printed rest
 unfolding printed
 printed_first words rest = refl
@@ -87,7 +87,7 @@ line_has_bytes words z = omega (arith, length-append (join_with_byte 32 words) (
 read_up : (line : List ℕ) (at : ℕ) (rest : List ℕ) → length line ≤ at → drop at line ++ rest ≡ rest
 read_up line at rest h = ap (λ (t : List ℕ). t ++ rest) (drop_all at line h)
 
--- what is left, once the next line was made
+-- the rest, once the next line was made
 pub refilled : (old new : Generator) (line next : List ℕ) (at : ℕ) (made : Bool) → length line ≤ at → MakesIf old new next made
     → drop at line ++ printed (words_left old) ≡ drop 0 next ++ printed (words_left new)
 refilled old new line next at true h m = read_up line at (printed (words_left old)) h ∙ rw m.first (printed_first m.words (words_left new)) ∙ ap (λ (t : List ℕ). t ++ printed (words_left new)) (sym m.line_is)
@@ -111,7 +111,7 @@ part_given line more read at k e =
     ap (λ (t : List ℕ). t ++ more) (sym (take-append-drop k (drop at line)) ∙ ap (λ (t : List ℕ). take k (drop at line) ++ t) (drop-drop k at line))
     ∙ append_assoc (take k (drop at line)) (drop (at + k) line) more ∙ ap (λ (t : List ℕ). t ++ (drop (at + k) line ++ more)) (sym e)
 
--- nothing was read: there is nothing
+-- if nothing was read, nothing is left
 pub all_given : (g : Generator) (line : List ℕ) (at k room : ℕ) → at ≤ length line → k ≡ min (length line - at) room → 0 < room → (at ≡ length line → words_left g ≡ []) → k ≡ 0
     → drop (at + k) line ++ printed (words_left g) ≡ []
 unfolding printed
@@ -128,7 +128,7 @@ put_front count more k xs ys h m =
 pub put_length : (count : ℕ) (xs ys : List ℕ) → count ≤ length xs → length ys ≡ length xs - count → length (put_mid count (length xs - count) xs ys) ≡ length xs
 put_length count xs ys h e = simp (length-append, length-take, length-drop) (omega arith)
 
--- more was read after what was read before
+-- more bytes were read after those read before
 pub more_given : (count more k : ℕ) (first left last xs ys : List ℕ) → count ≤ length xs → more ≤ length ys → first ≡ take count xs ++ left → left ≡ take more ys ++ last
     → first ≡ take (count + more) (put_mid count k xs ys) ++ last
 more_given count more k first left last xs ys h m e f =

@@ -37,7 +37,7 @@ use Rattle.kc_session.specs.LoadInputs.{item_drawn, items_drawn, load_batches, l
 use Rattle.kc_batch.specs.Tokens.{kind_of_words, tokens}
 use Rattle.kc_session.specs.Generated.{next_state, drawn, drawn_item, after_item, drawn_items, after_items, drawn_batches, first_numbers, ask_words, head_words, load_words, generated, IsLoad}
 
--- words of a short line that isn't passed over
+-- the words of a short line that isn't passed over
 record IsSaid (ws : List (List ℕ)) : Type 0 where
   words_are : list_all is_word ws ≡ true
   stays : is_skip ws ≡ false
@@ -47,7 +47,7 @@ AreSaid : List (List (List ℕ)) → Type 0
 AreSaid [] = Unit {0}
 AreSaid (ws ∷ ls) = IsSaid ws × AreSaid ls
 
--- they are lines
+-- the words are printed as lines within the limit
 within : (a b : ℕ) → a ≤ b → nat_le a b ≡ true
 within a b h = grind (arith, nat_tests, h)
 
@@ -60,7 +60,7 @@ are_lines limit (ws ∷ ls) h k =
 below : (a b : ℕ) → a < b → nat_lt a b ≡ true
 below a b h = grind (arith, nat_tests, h)
 
--- they are kept
+-- the lines aren't skipped
 are_kept : (n : ℕ) (ls : List (List (List ℕ))) (rest : List Line) → AreSaid ls → kept (lines_of_words n ls ++ rest) ≡ lines_of_words n ls ++ kept rest
 unfolding AreSaid lines_of_words
 are_kept n [] rest k = refl
@@ -68,7 +68,7 @@ are_kept n (ws ∷ ls) rest k =
     let w : words (join_with_byte 32 ws) ≡ ws = words_are_read_back ws k.0.words_are in
     rw (w, k.0.stays, are_kept (n + 1) ls rest k.1) refl
 
--- what they say
+-- the meanings of the lines
 token_lines : ℕ → List (List (List ℕ)) → List Token
 token_lines n [] = []
 token_lines n (ws ∷ ls) = record { number = n; kind = kind_of_words ws } ∷ token_lines (n + 1) ls
@@ -180,7 +180,7 @@ load_said : (seed n batches items : ℕ) → 1 ≤ n → n ≤ 16777216 → AreS
 unfolding AreSaid
 load_said seed n batches items h k = (format_said, (vertices_said n k, (ask_said n, (ask_said n, batches_said n items seed batches h k))))
 
--- how long it is
+-- the length of the text
 printed_more : (xs ys : List (List (List ℕ))) → printed (xs ++ ys) ≡ printed xs ++ printed ys
 unfolding printed
 printed_more xs ys = flat_map-append printed_line xs ys
@@ -308,7 +308,7 @@ item_kind n s h k =
 abbrev load_rules : ℕ → Rules
 load_rules n = record { n = n; profile = One; item_limit = MAX_ITEMS }
 
--- an item is taken where the batch isn't full
+-- an item is added if the batch isn't full
 signed_turn : (n : ℕ) (leaves : Bool) (u v : ℕ) → u < n → v < n → turn_of (load_rules n) false (Item (if leaves then Delete u v else Insert u v)) ≡ Add (if leaves then Delete u v else Insert u v)
 signed_turn n true u v h k = rw (below u n h, below v n k) refl
 signed_turn n false u v h k = rw (below u n h, below v n k) refl
@@ -362,7 +362,7 @@ header_read n items s count tail h k =
     (omega arith)
     (rw w refl)
 
--- the whole of it
+-- the whole text
 behind_read : (n items s count last : ℕ) → 1 ≤ n → n ≤ 16777216 → items ≤ MAX_ITEMS
     → behind_header MAX_ITEMS (header_of (lines_of_words 1 (head_words n ++ drawn_batches n items s (suc count)) ++ record { number = last; body = End } ∷ [])) ≡ WithBatches (load_header n) (load_batches n items 5 s (suc count))
 behind_read n items s count last h k few =

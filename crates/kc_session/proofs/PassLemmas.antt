@@ -1,4 +1,4 @@
--- What a pass reads that was split off at the end of the history, and is taken in there.
+-- The levels that a pass reads if it is split off at the end of the history and taken in there.
 use Rattle.std.proofs.Common.{ℕ, suc, zero, ◌≡◌, ◌+◌, ◌<◌, List, [], ◌∷◌, ◌++◌, length, get_or, set, take, replicate, refl, ap, sym, ◌∙◌, arith, subst, append_assoc, append-nil, length-append}
 use mathlib.Core.List.{IsPrefix}
 use mathlib.Core.Logic.{dite}
@@ -11,7 +11,7 @@ use Rattle.kc_store.specs.Seats.{PassShape}
 use Rattle.kc_store.specs.States.{last_level}
 use Rattle.kc_session.proofs.Lists.{no_items, at_end}
 
--- a level that was read at some point between the end of the history and what the pass has seen
+-- a level that was read at some point between the end of the history and the end of what the pass has seen
 pub record WasRead (n : ℕ) (history seen : List Entry) (v l : ℕ) : Type 0 where
   pub point : List Entry
   pub after : IsPrefix history point

@@ -1,4 +1,4 @@
--- Batches in turn: their states, and what was written of their lines while they are read one after another.
+-- Batches one after another: their states, and the text of their lines while they are read.
 use Rattle.std.proofs.Common.{ℕ, ◌≡◌, ◌<◌, ◌≤◌, ◌+◌, Bool, true, false, List, [], ◌∷◌, ◌++◌, length, append_assoc, refl, sym, ap, ◌∙◌, subst, arith, length-append}
 use Rattle.std.specs.Prelude.{Option, Some, None, All, Err, Ok}
 use Rattle.std.specs.List.{sum_by}
@@ -35,7 +35,7 @@ use Rattle.kc_session.proofs.CountLemmas.{capped_more, counts_same}
 use Rattle.kc_session.proofs.Longer.{longer_none, longer_twice}
 use Rattle.kc_session.proofs.Steps.{some_step, sound_step, profile_step, one_step}
 
--- there are states after any batches
+-- any batches have steps
 pub some_states : (header : HeaderShape) (s : State) (bs : List Next) → IsSound MAX_EDGES s → s.graph.vertices ≡ header.n → All (IsNext (rules_of header MAX_ITEMS)) bs → (ts : List Step) × AreSteps s bs ts
 some_states header s [] k e all = ([], tt)
 some_states header s (b ∷ bs) k e all =
@@ -45,7 +45,7 @@ some_states header s (b ∷ bs) k e all =
     let rest = some_states header one.0.state bs x.0 x.1 (All-tail (IsNext (rules_of header MAX_ITEMS)) b bs all) in
     (one.0 ∷ rest.0, (one.1, rest.1))
 
--- there are only these
+-- any batches have only one list of steps
 pub one_run : (header : HeaderShape) (s : State) (bs : List Next) (ts us : List Step) → IsSound MAX_EDGES s → s.graph.vertices ≡ header.n → All (IsNext (rules_of header MAX_ITEMS)) bs → AreSteps s bs ts → AreSteps s bs us → ts ≡ us
 one_run header s [] [] [] k e all a b = refl
 one_run header s [] [] (u ∷ us) k e all a b = absurd b
@@ -59,7 +59,7 @@ one_run header s (b ∷ bs) (t ∷ ts) (u ∷ us) k e all x y =
     let rest : ts ≡ us = one_run header t.state bs ts us z.0 z.1 (All-tail (IsNext (rules_of header MAX_ITEMS)) b bs all) x.1 (subst (λ (w : Step). AreSteps w.state bs us) (sym same) y.1) in
     rw (same, rest) refl
 
--- the state after all of them is sound too, with as many vertices
+-- the state after all batches is sound too, with as many vertices
 pub sound_last : (header : HeaderShape) (s : State) (bs : List Next) (ts : List Step) → IsSound MAX_EDGES s → s.graph.vertices ≡ header.n → All (IsNext (rules_of header MAX_ITEMS)) bs → AreSteps s bs ts
     → IsSound MAX_EDGES (last_state s ts) × ((last_state s ts).graph.vertices ≡ header.n)
 sound_last header s bs [] k e all a = (k, e)
@@ -68,13 +68,13 @@ sound_last header s (b ∷ bs) (t ∷ ts) k e all a =
     let z = sound_step s header b t k e (All-head (IsNext (rules_of header MAX_ITEMS)) b bs all) a.0 in
     sound_last header t.state bs ts z.0 z.1 (All-tail (IsNext (rules_of header MAX_ITEMS)) b bs all) a.1
 
--- and with the same profile
+-- the state after all batches has the same profile
 pub profile_last : (s : State) (bs : List Next) (ts : List Step) → AreSteps s bs ts → (last_state s ts).profile ≡ s.profile
 profile_last s bs [] a = refl
 profile_last s [] (t ∷ ts) a = absurd a
 profile_last s (b ∷ bs) (t ∷ ts) a = profile_last t.state bs ts a.1 ∙ profile_step s b t a.0
 
--- batches and, after them, others
+-- batches, and others after them
 pub last_append : (s : State) (ts us : List Step) → last_state s (ts ++ us) ≡ last_state (last_state s ts) us
 last_append s [] us = refl
 last_append s (t ∷ ts) us = last_append t.state ts us
@@ -125,7 +125,7 @@ counts_step s bs ts b t old new a e f =
     push_of : (f : Step → ℕ) (ts : List Step) (t : Step) → sum_by f (ts ++ t ∷ []) ≡ sum_by f ts + f t
     push_of f ts t = sum_by_push f ts t
 
--- the first of the batches were run; bs are the others, and s is the state before them
+-- the first batches were run; bs are the others, and s is the state before them
 pub record Leads (report : Report) (s0 : State) (bs0 : List Next) (s : State) (bs : List Next) (before now : Option (List ℕ)) (h i : Option (List Entry)) (counts : Counts) : Type 0 where
   pub done : List Next
   pub all : bs0 ≡ done ++ bs
@@ -169,7 +169,7 @@ leads_some report s0 bs0 s bs ts before now later h i counts l a p =
       prefix = rw whole (prefix_then before now later (batch_lines report 1 s0 l.done r.steps) (batch_lines report (counts.batches + 1) s bs ts) r.taken p);
     }
 
--- the same where the batches are told
+-- the first batches were run, if the source tells the batches
 abbrev pub LeadsTold : Report → State → Option (List Next) → State → Option (List Next) → Option (List ℕ) → Option (List ℕ) → Option (List Entry) → Option (List Entry) → Counts → Type 0
 LeadsTold report s0 None s told before now h i counts = Unit {0}
 LeadsTold report s0 (Some bs0) s None before now h i counts = ⊥
@@ -214,7 +214,7 @@ end_follows (Items batch) bs m = absurd m
 end_follows (Refused line reason) bs m = absurd m
 end_follows End bs m = refl
 
--- a batch that isn't the last was applied and its line written
+-- a batch that isn't the last was applied, and its line was written
 pub told_step : (report : Report) (s0 : State) (told0 : Option (List Next)) (s t : State) (next : Next) (old new : Option (List Next)) (before now later : Option (List ℕ)) (h i j : Option (List Entry)) (counts more : Counts)
     → old ≡ option_map (behind_batch next) new → (IsEnd next → ⊥) → is_last_batch next ≡ false → LeadsTold report s0 told0 s old before now h i counts → RunsStep report next s t now later counts i j (Ok more)
     → LeadsTold report s0 told0 t new before later h j more
@@ -225,7 +225,7 @@ told_step report s0 (Some bs0) s t next (Some bs) (Some rest) before now later h
     let same : bs ≡ next ∷ rest = same_Some _ _ e ∙ more_follow next rest m l in
     leads_step report s0 bs0 s t next rest before now later h i j counts more (subst (λ (xs : List Next). Leads report s0 bs0 s xs before now h i counts) same d) w
 
--- the last batch was applied and its line written
+-- the last batch was applied, and its line was written
 pub told_last : (report : Report) (s0 : State) (told0 : Option (List Next)) (s t : State) (next : Next) (old new : Option (List Next)) (before now later : Option (List ℕ)) (h i j : Option (List Entry)) (counts more : Counts)
     → old ≡ option_map (behind_batch next) new → is_last_batch next ≡ true → LeadsTold report s0 told0 s old before now h i counts → RunsStep report next s t now later counts i j (Ok more)
     → RunsBatches report s0 t told0 before later h j (Ok more)
@@ -237,7 +237,7 @@ told_last report s0 (Some bs0) s t next (Some bs) (Some rest) before now later h
     leads_end report s0 bs0 t before later h j more
     (leads_step report s0 bs0 s t next [] before now later h i j counts more (subst (λ (xs : List Next). Leads report s0 bs0 s xs before now h i counts) same d) w)
 
--- there is no further batch
+-- there are no more batches
 pub told_end : (report : Report) (s0 : State) (told0 : Option (List Next)) (s : State) (next : Next) (old new : Option (List Next)) (before now : Option (List ℕ)) (h i : Option (List Entry)) (counts : Counts)
     → old ≡ option_map (behind_batch next) new → IsEnd next → LeadsTold report s0 told0 s old before now h i counts → RunsBatches report s0 s told0 before now h i (Ok counts)
 told_end report s0 None s next old new before now h i counts e m d = tt
@@ -247,7 +247,7 @@ told_end report s0 (Some bs0) s next (Some bs) (Some rest) before now h i counts
     let same : bs ≡ [] = same_Some _ _ e ∙ end_follows next rest m in
     leads_end report s0 bs0 s before now h i counts (subst (λ (xs : List Next). Leads report s0 bs0 s xs before now h i counts) same d)
 
--- no further batch was read
+-- no more batches were read
 pub told_unread : (report : Report) (header : HeaderShape) (s0 t : State) (told0 : Option (List Next)) (s : State) (toks : Option (List Token)) (before now : Option (List ℕ)) (h i j : Option (List Entry)) (counts : Counts) (fault : SessionFault)
     → IsSound MAX_EDGES s → s.graph.vertices ≡ header.n → LeadsTold report s0 told0 s (option_map (batches (rules_of header MAX_ITEMS)) toks) before now h i counts → RunsBatches report s0 t told0 before now h j (Err fault)
 told_unread report header s0 t None s toks before now h i j counts fault sound e d = tt
@@ -256,7 +256,7 @@ told_unread report header s0 t (Some bs0) s (Some ts) before now h i j counts fa
     let there = some_states header s (batches (rules_of header MAX_ITEMS) ts) sound e (batches_keep_ranges (rules_of header MAX_ITEMS) ts) in
     leads_some report s0 bs0 s (batches (rules_of header MAX_ITEMS) ts) there.0 before now now h i counts d there.1 (prefix_none now now (batch_lines report (counts.batches + 1) s (batches (rules_of header MAX_ITEMS) ts) there.0) refl)
 
--- a prefix of what is due of one was written
+-- a prefix of the text of one batch was written
 some_lines : (report : Report) (header : HeaderShape) (s0 : State) (bs0 : List Next) (s : State) (next : Next) (rest : List Next) (before now later : Option (List ℕ)) (h i : Option (List Entry)) (counts : Counts) → IsSound MAX_EDGES s → s.graph.vertices ≡ header.n
     → All (IsNext (rules_of header MAX_ITEMS)) (next ∷ rest) → Leads report s0 bs0 s (next ∷ rest) before now h i counts → WroteSome report (counts.batches + 1) next s now later → WroteSomeBatches report s0 bs0 before later
 some_lines report header s0 bs0 s next rest before now later h i counts sound e all d w =

@@ -54,7 +54,7 @@ use Rattle.kc_session.proofs.AskingLemmas.{replies_few}
 use Rattle.kc_session.proofs.Runs.{profile_last}
 use Rattle.kc_session.proofs.Settles.{start_states}
 
--- a history that ends where a batch begins ends, with the batch's entries, where it leads
+-- if a history ends at the state before a batch, then with the batch's entries it ends at the state after it
 end_stay : (n : ℕ) (history : List Entry) (s : State) (t : Step) → IsHistoryOf n history s → t ≡ stay s → IsHistoryOf n (history ++ entries_in t.phases) t.state
 end_stay n history s t h is =
     let same : history ≡ history ++ entries_in t.phases = sym (append-nil history) ∙ ap (λ (z : Step). history ++ entries_in z.phases) (sym is) in
@@ -131,7 +131,7 @@ pub head_written : (header : HeaderShape) (toks : Option (List Token)) (before n
     → WritesSession session_text header (option_map (batches (rules_of header MAX_ITEMS)) toks) before now (Err fault)
 head_written header toks before now fault e = head_prefix header toks before now fault (prefix_all before now (head_text header.n) e)
 
--- the head was written, and what is after it
+-- the head was written, and the part after it
 pub after_head : (header : HeaderShape) (told : Option (List Next)) (before now later : Option (List ℕ)) (result : Result Ended SessionFault) → now ≡ append_known before (head_text header.n) → WritesSession body_text header told now later result
     → WritesSession session_text header told before later result
 after_head header None before now later result e w = tt
@@ -148,7 +148,7 @@ body_none header (Some ls) before now fault e =
       prefix = prefix_none before now _ e;
     }
 
--- a prefix of the lines of the batches
+-- a prefix of the lines of the batches was written
 some_batches : (header : HeaderShape) (ls : List Token) (before now : Option (List ℕ)) → WroteSomeBatches Lines (start header.profile header.n) (batches (rules_of header MAX_ITEMS) ls) before now
     → WroteSomeOfSession body_text header (batches (rules_of header MAX_ITEMS) ls) before now
 some_batches header ls before now w = record {
@@ -166,7 +166,7 @@ from_start : (header : HeaderShape) (bs : List Next) (s t : State) (before now :
     → RanBatches Lines (start header.profile header.n) t bs before now h i counts
 from_start header bs s t before now h i counts e w = subst (λ (z : State). RanBatches Lines z t bs before now h i counts) e w
 
--- all of them
+-- all lines of the batches were written
 pub batches_written : (header : HeaderShape) (toks : Option (List Token)) (s t : State) (before now : Option (List ℕ)) (h i : Option (List Entry)) (counts : Counts) (fault : SessionFault) → s ≡ start header.profile header.n
     → RunsBatches Lines s t (option_map (batches (rules_of header MAX_ITEMS)) toks) before now h i (Ok counts) → WritesSession body_text header (option_map (batches (rules_of header MAX_ITEMS)) toks) before now (Err fault)
 batches_written header None s t before now h i counts fault e w = tt
@@ -174,7 +174,7 @@ batches_written header (Some ls) s t before now h i counts fault e w =
     let v = from_start header (batches (rules_of header MAX_ITEMS) ls) s t before now h i counts e w in
     some_batches header ls before now (record { steps = v.steps; are_steps = v.are_steps; prefix = prefix_all before now _ v.taken })
 
--- what is written after the batches, from the state after them
+-- the text after the batches, from the state after them
 rest_is : (header : HeaderShape) (ls : List Token) (ts : List Step) (t : State) (lists : List (List Reply)) → AreSteps (start header.profile header.n) (batches (rules_of header MAX_ITEMS) ls) ts → last_state (start header.profile header.n) ts ≡ t
     → reader_lines 0 lists ++ tail_text t.profile t.graph t.levels ≡ rest_text header.profile header.n lists (history_of ts)
 rest_is header ls ts t lists a last =
@@ -183,7 +183,7 @@ rest_is header ls ts t lists a last =
     let profile : t.profile ≡ header.profile = ap (λ (z : State). z.profile) (sym last) ∙ profile_last (start header.profile header.n) bs ts a in
     λ k. reader_lines 0 lists ++ tail_text (profile k) (sym ends.graph k) (sym ends.levels k)
 
--- all lines of the batches, and a prefix of what is after them
+-- all lines of the batches were written, and a prefix of the text after them
 pub rest_prefix : (header : HeaderShape) (toks : Option (List Token)) (s t : State) (before now later : Option (List ℕ)) (h i : Option (List Entry)) (counts : Counts) (lists : List (List Reply)) (fault : SessionFault) → s ≡ start header.profile header.n
     → RunsBatches Lines s t (option_map (batches (rules_of header MAX_ITEMS)) toks) before now h i (Ok counts) → ((es : List Entry) → i ≡ longer h es → AreReplies header.n es header.asks lists) → IsPrefix now later (reader_lines 0 lists ++ tail_text t.profile t.graph t.levels)
     → WritesSession body_text header (option_map (batches (rules_of header MAX_ITEMS)) toks) before later (Err fault)
@@ -216,7 +216,7 @@ ended_with header bs steps lists t counts levels e a last c l is = record {
   top = ap (λ (z : Ended). z.top) is ∙ (ap (λ (x : List ℕ). greatest x) l ∙ ap (λ (z : State). greatest z.levels) (sym last));
 }
 
--- all of it
+-- the whole text was written
 pub rest_written : (header : HeaderShape) (toks : Option (List Token)) (s t : State) (before now later : Option (List ℕ)) (h i : Option (List Entry)) (counts : Counts) (lists : List (List Reply)) (levels : List ℕ) (e : Ended) → s ≡ start header.profile header.n
     → RunsBatches Lines s t (option_map (batches (rules_of header MAX_ITEMS)) toks) before now h i (Ok counts) → ((es : List Entry) → i ≡ longer h es → AreReplies header.n es header.asks lists) → later ≡ append_known now (reader_lines 0 lists ++ tail_text t.profile t.graph t.levels) → levels ≡ t.levels
     → e ≡ record { batches = counts.batches; refused = counts.refused; phases = t.phases; groups = counts.groups; moves = counts.moves; edges = length t.graph.edges; replies = replies_in lists; top = greatest levels }
@@ -231,15 +231,15 @@ rest_written header (Some ls) s t before now later h i counts lists levels e f w
       ends = ended_with header bs v.steps lists t counts levels e v.are_steps v.last v.counts_are l is;
     }
 
--- replies that a history explains that began empty
+-- replies explained by a history that began empty
 pub replies_of : (n : ℕ) (h i : List Entry) (asks : List Ask) (lists : List (List Reply)) → h ≡ [] → AreReplies n i asks lists → (es : List Entry) → Some i ≡ longer (Some h) es → AreReplies n es asks lists
 replies_of n h i asks lists none r es e = subst (λ (xs : List Entry). AreReplies n xs asks lists) (same_Some _ _ e ∙ ap (λ (xs : List Entry). xs ++ es) none) r
 
--- where nobody asks there are none
+-- if there are no asks, there are no replies
 pub no_replies : (n : ℕ) (h i : Option (List Entry)) (asks : List Ask) → asks ≡ [] → (es : List Entry) → i ≡ longer h es → AreReplies n es asks []
 no_replies n h i asks none es e = subst (λ (xs : List Ask). AreReplies n es xs []) (sym none) (record { fit = tt; explained = All-nil (AreExplained n es 0) })
 
--- a header whose asks are none
+-- a header without asks
 pub without_asks : (p : Profile) (n : ℕ) (asks : List Ask) (told : Option (List Next)) (before now : Option (List ℕ)) (result : Result Ended SessionFault) → asks ≡ [] → WritesSession body_text (record { profile = p; n = n; asks = [] }) told before now result
     → WritesSession body_text (record { profile = p; n = n; asks = asks }) told before now result
 without_asks p n asks told before now result none w = subst (λ (xs : List Ask). WritesSession body_text (record { profile = p; n = n; asks = xs }) told before now result) (sym none) w
@@ -253,7 +253,7 @@ session_replies store n h i asks first last lists size fresh ran closed =
       explained = subst (λ (k : ℕ). All (AreExplained k i 0) lists) size (closed_explained store h i 0 asks last lists run closed);
     }
 
--- there are not many
+-- the replies are few
 fit_few : (n : ℕ) (asks : List Ask) (lists : List (List Reply)) → Fit asks lists → All (IsAsk n) asks → (replies_in lists ≤ length asks * 65536) × (length lists ≡ length asks)
 fit_few n [] [] f all = (omega arith, refl)
 fit_few n [] (rs ∷ more) f all = absurd f

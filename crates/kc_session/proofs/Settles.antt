@@ -1,4 +1,4 @@
--- What batches without readers come to.
+-- The result of batches without readers.
 use Rattle.std.proofs.Common.{ℕ, ◌≡◌, List, refl, ap, ◌∙◌, subst}
 use Rattle.std.specs.Prelude.{Option, Some, None, Ok, Err}
 use Rattle.std.specs.Option.{option_map}
@@ -23,7 +23,7 @@ use Rattle.kc_session.specs.States.{Step, start, AreSteps}
 use Rattle.kc_session.proofs.Steps.{sound_start}
 use Rattle.kc_session.proofs.Runs.{some_states}
 
--- each input leads somewhere
+-- the batches of each input have a list of steps
 pub start_states : (header : HeaderShape) (ls : List Token) → (ts : List Step) × AreSteps (start header.profile header.n) (batches (rules_of header MAX_ITEMS) ls) ts
 start_states header ls =
     some_states header (start header.profile header.n) (batches (rules_of header MAX_ITEMS) ls) (sound_start header.profile header.n) refl (batches_keep_ranges (rules_of header MAX_ITEMS) ls)
@@ -40,7 +40,7 @@ pub settles_some : (header : HeaderShape) (told : Option (List Next)) (s t : Sta
 settles_some header None s t before now h i fault other e w = tt
 settles_some header (Some bs) s t before now h i fault other e w = subst (λ (z : State). WroteSomeBatches Notes z bs before now) e w
 
--- all of them
+-- all notes were written
 pub settles_whole : (header : HeaderShape) (told : Option (List Next)) (s : State) (before now : Option (List ℕ)) (h i : Option (List Entry)) (counts : Counts) (settled : Settled) → s ≡ start header.profile header.n → settled.refused ≡ counts.refused
     → RunsBatches Notes s settled.engine.state told before now h i (Ok counts) → Settles header told before now (Ok settled)
 settles_whole header None s before now h i counts settled e r w = tt

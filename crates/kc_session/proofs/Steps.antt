@@ -1,4 +1,4 @@
--- One batch: it leads somewhere, to one place only, and keeps what is true of each state.
+-- One batch: it has exactly one step, and keeps the facts of each state.
 use Rattle.std.proofs.Common.{ℕ, ◌≡◌, List, [], refl, sym, ap, subst, ◌∙◌, arith}
 use Rattle.std.specs.Prelude.{Option, Some, None}
 use Rattle.kc_graph.specs.declared.cleaning.Cleaned.{Cleaned}
@@ -26,7 +26,7 @@ use Rattle.kc_session.specs.States.{Step, stay, start, refusal_of, IsAfterCleane
 pub sound_start : (p : Profile) (n : ℕ) → IsSound MAX_EDGES (start p n)
 sound_start p n = start_is_sound p n 0 MAX_EDGES (omega arith)
 
--- what a batch without a fault comes to
+-- the cleaning of a batch without a fault
 pub cleaning : (s : State) (header : HeaderShape) (items : List Item) (line : ℕ) → s.graph.vertices ≡ header.n → IsBatch (rules_of header MAX_ITEMS) (record { items = items; line = line }) → IsCleaning s.graph (cleaned s.graph items)
 cleaning s header items line e i = record { items = items; inside = rw e i.inside; few = i.few; comes_to = refl }
 
@@ -49,13 +49,13 @@ one_cleaned s c None t u k f a b =
     let plans = phases_are_one MAX_EDGES s c k f in
     step_same t u (one.1.1 t.state a.after ∙ sym (one.1.1 u.state b.after)) (plans.1.1 t.state t.phases a ∙ sym (plans.1.1 u.state u.phases b))
 
--- each batch leads somewhere
+-- each batch has a step
 pub some_step : (s : State) (header : HeaderShape) (b : Next) → IsSound MAX_EDGES s → s.graph.vertices ≡ header.n → IsNext (rules_of header MAX_ITEMS) b → (t : Step) × IsStep s b t
 some_step s header (Items batch) k e i = let c = cleaned s.graph batch.items in some_cleaned s c (refusal_of s c) k (cleaning s header batch.items batch.line e i)
 some_step s header (Refused line reason) k e i = (stay s, refl)
 some_step s header End k e i = (stay s, refl)
 
--- it keeps what is true of each state
+-- a batch keeps the facts of each state
 pub sound_step : (s : State) (header : HeaderShape) (b : Next) (t : Step) → IsSound MAX_EDGES s → s.graph.vertices ≡ header.n → IsNext (rules_of header MAX_ITEMS) b → IsStep s b t → IsSound MAX_EDGES t.state × (t.state.graph.vertices ≡ header.n)
 sound_step s header (Items batch) t k e i a =
     let c = cleaned s.graph batch.items in
@@ -64,7 +64,7 @@ sound_step s header (Items batch) t k e i a =
 sound_step s header (Refused line reason) t k e i a = rw a (k, e)
 sound_step s header End t k e i a = rw a (k, e)
 
--- and its profile
+-- a batch keeps the profile
 profile_cleaned : (s : State) (c : Cleaned) (r : Option EngineFault) (t : Step) → IsAfterCleaned s c r t → t.state.profile ≡ s.profile
 profile_cleaned s c (Some fault) t a = ap (λ (u : Step). u.state.profile) a
 profile_cleaned s c None t a = a.after.profile
@@ -74,7 +74,7 @@ profile_step s (Items batch) t a = let c = cleaned s.graph batch.items in profil
 profile_step s (Refused line reason) t a = ap (λ (u : Step). u.state.profile) a
 profile_step s End t a = ap (λ (u : Step). u.state.profile) a
 
--- and to one place only
+-- each batch has only one step
 pub one_step : (s : State) (header : HeaderShape) (b : Next) (t u : Step) → IsSound MAX_EDGES s → s.graph.vertices ≡ header.n → IsNext (rules_of header MAX_ITEMS) b → IsStep s b t → IsStep s b u → t ≡ u
 one_step s header (Items batch) t u k e i a b = let c = cleaned s.graph batch.items in one_cleaned s c (refusal_of s c) t u k (cleaning s header batch.items batch.line e i) a b
 one_step s header (Refused line reason) t u k e i a b = a ∙ sym b

@@ -1,11 +1,11 @@
--- Sums and the greatest of a list, as they are found.
+-- Sums and the greatest item of a list, while they are computed.
 use Rattle.std.proofs.Common.{ℕ, suc, ◌≡◌, ◌<◌, ◌+◌, List, ◌∷◌, [], ◌++◌, take, length, get_or, max, refl, sym, ap, ◌∙◌, arith}
 use Rattle.std.specs.List.{sum_by, fold}
 use Rattle.std.proofs.Math.Seq.{take-suc, take-length}
 use Rattle.std.proofs.lemmas.List.Sums.{sum_by_push, sum_by_more_le}
 use Rattle.kc_session.specs.Ended.{greatest}
 
--- a sum as it is added up
+-- a sum, while it is added up
 pub sum_next : (X : Type 0) (f : X → ℕ) (xs : List X) (i : ℕ) (d : X) (old more new : ℕ) → i < length xs → old ≡ sum_by f (take i xs) → more ≡ f (get_or xs i d) → new ≡ old + more → new ≡ sum_by f (take (i + 1) xs)
 sum_next X f xs i d old more new lt h m e =
     let s : i + 1 ≡ suc i = omega arith in
@@ -16,11 +16,11 @@ sum_next X f xs i d old more new lt h m e =
 pub sum_all : (X : Type 0) (f : X → ℕ) (xs : List X) (i old : ℕ) → i ≡ length xs → old ≡ sum_by f (take i xs) → old ≡ sum_by f xs
 sum_all X f xs i old all h = h ∙ ap (λ (ys : List X). sum_by f ys) (ap (λ j. take j xs) all ∙ take-length xs)
 
--- one more is within the whole sum
+-- one more item stays within the whole sum
 pub sum_room : (X : Type 0) (f : X → ℕ) (xs : List X) (i : ℕ) (d : X) (old more limit : ℕ) → i < length xs → old ≡ sum_by f (take i xs) → more ≡ f (get_or xs i d) → sum_by f xs < limit → (more < limit) × (old + more < limit)
 sum_room X f xs i d old more limit lt h m few = let within = sum_by_more_le f xs i d lt in (omega (arith, h, m, few, within), omega (arith, h, m, few, within))
 
--- the greatest as it is found
+-- the greatest item, while it is searched
 fold_push : (a : ℕ) (xs : List ℕ) (x : ℕ) → fold max a (xs ++ x ∷ []) ≡ max (fold max a xs) x
 fold_push a [] x = refl
 fold_push a (y ∷ ys) x = fold_push (max a y) ys x

@@ -1,4 +1,4 @@
--- What contracts see of an agent, and what is true of each.
+-- The view of an agent in contracts, and the facts that hold of each.
 use Rattle.std.specs.Prelude.{ℕ, zero, suc, ◌≡◌, ◌≤◌, ◌<◌, ◌*◌, Bool, false, true, List, [], ◌++◌, length, take, All}
 use Rattle.kc_history.specs.declared.entries.Entry.{Entry}
 use Rattle.kc_history.specs.declared.replies.Reply.{Reply}
@@ -15,8 +15,10 @@ repeated (suc k) vs = repeated k vs ++ vs
 abbrev pub questions : Ask → List ℕ
 questions ask = repeated ask.times ask.vertices
 
--- an agent: the store that it reads, its number and its ask, what its pass has seen of the history, how long that was when the pass
--- was made, its replies, and whether it has run
+-- an agent
+--
+-- The fields are the store that it reads, its number, its ask, and the history that its pass has seen. Then come the
+-- length of the history when the pass was made, its replies, and whether it has run.
 pub record AgentShape : Type 0 where
   pub store : StoreShape
   pub reader : ℕ
@@ -30,8 +32,10 @@ pub record AgentShape : Type 0 where
 abbrev pub agent_for : StoreShape → List Entry → ℕ → Ask → AgentShape
 agent_for store history reader ask = record { store = store; reader = reader; ask = ask; seen = history; made = length history; replies = []; has_run = false }
 
--- what is true of each agent: its replies answer the first questions of its ask, in order; once it has run they answer all of them;
--- and what its pass has seen explains them, from the point on at which the pass was made
+-- the facts that hold of each agent
+--
+-- Its replies answer the first questions of its ask, in order; once it has run they answer all of them. From the point
+-- at which its pass was made, the history that the pass has seen explains them.
 pub record IsAgent (a : AgentShape) : Type 0 where
   pub first : vertices_of a.replies ≡ take (length a.replies) (questions a.ask)
   pub all : a.has_run ≡ true → vertices_of a.replies ≡ questions a.ask

@@ -1,4 +1,4 @@
--- The counts that a session ends with.
+-- The counts at the end of a session.
 use Rattle.std.specs.Prelude.{ℕ, ◌≡◌, List, length, max}
 use Rattle.std.specs.List.{sum_by, fold}
 use Rattle.kc_batch.specs.declared.batch.Next.{Next}
@@ -8,16 +8,18 @@ use Rattle.kc_session.specs.declared.ended.Ended.{Ended}
 use Rattle.kc_session.specs.Counts.{capped, refused_in, all_groups, all_moves}
 use Rattle.kc_session.specs.States.{Step, start, last_state}
 
--- the greatest of levels
+-- the greatest of the levels
 abbrev pub greatest : List ℕ → ℕ
 greatest levels = fold max 0 levels
 
--- how many replies there are
+-- the number of replies
 abbrev pub replies_in : List (List Reply) → ℕ
 replies_in lists = sum_by (λ (rs : List Reply). length rs) lists
 
--- the counts of a session: of its batches, which led to these steps, of the phases, groups and moves in them, of the edges at the
--- end, and of the replies; and the greatest level at the end
+-- the counts at the end of a session whose batches led to these steps
+--
+-- They count the batches, the phases, groups and moves in them, the edges at the end, and the replies. The greatest
+-- level at the end is among them.
 pub record IsEnded (header : HeaderShape) (batches : List Next) (steps : List Step) (lists : List (List Reply)) (e : Ended) : Type 0 where
   pub count : e.batches ≡ length batches
   pub refused : e.refused ≡ refused_in (start header.profile header.n) batches steps

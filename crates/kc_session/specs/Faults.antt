@@ -1,4 +1,4 @@
--- Why a session stops before its end.
+-- The causes for which a session stops before its end.
 use Rattle.std.specs.Prelude.{ℕ, ◌≡◌, Result, Ok, Err}
 use Rattle.kc_text.specs.declared.buf.SendFault.{SendFault}
 use Rattle.kc_text.specs.declared.buf.SendFault.TheVariants as send
@@ -17,8 +17,9 @@ abbrev pub fault_of_send : SendFault → SessionFault
 fault_of_send send.WriteFault = WriteFault
 fault_of_send (send.Memory e) = Memory e
 
--- the counts of faults of the source, r, and of the sink, w: a fault stops a session only where the count of its object
--- rose, and every other count is as it was
+-- a fault of a session has a cause, for the counts of faults r of the source and w of the sink
+--
+-- A fault stops a session only if the count of its object rose, and every other count is as it was.
 abbrev pub FaultCause : {T : Type 0} → ℕ → ℕ → ℕ → ℕ → Result T SessionFault → Type 0
 FaultCause r0 r1 w0 w1 (Ok _) = (r1 ≡ r0) × (w1 ≡ w0)
 FaultCause r0 r1 w0 w1 (Err ReadFault) = Rose r0 r1 × (w1 ≡ w0)

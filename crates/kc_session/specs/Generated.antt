@@ -1,4 +1,4 @@
--- A generated load: the text that a seed, a number of vertices, a number of batches and the number of items of each make.
+-- The text of a generated load for a seed, a number of vertices, a number of batches and the number of items of each.
 use Rattle.std.specs.Prelude.{ℕ, ◌≤◌, zero, suc, ◌+◌, ◌*◌, ◌/◌, ◌%◌, ◌^◌, ◌==◌, List, [], ◌∷◌, ◌++◌, map, min, decimal, codes, if◌then◌else◌}
 use Rattle.kc_graph.specs.declared.limits.TheConstants.{MAX_VERTICES, MAX_ITEMS}
 use Rattle.kc_text.specs.Printing.{printed}
@@ -7,12 +7,13 @@ use Rattle.kc_text.specs.Printing.{printed}
 unfoldable pub next_state : ℕ → ℕ
 next_state s = (1664525 * s + 1013904223) % 2 ^ 32
 
--- what a draw gives that leads to this state
+-- the draw that leads to this state
 abbrev pub drawn : ℕ → ℕ
 drawn s = s / 256
 
--- an item is made of three draws, which lead to the states a, b and c: the ends of an edge are the first two modulo n, and one edge in
--- four leaves
+-- an item is made of three draws, which lead to the states a, b and c
+--
+-- The ends of its edge are the first two draws modulo n, and one edge in four leaves.
 abbrev pub item_of_draws : ℕ → ℕ → ℕ → ℕ → List (List ℕ)
 item_of_draws n a b c = (if drawn c % 4 == 0 then codes "-" else codes "+") ∷ decimal (drawn a % n) ∷ decimal (drawn b % n) ∷ []
 
@@ -43,7 +44,7 @@ unfoldable pub first_numbers : ℕ → List ℕ
 first_numbers zero = []
 first_numbers (suc count) = first_numbers count ++ count ∷ []
 
--- a reader who asks four times for the first 16 vertices, or for all where there are fewer
+-- a reader that asks four times for the first 16 vertices, or for all if there are fewer
 abbrev pub ask_words : ℕ → List (List ℕ)
 ask_words n = codes "ask" ∷ codes "4" ∷ map decimal (first_numbers (min n 16))
 

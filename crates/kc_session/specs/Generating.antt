@@ -6,7 +6,7 @@ use Rattle.kc_session.specs.declared.generator.Place.TheVariants.{Format, Vertic
 use Rattle.kc_session.specs.declared.generator.Generator.{Generator}
 use Rattle.kc_session.specs.Generated.{ask_words, head_words, drawn_items, after_items, drawn_batches}
 
--- the lines from a place on, where `batches` batches begin after it
+-- the lines from this place on, with `batches` batches that begin after it
 abbrev pub words_from : Place → ℕ → ℕ → ℕ → ℕ → List (List (List ℕ))
 words_from Format n items batches s = head_words n ++ drawn_batches n items s batches
 words_from Vertices n items batches s = (codes "vertices" ∷ decimal n ∷ []) ∷ ask_words n ∷ ask_words n ∷ drawn_batches n items s batches

@@ -1,4 +1,4 @@
--- What a generated load says: a header with two asks, and batches without a fault.
+-- The input that a generated load is: a header with two asks, and batches without a fault.
 use Rattle.std.specs.Prelude.{ℕ, zero, suc, ◌≡◌, ◌≤◌, ◌+◌, ◌%◌, ◌^◌, ◌==◌, List, [], ◌∷◌, min, if◌then◌else◌}
 use Rattle.kc_graph.specs.declared.items.Item.{Item}
 use Rattle.kc_graph.specs.declared.items.Item.TheVariants.{Insert, Delete}
@@ -11,7 +11,7 @@ use Rattle.kc_batch.specs.BatchInputs.{input_of, WithBatches}
 use Rattle.kc_batch.specs.HeaderShape.{HeaderShape}
 use Rattle.kc_session.specs.Generated.{next_state, drawn, after_item, after_items, first_numbers, generated, IsLoad}
 
--- the item that three draws make
+-- the item of three draws
 abbrev pub item_drawn : ℕ → ℕ → ℕ → ℕ → Item
 item_drawn n a b c = if drawn c % 4 == 0 then Delete (drawn a % n) (drawn b % n) else Insert (drawn a % n) (drawn b % n)
 
@@ -20,7 +20,7 @@ unfoldable pub items_drawn : ℕ → ℕ → ℕ → List Item
 items_drawn n s zero = []
 items_drawn n s (suc count) = item_drawn n (next_state s) (next_state (next_state s)) (next_state (next_state (next_state s))) ∷ items_drawn n (after_item s) count
 
--- `batches` batches, of which the first begins at this line
+-- `batches` batches; the first begins at this line
 unfoldable pub load_batches : ℕ → ℕ → ℕ → ℕ → ℕ → List Next
 load_batches n items line s zero = []
 load_batches n items line s (suc batches) = whole (items_drawn n s items) (line + items + 1) ∷ load_batches n items (line + items + 2) (after_items s items) batches

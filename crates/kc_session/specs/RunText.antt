@@ -1,4 +1,4 @@
--- What is written of batches.
+-- The text of several batches.
 use Rattle.std.specs.Prelude.{ℕ, ◌+◌, List, [], ◌∷◌, ◌++◌}
 use Rattle.kc_graph.specs.Cleaning.{cleaned}
 use Rattle.kc_batch.specs.declared.batch.Next.{Next}
@@ -9,14 +9,15 @@ use Rattle.kc_session.specs.declared.report.Report.{Report}
 use Rattle.kc_session.specs.Reports.{refused_text, cleaned_text}
 use Rattle.kc_session.specs.States.{Step, refusal_of}
 
--- what is written of the batch with this number in this state, where it has these phases; one that is refused after its
--- cleaning is refused at its `end`
+-- the text of the batch with this number in this state, if it has these phases
+--
+-- A batch that is refused after its cleaning is refused at its `end`.
 abbrev pub step_text : Report → ℕ → State → Next → List PhasePlan → List ℕ
 step_text report number s (Items batch) phases = let c = cleaned s.graph batch.items in cleaned_text report number batch.line c (refusal_of s c) phases
 step_text report number s (Refused line reason) phases = refused_text report number line reason
 step_text report number s End phases = []
 
--- what is written of batches, of which the first has this number, with what each of them leads to
+-- the text of these batches with these steps; the first has this number
 abbrev pub batch_lines : Report → ℕ → State → List Next → List Step → List ℕ
 batch_lines report number s [] ts = []
 batch_lines report number s (b ∷ bs) [] = []

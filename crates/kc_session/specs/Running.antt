@@ -1,4 +1,4 @@
--- What has become of batches, and what has been written of them, when they have been run or a fault came.
+-- The result of batches, and the text written for them, after they were run or a fault came.
 use Rattle.std.specs.Prelude.{ℕ, List, Option}
 use Rattle.kc_text.specs.Writing.{IsPrefix}
 use Rattle.kc_batch.specs.declared.batch.Next.{Next}
@@ -7,7 +7,7 @@ use Rattle.kc_session.specs.declared.report.Report.{Report}
 use Rattle.kc_session.specs.RunText.{batch_lines}
 use Rattle.kc_session.specs.States.{Step, AreSteps}
 
--- a prefix of what is due of them was written
+-- a prefix of the text of the batches was written
 pub record WroteSomeBatches (report : Report) (s : State) (batches : List Next) (before now : Option (List ℕ)) : Type 0 where
   pub steps : List Step
   pub are_steps : AreSteps s batches steps

@@ -1,4 +1,4 @@
--- What is left after all batches of an input, where nobody reads meanwhile.
+-- The result of all batches of an input without readers.
 use Rattle.std.specs.Prelude.{ℕ, ◌≡◌, false, List, Option, Some, None, Result, Ok, Err}
 use Rattle.std.specs.Io.KnownBytes.{append_known}
 use Rattle.kc_graph.specs.declared.limits.TheConstants.{MAX_EDGES}
@@ -14,8 +14,9 @@ use Rattle.kc_session.specs.RunText.{batch_lines}
 use Rattle.kc_session.specs.Running.{WroteSomeBatches}
 use Rattle.kc_session.specs.States.{Step, start, AreSteps, last_state}
 
--- the engine is for the vertices of this header, by its profile: it hasn't halted, no plan waits to be shown, its levels are at most
--- the top level, and both invariants hold
+-- the engine is for the vertices and the profile of this header
+--
+-- It hasn't halted, no plan waits to be shown, its levels are at most the top level, and both invariants hold.
 pub record IsSettled (header : HeaderShape) (e : EngineView) : Type 0 where
   pub running : e.halted ≡ false
   pub none_waits : e.waits ≡ false
@@ -23,7 +24,9 @@ pub record IsSettled (header : HeaderShape) (e : EngineView) : Type 0 where
   pub vertices : e.state.graph.vertices ≡ header.n
   pub sound : IsSound MAX_EDGES e.state
 
--- the batches were applied one after another, which led to the state t, notes of the refused ones were written, and `refused` batches were refused
+-- the batches were applied one after another, and led to the state t
+--
+-- Notes of the refused ones were written, and `refused` is their number.
 pub record HasSettled (header : HeaderShape) (batches : List Next) (before now : Option (List ℕ)) (t : State) (refused : ℕ) : Type 0 where
   pub steps : List Step
   pub are_steps : AreSteps (start header.profile header.n) batches steps
@@ -31,7 +34,7 @@ pub record HasSettled (header : HeaderShape) (batches : List Next) (before now :
   pub taken : now ≡ append_known before (batch_lines Notes 1 (start header.profile header.n) batches steps)
   pub count : refused ≡ refused_in (start header.profile header.n) batches steps
 
--- that with Ok, and else a prefix of the notes was written, where the batches are told
+-- with Ok the batches were applied, and otherwise a prefix of the notes was written, if the source tells the batches
 abbrev pub Settles : HeaderShape → Option (List Next) → Option (List ℕ) → Option (List ℕ) → Result Settled SessionFault → Type 0
 Settles header None before now result = Unit {0}
 Settles header (Some batches) before now (Ok settled) = HasSettled header batches before now settled.engine.state settled.refused

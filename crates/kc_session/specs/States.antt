@@ -1,4 +1,4 @@
--- Batches in turn: what the batches of an input lead to, one after another.
+-- The states of an input's batches, one after another.
 use Rattle.std.specs.Prelude.{ℕ, ◌≡◌, Bool, true, false, List, [], ◌∷◌, ◌++◌, Option, Some, None, is_some}
 use Rattle.kc_graph.specs.declared.cleaning.Cleaned.{Cleaned}
 use Rattle.kc_graph.specs.declared.limits.TheConstants.{MAX_EDGES}
@@ -19,26 +19,27 @@ use Rattle.kc_engine.specs.Batches.{IsAfterPhases}
 use Rattle.kc_engine.specs.Batches as limits
 use Rattle.kc_engine.specs.Planning.{EngineView}
 
--- before the first batch: no edges, all levels 0, no phases
+-- the state before the first batch: no edges, all levels 0, no phases
 abbrev pub start : Profile → ℕ → State
 start p n = states.start p n 0
 
--- why a batch without a fault that comes to c is refused all the same, if it is: the graph would have more than 16,777,216
--- edges, or else the batch's last phase would have a number above 16,777,215
+-- the reason for which a batch without a fault is refused after its cleaning c, if it is
+--
+-- The graph would have more than 16,777,216 edges, or else the batch's last phase would have a number above 16,777,215.
 abbrev pub refusal_of : State → Cleaned → Option EngineFault
 refusal_of s c = limits.refusal_of MAX_EDGES s c
 
--- the word for it; there are no other refusals than these two
+-- the word for the reason; there are no other refusals than these two
 abbrev pub reason_of : EngineFault → Reason
 reason_of (EdgeLimit edges) = reason.EdgeLimit
 reason_of _ = reason.PhaseLimit
 
--- what a batch leads to: the state after it, and its phases
+-- the result of a batch: the state after it, and its phases
 pub record Step : Type 0 where
   pub state : State
   pub phases : List PhasePlan
 
--- nothing changes
+-- the step that changes nothing
 abbrev pub stay : State → Step
 stay s = record { state = s; phases = [] }
 
@@ -47,25 +48,25 @@ abbrev pub IsAfterCleaned : State → Cleaned → Option EngineFault → Step �
 IsAfterCleaned s c (Some fault) t = t ≡ stay s
 IsAfterCleaned s c None t = IsAfterPhases s c t.state t.phases
 
--- t is what this batch leads to in the state s
+-- t is the step of this batch in the state s
 abbrev pub IsStep : State → Next → Step → Type 0
 IsStep s (Items batch) t = let c = cleaned s.graph batch.items in IsAfterCleaned s c (refusal_of s c) t
 IsStep s (Refused line reason) t = t ≡ stay s
 IsStep s End t = t ≡ stay s
 
--- these are what each of the batches leads to
+-- these are the steps of the batches
 abbrev pub AreSteps : State → List Next → List Step → Type 0
 AreSteps s [] [] = Unit {0}
 AreSteps s [] (t ∷ ts) = ⊥
 AreSteps s (b ∷ bs) [] = ⊥
 AreSteps s (b ∷ bs) (t ∷ ts) = IsStep s b t × AreSteps t.state bs ts
 
--- the state after all of them
+-- the state after all steps
 abbrev pub last_state : State → List Step → State
 last_state s [] = s
 last_state s (t ∷ ts) = last_state t.state ts
 
--- their history: the entries of all their phases, in the order in which they take effect
+-- the history of these steps: the entries of all their phases, in the order in which they take effect
 abbrev pub history_of : List Step → List Entry
 history_of [] = []
 history_of (t ∷ ts) = entries_in t.phases ++ history_of ts
@@ -76,7 +77,9 @@ is_refused s (Items batch) = is_some (refusal_of s (cleaned s.graph batch.items)
 is_refused s (Refused line reason) = true
 is_refused s End = false
 
--- the engine takes batches: it hasn't halted, no plan waits to be shown, its edge limit is the program's, and its state is sound
+-- the engine takes batches
+--
+-- It hasn't halted, no plan waits to be shown, its edge limit is the program's, and its state is sound.
 pub record IsOpen (e : EngineView) : Type 0 where
   pub running : e.halted ≡ false
   pub none_waits : e.waits ≡ false

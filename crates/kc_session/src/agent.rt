@@ -16,22 +16,26 @@ use std::marker::Model;
 
 /// A reader of a store: it puts the questions of one ask, and keeps the replies.
 ///
-/// Contracts see it as an `AgentShape`: its store, its number and its ask, what its pass has seen of the history and how long that was
-/// when the pass was made, its replies, and whether it has run. Of each agent three things are true (`IsAgent`): its replies answer
-/// the first questions of its ask, in order; once it has run they answer all of them; and what its pass has seen explains them.
+/// Contracts see an `AgentShape`: the agent's store, number, ask and replies, and whether it has run. They also see
+/// what its pass has seen of the history, and how long the history was when the pass was made.
+///
+/// Three facts hold of each agent (`IsAgent`). Its replies answer the first questions of its ask, in order. Once it has
+/// run, they answer all of them. The history that its pass has seen explains the replies.
 #[derive(Drop)]
 pub struct Agent {
-    // Reads the store. What it has seen of the history explains the replies, from the point on at which it was made.
+    // The pass that reads the store. From the point at which the pass was made, the history that it has seen explains
+    // the replies.
     pass: Pass,
     // The number of the store's vertices. Each vertex of the ask is below it.
     vertices: u32,
-    // Its number, counted from 0, by which the gate is told of its questions.
+    // The number of the agent, counted from 0. The gate gets it with each question.
     reader: u32,
     // At most 65,536 questions.
     ask: Ask,
-    // One for each question, in order, so that a run takes no memory. The levels are the store's once the agent has run.
+    // One reply for each question, in order, so that a run takes no memory. The levels are those of the store once the
+    // agent has run.
     replies: Vec<Reply>,
-    // Whether all questions were put. No reply counts before.
+    // Whether all questions were put. Before that no reply counts.
     has_run: bool,
 }
 
@@ -45,7 +49,7 @@ impl Model for Agent {
     ghost invariant = { λ a. IsKept (agent_shape a.pass a.vertices a.reader a.ask a.replies.items a.has_run) a.replies.items };
 }
 
-// Puts a reply of level 0 for each of the vertices at the end.
+// Appends a reply of level 0 for each of the vertices.
 fn push_zeros(replies: &mut Vec<Reply>, vertices: &[u32]) -> Result<(), AllocError>
     ensures { OnOk result (replies.new.items ≡ replies.old.items ++ zeros vertices.now) }
 {
@@ -58,7 +62,7 @@ fn push_zeros(replies: &mut Vec<Reply>, vertices: &[u32]) -> Result<(), AllocErr
     Ok(())
 }
 
-// A reply of level 0 for each question.
+// Makes a reply of level 0 for each question.
 fn zeros_for(alloc: Global, ask: &Ask) -> Result<Vec<Reply>, AllocError>
     ensures { IfOk result (λ replies. replies.items ≡ zeros (questions ask.now)) }
 {
@@ -69,7 +73,7 @@ fn zeros_for(alloc: Global, ask: &Ask) -> Result<Vec<Reply>, AllocError>
     Ok(replies)
 }
 
-// The replies that are kept, or none.
+// Returns the kept replies, or none if the agent hasn't run.
 fn given(has_run: bool, kept: Vec<Reply>) -> Vec<Reply>
     ensures { result.items ≡ given has_run kept.items }
 {
@@ -80,7 +84,7 @@ fn given(has_run: bool, kept: Vec<Reply>) -> Vec<Reply>
     replies
 }
 
-// Asks the store for the level of each vertex in turn, at this pace.
+// Asks the store for the level of one vertex after another, at this pace.
 fn ask_all<G: Gate>(
     gate: &G,
     store: &Store,
@@ -111,10 +115,12 @@ fn ask_all<G: Gate>(
 }
 
 impl Agent {
-    /// An agent with this number for an ask (`agent_for`), which has seen the writer's whole history and has not run.
+    /// Makes an agent with this number for an ask (`agent_for`). It has seen the writer's whole history and has not
+    /// run.
     ///
-    /// The vertices of the ask are below the store's number of vertices, and it has at most 65,536 questions. The writer is the
-    /// store's. Takes memory for a reply to each question, and then splits off a pass. Without memory the ask is dropped.
+    /// The vertices of the ask are below the store's number of vertices, and it has at most 65,536 questions. The
+    /// writer is the store's. Takes memory for a reply to each question, and then splits off a pass. If there is no
+    /// memory, the ask is dropped.
     pub fn open(
         alloc: Global,
         reader: u32,
@@ -141,8 +147,9 @@ impl Agent {
 
     /// Puts the questions of the ask one after another: its vertices in order, the whole list `times` times over.
     ///
-    /// The store is the one that the agent was opened with, and the agent has not run. Tells the gate `Asking` before each question and
-    /// `Replied` after it; questions are counted from 0. Takes no memory. Costs one read of the store a question.
+    /// The store is the one that the agent was opened with, and the agent has not run. The gate gets `Asking` before
+    /// each question and `Replied` after it; questions are counted from 0. Takes no memory. Cost: one read of the store
+    /// a question.
     pub fn run<G: Gate + Sync>(&mut self, gate: &G, store: &Store)
         requires store { self.old.store ≡ store.now }
         requires first { self.old.has_run ≡ false }
@@ -153,9 +160,12 @@ impl Agent {
 
     /// Puts the questions as `run` does, but spreads them over the batches that are applied meanwhile.
     ///
-    /// Between two repetitions of the list it looks whether a batch was shown since the last one began, at most as
-    /// often as `progress` says, and lets other threads run after each look. After the last batch it goes on at once.
-    /// It ends in any case: a progress that never changes costs it its looks. A look is one load of a word.
+    /// Before the first question the agent looks whether the batches have begun. Between two repetitions of the list it
+    /// looks whether a batch moved a vertex since the last repetition began. It looks at most as often as `progress`
+    /// says, and lets other threads run after each look. After the last batch it goes on at once.
+    ///
+    /// The call always ends: a progress that never changes costs the agent only its looks. A look is one load of a
+    /// word.
     pub fn run_beside<G: Gate + Sync>(&mut self, gate: &G, store: &Store, progress: &Progress)
         requires store { self.old.store ≡ store.now }
         requires first { self.old.has_run ≡ false }
@@ -167,8 +177,8 @@ impl Agent {
         self.has_run = true;
     }
 
-    /// Takes the pass of the agent in, and gives the replies: one for each question, or none where the agent has not run. The writer's
-    /// history explains them from the point on at which the agent was opened.
+    /// Takes the pass of the agent in, and returns the replies: one for each question, or none if the agent has not
+    /// run. From the point at which the agent was opened, the writer's history explains the replies.
     ///
     /// The store is the one that the agent was opened with, and the writer is the store's. Takes no memory.
     pub fn close(self, store: &Store, writer: &mut Writer) -> Vec<Reply>

@@ -1,4 +1,4 @@
-//! The agents of several asks: they are opened, run beside one another, and are closed.
+//! The agents of several asks: they are opened, run beside one another, and closed.
 ghost use Rattle.std.specs.Prelude.{◌≡◌, ◌<◌, ◌^◌, ℕ, false, true, length, All, IfOk, slice_index_or};
 ghost use Rattle.std.specs.Thread.{IsSync};
 ghost use Rattle.kc_batch.specs.Headers.{IsAsk};
@@ -17,9 +17,10 @@ use std::thread::Threads;
 // The most threads that run agents.
 const MAX_THREADS: usize = 64;
 
-/// An agent for each ask, in order, numbered from 0 (`agents_for`).
+/// Makes an agent for each ask, in order, numbered from 0 (`agents_for`).
 ///
-/// Each ask keeps its ranges (`IsAsk`), and the writer is the store's. Where one finds no memory, the agents that were opened are dropped.
+/// Each ask keeps its ranges (`IsAsk`), and the writer is the store's. If there is no memory for one agent, the agents
+/// opened before it are dropped.
 pub fn open_agents(
     alloc: Global,
     asks: Asks,
@@ -79,10 +80,10 @@ pub fn run_agents<R: Threads + Sync, G: Gate + Sync>(
     run_each(rt, gate, store, progress, agents.as_mut_slice());
 }
 
-/// Takes the passes of agents in that have run, one after another, and gives their replies in the same order (`AreClosed`): the writer's
-/// history explains the replies of each.
+/// Takes in the passes of agents that have run, one after another, and returns their replies in the same order
+/// (`AreClosed`). The writer's history explains the replies of each.
 ///
-/// The store is the one that the agents were opened with. After a refusal some passes may not have been taken in.
+/// The store is the one that the agents were opened with. After a fault some passes may not have been taken in.
 pub fn close_all(
     alloc: Global,
     store: &Store,

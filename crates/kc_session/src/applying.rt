@@ -1,4 +1,4 @@
-//! What the batches of an input do, one after another, to the engine that takes them.
+//! Application of batches to an engine, one after another.
 ghost use Rattle.std.specs.Prelude.{◌≡◌, ◌≤◌, length, All, IfOk, OnOk};
 ghost use Rattle.kc_graph.specs.Cleaning.{IsInside, cleaned};
 ghost use Rattle.kc_session.specs.private.Audiences.{store_of, shown_to, IsAbreast};
@@ -14,17 +14,17 @@ use kc_text::Reason;
 use std::alloc::{AllocError, Global};
 use std::thread::Threads;
 
-/// What became of a batch without a fault.
+/// The result of a batch without a fault.
 #[derive(Drop)]
 pub enum Outcome {
-    /// It was applied: what it came to, and its phases.
+    /// The batch was applied: its cleaning, and its phases.
     Accepted(Cleaned, BatchPlan),
-    /// It is refused for this reason, `EdgeLimit` or `PhaseLimit`, and changed nothing.
+    /// The batch is refused for this reason, `EdgeLimit` or `PhaseLimit`, and changed nothing.
     Refused(Reason),
 }
 
-/// The engine before the first batch of a graph of n vertices, whose phases use up to `workers` threads, 1 to 64. The error is
-/// running out of memory.
+/// Makes the engine before the first batch of a graph of n vertices. Its phases use up to `workers` threads, 1 to 64.
+/// Fails only if memory runs out.
 pub fn open(alloc: Global, profile: Profile, n: u32, workers: u32) -> Result<Engine, AllocError>
     requires some { 1 ≤ n }
     requires small { n ≤ MAX_VERTICES }
@@ -45,10 +45,10 @@ pub fn open(alloc: Global, profile: Profile, n: u32, workers: u32) -> Result<Eng
     )
 }
 
-/// Applies a batch without a fault: its items are cleaned, and then it is refused and changes nothing, or its edges leave and
-/// come in, and its phases are shown. Fails only if memory runs out; the engine isn't used again.
+/// Applies a batch without a fault. Its items are cleaned first. Then the batch is refused and changes nothing, or its
+/// edges leave and come in, and its phases are shown. Fails only if memory runs out; the engine isn't used again then.
 ///
-/// Costs what `clean_by` and `Engine::plan` cost, and `Engine::show` where there are readers.
+/// Cost: that of `clean_by` and `Engine::plan`, and that of `Engine::show` if there are readers.
 pub fn apply<R: Threads + Sync, G: Gate + Sync>(
     rt: &R,
     alloc: Global,

@@ -1,4 +1,4 @@
-//! Those to whom the phases of batches are shown: the readers of a store, or nobody.
+//! The audience of the phases of batches: the readers of a store, or none.
 ghost use Rattle.std.specs.Prelude.{◌≡◌, true, false, None, Some};
 ghost use Rattle.kc_groups.specs.Entries.{entries_in};
 ghost use Rattle.kc_session.specs.private.Audiences.{store_of, writer_of, shown_to, IsAbreast, longer, LeadOver};
@@ -9,19 +9,20 @@ use kc_store::{Store, Writer};
 use std::mem;
 use std::thread::Threads;
 
-/// Those to whom the phases of batches are shown.
+/// The audience of the phases of batches.
 #[derive(Drop)]
 pub enum Audience<'a> {
     /// The readers of this store, by its writer.
     Readers { store: &'a Store, writer: Writer },
-    /// Nobody: no level is looked up.
+    /// No reader: no level is looked up.
     Nobody,
 }
 
-/// Shows the plan of an engine that waits, whose phases lead over from a state that the audience is abreast of to that of the engine.
-/// Afterwards no plan waits, the engine is otherwise unchanged, and the audience is abreast of it.
+/// Shows the pending plan of an engine. The plan's phases lead from a state with which the audience is up to date to
+/// the state of the engine. Afterwards no plan is pending, the engine is otherwise unchanged, and the audience is up to
+/// date with it.
 ///
-/// Costs what `Engine::show` costs where there are readers, and else nothing.
+/// Cost: that of `Engine::show` if there are readers, and otherwise nothing.
 pub fn show<R: Threads + Sync, G: Gate + Sync>(
     rt: &R,
     gate: &G,
@@ -43,7 +44,7 @@ pub fn show<R: Threads + Sync, G: Gate + Sync>(
 }
 
 impl<'a> Audience<'a> {
-    /// The writer of the store that is read.
+    /// Returns the writer of the store that is read. There is one.
     pub fn into_writer(self) -> Writer
         requires { writer_of self ≡ None → ⊥ }
         ensures { writer_of self.entry ≡ Some result }
@@ -55,7 +56,7 @@ impl<'a> Audience<'a> {
     }
 }
 
-/// Ends the audience, and gives the writer of the store that was read.
+/// Returns the writer of the store that was read, and leaves no audience. There was a writer.
 pub fn take_writer(audience: &mut Audience<'_>) -> Writer
     requires { writer_of audience.old ≡ None → ⊥ }
     ensures { writer_of audience.old ≡ Some result }

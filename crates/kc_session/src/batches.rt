@@ -1,4 +1,4 @@
-//! Batches in turn: each is read, applied, and told.
+//! Batches one after another: each is read, applied, and reported.
 ghost use Rattle.std.specs.Prelude.{◌≡◌, ◌≤◌, ◌<◌, ◌^◌, ◌+◌, ◌-◌, OnOk};
 ghost use Rattle.kc_batch.specs.Batches.{batches_left, IsEnd};
 ghost use Rattle.kc_session.specs.private.Audiences.{store_of, shown_to, IsAbreast};
@@ -20,7 +20,7 @@ use kc_rounds::Gate;
 use kc_text::{LineReader, Reason, Sink, Source};
 use std::thread::Threads;
 
-// Applies the next batch, writes what is due of it and counts it.
+// Applies the next batch, writes its text and counts it.
 fn run_batch<R: Threads + Sync, K: Sink, G: Gate + Sync>(
     context: &SessionContext<'_, R, G>,
     watched: &mut Watched<'_>,
@@ -80,7 +80,7 @@ fn run_batch<R: Threads + Sync, K: Sink, G: Gate + Sync>(
     }
 }
 
-// Whether the batches end with this one.
+// Returns whether this is the last batch.
 fn is_last(next: &Next) -> bool
     ensures { result ≡ is_last_batch next.now }
 {
@@ -93,8 +93,10 @@ fn is_last(next: &Next) -> bool
     )
 }
 
-/// Runs the batches of an input: each is read, applied, shown to the audience, and told, before the next one. Leaves the engine after
-/// them, and the audience abreast of it. What was written is flushed before bytes of the next one are waited for.
+/// Runs the batches of an input. Each batch is read, applied, shown to the audience and reported before the next one.
+///
+/// Afterwards the engine is that after all batches, and the audience is up to date with it. Text that was written is
+/// flushed before the call waits for bytes of the next batch.
 pub fn run_batches<R: Threads + Sync, S: Source, K: Sink, G: Gate + Sync>(
     context: &SessionContext<'_, R, G>,
     watched: &mut Watched<'_>,

@@ -1,4 +1,4 @@
-//! What a session, its phases and its readers have in common, as it is handed down to them.
+//! The values that a session, its phases and its readers share.
 ghost use Rattle.std.specs.Prelude.{◌≤◌};
 ghost use Rattle.kc_graph.specs.declared.limits.TheConstants.{MAX_VERTICES};
 
@@ -6,23 +6,25 @@ use crate::progress::Progress;
 use kc_levels::Profile;
 use std::alloc::Global;
 
-/// What stays the same for as long as batches of one input are run: the threads, the memory, the gate that is told, and
-/// the graph's number of vertices and profile. And how far the batches have come, which their readers look at.
+/// The values that stay the same while the batches of one input are run, and the progress of the batches.
+///
+/// They are the runtime of threads, the allocator, the gate, the number of workers, and the number of vertices and the
+/// profile of the graph. Readers look at the progress.
 #[derive(Drop)]
 pub struct SessionContext<'a, R, G> {
-    /// By which threads are started.
+    /// The runtime that starts threads.
     pub rt: &'a R,
-    /// Where memory comes from.
+    /// The allocator.
     pub alloc: Global,
-    /// The gate that phases and readers tell.
+    /// The gate that gets the spots of phases and readers.
     pub gate: &'a G,
-    /// How many threads a phase uses at most, 1 to 64.
+    /// The most threads that a phase uses, 1 to 64.
     pub workers: u32,
     /// The number of vertices, 1 to `MAX_VERTICES`.
     pub n: u32,
-    /// Which thresholds the levels go by.
+    /// The profile of the levels' thresholds.
     pub profile: Profile,
-    /// How far the batches have come.
+    /// The progress of the batches.
     pub progress: Progress,
     ghost few_workers: { (1 ≤ workers) × (workers ≤ 64) },
     ghost few_vertices: { (1 ≤ n) × (n ≤ MAX_VERTICES) },

@@ -1,24 +1,24 @@
-//! The batches, groups and moves of a session, counted on as each batch is applied.
+//! The batches, groups and moves of a session, counted up as each batch is applied.
 ghost use Rattle.std.specs.Prelude.{◌≡◌, ◌<◌, ◌≤◌, ◌+◌, ◌-◌, ◌^◌, length};
 ghost use Rattle.kc_session.specs.Counts.{capped, moves_in, groups_of, moves_of};
 
 use kc_groups::PhasePlan;
 use kc_history::Entry;
 
-/// How much batches came to. Groups and moves stop at 4,294,967,295.
+/// The counts of batches so far. Groups and moves stop at 4,294,967,295.
 #[derive(Clone, Copy, Debug, PartialEq, Eq)]
 pub struct Counts {
-    /// All batches.
+    /// The number of batches.
     pub batches: u32,
-    /// Those that were refused.
+    /// The number of refused batches.
     pub refused: u32,
-    /// The moving groups of all phases.
+    /// The number of moving groups in all phases.
     pub groups: u32,
-    /// The moves of all phases.
+    /// The number of moves in all phases.
     pub moves: u32,
 }
 
-// The sum of both, or 4,294,967,295 if it is more.
+// Returns the sum of both, or 4,294,967,295 if it is more.
 fn capped_sum(count: u32, more: usize) -> u32
     ensures { result ≡ capped (count + more) }
 {
@@ -28,7 +28,7 @@ fn capped_sum(count: u32, more: usize) -> u32
     }
 }
 
-// The count and the moves of these entries.
+// Returns the count with the moves of these entries added.
 fn with_moves(count: u32, entries: &[Entry]) -> u32
     ensures { result ≡ capped (count + moves_in entries.now) }
 {
@@ -40,7 +40,7 @@ fn with_moves(count: u32, entries: &[Entry]) -> u32
 }
 
 impl Counts {
-    /// No batches.
+    /// Returns the counts of no batches.
     pub fn none() -> Counts
         ensures { result ≡ record { batches = 0; refused = 0; groups = 0; moves = 0 } }
     {
@@ -52,7 +52,7 @@ impl Counts {
         }
     }
 
-    /// These counts and an accepted batch of these phases.
+    /// Returns these counts with an accepted batch of these phases added.
     pub fn with_accepted(self, phases: &[PhasePlan]) -> Counts
         requires few { self.batches < 2 ^ 32 - 1 }
         ensures { result ≡ record { batches = self.batches + 1; refused = self.refused + 0; groups = capped (self.groups + groups_of phases.now); moves = capped (self.moves + moves_of phases.now) } }
@@ -71,7 +71,7 @@ impl Counts {
         }
     }
 
-    /// These counts and a refused batch.
+    /// Returns these counts with a refused batch added.
     pub fn with_refused(self) -> Counts
         requires few { self.batches < 2 ^ 32 - 1 }
         requires fewer { self.refused ≤ self.batches }

@@ -1,4 +1,4 @@
-//! All counts that a session ends with, for a text that is one line.
+//! The counts at the end of a session, for a text of one line.
 ghost use Rattle.std.specs.Prelude.{◌≡◌, ◌<◌, ◌^◌, length, max};
 ghost use Rattle.kc_session.specs.Ended.{greatest, replies_in};
 ghost use Rattle.kc_session.specs.States.{IsOpen};
@@ -7,28 +7,28 @@ use crate::counts::Counts;
 use kc_engine::Engine;
 use kc_history::Replies;
 
-/// The counts that a session ends with. Groups and moves stop at 4,294,967,295.
+/// The counts at the end of a session. Groups and moves stop at 4,294,967,295.
 #[derive(Clone, Copy, Debug, PartialEq, Eq)]
 pub struct Ended {
-    /// The batches, refused ones among them.
+    /// The number of batches, refused ones included.
     pub batches: u32,
-    /// The batches that were refused.
+    /// The number of refused batches.
     pub refused: u32,
-    /// The phases of all batches.
+    /// The number of phases of all batches.
     pub phases: u32,
-    /// The moving groups of all phases.
+    /// The number of moving groups in all phases.
     pub groups: u32,
-    /// The moves of all phases.
+    /// The number of moves in all phases.
     pub moves: u32,
-    /// The edges at the end.
+    /// The number of edges at the end.
     pub edges: u32,
-    /// The replies that readers were given.
+    /// The number of replies to readers.
     pub replies: u32,
     /// The greatest level at the end.
     pub top: u16,
 }
 
-/// How many replies there are; they are fewer than 2^32.
+/// Returns the number of replies, which is below 2^32.
 pub fn count_replies(lists: &[Replies]) -> u32
     requires { replies_in lists.now < 2 ^ 32 }
     ensures { result ≡ replies_in lists.now }
@@ -40,14 +40,14 @@ pub fn count_replies(lists: &[Replies]) -> u32
     count
 }
 
-// The greater of both.
+// Returns the greater of both.
 fn greater(a: u16, b: u16) -> u16
     ensures { result ≡ max a b }
 {
     if a < b { b } else { a }
 }
 
-// The greatest of levels.
+// Returns the greatest of the levels.
 fn greatest(levels: &[u16]) -> u16
     ensures { result ≡ greatest levels.now }
 {
@@ -59,7 +59,8 @@ fn greatest(levels: &[u16]) -> u16
 }
 
 impl Ended {
-    /// What a session ends with that came to these counts, this engine, this number of replies and these levels.
+    /// Returns the counts of a session that ends with these counts of batches, this engine, this number of replies and
+    /// these levels.
     pub fn with(counts: Counts, engine: &Engine, replies: u32, levels: &[u16]) -> Ended
         requires { IsOpen engine.now }
         ensures { result ≡ record { batches = counts.batches; refused = counts.refused; phases = engine.now.state.phases; groups = counts.groups; moves = counts.moves; edges = length engine.now.state.graph.edges; replies = replies; top = greatest levels.now } }

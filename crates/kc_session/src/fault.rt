@@ -1,4 +1,4 @@
-//! What stops a session: the source, the sink, or memory.
+//! The faults that stop a session: of the source, of the sink, or of memory.
 ghost use Rattle.std.specs.Prelude.{◌≡◌};
 
 use kc_batch::AwaitFault;
@@ -6,7 +6,7 @@ use kc_text::SendFault;
 use std::alloc::AllocError;
 use thiserror::Error;
 
-/// Why a session stopped before its end.
+/// The reasons for which a session stopped before its end.
 #[derive(Drop, Debug, Error)]
 pub enum SessionFault {
     /// A read of the source failed.

@@ -11,16 +11,17 @@ use arrayvec::ArrayVec;
 use kc_text::{Failed, Source};
 use std::marker::Model;
 
-/// A source of the text of a generated load. It never fails and takes no memory: a line is made when the one before it was read.
+/// A source of the text of a generated load. It never fails and takes no memory: it makes each line when the line
+/// before was read.
 ///
 /// A contract sees it as the bytes that it has left.
 #[derive(Drop, Debug)]
 pub struct GenSource {
-    // makes the lines after `line`
+    // Makes the lines after `line`.
     generator: Generator,
-    // the line that was made last
+    // The line that was made last.
     line: ArrayVec<u8, LINE>,
-    // how many of its bytes were read: at most all
+    // The number of its bytes that were read: at most all.
     at: usize,
 }
 
@@ -37,8 +38,8 @@ impl Model for GenSource {
     ghost invariant = { λ g. (g.at ≤ array_vec_len g.line) × (1 ≤ g.generator.n) };
 }
 
-// Where the line is read to its end, the next one is made in its place. Returns how much of the line that stands then was read: all of it
-// only where there is no next one.
+// Makes the next line in the place of the line if that was read to its end. Returns how many bytes of the line now
+// there were read. These are all of them only if there is no next line.
 fn refill(generator: &mut Generator, line: &mut ArrayVec<u8, LINE>, at: usize) -> usize
     requires within { at ≤ array_vec_len line.old }
     requires some { 1 ≤ generator.old.n }
@@ -54,7 +55,7 @@ fn refill(generator: &mut Generator, line: &mut ArrayVec<u8, LINE>, at: usize) -
     0
 }
 
-// Copies as many of the bytes as the buffer has room for, from the front on, and returns how many.
+// Copies as many of the bytes as the buffer has room for, from the front on, and returns their number.
 fn copy_front(bytes: &[u8], buf: &mut [u8]) -> usize
     ensures count { result ≡ min (length bytes.now) (length buf.old) }
     ensures copied { take result buf.new ≡ take result bytes.now }
@@ -65,8 +66,16 @@ fn copy_front(bytes: &[u8], buf: &mut [u8]) -> usize
 }
 
 impl GenSource {
-    /// A source of the text of a load (`generated`): two readers, and `batches` batches, 1 to 1,024, of `items` items each, at most
-    /// 1,048,576, and 33,554,432 in all, that are drawn from `seed`; their vertices are below n, which is 1 to 16,777,216.
+    /// Makes a source of the text of a load (`generated`) with two readers.
+    ///
+    /// The ranges:
+    ///
+    /// - n, the number of vertices, is 1 to 16,777,216;
+    /// - `batches` is 1 to 1,024;
+    /// - `items`, the number of items of each batch, is at most 1,048,576, and at most 33,554,432 in all batches
+    ///   together.
+    ///
+    /// The items are drawn from `seed`, and their vertices are below n.
     pub fn new(seed: u32, n: u32, batches: u32, items: u32) -> Self
         requires { IsLoad n batches items }
         ensures { result ≡ generated seed n batches items }
@@ -78,7 +87,8 @@ impl GenSource {
         }
     }
 
-    // Reads what is left of the line that was made last, or else of the next line, and returns how many bytes; 0 only at the end.
+    // Reads from the rest of the line that was made last, or else from the next line. Returns the number of bytes,
+    // which is 0 only at the end.
     fn give(&mut self, buf: &mut [u8]) -> usize
         requires { 0 < length buf.old }
         ensures bound { result ≤ length buf.new }
@@ -100,12 +110,12 @@ impl Source for GenSource {
     fn read(&mut self, buf: &mut [u8]) -> Result<usize, Failed>
         requires { 0 < length buf.old }
 
-        // What each source promises.
+        // The clauses of the trait.
         ensures bound { IfOk result (λ k. k ≤ length buf.new) }
         ensures given { IfOk result (λ k. Some self.old ≡ prepend_known (take k buf.new) (Some self.new)) }
         ensures end { IfOk result (λ k. k ≡ 0 → IsAtEnd (Some self.new)) }
 
-        // And that it never fails.
+        // The source never fails.
         ensures ok { IsOk result }
     {
         let mut count = 0;

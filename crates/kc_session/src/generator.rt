@@ -7,13 +7,13 @@ ghost use Rattle.kc_session.specs.Generated.{next_state, drawn, item_of_draws, d
 
 use arrayvec::ArrayVec;
 
-/// The room for a line. The longest could be `ask 4` with 16 vertices, of ten digits each.
+/// The room for a line. The longest would be `ask 4` with 16 vertices of ten digits each.
 pub const LINE: usize = 192;
 
 // The most vertices that a reader asks for.
 const ASKED: u32 = 16;
 
-/// Which line comes next.
+/// The next line.
 #[derive(Clone, Copy, Debug, PartialEq, Eq)]
 pub enum Place {
     /// The first line.
@@ -24,22 +24,22 @@ pub enum Place {
     FirstAsk,
     /// The second reader.
     SecondAsk,
-    /// The first line of a batch, if one is left.
+    /// The first line of a batch, if a batch is left.
     Batch,
     /// `left` items of a batch, and then its last line.
     Items { left: u32 },
 }
 
-/// What is still to make of a load.
+/// The rest of a load that is still to be made.
 #[derive(Clone, Copy, Debug, PartialEq, Eq)]
 pub struct Generator {
     /// The number of vertices.
     pub n: u32,
     /// The number of items of a batch.
     pub items: u32,
-    /// Which line comes next.
+    /// The next line.
     pub place: Place,
-    /// How many batches haven't begun.
+    /// The number of batches that haven't begun.
     pub batches: u32,
     /// The state of the linear congruential generator.
     pub state: u32,
@@ -86,21 +86,21 @@ fn fill_ask(line: &mut ArrayVec<u8, LINE>, n: u32)
     put_text(line, b"\n");
 }
 
-// The state after a state.
+// Returns the state after a state.
 fn next_state(state: u32) -> u32
     ensures { result ≡ next_state state }
 {
     ((1_664_525 * state as u64 + 1_013_904_223) % (1 << 32)) as u32
 }
 
-// What a draw gives that leads to this state.
+// Returns the draw that leads to this state.
 fn drawn(state: u32) -> u32
     ensures { result ≡ drawn state }
 {
     state / 256
 }
 
-// Makes the line of an item, where its draws lead to the states a, b and c.
+// Makes the line of an item whose draws lead to the states a, b and c.
 fn fill_item(line: &mut ArrayVec<u8, LINE>, n: u32, a: u32, b: u32, c: u32)
     requires empty { line.old.items ≡ [] }
     requires some { 1 ≤ n }
@@ -145,7 +145,7 @@ impl Generator {
         self.state = c;
     }
 
-    // Makes the first line of the next batch, if one is left.
+    // Makes the first line of the next batch, if a batch is left.
     fn begin_batch(&mut self, line: &mut ArrayVec<u8, LINE>) -> bool
         requires batch { self.old.place ≡ Batch }
         requires empty { line.old.items ≡ [] }
@@ -160,7 +160,7 @@ impl Generator {
         true
     }
 
-    // Makes the line of the next item, of which `left` are still due, or the last line of the batch.
+    // Makes the line of the next item, or the last line of the batch. `left` items are still due.
     fn go_on(&mut self, line: &mut ArrayVec<u8, LINE>, left: u32) -> bool
         requires batch { self.old.place ≡ Items left }
         requires empty { line.old.items ≡ [] }
@@ -177,7 +177,7 @@ impl Generator {
         true
     }
 
-    /// Makes the next line, in the place of the one before it. False where there is none: the line is empty then.
+    /// Makes the next line in the place of the one before it. Returns false if there is none; the line is then empty.
     pub fn make_line(&mut self, line: &mut ArrayVec<u8, LINE>) -> bool
         requires { 1 ≤ self.old.n }
         ensures { MakesIf self.old self.new line.new.items result }

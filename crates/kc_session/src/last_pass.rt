@@ -5,9 +5,10 @@ ghost use Rattle.kc_history.specs.Points.{levels_at};
 use kc_store::{Store, Writer};
 use std::alloc::{AllocError, Global};
 
-/// The levels of all vertices at the end of the writer's history: a pass is split off, reads each vertex, and is taken in.
+/// Returns the levels of all vertices at the end of the writer's history. A pass is split off, reads each vertex, and
+/// is taken in.
 ///
-/// The writer is the store's. Takes memory for a level of each vertex; after a refusal the history is as before.
+/// The writer is the store's. Takes memory for a level of each vertex. If there is none, the history is as before.
 pub fn read_all(alloc: Global, store: &Store, writer: &mut Writer) -> Result<Vec<u16>, AllocError>
     requires table { writer.old.table ≡ store.now.table }
     ensures table { writer.new.table ≡ writer.old.table }

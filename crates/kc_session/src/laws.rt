@@ -1,19 +1,19 @@
-//! What the definition of a generated load comes to. Each function does nothing; its contract is a law.
+//! What follows from the definition of a generated load. The functions do nothing: each has a law as its contract.
 ghost use Rattle.kc_session.specs.LoadInputs.{LoadsAreRead};
 ghost use Rattle.kc_session.specs.LoadVectors.{StatesFromZero, LoadOfThreeItems};
 
-/// The first nine states from the seed 0 on.
+/// Example: the first nine states from the seed 0 on.
 pub fn states_from_zero()
     ensures { StatesFromZero }
 {}
 
-/// The text of a batch of three items between five vertices.
+/// Example: the text of a batch of three items between five vertices.
 pub fn load_of_three_items()
     ensures { LoadOfThreeItems }
 {}
 
-/// The text of a load is an input with a header of two asks and the batches of the items that are drawn. Neither the header nor a batch
-/// is refused by the grammar, and the text is shorter than an input may be.
+/// The text of a load is an input with a header of two asks and the batches of the drawn items. The grammar refuses
+/// neither the header nor a batch, and the text is shorter than the limit of an input.
 pub fn loads_are_read()
     ensures { LoadsAreRead }
 {}

@@ -1,14 +1,16 @@
 //! Sessions: the batches of an input beside its readers.
 //!
-//! [`run_session`] opens an engine and a store, and runs two branches side by side. One reads batch after batch,
-//! applies it, shows it in the store and tells it (`batches`). In the other an [`Agent`] for each ask puts its
-//! questions to the store and keeps the replies. It looks how far the batches have come before it puts the same list
-//! once more (`progress`). Afterwards the agents are closed by the writer, whose history explains their replies, and a
-//! last pass reads the levels of all vertices. Where nobody asks, no store is opened (`audience`). `specs/SessionText`
-//! says what is written and what is true of it.
+//! [`run_session`] opens an engine and a store, and runs two branches side by side. In one of them each batch is read,
+//! applied, shown in the store and reported before the next (`batches`). In the other an [`Agent`] for each ask puts
+//! its questions to the store and keeps the replies. Before it puts the same list once more, it looks at the progress
+//! of the batches (`progress`).
 //!
-//! [`settle`] applies the batches of an input where nobody reads meanwhile. [`GenSource`] is a source of a generated input, whose text
-//! `specs/Generated` defines.
+//! Afterwards the writer closes the agents, and its history explains their replies. A last pass reads the levels of all
+//! vertices. If there are no asks, no store is opened (`audience`). `specs/SessionText` defines the written text, and
+//! the facts that hold of it.
+//!
+//! [`settle`] applies the batches of an input without readers. [`GenSource`] is a source of a generated input, whose
+//! text `specs/Generated` defines.
 #![tactic(auto)]
 
 mod agent;

@@ -1,33 +1,34 @@
-//! How far the batches of a session have come, for readers that run beside them.
+//! The progress of the batches of a session, for readers that run beside them.
 
 use std::sync::atomic::AtomicU64;
 use std::sync::atomic::Ordering::SeqCst;
 use std::thread;
 
-// The word until the batches begin, from then on until one of them is shown, and once they have ended.
+// The word before the batches begin, from then on until the first of them is shown, and once they have ended.
 const NOT_BEGUN: u64 = 0;
 
 const BEGUN: u64 = 1;
 
 const ENDED: u64 = u64::MAX;
 
-// How often a reader looks at most whether the batches have begun: on a busy machine their thread may begin some milliseconds late.
+// The most looks of a reader for the beginning of the batches. On a busy machine their thread may begin some
+// milliseconds late.
 const FIRST_LOOKS: u32 = 32_768;
 
-/// How far the batches of a session have come: a word that the thread of the batches stores, and that readers load.
+/// The progress of the batches of a session: a word that the thread of the batches stores, and that readers load.
 ///
-/// A reader looks at it between two repetitions of its ask. No reply depends on the word, and nobody waits for it: a
-/// reader looks a bounded number of times, and lets other threads run after each look.
+/// A reader looks at the word between two repetitions of its ask. No reply depends on the word, and no thread waits for
+/// it. A reader looks a bounded number of times, and lets other threads run after each look.
 #[derive(Drop)]
 pub struct Progress {
     // `NOT_BEGUN`, then `BEGUN`, which grows by 1 with each batch that moved a vertex, and at last `ENDED`.
     word: AtomicU64,
-    // How often a reader looks at most between two repetitions.
+    // The most looks of a reader between two repetitions.
     looks: u32,
 }
 
 impl Progress {
-    /// Makes the progress of batches that haven't begun. A reader looks up to `looks` times between two repetitions.
+    /// Makes the progress of batches that haven't begun. A reader looks at most `looks` times between two repetitions.
     pub fn new(looks: u32) -> Self {
         Progress {
             word: AtomicU64::new(NOT_BEGUN),
@@ -40,7 +41,7 @@ impl Progress {
         self.word.store(BEGUN, SeqCst);
     }
 
-    /// Tells readers that a batch with this number of moves was shown. If a vertex moved, a reader that looks goes on.
+    /// Tells readers that a batch with this number of moves was shown. If a vertex moved, a looking reader goes on.
     pub fn advance(&self, moves: u32) {
         if moves > 0 {
             self.word.fetch_add(1, SeqCst);
@@ -52,7 +53,7 @@ impl Progress {
         self.word.store(ENDED, SeqCst);
     }
 
-    // Looks until the word isn't this one, at most `looks` times, and gives the word that it found last.
+    // Looks until the word is another than `seen`, at most `looks` times, and returns the word found last.
     fn look(&self, seen: u64, looks: u32) -> u64 {
         for _look in 0..looks {
             let word = self.word.load(SeqCst);
@@ -65,14 +66,14 @@ impl Progress {
     }
 }
 
-/// When a reader puts the next repetition of its ask: after a batch moved a vertex since the last one began, or after
-/// its looks.
+/// The pace of a reader. It puts the next repetition of its ask after a batch moved a vertex since the last repetition
+/// began, or after its looks.
 #[derive(Drop)]
 pub(crate) struct Pace<'a> {
     progress: &'a Progress,
-    // What the word was when the last repetition began.
+    // The word when the last repetition began.
     seen: u64,
-    // How many questions a repetition has.
+    // The number of questions of a repetition.
     questions: usize,
     // The first question of the next repetition.
     next: usize,

@@ -1,4 +1,4 @@
-//! What all readers of a session were told, a line for each, in order.
+//! The lines of the readers of a session: the replies of each, in order.
 ghost use Rattle.std.specs.Prelude.{◌<◌, ◌^◌, length};
 ghost use Rattle.kc_text.specs.Writing.{Appends, WriteCause};
 ghost use Rattle.kc_report.specs.Buffer.{IsCleared};
@@ -11,8 +11,8 @@ use std::alloc::Global;
 
 /// Writes a line for the replies of each reader, in order; readers are numbered from 0 (`reader_lines`).
 ///
-/// After `WriteFault`, which only a failed write gives, and after `Memory` the sink took a prefix of the lines. Those after one that
-/// fails aren't tried.
+/// `WriteFault` comes only from a failed write. After it, and after `Memory`, the sink took a prefix of the lines.
+/// Lines after a failed one aren't tried.
 pub fn write_readers<K: Sink>(
     alloc: Global,
     buf: &mut LineBuf,
@@ -24,7 +24,7 @@ pub fn write_readers<K: Sink>(
     ensures buffer { IsCleared buf.new result }
     ensures cause { WriteCause (K.faults sink.old) (K.faults sink.new) result }
 {
-    // Without readers too the line is empty after this call.
+    // The line is empty after this call even if there are no readers.
     buf.clear();
     for i in 0..replies.len() {
         write_reader(alloc, buf, sink, i as u32, replies[i].as_slice())?;

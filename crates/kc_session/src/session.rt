@@ -43,8 +43,8 @@ use std::alloc::Global;
 use std::thread;
 use std::thread::Threads;
 
-// How often a reader looks at most between two repetitions of its ask. A look takes 0.3 to 1 µs on
-// a processor that has nothing else to run, so these bridge 10 to 30 ms. A batch of 1,000 edges takes about 3 ms.
+// The most looks of a reader between two repetitions of its ask. A look takes 0.3 to 1 µs on a processor without other
+// work, so the looks bridge 10 to 30 ms. A batch of 1,000 edges takes about 3 ms.
 const LOOKS: u32 = 32_768;
 
 // The agents of a session, and the store that they ask.
@@ -52,22 +52,22 @@ const LOOKS: u32 = 32_768;
 struct Askers<'a> {
     // The one store of all the agents.
     store: &'a Store,
-    // One for each ask, in the order of the header.
+    // One agent for each ask, in the order of the header.
     agents: Vec<Agent>,
 }
 
-// What the readers of a session begin with: their asks, and a store with its writer.
+// The values with which the readers of a session begin: their asks, and a store with its writer.
 #[derive(Drop)]
 struct Opened<'a> {
-    // What the header asks for: each vertex is one of the store's.
+    // The asks of the header: each vertex is one of the store's.
     asks: Asks,
-    // Where the phases are shown: at its opening each vertex is on level 0.
+    // The store in which the phases are shown. When it was opened, each vertex was on level 0.
     store: &'a Store,
     // The writer of this store, whose history is empty.
     writer: Writer,
 }
 
-// The batches are applied, and readers are told when they begin and when they have ended, also after a fault.
+// Applies the batches. Readers learn when the batches begin and when they have ended, also after a fault.
 fn run_told<R: Threads + Sync, S: Source, K: Sink, G: Gate + Sync>(
     context: &SessionContext<'_, R, G>,
     watched: &mut Watched<'_>,
@@ -92,7 +92,8 @@ fn run_told<R: Threads + Sync, S: Source, K: Sink, G: Gate + Sync>(
     counts
 }
 
-// The batches are applied while the agents ask, who are the audience.
+// Applies the batches while the agents ask. The agents are the audience. If the system starts no thread, the agents run
+// last: before the batches they would look in vain for a beginning.
 fn side_by_side<R: Threads + Sync, S: Source + Send, K: Sink + Send, G: Gate + Sync>(
     context: &SessionContext<'_, R, G>,
     watched: &mut Watched<'_>,
@@ -122,16 +123,17 @@ fn side_by_side<R: Threads + Sync, S: Source + Send, K: Sink + Send, G: Gate + S
     thread::join_mut(
         rt,
         &mut ||
-            requires { IsSync R.row × IsSync G.row × IsAbreast watched.now.audience watched.now.engine.state × IsOpen watched.now.engine × (watched.now.engine.state.graph.vertices ≡ context.now.n) }
-        { run_told(context, watched, reader, src, sink) },
-        &mut ||
             requires { IsSync R.row × IsSync G.row × All (λ a. (a.store ≡ store.now) × (a.has_run ≡ false)) agents.now.items }
         { run_agents(rt, gate, store, progress, agents) },
+        &mut ||
+            requires { IsSync R.row × IsSync G.row × IsAbreast watched.now.audience watched.now.engine.state × IsOpen watched.now.engine × (watched.now.engine.state.graph.vertices ≡ context.now.n) }
+        { run_told(context, watched, reader, src, sink) },
     )
-    .0
+    .1
 }
 
-// Writes what is due after the batches: the lines of the readers, and those of the vertices by a last pass, whose levels it gives.
+// Writes the text after the batches: the lines of the readers, and those of the vertices by a last pass. Returns the
+// levels that the pass has read.
 fn write_rest<K: Sink>(
     alloc: Global,
     store: &Store,
@@ -157,7 +159,7 @@ fn write_rest<K: Sink>(
     Ok(levels)
 }
 
-// Runs what is after the head beside the readers of a store that was just opened, as the engine was.
+// Runs the part after the head beside readers. Their store and the engine were just opened.
 fn run_opened<'a, R: Threads + Sync, S: Source + Send, K: Sink + Send, G: Gate + Sync>(
     context: &SessionContext<'_, R, G>,
     opened: Opened<'a>,
@@ -199,7 +201,7 @@ fn run_opened<'a, R: Threads + Sync, S: Source + Send, K: Sink + Send, G: Gate +
     Ok(Ended::with(counts, engine, replies, levels.as_slice()))
 }
 
-// Runs what is after the head beside readers: it opens a store for them, and an engine.
+// Runs the part after the head beside readers. Opens a store for them, and an engine.
 fn run_beside_readers<R: Threads + Sync, S: Source + Send, K: Sink + Send, G: Gate + Sync>(
     context: &SessionContext<'_, R, G>,
     asks: Asks,
@@ -226,7 +228,7 @@ fn run_beside_readers<R: Threads + Sync, S: Source + Send, K: Sink + Send, G: Ga
     run_opened(context, opened, &mut watched, reader, src, sink)
 }
 
-// Runs the batches with an engine that was just opened, and writes the lines of the vertices, whose levels are the engine's.
+// Runs the batches with an engine that was just opened, and writes the lines of the vertices with the engine's levels.
 fn run_alone<R: Threads + Sync, S: Source, K: Sink, G: Gate + Sync>(
     context: &SessionContext<'_, R, G>,
     watched: &mut Watched<'_>,
@@ -248,7 +250,7 @@ fn run_alone<R: Threads + Sync, S: Source, K: Sink, G: Gate + Sync>(
     Ok(Ended::with(counts, engine, 0, levels))
 }
 
-// Runs what is after the head where nobody asks: no store is opened.
+// Runs the part after the head without readers. No store is opened.
 fn run_without_readers<R: Threads + Sync, S: Source, K: Sink, G: Gate + Sync>(
     context: &SessionContext<'_, R, G>,
     reader: LineReader,
@@ -267,18 +269,23 @@ fn run_without_readers<R: Threads + Sync, S: Source, K: Sink, G: Gate + Sync>(
     run_alone(context, &mut watched, &mut reader, src, sink)
 }
 
-/// Runs what is after a header, its batches beside its readers, and writes the text of the session (`session_text`). A phase uses up to
-/// `workers` threads, 1 to 64, a long batch is cleaned as `clean_by` says, and each reader has a thread of its own where one can be made.
+/// Runs the part of an input after its header, batches beside readers, and writes the text of the session
+/// (`session_text`).
 ///
-/// The head is written first. Then two branches run side by side: one reads batch after batch, applies it, shows it in
-/// a store and tells it; the other lets an agent for each ask put its questions, spread over the batches
-/// (`Agent::run_beside`). Afterwards a line for each reader is written, a last pass reads each vertex, and the lines of
-/// the vertices and the last line are written. The replies fit the asks, and the history of the batches explains those
-/// of each reader from its start (`IsSession`). Where nobody asks, no level is shown: no store is opened, and the
-/// levels of the vertices are the engine's.
+/// A phase uses up to `workers` threads, 1 to 64. A long batch is cleaned as `clean_by` says. Each reader has a thread
+/// of its own if one can be made.
 ///
-/// `ReadFault` and `WriteFault` come only where a read of the source, or a write to the sink, failed in this call. After either, and
-/// after `Memory`, both branches have ended, and the sink took a prefix of such a text.
+/// The head is written first. Then two branches run side by side. In one of them each batch is read, applied, shown in
+/// a store and reported before the next. In the other an agent for each ask puts its questions, spread over the batches
+/// (`Agent::run_beside`).
+///
+/// Afterwards a line for each reader is written. A last pass reads each vertex, and the lines of the vertices and the
+/// last line are written. The replies fit the asks, and the history of the batches explains the replies of each reader
+/// from its start (`IsSession`). If there are no asks, no level is shown: no store is opened, and the levels of the
+/// vertices are the engine's.
+///
+/// `ReadFault` comes only if a read of the source failed in this call, and `WriteFault` only if a write to the sink
+/// failed. After either, and after `Memory`, both branches have ended, and the sink took a prefix of such a text.
 pub fn run_session<R: Threads + Sync, S: Source + Send, K: Sink + Send, G: Gate + Sync>(
     rt: &R,
     alloc: Global,

@@ -1,4 +1,4 @@
-//! Batches without readers: what they come to, and notes of those that are refused.
+//! Batches without readers: the state after them, and notes of the refused ones.
 ghost use Rattle.std.specs.Prelude.{◌≤◌, IfOk};
 ghost use Rattle.kc_batch.specs.Batches.{batches_left};
 ghost use Rattle.kc_batch.specs.BatchInputs.{rules_of};
@@ -21,23 +21,25 @@ use kc_text::{LineReader, Sink, Source};
 use std::alloc::Global;
 use std::thread::Threads;
 
-/// What batches have come to.
+/// The result of batches without readers.
 #[derive(Drop)]
 pub struct Settled {
-    /// The engine after all of them.
+    /// The engine after all batches.
     pub engine: Engine,
-    /// How many of them were refused.
+    /// The number of refused batches.
     pub refused: u32,
 }
 
-/// Applies the batches after a header and writes a note of each that is refused (`Settles`). A phase uses up to `workers` threads, 1 to
-/// 64, and a long batch is cleaned as `clean_by` says.
+/// Applies the batches after a header, and writes a note of each refused batch (`Settles`). A phase uses up to
+/// `workers` threads, 1 to 64, and a long batch is cleaned as `clean_by` says.
 ///
-/// After Ok the engine hasn't halted, no plan waits in it, it is for the header's profile and number of vertices, and both invariants
-/// hold (`IsSettled`).
-/// `ReadFault` and `WriteFault` come only where a read of the source, or a write to the sink, failed in this call; after either, and
-/// after `Memory`, the sink took a prefix of the notes. Asks are not put: no phase is shown, and no store is opened. Costs what
-/// reading, `clean_by` and `Engine::plan` cost.
+/// After Ok the engine hasn't halted, and no plan is pending in it. It is for the header's profile and number of
+/// vertices, and both invariants hold (`IsSettled`).
+///
+/// `ReadFault` comes only if a read of the source failed in this call, and `WriteFault` only if a write to the sink
+/// failed. After either, and after `Memory`, the sink took a prefix of the notes.
+///
+/// No ask is put: no phase is shown, and no store is opened. Cost: that of reading, `clean_by` and `Engine::plan`.
 pub fn settle<R: Threads + Sync, S: Source, K: Sink, G: Gate + Sync>(
     rt: &R,
     alloc: Global,

@@ -14,7 +14,7 @@ use std::alloc::Global;
 struct EngineLines<'a> {
     // The engine, which hasn't halted. The counts of neighbours are its own.
     engine: &'a Engine,
-    // Its levels.
+    // The levels of the engine.
     levels: &'a [u16],
 }
 
@@ -32,7 +32,7 @@ impl VertexLines for EngineLines<'_> {
         sink: &mut K,
         v: u32,
     ) -> Result<(), SendFault> {
-        // Its contract says that there is a level for each vertex, at most the top.
+        // Evidence for the check: there is a level for each vertex, at most the top level.
         let _levels = self.engine.levels();
         let level = self.levels[v as usize];
         let estimate = self.engine.thresholds().estimate(level);
@@ -42,11 +42,12 @@ impl VertexLines for EngineLines<'_> {
     }
 }
 
-/// Writes what is after all batches and readers (`tail_text`): a line for each of the n vertices of the engine's graph, with these levels
-/// of them, and the last line.
+/// Writes the text after all batches and readers (`tail_text`). That is a line for each of the n vertices of the
+/// engine's graph, with its level among `levels`, and the last line.
 ///
-/// The engine has not halted, and the levels, as a last pass read them, are its levels: the counts of neighbours are the engine's. After
-/// `WriteFault`, which only a failed write gives, and after `Memory` the sink took a prefix of the lines.
+/// The engine has not halted. The levels are its own, as a last pass read them, and the counts of neighbours are the
+/// engine's. `WriteFault` comes only from a failed write. After it, and after `Memory`, the sink took a prefix of the
+/// lines.
 pub fn write_tail<K: Sink>(
     alloc: Global,
     buf: &mut LineBuf,

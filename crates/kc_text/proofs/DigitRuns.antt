@@ -1,4 +1,4 @@
--- Runs of digits, as long as they are.
+-- Runs of digits of any length.
 use Rattle.std.proofs.Common.{ℕ, ◌+◌, ◌-◌, ◌*◌, ◌<◌, ◌≤◌, ◌≡◌, ◌^◌, Bool, true, false, List, [], ◌∷◌, ◌++◌, length, drop, refl, sym, ap, ◌∙◌, arith, get_or, inl, inr}
 use Rattle.std.specs.Prelude.{Some, None, nat_lt, nat_le, ◌&&◌, if◌then◌else◌}
 use Rattle.std.specs.List.{list_all, slice_range}
@@ -13,7 +13,7 @@ use Rattle.kc_text.specs.private.Numbers.{DigitsAt, DigitsTo, StopsAt, HasNoNumb
 use Rattle.kc_text.proofs.Digits.{value_rises}
 use Rattle.kc_text.proofs.Numbering.{more_digits, number_is, range_length}
 
--- a part of a list is two parts of it
+-- a part of a list, cut in two
 pub range_split : (xs : List ℕ) (a b c : ℕ) → a ≤ b → b ≤ c → slice_range xs a c ≡ slice_range xs a b ++ slice_range xs b c
 range_split xs a b c h l =
     let e : c - a ≡ (b - a) + (c - b) = omega arith in
@@ -25,7 +25,7 @@ range_at xs a b k h l =
     let j : a + (k - a) ≡ k = omega arith in
     rw (get_or-take (b - a) (drop a xs) (k - a) 0 (omega arith), get_or-drop, j) refl
 
--- digits, as many as a number has
+-- a run of at most ten digits that says a number
 pub digits_end : (bytes : List ℕ) (start value end : ℕ) → DigitsAt bytes start value end → start < end → end - start ≤ 10 → value < 2 ^ 32 → DigitsTo bytes start value end
 digits_end bytes start value end d h l s =
     let n = range_length bytes start end d.after d.within in
@@ -54,7 +54,7 @@ no_shorter line start end k w d h s = elim (cases_lt k end) [
   | inr more ↦ more
 ]
 
--- so both are the same, where both stop
+-- so two runs from one place are the same if both stop
 pub same_end : (line : List ℕ) (start first one second two : ℕ) → DigitsTo line start first one → StopsAt line one → DigitsTo line start second two → StopsAt line two → one ≡ two
 same_end line start first one second two a s b t =
     let x = no_shorter line start one two a.within a.digits (omega (arith, b.after)) t in
@@ -66,7 +66,7 @@ unfolding value_from
 value_append v [] b = refl
 value_append v (x ∷ xs) b = value_append (10 * v + (x - 48)) xs b
 
--- what a number's bytes are
+-- the facts about the bytes of a number
 pub record Number (w : List ℕ) (value : ℕ) : Type 0 where
   pub some : 0 < length w
   pub few : length w ≤ 10
@@ -87,7 +87,7 @@ number_parts w false few digits small x value a b d s v e = absurd cc
 pub number_has : (w : List ℕ) (value : ℕ) → number_of w ≡ Some value → Number w value
 number_has w value e = number_parts w _ _ _ _ (value_from 0 w) value refl refl refl refl refl e
 
--- no number stands where the digits come to too large a value
+-- no number stands where the digits have too large a value
 pub too_large : (line : List ℕ) (start value at more : ℕ) → DigitsAt line start value at → at < length line → is_digit (get_or line at 0) ≡ true → more ≡ 10 * value + (get_or line at 0 - 48)
     → 2 ^ 32 ≤ more → HasNoNumber line start
 too_large line start value at more d l e m h = λ v end n s.
@@ -99,11 +99,11 @@ too_large line start value at more d l e m h = λ v end n s.
     ∙ ap (λ x. value_from x (slice_range line (at + 1) end)) r.value_is in
     omega (arith, h, w.small, all, value_rises more (slice_range line (at + 1) end))
 
--- nor where there is none
+-- no number stands where there is no digit
 pub no_digit : (line : List ℕ) (start : ℕ) → StopsAt line start → HasNoNumber line start
 no_digit line start stop = λ v end n s. differ _ (digit_in line start end start n.within n.digits (omega arith) n.after) stop
 
--- nor where there are too many
+-- no number stands where there are too many digits
 pub too_many : (line : List ℕ) (start value at : ℕ) → DigitsAt line start value at → StopsAt line at → 10 < at - start → HasNoNumber line start
 too_many line start value at d stop h = λ v end n s.
     let long = no_shorter line start at end d.within d.digits (omega (arith, n.after)) s in

@@ -29,7 +29,7 @@ value_rises v (d ∷ ds) = omega (arith, value_rises (10 * v + (d - 48)) ds)
 too_large : (v : ℕ) (ds : List ℕ) → 2 ^ 32 ≤ v → nat_lt (value_from v ds) (2 ^ 32) ≡ false
 too_large v ds h = grind (arith, nat_tests, value_rises v ds)
 
--- a digit that is none, or none that fits, ends both
+-- a byte that is no digit, or a digit that doesn't fit, ends both
 step_same : (digit fits all small : Bool) (value : ℕ) (rest : Option ℕ) → (fits ≡ false → small ≡ false) → (fits ≡ true → rest ≡ (if all && small then Some value else None))
     → (if digit && fits then rest else None) ≡ (if (digit && all) && small then Some value else None)
 step_same false fits all small value rest h k = refl
@@ -40,7 +40,7 @@ step_same true false false small value rest h k = refl
 at_least : (v : ℕ) → nat_lt v (2 ^ 32) ≡ false → 2 ^ 32 ≤ v
 at_least v h = grind (arith, nat_tests)
 
--- reading digit by digit comes to the value of all digits
+-- reading digit by digit gives the value of all digits
 pub from_is : (v : ℕ) (ds : List ℕ) → v < 2 ^ 32 → number_from v ds ≡ (if list_all is_digit ds && nat_lt (value_from v ds) (2 ^ 32) then Some (value_from v ds) else None)
 unfolding number_from value_from
 from_is v [] h = let e : nat_lt v (2 ^ 32) ≡ true = grind (arith, nat_tests) in rw e refl

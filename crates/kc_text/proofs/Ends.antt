@@ -1,4 +1,4 @@
--- Where the first end of a line stands.
+-- The place of the first end of a line.
 use Rattle.std.proofs.Common.{ℕ, ◌<◌, ◌≤◌, ◌≡◌, List, length, take, arith, refl, get_or, true, false, Bool}
 use Rattle.std.specs.Prelude.{Some, None}
 use Rattle.std.proofs.lemmas.List.{length-take-le, get_or-take}

@@ -1,4 +1,4 @@
--- What a scanner gives and takes.
+-- The lines that a scanner gives, and the bytes that it takes.
 use Rattle.std.proofs.Common.{ℕ, suc, ◌+◌, ◌-◌, ◌<◌, ◌≤◌, ◌≡◌, ◌==◌, List, [], ◌∷◌, ◌++◌, length, take, drop, arith, refl, sym, ap, ◌∙◌, subst, append_assoc, get_or, true, false, Bool, cond, nat_le, add-one, drop-cons, replicate, inl, inr}
 use Rattle.std.specs.Prelude.{Option, None, Some, if◌then◌else◌, ◌&&◌, ◌||◌, nat_lt, not, ◌*◌}
 use Rattle.std.proofs.lemmas.List.{length-append, length-take-le, take-append-drop, length-replicate, length-drop, get_or-take}
@@ -146,7 +146,7 @@ piece_none limit part e = let none : List ℕ = [] in rw e (elim (nat_le 0 limit
 short : (limit : ℕ) (piece : List ℕ) → length piece ≤ limit → body_of limit piece ≡ Text (without_cr piece)
 short limit piece h = grind (arith, nat_tests)
 
--- a line that lies whole in what was read is given
+-- a line that lies whole in the bytes that were read is given
 pub gives_whole : (limit n room : ℕ) (piece ready : List ℕ) (ended : Bool) (len room' : ℕ) (piece' ready' : List ℕ)
     → IsWhole len (record { limit = limit; number = n; room = room; piece = piece; ready = ready; ended = ended }) → room' ≡ room - (len + 1) → piece' ≡ [] → ready' ≡ drop (len + 1) ready
     → Gives (whole_line n len (record { limit = limit; number = n; room = room; piece = piece; ready = ready; ended = ended })) (record { limit = limit; number = n; room = room; piece = piece; ready = ready; ended = ended })
@@ -160,7 +160,7 @@ gives_whole limit n room piece ready ended len room' piece' ready' h er ep ed =
     } in
     gives_line limit n room piece ready ended (len + 1) len _ room' piece' ready' (omega (arith, h.within)) (omega (arith, h.room)) first (rw h.fresh (sym (short limit (take len ready) (omega (arith, l, h.few))))) er ep ed
 
--- nothing is kept of the line, where nothing was taken of it
+-- nothing is kept of a line if nothing was taken of it
 pub piece_fresh : (limit taken : ℕ) (part part' : List ℕ) → length (piece_of limit taken part) ≡ taken → piece_of limit taken part ≡ [] → part' ≡ [] → piece_of limit taken part' ≡ []
 piece_fresh limit taken part part' e fresh none =
     let z : taken ≡ 0 = sym e ∙ ap length fresh in
@@ -216,11 +216,11 @@ unfolding scan_lines_left scan_lines
 told_fresh limit room piece ready None ep er = refl
 told_fresh limit room piece ready (Some bs) ep er = rw (ep, er) refl
 
--- what was read can't both decide the next line and not
+-- the bytes that were read can't both decide the next line and leave it open
 pub opened : (first now : Scan) → is_scan_decided first ≡ true → is_scan_decided now ≡ false → now ≡ first → ⊥
 opened first now d o e = let x : true ≡ false = sym d ∙ ap is_scan_decided (sym e) ∙ o in cc
 
--- the line, whatever comes, of a scanner that was the first
+-- the line is the same, for all bytes that come, as that of the first scanner
 pub decided_line : (line : Line) (first now new : Scan) → now ≡ first → Gives line now new → (bs : List ℕ) → scan_lines first bs ≡ onto line (scan_lines new bs)
 decided_line line first now new e h bs = ap (λ r. scan_lines r bs) (sym e) ∙ h.lines bs
 

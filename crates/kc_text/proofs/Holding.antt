@@ -1,4 +1,4 @@
--- A line that is held back, and a last line that stays.
+-- A line that is held back, and a last line that is repeated.
 use Rattle.std.proofs.Common.{ℕ, ◌≡◌, true, List, [], ◌∷◌, refl, ap}
 use Rattle.std.specs.Prelude.{Option, None, Some}
 use Rattle.std.specs.Option.{option_map}
@@ -49,12 +49,12 @@ stays scan last n TooLong h bs = absurd h
 stays scan last n Limit h bs = refl
 stays scan last n End h bs = refl
 
--- and given again, if it is a last line
+-- a last line that was held back is given again
 pub held_stays : (scan : Scan) (last last' : Option LastLine) (held' : Option Line) (line : Line) → last' ≡ last_after line last → held' ≡ None → IsLast line.body
     → (bs : List ℕ) → lines_of_rest (reading scan last' held') bs ≡ line ∷ []
 held_stays scan last last' held' line f h l bs = rw (f, h) (stays scan last line.number line.body l bs)
 
--- a last line that stays is given
+-- a last line that is repeated is given
 pub gives_last : (scan : Scan) (last : Option LastLine) (held : Option Line) (l : LastLine) (line : Line) → last ≡ Some l → held ≡ None → line ≡ line_of_last l
     → (bs : List ℕ) → lines_of_rest (reading scan last held) bs ≡ line ∷ []
 unfolding lines_of_rest
@@ -72,7 +72,7 @@ pub scan_comes : (scan : Scan) (last : Option LastLine) (held : Option Line) →
 unfolding lines_of_rest
 scan_comes scan last held e h bs = rw (e, h) refl
 
--- what holds whatever the source has left, holds where it tells what it has left
+-- a law for all bytes that the source may have left holds if the source tells its bytes
 pub told : (F G : Reading) (line : Line) (left : Option (List ℕ)) → ((bs : List ℕ) → lines_of_rest F bs ≡ onto line (lines_of_rest G bs)) → lines_left F left ≡ option_map (onto line) (lines_left G left)
 unfolding lines_left
 told F G line None h = refl

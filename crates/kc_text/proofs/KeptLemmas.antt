@@ -1,4 +1,4 @@
--- Lines that aren't skipped, where the lines are told or not.
+-- Lines that aren't skipped, if the source tells its bytes or not.
 use Rattle.std.proofs.Common.{◌≡◌, true, false, List, refl, ap}
 use Rattle.std.specs.Prelude.{Option, Some, None}
 use Rattle.std.specs.Option.{option_map}
@@ -20,7 +20,7 @@ kept_behind TooLong rest = refl
 kept_behind Limit rest = refl
 kept_behind End rest = refl
 
--- a line that is skipped goes
+-- a line that is skipped is dropped
 pub kept_skips : (line : Line) (rest : List Line) → is_skipped line.body ≡ true → kept (onto line rest) ≡ kept rest
 kept_skips line rest e = rw (e, skipped_behind line.body rest e) refl
 

@@ -1,4 +1,4 @@
--- How the bytes that a sink has taken grow, told or not.
+-- How the bytes taken by a sink grow, if the sink tells them or not.
 use Rattle.std.proofs.Common.{ℕ, ◌+◌, ◌≡◌, List, [], ◌++◌, take, drop, length, ◌-◌, arith, refl, ap, ◌∙◌, append_assoc, sym}
 use Rattle.std.specs.Prelude.{Option, Some, None, Result, Ok, Err}
 use Rattle.std.specs.Io.KnownBytes.{append_known}
@@ -54,7 +54,7 @@ prefix_then before now later a b e f = record {
   taken = append_twice before now later a f.said e f.taken;
 }
 
--- all of a, and then b as far as the result says
+-- all of a, and then as much of b as the result says
 pub appends_then : {T : Type 0} → (before now later : Option (List ℕ)) (a b : List ℕ) (result : Result T SendFault) → now ≡ append_known before a → Appends now later b result → Appends before later (a ++ b) result
 appends_then before now later a b (Ok _) e f = append_twice before now later a b e f
 appends_then before now later a b (Err _) e f = prefix_then before now later a b e f

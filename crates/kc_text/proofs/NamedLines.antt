@@ -51,7 +51,7 @@ named_line bytes name start first second len b n = record {
   };
 }
 
--- where the parts of a line of a name and two numbers stand
+-- the places of the parts of a line of a name and two numbers
 record Stands (bytes name : List ℕ) (first second len : ℕ) : Type 0 where
   front : BeginsWithName bytes name
   numbers : NumbersStand bytes (length name + 1) first second len
@@ -69,7 +69,7 @@ stands bytes name len first second e t =
       numbers = s.numbers;
     }
 
--- no line of the name and two numbers begins the bytes, where the name or the numbers don't stand there
+-- no line of the name and two numbers begins the bytes if the name or the numbers don't stand there
 pub no_name : (bytes name : List ℕ) → (BeginsWithName bytes name → ⊥) → HaveNoNamedLine bytes name
 no_name bytes name h = λ len e first second t. h (stands bytes name len first second e t).front
 

@@ -130,7 +130,7 @@ close_stops bytes end len c = elim (cases_lt end len) [
 there : (bytes : List ℕ) (start value middle first second len : ℕ) → DigitsTo bytes start value middle → StopsAt bytes middle → (s : NumbersStand bytes start first second len) → s.middle ≡ middle
 there bytes start value middle first second len d e s = same_end bytes start first s.middle value middle s.one (blank_stops (get_or bytes s.middle 0) s.blank) d e
 
--- where two numbers don't stand
+-- no two numbers stand where no first one stands
 pub no_first : (bytes : List ℕ) (start : ℕ) → HasNoNumber bytes start → HaveNoNumbers bytes start
 no_first bytes start h = λ first second len s. h first s.middle s.one (blank_stops (get_or bytes s.middle 0) s.blank)
 
@@ -168,7 +168,7 @@ cr_no_end b e = rw e refl
 stays : (bytes : List ℕ) (n : ℕ) → 0 < n → n ≤ length bytes → (get_or bytes (n - 1) 0 == 13) ≡ false → without_cr (take n bytes) ≡ take n bytes
 stays bytes n h l e = rw (length-take-le n bytes l, get_or-take n bytes (n - 1) 0 (omega arith), e) refl
 
--- and a carriage return goes
+-- a carriage return is dropped
 goes : (bytes : List ℕ) (n : ℕ) → n < length bytes → get_or bytes n 0 ≡ 13 → without_cr (take (n + 1) bytes) ≡ take n bytes
 goes bytes n l e =
     let m : n + 1 - 1 ≡ n = omega arith in
@@ -194,7 +194,7 @@ line_ends bytes front start first second len b n = record {
   ];
 }
 
--- and its words are those of the front and the two numbers
+-- the words of the line are those of the front and the two numbers
 pub line_words : (bytes : List ℕ) (front : List (List ℕ) → List (List ℕ)) (start first second len : ℕ) → BeginsAt bytes front start → (n : NumbersTo bytes start first second len)
     → words (without_cr (take len bytes)) ≡ front (n.says.one ∷ n.says.two ∷ [])
 line_words bytes front start first second len b n =
@@ -265,7 +265,7 @@ front_of n bytes (Some Minus) start h f = (f.0, (rw (get_or-take n bytes 0 0 (om
 no_blank_past : (b : ℕ) → b ≡ 0 → is_blank b ≡ true → ⊥
 no_blank_past b z e = differ (is_blank b) e (rw z refl)
 
--- where the numbers stand that end a line
+-- the places of the numbers that end a line
 pub record Standing (bytes : List ℕ) (end start first second len : ℕ) : Type 0 where
   pub after : start + 1 < end
   pub numbers : NumbersStand bytes start first second len
@@ -292,7 +292,7 @@ numbers_in bytes end len start first second c t =
       };
     }
 
--- where the parts of a line of two numbers stand
+-- the places of the parts of a line of two numbers
 record Stands (bytes : List ℕ) (sign : Option Sign) (first second len : ℕ) : Type 0 where
   start : ℕ
   front : FrontStands bytes sign start
@@ -317,7 +317,7 @@ stands bytes len sign first second e t =
     let text = text_with bytes len _ e.within e.here refl in
     stands_in bytes text.end len sign first second text.closes (subst (λ x. IsTwoNumbers x sign first second) text.is t)
 
--- no line of two numbers begins the bytes, where its front or its numbers don't stand there
+-- no line of two numbers begins the bytes if its front or its numbers don't stand there
 pub no_front : (bytes : List ℕ) → ((sign : Option Sign) (start : ℕ) → FrontStands bytes sign start → ⊥) → HaveNoNumberLine bytes
 no_front bytes h = λ len e sign first second t. let s = stands bytes len sign first second e t in h sign s.start s.front
 

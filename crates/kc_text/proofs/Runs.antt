@@ -8,7 +8,7 @@ use Rattle.kc_text.specs.Laws.{IsBlank, HasNoBlank, AreLongestRuns}
 rest_all : (P : ℕ → Type 0) (x : ℕ) (xs : List ℕ) → All P (x ∷ xs) → All P xs
 rest_all P x xs h = λ k d lt. h (suc k) d (omega arith)
 
--- blanks before words say nothing
+-- blanks before words change nothing
 blanks_before : (blanks rest : List ℕ) → IsBlank blanks → words (blanks ++ rest) ≡ words rest
 unfolding words_from
 blanks_before [] rest h = refl

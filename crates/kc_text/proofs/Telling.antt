@@ -1,4 +1,4 @@
--- Bytes that are told stay told.
+-- Bytes that a source or sink tells stay told.
 use Rattle.std.proofs.Common.{◌≡◌, ℕ, Bool, true, false, List, refl, ap}
 use Rattle.std.specs.Prelude.{Option, Some, None}
 use Rattle.std.specs.Io.KnownBytes.{prepend_known, append_known, Consumes, Keeps, Appends, IsAtEnd}

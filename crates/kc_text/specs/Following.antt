@@ -1,4 +1,4 @@
--- What follows a line, and what a line takes.
+-- The lines after a line, and how much of a reader's budget a line takes.
 use Rattle.std.specs.Prelude.{ℕ, ◌<◌, ◌≤◌, List, [], ◌∷◌}
 use Rattle.kc_text.specs.declared.line.Line.{Line}
 use Rattle.kc_text.specs.declared.line.Body.{Body}
@@ -11,7 +11,7 @@ behind TooLong rest = rest
 behind Limit rest = []
 behind End rest = []
 
--- a line and what follows it
+-- a line, and the lines that follow it
 abbrev pub onto : Line → List Line → List Line
 onto line rest = line ∷ behind line.body rest
 

@@ -1,4 +1,4 @@
--- What the definitions of lines, words and numbers come to: general laws, and examples.
+-- What follows from the definitions of lines, words and numbers: general laws, and examples.
 use Rattle.std.specs.Prelude.{ℕ, ◌+◌, ◌≡◌, ◌≢◌, ◌≤◌, List, [], ◌∷◌, ◌++◌, length, All, Some, None, codes, true, false}
 use Rattle.kc_text.specs.declared.line.Line.{Line}
 use Rattle.kc_text.specs.declared.line.Body.TheVariants.{Text, TooLong, Limit, End}
@@ -25,7 +25,7 @@ abbrev pub CutsAtEnds : Type 0
 CutsAtEnds = (limit room : ℕ) (pieces : List (List ℕ)) (last : List ℕ) → All HasNoEnd pieces → HasNoEnd last → length (joined pieces last) ≤ room
     → lines limit room (joined pieces last) ≡ numbered limit 1 pieces ++ last_of limit (1 + length pieces) last
 
--- where more bytes come than the limit allows, the lines are those that end within it, and then `Limit`
+-- if there are more bytes than the limit allows, the lines are those that end within it, and then `Limit`
 abbrev pub StopsAtLimit : Type 0
 StopsAtLimit = (limit room : ℕ) (pieces : List (List ℕ)) (last : List ℕ) (b : ℕ) (more : List ℕ) → All HasNoEnd pieces → HasNoEnd last → length (joined pieces last) ≡ room
     → lines limit room (joined pieces last ++ b ∷ more) ≡ numbered limit 1 pieces ++ at_limit (1 + length pieces)
@@ -38,7 +38,9 @@ IsBlank bs = All (λ b. is_blank b ≡ true) bs
 abbrev pub HasNoBlank : List ℕ → Type 0
 HasNoBlank bs = All (λ b. is_blank b ≡ false) bs
 
--- the words of a line are its longest runs of bytes that aren't blank: a run with blanks before it, that the line's end or a blank follows, is the first word
+-- the words of a line are its longest runs of bytes that aren't blank
+--
+-- The first word is a run that has only blanks before it and that a blank or the line's end follows.
 pub record AreLongestRuns : Type 0 where
   pub none : (blanks : List ℕ) → IsBlank blanks → words blanks ≡ []
   pub last : (blanks : List ℕ) (x : ℕ) (xs : List ℕ) → IsBlank blanks → HasNoBlank (x ∷ xs) → words (blanks ++ x ∷ xs) ≡ (x ∷ xs) ∷ []
@@ -60,11 +62,11 @@ abbrev pub MeasuresLines : Type 0
 MeasuresLines = lines 3 1073741824 (codes "abc\nabc\r\nabcd\nx")
     ≡ record { number = 1; body = Text (codes "abc") } ∷ record { number = 2; body = TooLong } ∷ record { number = 3; body = TooLong } ∷ record { number = 4; body = Text (codes "x") } ∷ record { number = 5; body = End } ∷ []
 
--- words are parted by any number of blanks and tabs
+-- any number of blanks and tabs separates words
 abbrev pub PartsWords : Type 0
 PartsWords = words (codes " +  1\t20 ") ≡ codes "+" ∷ codes "1" ∷ codes "20" ∷ []
 
--- the greatest number, and what is none: a greater one, an eleventh digit, a byte that is no digit, nothing
+-- the greatest number, and what is no number: a greater one, an eleventh digit, a byte that is no digit, nothing
 pub record ReadsNumbers : Type 0 where
   pub greatest : number_of (codes "4294967295") ≡ Some 4294967295
   pub greater : number_of (codes "4294967296") ≡ None

@@ -4,11 +4,11 @@ use Rattle.kc_text.specs.declared.line.Line.{Line}
 use Rattle.kc_text.specs.declared.line.Body.{Body}
 use Rattle.kc_text.specs.declared.line.Body.TheVariants.{Text, TooLong, Limit, End}
 
--- without one carriage return at the end
+-- the bytes without one carriage return at the end
 abbrev pub without_cr : List ℕ → List ℕ
 without_cr bs = if slice_index bs (length bs - 1) == 13 then take (length bs - 1) bs else bs
 
--- what a line of these bytes says; a carriage return at its end counts for its length
+-- the content of a line of these bytes; a carriage return at its end counts for its length
 abbrev pub body_of : ℕ → List ℕ → Body
 body_of limit piece = if nat_le (length piece) limit then Text (without_cr piece) else TooLong
 
@@ -16,16 +16,16 @@ body_of limit piece = if nat_le (length piece) limit then Text (without_cr piece
 abbrev pub line_of : ℕ → ℕ → List ℕ → Line
 line_of limit n piece = record { number = n; body = body_of limit piece }
 
--- where the input ends after a piece: the piece is a line if it isn't empty
+-- if the input ends after a piece: the piece is a line if it isn't empty
 abbrev pub last_of : ℕ → ℕ → List ℕ → List Line
 last_of limit n [] = record { number = n; body = End } ∷ []
 last_of limit n (x ∷ xs) = line_of limit n (x ∷ xs) ∷ record { number = n + 1; body = End } ∷ []
 
--- where the input passes its limit within line n
+-- if the input passes its limit within line n
 abbrev pub at_limit : ℕ → List Line
 at_limit n = record { number = n; body = Limit } ∷ []
 
--- the lines from line n on, where a piece of line n was taken before, and room bytes more may come
+-- the lines from line n on, after a piece of line n; at most `room` more bytes are made into lines
 unfoldable pub lines_from : ℕ → ℕ → ℕ → List ℕ → List ℕ → List Line
 lines_from limit n room piece [] = last_of limit n piece
 lines_from limit n zero piece (b ∷ bs) = at_limit n

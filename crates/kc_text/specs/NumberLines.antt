@@ -47,7 +47,7 @@ pub record IsTwoNumbers (text : List ℕ) (sign : Option Sign) (first second : �
   pub front : IsFront text sign start
   pub numbers : EndsInNumbers text start first second
 
--- a text that isn't so
+-- a text that isn't one of two numbers
 abbrev pub IsNoNumberLine : List ℕ → Type 0
 IsNoNumberLine text = (sign : Option Sign) (first second : ℕ) → IsTwoNumbers text sign first second → ⊥
 
@@ -61,6 +61,6 @@ pub record IsNamedNumbers (text name : List ℕ) (first second : ℕ) : Type 0 w
   pub front : BeginsWithName text name
   pub numbers : EndsInNumbers text (length name + 1) first second
 
--- a text that isn't so
+-- a text that isn't one of the name and two numbers
 abbrev pub IsNoNamedLine : List ℕ → List ℕ → Type 0
 IsNoNamedLine text name = (first second : ℕ) → IsNamedNumbers text name first second → ⊥

@@ -4,7 +4,7 @@ use Rattle.std.specs.List.{list_all, join_with_byte, flat_map}
 use Rattle.kc_text.specs.declared.line.Line.{Line}
 use Rattle.kc_text.specs.declared.line.Body.TheVariants.{Text}
 
--- bytes that may be printed as a word: at least one, and each above the blank
+-- bytes that may be printed as a word: at least one, and each greater than the blank
 abbrev pub is_word : List ℕ → Bool
 is_word w = nat_lt 0 (length w) && list_all (λ b. nat_lt 32 b) w
 
@@ -20,7 +20,7 @@ printed_line ws = join_with_byte 32 ws ++ 10 ∷ []
 unfoldable pub printed : List (List (List ℕ)) → List ℕ
 printed ls = flat_map printed_line ls
 
--- the lines that are read of them, numbered from n on
+-- the lines that are read from printed lines of words, numbered from n on
 unfoldable pub lines_of_words : ℕ → List (List (List ℕ)) → List Line
 lines_of_words n [] = []
 lines_of_words n (ws ∷ ls) = record { number = n; body = Text (join_with_byte 32 ws) } ∷ lines_of_words (n + 1) ls

@@ -3,7 +3,7 @@ use Rattle.std.specs.Prelude.{ℕ, List, codes}
 use Rattle.kc_text.specs.declared.reason.Reason.{Reason}
 use Rattle.kc_text.specs.declared.reason.Reason.TheVariants.{Header, LineLong, BadLine, BadVertex, TooMany, Truncated, InputLimit, EdgeLimit, PhaseLimit}
 
--- the word that stands for a reason in what is written
+-- the word for a reason in written texts
 abbrev pub reason_word : Reason → List ℕ
 reason_word Header = codes "header"
 reason_word LineLong = codes "line-long"

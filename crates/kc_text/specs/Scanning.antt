@@ -1,34 +1,36 @@
--- What a scanner holds, and the lines that it has still to give.
+-- The contents of a scanner, and the lines that it has still to give.
 use Rattle.std.specs.Prelude.{ℕ, ◌+◌, ◌==◌, ◌≡◌, ◌<◌, ◌≤◌, nat_lt, Bool, false, List, [], ◌++◌, length, take, get_or, if◌then◌else◌, ◌||◌}
 use Rattle.std.specs.List.{list_any}
 use Rattle.kc_text.specs.declared.line.Line.{Line}
 use Rattle.kc_text.specs.declared.line.Body.TheVariants.{Text}
 use Rattle.kc_text.specs.Lines.{lines_from, without_cr}
 
--- what a scanner holds
+-- the contents of a scanner
 pub record Scan : Type 0 where
   -- the most bytes of a line
   pub limit : ℕ
   -- the number of the open line
   pub number : ℕ
-  -- how many bytes may still join the open line, or later ones, before the input limit
+  -- the number of bytes that may still join the open line, or later ones, before the input limit
   pub room : ℕ
-  -- the bytes that joined the open line; where they are more than `limit`, only their number counts
+  -- the bytes that joined the open line; if they are more than `limit`, only their number counts
   pub piece : List ℕ
-  -- the bytes after those that were read
+  -- the bytes that were read after those
   pub ready : List ℕ
   -- the source has ended
   pub ended : Bool
 
--- the bytes after the open piece, where bs is what the source has left
+-- the bytes after the open piece, if bs is left in the source
 abbrev pub to_come : Scan → List ℕ → List ℕ
 to_come r bs = r.ready ++ (if r.ended then [] else bs)
 
--- the lines still to give, where bs is what the source has left
+-- the lines still to give, if bs is left in the source
 unfoldable pub scan_lines : Scan → List ℕ → List Line
 scan_lines r bs = lines_from r.limit r.number r.room r.piece (to_come r bs)
 
--- what was read decides the next line: the source has ended, or a byte stands beyond the input limit, or a line feed was read
+-- what was read decides the next line
+--
+-- The source has ended, or a byte stands beyond the input limit, or a line feed was read.
 abbrev pub is_scan_decided : Scan → Bool
 is_scan_decided r = r.ended || (nat_lt r.room (length r.ready) || list_any (λ b. b == 10) r.ready)
 
@@ -36,8 +38,9 @@ is_scan_decided r = r.ended || (nat_lt r.room (length r.ready) || list_any (λ b
 abbrev pub scan_budget : Scan → ℕ
 scan_budget r = r.room + length r.piece
 
--- the next line is the first `len` of the bytes that were read, none of which is a line feed; a line feed follows them, within the room,
--- and the line isn't too long
+-- the next line is the first `len` of the bytes that were read
+--
+-- No line feed is among these bytes. A line feed follows them, within the room, and the line isn't too long.
 pub record IsWhole (len : ℕ) (r : Scan) : Type 0 where
   pub fresh : r.piece ≡ []
   pub few : len ≤ r.limit

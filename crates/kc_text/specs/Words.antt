@@ -2,7 +2,7 @@
 use Rattle.std.specs.Prelude.{ℕ, ◌≡◌, ◌<◌, ◌≤◌, ◌==◌, Bool, true, ◌||◌, List, [], ◌∷◌, ◌++◌, length, drop, slice_index, if◌then◌else◌}
 use Rattle.std.specs.List.{slice_range}
 
--- a byte that parts words: a blank or a tab
+-- a byte that separates words: a blank or a tab
 abbrev pub is_blank : ℕ → Bool
 is_blank b = (b == 32) || (b == 9)
 
@@ -11,7 +11,7 @@ abbrev pub closed : List ℕ → List (List ℕ) → List (List ℕ)
 closed [] rest = rest
 closed (x ∷ xs) rest = (x ∷ xs) ∷ rest
 
--- the words of a rest of a line, where a piece of the first was passed before
+-- the words of the rest of a line, after a piece of the first of them
 unfoldable pub words_from : List ℕ → List ℕ → List (List ℕ)
 words_from piece [] = closed piece []
 words_from piece (b ∷ bs) = if is_blank b then closed piece (words_from [] bs) else words_from (piece ++ b ∷ []) bs
@@ -20,7 +20,7 @@ words_from piece (b ∷ bs) = if is_blank b then closed piece (words_from [] bs)
 abbrev pub words : List ℕ → List (List ℕ)
 words line = words_from [] line
 
--- a line of these words says nothing: there is none, or the first begins with `#`
+-- a line of these words is skipped: there is none, or the first begins with `#`
 abbrev pub is_skip : List (List ℕ) → Bool
 is_skip [] = true
 is_skip (w ∷ ws) = slice_index w 0 == 35

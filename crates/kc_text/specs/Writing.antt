@@ -1,4 +1,4 @@
--- What a sink has taken of a text that was to be written.
+-- The part of a text that a sink has taken.
 use Rattle.std.specs.Prelude.{ℕ, ◌≡◌, ◌<◌, List, [], ◌++◌, length, Option, Result, Ok, Err}
 use Rattle.std.specs.Io.KnownBytes.{append_known}
 use Rattle.kc_text.specs.Causes.{Rose}
@@ -20,13 +20,13 @@ pub record IsProperPrefix (before now : Option (List ℕ)) (text : List ℕ) : T
   pub more : 0 < length rest
   pub taken : now ≡ append_known before said
 
--- one line: all of it was taken, or after a write fault a proper prefix, or without memory nothing
+-- one line: all of it was taken, or after a write fault a proper prefix, or nothing if there was no memory
 abbrev pub Sends : {T : Type 0} → Option (List ℕ) → Option (List ℕ) → List ℕ → Result T SendFault → Type 0
 Sends before now text (Ok _) = now ≡ append_known before text
 Sends before now text (Err WriteFault) = IsProperPrefix before now text
 Sends before now text (Err (Memory _)) = now ≡ before
 
--- a line that was to be sent, after a fault: gone after a write fault, and as it was without memory
+-- a line after a fault in sending it: gone after a write fault, and as it was if there was no memory
 abbrev pub KeptAfter : List ℕ → List ℕ → SendFault → Type 0
 KeptAfter old new WriteFault = new ≡ []
 KeptAfter old new (Memory _) = new ≡ old
@@ -36,7 +36,7 @@ abbrev pub Appends : {T : Type 0} → Option (List ℕ) → Option (List ℕ) �
 Appends before now text (Ok _) = now ≡ append_known before text
 Appends before now text (Err _) = IsPrefix before now text
 
--- a write fault comes only where the sink's count of faults rose, and else the count stays
+-- a write fault comes only if the sink's count of faults rose, and otherwise the count stays
 abbrev pub WriteCause : {T : Type 0} → ℕ → ℕ → Result T SendFault → Type 0
 WriteCause before now (Err WriteFault) = Rose before now
 WriteCause before now (Err (Memory _)) = now ≡ before

@@ -1,4 +1,4 @@
-//! A line of text that is put together and sent.
+//! A buffer in which a line of text is composed, and from which it is sent.
 ghost use Rattle.std.specs.Prelude.{◌≡◌, ◌++◌, ◌∷◌, [], OnErr, OnOk, IfErr, decimal};
 
 use crate::{Failed, Sink, put_all};
@@ -6,7 +6,7 @@ use std::alloc::{AllocError, Global};
 use std::marker::Model;
 use thiserror::Error;
 
-/// Why a text wasn't sent whole.
+/// The reasons for which a text wasn't sent whole.
 #[derive(Drop, Debug, Error)]
 pub enum SendFault {
     /// A write to the sink failed.
@@ -27,11 +27,11 @@ impl From<AllocError> for SendFault {
     }
 }
 
-/// A line that is put together piece by piece and then sent. It keeps its memory from one line to
-/// the next. A contract sees it as the list of its bytes.
+/// A line that is composed piece by piece and then sent. The buffer keeps its memory from one line to the next. A
+/// contract sees it as the list of its bytes.
 #[derive(Drop, Debug)]
 pub struct LineBuf {
-    // What was put together since the last line was sent.
+    // The bytes appended since the last line was sent.
     bytes: Vec<u8>,
 }
 
@@ -46,7 +46,7 @@ impl Model for LineBuf {
 impl LineBuf {
     ghost use Rattle.kc_text.specs.Writing.{Sends, WriteCause, KeptAfter};
 
-    /// An empty line; takes no memory.
+    /// Makes an empty line. Takes no memory.
     pub fn new(alloc: Global) -> Self
         ensures { result ≡ [] }
     {
@@ -55,14 +55,14 @@ impl LineBuf {
         }
     }
 
-    /// Empties the line. It keeps its memory.
+    /// Empties the line. The buffer keeps its memory.
     pub fn clear(&mut self)
         ensures { self.new ≡ [] }
     {
         self.bytes.clear();
     }
 
-    /// Appends bytes. Without memory the line stays as it was.
+    /// Appends bytes. If there is no memory, the line stays as it was.
     pub fn text(&mut self, _alloc: Global, bytes: &[u8]) -> Result<(), AllocError>
         ensures ok { OnOk result (self.new ≡ self.old ++ bytes.now) }
         ensures err { OnErr result (self.new ≡ self.old) }
@@ -70,8 +70,7 @@ impl LineBuf {
         self.bytes.extend_from_slice(bytes)
     }
 
-    /// Appends a number in decimal digits, without leading zeros. Without memory the line stays as
-    /// it was.
+    /// Appends a number in decimal digits, without leading zeros. If there is no memory, the line stays as it was.
     pub fn number(&mut self, _alloc: Global, value: u32) -> Result<(), AllocError>
         ensures ok { OnOk result (self.new ≡ self.old ++ decimal value) }
         ensures err { OnErr result (self.new ≡ self.old) }
@@ -81,9 +80,8 @@ impl LineBuf {
             .extend_from_slice(digits.format(value).as_bytes())
     }
 
-    /// Sends the line with a line feed after it, and empties it. After `WriteFault` the sink took a
-    /// proper prefix of the line, and the line is empty too. After `Memory` nothing was sent, and
-    /// the line stays as it was.
+    /// Sends the line with a line feed after it, and empties it. After `WriteFault` the sink took a proper prefix of
+    /// the line, and the line is empty too. After `Memory` nothing was sent, and the line stays as it was.
     pub fn send<K: Sink>(&mut self, _alloc: Global, sink: &mut K) -> Result<(), SendFault>
         ensures sent { Sends (K.taken sink.old) (K.taken sink.new) (self.old ++ 10 ∷ []) result }
         ensures ok { OnOk result (self.new ≡ []) }

@@ -3,7 +3,7 @@ ghost use Rattle.std.specs.Prelude.{◌≡◌};
 
 use std::marker::Model;
 
-/// Bytes that are owned. A contract sees them as a list of numbers.
+/// Owned bytes. A contract sees them as a list of numbers.
 #[derive(Drop, Debug)]
 pub struct Bytes {
     // Any bytes, whether or not they are text.
@@ -19,21 +19,21 @@ impl Model for Bytes {
 }
 
 impl Bytes {
-    /// The bytes of a `Vec`; takes no memory.
+    /// Wraps the bytes of a `Vec`. Takes no memory.
     pub fn from_vec(items: Vec<u8>) -> Self
         ensures { result ≡ items.items }
     {
         Bytes { items }
     }
 
-    /// The bytes as a `Vec`; takes no memory.
+    /// Returns the bytes as a `Vec`. Takes no memory.
     pub fn into_vec(self) -> Vec<u8>
         ensures { result.items ≡ self }
     {
         self.items
     }
 
-    /// The bytes as a slice.
+    /// Returns the bytes as a slice.
     pub fn as_slice(&self) -> &[u8]
         ensures { result.now ≡ self.now }
     {

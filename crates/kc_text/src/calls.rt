@@ -1,8 +1,8 @@
-//! The numbers of calls, some of which were chosen to fail.
+//! The numbers of calls, some of which are chosen to fail.
 ghost use Rattle.std.specs.Prelude.{◌≡◌};
 ghost use Rattle.kc_text.specs.Mem.{next_number, is_failing};
 
-// Stands for every call past the last that has a number.
+// The number of every call after the last numbered one.
 const NO_NUMBER: u64 = 4294967296;
 
 pub fn number_after(calls: u64) -> u64

@@ -5,11 +5,10 @@ use crate::Bytes;
 use std::alloc::{AllocError, Global};
 use std::marker::Model;
 
-/// The words of a command line, without the program's name.
-/// A contract sees them as a list of byte lists.
+/// The words of a command line, without the program's name. A contract sees them as a list of byte lists.
 #[derive(Drop, Debug)]
 pub struct Words {
-    // In the order of the command line.
+    // The words in the order of the command line.
     words: Vec<Bytes>,
 }
 
@@ -22,7 +21,7 @@ impl Model for Words {
 }
 
 impl Words {
-    /// No words; takes no memory.
+    /// Makes an empty list of words. Takes no memory.
     pub fn new(alloc: Global) -> Self
         ensures { result ≡ [] }
     {
@@ -31,7 +30,7 @@ impl Words {
         }
     }
 
-    /// Adds a word at the end.
+    /// Appends a copy of a word. If there is no memory, the list stays as it was.
     pub fn push(&mut self, alloc: Global, word: &[u8]) -> Result<(), AllocError>
         ensures ok { OnOk result (self.new ≡ self.old ++ word.now ∷ []) }
         ensures err { OnErr result (self.new ≡ self.old) }
@@ -41,21 +40,21 @@ impl Words {
         Ok(())
     }
 
-    /// How many words there are.
+    /// Returns the number of words.
     pub fn len(&self) -> usize
         ensures { result ≡ length self.now }
     {
         self.words.len()
     }
 
-    /// Whether there is no word.
+    /// Returns whether there is no word.
     pub fn is_empty(&self) -> bool
         ensures { IsTrue result ↔ (self.now ≡ []) }
     {
         self.words.is_empty()
     }
 
-    /// The word at place `i`, counted from 0.
+    /// Returns the word at place `i`, counted from 0. There are more than `i` words.
     pub fn word(&self, i: usize) -> &[u8]
         requires { i < length self.now }
         ensures { slice_get self.now i ≡ Some result.now }

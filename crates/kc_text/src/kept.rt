@@ -8,7 +8,7 @@ ghost use Rattle.kc_text.specs.Kept.{is_skipped, text_of, kept_left};
 use crate::{Body, Line, LineFault, LineReader, Source, word};
 use std::alloc::Global;
 
-// Whether the line says nothing. One that is too long never is skipped.
+// Returns whether the line is skipped: it is blank or a comment. A line that is too long is never skipped.
 fn is_skipped(line: &Line) -> bool
     ensures { result ≡ is_skipped line.now.body }
 {
@@ -18,7 +18,7 @@ fn is_skipped(line: &Line) -> bool
     }
 }
 
-/// The bytes of a line; none where it is too long or the input ends.
+/// Returns the bytes of a line; none if the line is too long or the input ends.
 pub fn text_of(line: &Line) -> &[u8]
     ensures { result.now ≡ text_of line.now.body }
 {
@@ -28,7 +28,7 @@ pub fn text_of(line: &Line) -> &[u8]
     }
 }
 
-/// Gives the memory of a line that is done with to the reader, for the next one.
+/// Gives the memory of a used line back to the reader, for the next line.
 pub fn give_back(reader: &mut LineReader, line: Line)
     ensures { reader.new ≡ reader.old }
 {
@@ -37,9 +37,11 @@ pub fn give_back(reader: &mut LineReader, line: Line)
     }
 }
 
-/// The next line that isn't skipped, or how the input ends. Errors are those of `next_line`: after one skipped lines
-/// may be gone, and no other, and the call may be made again. Cost: that of `next_line` for each line up to it, and
-/// once more the bytes of its first word.
+/// Returns the next line that isn't skipped, or how the input ends.
+///
+/// The errors are those of `next_line`. After an error skipped lines may be gone, and no other line is; the call may be
+/// made again. Cost: that of `next_line` for each line up to this one, and the bytes of the first word of each line
+/// once more.
 pub fn next_kept<S: Source>(
     alloc: Global,
     reader: &mut LineReader,

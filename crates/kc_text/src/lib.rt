@@ -1,6 +1,8 @@
-//! The byte layer: sources and sinks of bytes, an input's lines, words and numbers, and the lines
-//! that are written. Every contract speaks of the bytes that a source has left and a sink has taken,
-//! whatever pieces they come and go in, and each fault has a cause that its contract names.
+//! The byte layer: sources and sinks of bytes, the lines, words and numbers of an input, and the lines that are
+//! written.
+//!
+//! Contracts name the bytes that a source has left and a sink has taken, independent of the pieces in which they come
+//! and go. Each fault has a cause, which its contract names.
 #![tactic(auto)]
 
 mod buf;

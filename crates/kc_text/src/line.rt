@@ -3,10 +3,10 @@ use crate::Bytes;
 use std::alloc::AllocError;
 use thiserror::Error;
 
-/// What stands at a line's number.
+/// The content of a line, or how the input ended in its place.
 #[derive(Drop, Debug)]
 pub enum Body {
-    /// A line, without its line feed and without one carriage return before that.
+    /// A line, without its line feed and without one carriage return before the line feed.
     Text(Bytes),
     /// A line with more bytes before its line feed than the line limit allows.
     TooLong,
@@ -19,9 +19,9 @@ pub enum Body {
 /// A line of an input, or how the input ended.
 #[derive(Drop, Debug)]
 pub struct Line {
-    /// Lines are numbered from 1.
+    /// The number of the line, counted from 1.
     pub number: u32,
-    /// What the line says, or how the input ended there.
+    /// The content of the line, or how the input ended in its place.
     pub body: Body,
 }
 
@@ -32,7 +32,7 @@ pub enum LastLine {
     AtEnd(u32),
 }
 
-/// Why a line wasn't given.
+/// The reasons for which no line was returned.
 #[derive(Drop, Debug, Error)]
 pub enum LineFault {
     /// A read of the source failed.

@@ -1,4 +1,4 @@
-//! A sink in memory, of which chosen calls fail.
+//! A sink in memory whose failing calls are chosen.
 ghost use Rattle.std.specs.Prelude.{◌≡◌, ◌<◌, ◌≤◌, ◌++◌, [], length, take, Some, OnErr, OnOk, IfOk, is_err};
 ghost use Rattle.std.specs.Io.KnownBytes.{append_known};
 ghost use Rattle.kc_text.specs.Causes.{Rose};
@@ -9,24 +9,24 @@ use crate::{Failed, Sink};
 use std::alloc::{AllocError, Global};
 use std::marker::Model;
 
-/// A sink that keeps the bytes that it takes, in pieces of a chosen size and up to a chosen number
-/// in all, and fails at chosen calls.
+/// A sink that keeps the bytes that it takes, and fails at chosen calls. It takes pieces of a chosen size, and a chosen
+/// number of bytes in all.
 ///
-/// Calls are numbered from 1; calls past the 4,294,967,295th have no number and aren't chosen.
-/// A contract sees it as a `MemOutput` of `specs/Mem`, which says each answer exactly.
+/// Calls are numbered from 1. Calls past the 4,294,967,295th have no number and aren't chosen. A contract sees the sink
+/// as a `MemOutput` of `specs/Mem`, which determines each answer exactly.
 #[derive(Drop, Debug)]
 pub struct MemSink {
-    // the bytes taken: at most `capacity`, for which it has the memory from the start
+    // The bytes taken: at most `capacity`. Their memory is allocated at the start.
     bytes: Vec<u8>,
-    // the most bytes in all
+    // The most bytes in all.
     capacity: u32,
-    // the most bytes of one call: at least 1
+    // The most bytes of one call: at least 1.
     piece: u32,
-    // the numbers of the calls that fail, in any order
+    // The numbers of the calls that fail, in any order.
     failing: Vec<u32>,
-    // the number of the last call: at most 4,294,967,296, which stands for none
+    // The number of the last call: at most 4,294,967,296, which stands for none.
     calls: u64,
-    // how many calls have failed
+    // The number of failed calls.
     faults: u64,
 }
 
@@ -42,10 +42,10 @@ impl Model for MemSink {
 }
 
 impl MemSink {
-    /// An empty sink that takes at most `piece` bytes a call and `capacity` bytes in all. It fails
-    /// at the calls whose numbers are in `failing`, and at each call once it is full.
+    /// Makes an empty sink that takes at most `piece` bytes a call and `capacity` bytes in all. It fails at the calls
+    /// whose numbers are in `failing`, and at each call once it is full.
     ///
-    /// The memory for `capacity` bytes is taken here, so that no write needs any.
+    /// Allocates the memory for `capacity` bytes here, so that no write needs any.
     pub fn new(
         alloc: Global,
         capacity: u32,
@@ -65,7 +65,7 @@ impl MemSink {
         })
     }
 
-    /// The bytes taken so far.
+    /// Returns the bytes taken so far.
     pub fn bytes(&self) -> &[u8]
         ensures { result.now ≡ self.now.taken }
     {
@@ -81,7 +81,7 @@ impl Sink for MemSink {
     fn write(&mut self, bytes: &[u8]) -> Result<usize, Failed>
         requires { 0 < length bytes.now }
 
-        // What each sink promises.
+        // The clauses of the trait.
         ensures some { IfOk result (λ k. 0 < k) }
         ensures bound { IfOk result (λ k. k ≤ length bytes.now) }
         ensures taken { IfOk result (λ k. Some self.new.taken ≡ append_known (Some self.old.taken) (take k bytes.now)) }
@@ -89,7 +89,7 @@ impl Sink for MemSink {
         ensures cause { OnErr result (Rose self.old.faults self.new.faults) }
         ensures quiet { OnOk result (self.new.faults ≡ self.old.faults) }
 
-        // Which calls fail, how much the others take, and what stands after each.
+        // Exactly which calls fail, how much the others take, and the state after each.
         ensures fails { is_err result ≡ write_fails self.old }
         ensures size { IfOk result (λ k. k ≡ write_size self.old (length bytes.now)) }
         ensures ok { IfOk result (λ k. self.new ≡ record self.old { taken = self.old.taken ++ take k bytes.now; calls = next_number self.old.calls }) }

@@ -1,4 +1,4 @@
-//! A source in memory, of which chosen calls fail.
+//! A source in memory whose failing calls are chosen.
 ghost use Rattle.std.specs.Prelude.{◌≡◌, ◌<◌, ◌≤◌, length, take, drop, Some, OnErr, OnOk, IfOk, is_err};
 ghost use Rattle.std.specs.Io.KnownBytes.{prepend_known, IsAtEnd};
 ghost use Rattle.kc_text.specs.Causes.{Rose};
@@ -11,21 +11,21 @@ use std::marker::Model;
 
 /// A source that gives the bytes of a list in pieces of a chosen size, and fails at chosen calls.
 ///
-/// Calls are numbered from 1; calls past the 4,294,967,295th have no number and don't fail.
-/// A contract sees it as a `MemInput` of `specs/Mem`, which says each answer exactly.
+/// Calls are numbered from 1. Calls past the 4,294,967,295th have no number and don't fail. A contract sees the source
+/// as a `MemInput` of `specs/Mem`, which determines each answer exactly.
 #[derive(Drop, Debug)]
 pub struct MemSource {
-    // all bytes, read or not
+    // All bytes, read or not.
     bytes: Vec<u8>,
-    // how many of the bytes were read: at most all
+    // The number of bytes read: at most all.
     at: usize,
-    // the most bytes of one call: at least 1
+    // The most bytes of one call: at least 1.
     piece: u32,
-    // the numbers of the calls that fail, in any order
+    // The numbers of the calls that fail, in any order.
     failing: Vec<u32>,
-    // the number of the last call: at most 4,294,967,296, which stands for none
+    // The number of the last call: at most 4,294,967,296, which stands for none.
     calls: u64,
-    // how many calls have failed
+    // The number of failed calls.
     faults: u64,
 }
 
@@ -41,8 +41,8 @@ impl Model for MemSource {
 }
 
 impl MemSource {
-    /// A source over a copy of `bytes` that gives at most `piece` bytes a call, and fails exactly
-    /// at the calls whose numbers are in `failing`.
+    /// Makes a source over a copy of `bytes`. It gives at most `piece` bytes a call, and fails exactly at the calls
+    /// whose numbers are in `failing`.
     pub fn new(alloc: Global, bytes: &[u8], piece: u32, failing: &[u32]) -> Result<Self, AllocError>
         requires { 0 < piece }
         ensures { IfOk result (λ m. m ≡ record { left = bytes.now; piece = piece; failing = failing.now; calls = 0; faults = 0 }) }
@@ -66,7 +66,7 @@ impl Source for MemSource {
     fn read(&mut self, buf: &mut [u8]) -> Result<usize, Failed>
         requires { 0 < length buf.old }
 
-        // What each source promises.
+        // The clauses of the trait.
         ensures bound { IfOk result (λ k. k ≤ length buf.new) }
         ensures given { IfOk result (λ k. Some self.old.left ≡ prepend_known (take k buf.new) (Some self.new.left)) }
         ensures end { IfOk result (λ k. k ≡ 0 → IsAtEnd (Some self.new.left)) }
@@ -74,7 +74,7 @@ impl Source for MemSource {
         ensures cause { OnErr result (Rose self.old.faults self.new.faults) }
         ensures quiet { OnOk result (self.new.faults ≡ self.old.faults) }
 
-        // Which calls fail, how much the others give, and what stands after each.
+        // Exactly which calls fail, how much the others give, and the state after each.
         ensures fails { is_err result ≡ read_fails self.old }
         ensures size { IfOk result (λ k. k ≡ read_size self.old (length buf.old)) }
         ensures ok { IfOk result (λ k. self.new ≡ record self.old { left = drop k self.old.left; calls = next_number self.old.calls }) }

@@ -1,11 +1,11 @@
-//! A name with a number after it, of which many lines are put together.
+//! A name with a number after it, the form of many written lines.
 ghost use Rattle.std.specs.Prelude.{◌≡◌, ◌++◌, OnOk, decimal};
 
 use crate::LineBuf;
 use std::alloc::{AllocError, Global};
 
-/// Appends a name, with its blanks, and a number in decimal digits, without leading zeros. Without memory the line may have the name
-/// alone, and isn't used again.
+/// Appends a name, with its blanks, and a number in decimal digits, without leading zeros. If there is no memory, the
+/// line may have the name alone, and isn't used again.
 pub fn fill_named(
     alloc: Global,
     buf: &mut LineBuf,

@@ -3,13 +3,12 @@ ghost use Rattle.std.specs.Prelude.{◌≡◌, ◌<◌, length, None, IsOkAnd};
 
 use crate::{Failed, Sink};
 
-/// A sink that takes all bytes of each write and forgets them. It doesn't tell them, and never
-/// fails.
+/// A sink that takes all bytes of each write and forgets them. It doesn't tell its bytes, and never fails.
 #[derive(Clone, Copy, Debug, PartialEq, Eq)]
 pub struct NullSink;
 
 impl NullSink {
-    /// The sink; takes no memory.
+    /// Makes the sink. Takes no memory.
     pub fn new() -> Self {
         NullSink
     }

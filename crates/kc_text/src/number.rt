@@ -1,4 +1,4 @@
-//! Decimal numbers below 2^32: what a word says, and the next one of a line.
+//! Decimal numbers below 2^32: the number in a word, and the next number of a line.
 ghost use Rattle.std.specs.Prelude.{◌≡◌, ◌<◌, ◌≤◌, length, drop, slice_index, true, IfSome, IfNone};
 ghost use Rattle.kc_text.specs.Numbers.{number_of, is_digit, NumberAt, IsNoNumber};
 ghost use Rattle.kc_text.specs.private.Numbers.{DigitsAt, StopsAt, HasNoNumber};
@@ -6,8 +6,8 @@ ghost use Rattle.kc_text.specs.Words.{words};
 
 use crate::word::{next_word, parts_words, pass_blanks};
 
-/// The number that 1 to 10 ASCII digits say, where it is at most 4,294,967,295; leading zeros are
-/// accepted. None for all other bytes.
+/// Returns the number of 1 to 10 ASCII digits if it is at most 4,294,967,295. Leading zeros are accepted. Returns None
+/// for all other bytes.
 #[tactic(auto, using(crate::proofs::Digits::steps))]
 pub fn read_number(bytes: &[u8]) -> Option<u32>
     ensures { result ≡ number_of bytes.now }
@@ -34,12 +34,12 @@ fn is_digit(byte: u8) -> bool
     byte >= b'0' && byte <= b'9'
 }
 
-// As many digits are looked for at first as the greatest vertex has. The compiler lays out the loop over them, in which no value is too
-// large; a number of fewer digits ends in it.
+// The number of digits that the first loop reads: as many as the greatest vertex has. No value of so few digits is too
+// large, and the compiler unrolls a loop of fixed length. A shorter number ends within the loop.
 const NEAR: usize = 8;
 
-// The value of the digits from `start` on, of which those before `from` come to `value`, and where they end. None where the
-// value is too large.
+// Returns the value of the digits from `start` on, and where they end. The digits before `from` have the value `value`.
+// Returns None if the value is too large.
 #[inline(never)]
 #[tactic(auto, using(crate::proofs::Numbering::digit_steps))]
 fn pass_more_digits(line: &[u8], start: usize, value: u32, from: usize) -> Option<(u32, usize)>
@@ -63,7 +63,7 @@ fn pass_more_digits(line: &[u8], start: usize, value: u32, from: usize) -> Optio
     Some((value as u32, at))
 }
 
-// The value of the digits from `start` on, and where they end. None where the value is too large.
+// Returns the value of the digits from `start` on, and where they end. Returns None if the value is too large.
 #[inline(always)]
 #[tactic(auto, using(crate::proofs::Numbering::digit_steps))]
 pub(crate) fn pass_digits(line: &[u8], start: usize) -> Option<(u32, usize)>
@@ -91,7 +91,7 @@ pub(crate) fn pass_digits(line: &[u8], start: usize) -> Option<(u32, usize)>
     pass_more_digits(line, start, value as u32, start + NEAR)
 }
 
-// The number of a word of digits that begins at `start`, and where the word ends.
+// Returns the number of a word of digits that begins at `start`, and where the word ends.
 #[tactic(auto, using(crate::proofs::Numbering::number_steps))]
 fn number_from(line: &[u8], start: usize) -> Option<(u32, usize)>
     requires { start ≤ length line.now }
@@ -107,8 +107,8 @@ fn number_from(line: &[u8], start: usize) -> Option<(u32, usize)>
     Some((value, end))
 }
 
-/// The number that the first word at or after `from` says, and where that word ends. None where the
-/// word says none, or where there is no word. Cost: one pass over the word's bytes, where it says one.
+/// Returns the number in the first word at or after `from`, and where that word ends. Returns None if the word is no
+/// number, or if there is no word. Cost: one pass over the word's bytes, if the word is a number.
 pub fn next_number(line: &[u8], from: usize) -> Option<(u32, usize)>
     requires { from ≤ length line.now }
     ensures number { IfSome result (λ r. NumberAt line.now from r.0 r.1) }

@@ -24,9 +24,9 @@ pub struct NumberLine {
     pub sign: Option<Sign>,
     /// The first number.
     pub first: u32,
-    /// The second.
+    /// The second number.
     pub second: u32,
-    /// The length of the line, with a carriage return at its end.
+    /// The length of the line, counting a carriage return at its end.
     pub len: usize,
 }
 
@@ -35,9 +35,9 @@ pub struct NumberLine {
 pub struct NamedNumbers {
     /// The first number.
     pub first: u32,
-    /// The second.
+    /// The second number.
     pub second: u32,
-    /// The length of the line, with a carriage return at its end.
+    /// The length of the line, counting a carriage return at its end.
     pub len: usize,
 }
 
@@ -51,7 +51,8 @@ fn sign_of(byte: u8) -> Option<Sign>
     }
 }
 
-// The sign with which a line begins, and where the rest of the line begins. None where a sign doesn't stand alone.
+// Returns the sign with which a line begins, and where the rest of the line begins. Returns None if a sign isn't
+// followed by a blank, or if there are fewer than two bytes.
 #[tactic(auto, using(crate::proofs::NumberLines::begin_steps))]
 fn pass_sign(bytes: &[u8]) -> Option<(Option<Sign>, usize)>
     ensures begins { IfSome result (λ r. BeginsAt bytes.now (with_sign r.0) r.1) }
@@ -71,7 +72,7 @@ fn pass_sign(bytes: &[u8]) -> Option<(Option<Sign>, usize)>
     Some((sign, 2))
 }
 
-// The number that one to ten digits at `start` say, and where they end.
+// Returns the number of one to ten digits at `start`, and where they end.
 #[inline(always)]
 #[tactic(auto, using(crate::proofs::DigitRuns::digit_steps))]
 fn digits_to(bytes: &[u8], start: usize) -> Option<(u32, usize)>
@@ -87,7 +88,7 @@ fn digits_to(bytes: &[u8], start: usize) -> Option<(u32, usize)>
     Some((value, end))
 }
 
-// The place of the line feed that stands at `end`, or after a carriage return there.
+// Returns the place of the line feed that stands at `end`, or after a carriage return at `end`.
 #[tactic(auto, using(crate::proofs::NumberLines::close_steps))]
 fn pass_cr(bytes: &[u8], end: usize) -> Option<usize>
     requires { end ≤ length bytes.now }
@@ -106,7 +107,8 @@ fn pass_cr(bytes: &[u8], end: usize) -> Option<usize>
     Some(end + 1)
 }
 
-// The two numbers of which a line consists from `start` on, with one blank between them, and the place of its line feed.
+// Returns the two numbers that make up the line from `start` on, with one blank between them, and the place of the line
+// feed.
 #[inline(always)]
 #[tactic(auto, using(crate::proofs::NumberLines::number_steps))]
 fn numbers_to(bytes: &[u8], start: usize) -> Option<(u32, u32, usize)>
@@ -132,8 +134,8 @@ fn numbers_to(bytes: &[u8], start: usize) -> Option<(u32, u32, usize)>
     Some((first, second, len))
 }
 
-// The line with which the bytes begin, where its line feed is among them and it is two numbers with one blank between
-// them, or a sign, a blank and such numbers. None where they don't begin with such a line.
+// Returns the first line of the bytes if its line feed is among them and it is two numbers with one blank between them.
+// A sign and a blank may stand before the numbers. Returns None if the bytes don't begin with such a line.
 #[inline(always)]
 #[tactic(auto, using(crate::proofs::NumberLines::number_line))]
 pub(crate) fn number_line(bytes: &[u8]) -> Option<NumberLine>
@@ -154,7 +156,7 @@ pub(crate) fn number_line(bytes: &[u8]) -> Option<NumberLine>
     })
 }
 
-// Where the numbers begin of a line that begins with the name and a blank.
+// Returns where the numbers of a line begin whose first bytes are the name and a blank.
 #[inline(always)]
 fn pass_name(bytes: &[u8], name: &[u8]) -> Option<usize>
     requires { is_word name.now ≡ true }
@@ -172,8 +174,8 @@ fn pass_name(bytes: &[u8], name: &[u8]) -> Option<usize>
     Some(len + 1)
 }
 
-// The line with which the bytes begin, where its line feed is among them and it is the name, a blank, and two numbers with
-// one blank between them. None where they don't begin with such a line.
+// Returns the first line of the bytes if its line feed is among them and it is the name and two numbers. One blank
+// stands after the name and one between the numbers. Returns None if the bytes don't begin with such a line.
 #[inline(always)]
 #[tactic(auto, using(crate::proofs::NamedLines::named_line))]
 pub(crate) fn numbers_after(bytes: &[u8], name: &[u8]) -> Option<NamedNumbers>

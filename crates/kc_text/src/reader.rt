@@ -1,4 +1,4 @@
-//! A reader of lines that takes a line back.
+//! A reader of lines to which a line can be put back.
 ghost use Rattle.std.specs.Prelude.{◌≡◌, ℕ, ◌<◌, ◌≤◌, ◌+◌, ◌^◌, [], ◌∷◌, List, Option, None, is_none, ◌&&◌, true, false, IfOk, OnErr, IfSome, IfNone};
 ghost use Rattle.std.specs.Option.{option_map};
 ghost use Rattle.kc_text.specs.Causes.{ReadCause, OnReadFault};
@@ -10,18 +10,18 @@ use crate::{Body, Bytes, Line, LineFault, NamedNumbers, NumberLine, Source};
 use std::alloc::{AllocError, Global};
 use std::marker::Model;
 
-/// Cuts the bytes of a source into lines, whatever pieces they come in, and takes a line back.
+/// Cuts the bytes of a source into lines, independent of the pieces in which the bytes come. A line can be put back.
 ///
-/// A contract sees it as a `Reading` of `specs/Reading`: what it has taken from the source and not
-/// yet given, and the line that was put back. `lines_left` of that, and of the bytes that the source
-/// has left, are the lines that it has still to give.
+/// A contract sees it as a `Reading` of `specs/Reading`. That has the bytes taken from the source and not yet given,
+/// and the line that was put back. From these and the bytes left in the source, `lines_left` makes the lines still to
+/// give.
 #[derive(Drop)]
 pub struct LineReader {
-    // has the lines that come after the held one, unless a last line was put back
+    // Has the lines after the held one, unless a last line was put back.
     scanner: Scanner,
-    // a last line that was put back and then given; else the scanner's own last line is the last
+    // A last line that was put back and then given. If there is none, the scanner's own last line is the last.
     last: Option<LastLine>,
-    // the line that was put back and not yet given
+    // The line that was put back and not yet given.
     held: Option<Line>,
 }
 
@@ -38,7 +38,7 @@ impl Model for LineReader {
 ghost use Rattle.kc_text.specs.private.Reading.{last_after};
 ghost use Rattle.kc_text.specs.Reading.{line_of_last};
 
-// The last line that stays once this line, put back before, is given.
+// Returns the last line that is repeated once this line, put back before, is given.
 fn last_after(line: &Line, last: Option<LastLine>) -> Option<LastLine>
     ensures { result ≡ last_after line.now last }
 {
@@ -71,8 +71,8 @@ impl LineReader {
     ghost use Rattle.kc_text.specs.Printing.{is_word};
     ghost use Rattle.kc_text.specs.Reading.{Reading, lines_of_rest, lines_left, onto, Takes, IsLast, budget, is_decided, HasWhole};
 
-    /// A reader that stands before the first line. Lines of more than `line_limit` bytes are too
-    /// long, and at most `input_limit` bytes are made into lines; each is at most 1,073,741,824.
+    /// Makes a reader that stands before the first line. A line of more than `line_limit` bytes is too long. At most
+    /// `input_limit` bytes are made into lines. Each limit is at most 1,073,741,824.
     pub fn new(alloc: Global, line_limit: u32, input_limit: u32) -> Result<Self, AllocError>
         requires line { line_limit ≤ 2 ^ 30 }
         requires input { input_limit ≤ 2 ^ 30 }
@@ -87,31 +87,31 @@ impl LineReader {
         })
     }
 
-    /// The next of the lines that `lines` in `specs/Lines` makes of the input: its text, or
-    /// `TooLong`, or at last `Limit` or `End`, which each later call gives again. A line that was
-    /// put back comes first.
+    /// Returns the next of the lines that `lines` in `specs/Lines` makes of the input. That is the line's text, or
+    /// `TooLong`. The last is `Limit` or `End`, which each later call returns again. A line that was put back comes
+    /// first.
     ///
-    /// The source is read only where the bytes already read don't decide the line. After `ReadFault`
-    /// or `Memory` no byte is lost, and the call may be made again. Cost: the bytes of the line, once,
-    /// and one `Vec` for its text, unless `reuse` gave one back.
+    /// Reads the source only if the bytes already read don't decide the line. After `ReadFault` or `Memory` no byte is
+    /// lost, and the call may be made again. Cost: the bytes of the line, once, and one `Vec` for its text, unless
+    /// `reuse` gave one back.
     #[inline(always)]
     pub fn next_line<S: Source>(&mut self, alloc: Global, src: &mut S) -> Result<Line, LineFault>
         ensures line { IfOk result (λ line. lines_left self.old (S.left src.old) ≡ option_map (onto line) (lines_left self.new (S.left src.new))) }
         ensures err { OnErr result (lines_left self.new (S.left src.new) ≡ lines_left self.old (S.left src.old)) }
         ensures cause { ReadCause (S.faults src.old) (S.faults src.new) result }
 
-        // No line is held back after a call.
+        // No line is held back after the call.
         ensures held { self.new.held ≡ None }
 
-        // Where what was read decides the line, nothing is read, and the line is the one that
-        // comes whatever the source has left.
+        // If the bytes already read decide the line, nothing is read. The line is then the same for all bytes that the
+        // source may have left.
         ensures unread { is_decided self.old ≡ true → src.new ≡ src.old }
         ensures decided { is_decided self.old ≡ true → IfOk result (λ line. (bs : List ℕ) → lines_of_rest self.old bs ≡ onto line (lines_of_rest self.new bs)) }
 
-        // A read that fails was needed too: what was read before it doesn't decide the line.
+        // A read that fails was needed: the bytes read before it don't decide the line.
         ensures open { OnReadFault result (is_decided self.new ≡ false) }
 
-        // After `Limit` and `End` comes the same line again.
+        // After `Limit` and `End` the same line comes again.
         ensures last { IfOk result (λ line. IsLast line.body → lines_left self.new (S.left src.new) ≡ lines_left self.old (S.left src.old)) }
         ensures settled { IfOk result (λ line. IsLast line.body → is_decided self.new ≡ true) }
         ensures again { IfOk result (λ line. IsLast line.body → (bs : List ℕ) → lines_of_rest self.new bs ≡ line ∷ []) }
@@ -133,7 +133,7 @@ impl LineReader {
         }
     }
 
-    // Whether no line was put back or stays, so that the next line is the scanner's.
+    // Returns whether no line was put back or is repeated, so that the next line is the scanner's.
     #[inline(always)]
     fn is_scanning(&self) -> bool
         ensures { result ≡ (is_none self.now.held && is_none self.now.last) }
@@ -141,9 +141,11 @@ impl LineReader {
         self.held.is_none() && self.last.is_none()
     }
 
-    /// The next line, where it lies whole in the reader's own memory, as `whole_line` has it, and is two numbers with one
-    /// blank or tab between them, or a sign, a blank and such numbers. None only where there is no such line. `pass_line`
-    /// takes the line. Cost: one pass over the bytes of the line.
+    /// Returns the next line if it lies whole in the reader's own memory and is two numbers with one blank or tab
+    /// between them. A sign and a blank or tab may stand before the numbers. The line lies whole as for `whole_line`.
+    ///
+    /// Returns None only if there is no such line. `pass_line` takes the line. Cost: one pass over the bytes of the
+    /// line.
     #[inline(always)]
     pub fn number_line(&self) -> Option<NumberLine>
         ensures whole { IfSome result (λ line. HasWhole line.len self.now) }
@@ -156,10 +158,12 @@ impl LineReader {
         self.scanner.number_line()
     }
 
-    /// The next line, where it lies whole in the reader's own memory, as `whole_line` has it, and is the name, one blank or
-    /// tab, and two numbers with one blank or tab between them, as `edge 12 345` is for `edge`. None only where there is no
-    /// such line. `pass_line` takes the line. Cost: one pass over the bytes of the line; of a line that begins with another
-    /// word, the bytes of the name.
+    /// Returns the next line if it lies whole in the reader's own memory and is the name and two numbers. One blank or
+    /// tab stands after the name and one between the numbers, as in `edge 12 345` for `edge`. The line lies whole as
+    /// for `whole_line`.
+    ///
+    /// Returns None only if there is no such line. `pass_line` takes the line. Cost: one pass over the bytes of the
+    /// line; for a line that begins with another word, the bytes of the name.
     #[inline(always)]
     pub fn numbers_after(&self, name: &[u8]) -> Option<NamedNumbers>
         requires { is_word name.now ≡ true }
@@ -173,10 +177,11 @@ impl LineReader {
         self.scanner.numbers_after(name)
     }
 
-    /// The text of the next line, and its length with a carriage return at its end, where the line lies whole in the
-    /// reader's own memory, isn't too long and is within the input's limit: nothing is read or copied for it. None
-    /// exactly where there is no such line; `next_line` gives the next line then. `pass_line` takes the line. Cost: the
-    /// bytes of the line, once.
+    /// Returns the text of the next line, and its length counting a carriage return at its end. The line lies whole in
+    /// the reader's own memory, isn't too long and is within the input's limit, so nothing is read or copied.
+    ///
+    /// Returns None exactly if there is no such line; `next_line` returns the next line then. `pass_line` takes the
+    /// line. Cost: the bytes of the line, once.
     #[inline(always)]
     pub fn whole_line(&self) -> Option<(&[u8], usize)>
         ensures whole { IfSome result (λ r. HasWhole r.1 self.now) }
@@ -189,8 +194,8 @@ impl LineReader {
         self.scanner.whole_line()
     }
 
-    /// Takes the line of which `number_line`, `numbers_after` or `whole_line` tells, by its length, and gives its number. Takes no
-    /// memory, and reads nothing.
+    /// Takes the line that `number_line`, `numbers_after` or `whole_line` returned, by its length, and returns its
+    /// number. Takes no memory, and reads nothing.
     #[inline(always)]
     pub fn pass_line(&mut self, len: usize) -> u32
         requires whole { HasWhole len self.old }
@@ -201,7 +206,7 @@ impl LineReader {
         self.scanner.pass_line(len)
     }
 
-    /// Does nothing but tell a proof that a reader's budget is bounded, as it is of each.
+    /// Does nothing. Evidence for proofs: the budget of each reader is bounded.
     #[inline(always)]
     pub fn has_budget(&self)
         ensures budget { budget self.now ≤ 2 ^ 30 + 1 }
@@ -209,8 +214,7 @@ impl LineReader {
         let _ = self.held.is_some();
     }
 
-    /// Takes a line back, where none is held back: the next call of `next_line` gives it. Takes no
-    /// memory.
+    /// Takes a line back: the next call of `next_line` returns it. No other line is held back. Takes no memory.
     pub fn put_back(&mut self, line: Line)
         requires { self.old.held ≡ None }
         ensures lines { (bs : List ℕ) → lines_of_rest self.new bs ≡ onto line (lines_of_rest self.old bs) }
@@ -221,8 +225,8 @@ impl LineReader {
         self.held = Some(line);
     }
 
-    /// Takes the memory of a line that is done with: the next text is put there, and takes no memory
-    /// of its own where it fits. Nothing else changes.
+    /// Takes the memory of a used line. The next text is put there, and allocates nothing if it fits. Nothing else
+    /// changes.
     pub fn reuse(&mut self, text: Bytes)
         ensures { self.new ≡ self.old }
     {

@@ -1,18 +1,18 @@
-//! Why an input is refused.
+//! The reasons for which an input is refused.
 ghost use Rattle.std.specs.Prelude.{◌≡◌};
 
-/// Why an input, or a batch of it, is refused.
+/// The reason for which an input, or a batch of it, is refused.
 #[derive(Clone, Copy, Debug, PartialEq, Eq)]
 pub enum Reason {
     /// The header doesn't have its form.
     Header,
     /// A line is longer than the line limit.
     LineLong,
-    /// A line has none of the forms that may stand in its place.
+    /// A line has none of the forms allowed in its place.
     BadLine,
     /// A line names a vertex that the input doesn't have.
     BadVertex,
-    /// There are more items or lines of a kind than are allowed.
+    /// There are more items, or more lines of a kind, than are allowed.
     TooMany,
     /// The input ends too early.
     Truncated,
@@ -27,7 +27,7 @@ pub enum Reason {
 impl Reason {
     ghost use Rattle.kc_text.specs.Reasons.{reason_word};
 
-    /// The word that stands for the reason in what is written.
+    /// Returns the word for the reason in written texts.
     pub fn word(self) -> &'static [u8]
         ensures { result.now ≡ reason_word self }
     {

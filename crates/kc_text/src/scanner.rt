@@ -1,4 +1,4 @@
-//! Lines of bytes that come in any pieces.
+//! Cutting of bytes into lines, in whatever pieces the bytes come.
 ghost use Rattle.std.specs.Prelude.{◌≡◌, ℕ, ◌<◌, ◌≤◌, ◌+◌, ◌^◌, [], ◌∷◌, ◌++◌, List, length, Option, true, false, IfOk, OnOk, OnErr, IfSome, IfNone, IsSome};
 ghost use Rattle.kc_text.specs.Causes.{Rose, ReadCause, OnReadFault};
 ghost use Rattle.kc_text.specs.Lines.{body_of, without_cr, lines};
@@ -12,28 +12,27 @@ use std::alloc::{AllocError, Global};
 use std::marker::Model;
 use std::mem;
 
-/// Cuts the bytes of a source into lines, each of which it gives once.
+/// Cuts the bytes of a source into lines, and gives each line once.
 ///
-/// A contract sees it as a `Scan` of `specs/Scanning`: the limits, and what it has taken from the
-/// source and not yet given. `scan_lines_left` of that, and of the bytes that the source has left,
-/// are the lines that it has still to give.
+/// A contract sees it as a `Scan` of `specs/Scanning`: the limits, and the bytes taken from the source and not yet
+/// given. From these and the bytes left in the source, `scan_lines_left` makes the lines still to give.
 #[derive(Drop)]
 pub struct Scanner {
-    // the bytes that were read and not yet taken into a line
+    // The bytes that were read and not yet taken into a line.
     window: Window,
-    // what was taken of the open line, as long as that is at most `limit` bytes; else of no meaning
+    // The bytes taken of the open line, if they are at most `limit` bytes. Otherwise the content has no meaning.
     part: Vec<u8>,
-    // how many bytes were taken of the open line, whether or not they were kept
+    // The number of bytes taken of the open line, kept or not.
     taken: u32,
-    // the most bytes of a line: at most 2^30
+    // The most bytes of a line: at most 2^30.
     limit: u32,
-    // the number of the open line: with `room` and `taken` at most 2^30 + 1
+    // The number of the open line. Its sum with `room` and `taken` is at most 2^30 + 1.
     number: u32,
-    // how many bytes may still be taken before the input limit
+    // The number of bytes that may still be taken before the input limit.
     room: u32,
-    // the source has ended; then the window is empty
+    // Whether the source has ended. If it has, the window is empty.
     ended: bool,
-    // the memory of a line that was given back, whose bytes mean nothing
+    // The memory of a line that was given back. Its bytes have no meaning.
     spare: Vec<u8>,
 }
 
@@ -49,7 +48,7 @@ impl Model for Scanner {
     ghost invariant = { IsSound };
 }
 
-// The spare memory, without its bytes.
+// Returns the spare memory, without its bytes.
 #[inline(always)]
 fn take_spare(alloc: Global, spare: &mut Vec<u8>) -> Vec<u8>
     ensures { result.items ≡ [] }
@@ -59,7 +58,8 @@ fn take_spare(alloc: Global, spare: &mut Vec<u8>) -> Vec<u8>
     text
 }
 
-// Adds the part of a line that was kept. Most lines lie whole in the window, and have none.
+// Appends the kept part of a line. Most lines lie whole in the window and have no such part, so that case is tested
+// first.
 #[inline(always)]
 fn add_part(text: &mut Vec<u8>, part: &[u8]) -> Result<(), AllocError>
     ensures { OnOk result (text.new.items ≡ text.old.items ++ part.now) }
@@ -71,7 +71,7 @@ fn add_part(text: &mut Vec<u8>, part: &[u8]) -> Result<(), AllocError>
     Ok(())
 }
 
-// What a line says whose bytes are a part and then `last`.
+// Returns the content of a line whose bytes are a part followed by `last`.
 #[inline(always)]
 fn read_body(
     alloc: Global,
@@ -95,7 +95,7 @@ fn read_body(
     Ok(Body::Text(Bytes::from_vec(text)))
 }
 
-// The bytes without a carriage return at the end.
+// Returns the bytes without a carriage return at the end.
 #[inline(always)]
 fn strip_cr(bytes: &[u8]) -> &[u8]
     ensures { result.now ≡ without_cr bytes.now }
@@ -107,7 +107,7 @@ fn strip_cr(bytes: &[u8]) -> &[u8]
     }
 }
 
-// Takes a carriage return off the end.
+// Removes a carriage return at the end.
 fn drop_cr(text: &mut Vec<u8>)
     ensures { text.new.items ≡ without_cr text.old.items }
 {
@@ -116,7 +116,7 @@ fn drop_cr(text: &mut Vec<u8>)
     }
 }
 
-// Adds bytes to the part of a line, of which nothing is kept once it is longer than the limit.
+// Appends bytes to the part of a line. If the line is then longer than the limit, keeps none of it.
 fn keep(part: &mut Vec<u8>, limit: u32, taken: u32, more: &[u8]) -> Result<(), AllocError>
     requires taken { length (piece_of limit taken part.old.items) ≡ taken }
     requires small { taken + length more.now < 2 ^ 32 }
@@ -142,7 +142,7 @@ impl Scanner {
     ghost use Rattle.kc_text.specs.private.ScannerSteps.{work, Gives, Absorbs};
     ghost use Rattle.std.specs.Option.{option_map};
 
-    /// A scanner that stands before the first line.
+    /// Makes a scanner that stands before the first line. Both limits are at most 2^30.
     pub fn new(alloc: Global, line_limit: u32, input_limit: u32) -> Result<Self, AllocError>
         requires line { line_limit ≤ 2 ^ 30 }
         requires input { input_limit ≤ 2 ^ 30 }
@@ -161,8 +161,7 @@ impl Scanner {
         })
     }
 
-    // The next line, where the bytes that were read decide it. Else all of them are taken into the
-    // open line.
+    // Returns the next line if the bytes that were read decide it. Otherwise takes all of them into the open line.
     fn look(&mut self, alloc: Global) -> Result<Option<Line>, AllocError>
         ensures line { IfOk result (λ found. IfSome found (λ line. Gives line self.old self.new)) }
         ensures none { IfOk result (λ found. IfNone found (Absorbs self.old self.new)) }
@@ -206,7 +205,7 @@ impl Scanner {
         Ok(None)
     }
 
-    // Where the source has ended: the line that has no line feed, or the end.
+    // Returns the last line if it has no line feed, or else the end. The source has ended.
     fn finish(&mut self, alloc: Global) -> Result<Option<Line>, AllocError>
         requires ended { self.old.ended ≡ true }
         ensures line { IfOk result (λ found. IfSome found (λ line. Gives line self.old self.new)) }
@@ -237,8 +236,8 @@ impl Scanner {
         Ok(Some(line))
     }
 
-    // The bytes among which the next line's end is looked for: of those that were read, as many as may be a line with
-    // its end, or none where the next line has begun.
+    // Returns the bytes to search for the next line's end. These are the bytes that were read, cut to the length of the
+    // longest line with its line feed. If the open line has begun before them, there are none.
     #[inline(always)]
     fn ahead(&self) -> &[u8]
         ensures { Lends result.now self.now }
@@ -252,8 +251,8 @@ impl Scanner {
         &ready[..most]
     }
 
-    /// The next line, where it lies whole among the bytes that were read and is two numbers with one blank between
-    /// them, or a sign, a blank and such numbers.
+    /// Returns the next line if it lies whole among the bytes that were read and is two numbers with one blank between
+    /// them. A sign and a blank may stand before the numbers.
     #[inline(always)]
     pub fn number_line(&self) -> Option<NumberLine>
         ensures whole { IfSome result (λ line. IsWhole line.len self.now) }
@@ -263,8 +262,8 @@ impl Scanner {
         number_line(self.ahead())
     }
 
-    /// The next line, where it lies whole among the bytes that were read and is the name, a blank, and two numbers with one
-    /// blank between them.
+    /// Returns the next line if it lies whole among the bytes that were read and is the name and two numbers. One blank
+    /// stands after the name and one between the numbers.
     #[inline(always)]
     pub fn numbers_after(&self, name: &[u8]) -> Option<NamedNumbers>
         requires { is_word name.now ≡ true }
@@ -275,8 +274,8 @@ impl Scanner {
         numbers_after(self.ahead(), name)
     }
 
-    /// The text of the next line, and its length with a carriage return, where the line lies whole among the bytes
-    /// that were read.
+    /// Returns the text of the next line if it lies whole among the bytes that were read. With the text comes its
+    /// length, counting a carriage return.
     #[inline(always)]
     pub fn whole_line(&self) -> Option<(&[u8], usize)>
         ensures whole { IfSome result (λ r. IsWhole r.1 self.now) }
@@ -290,7 +289,7 @@ impl Scanner {
         Some((strip_cr(&ahead[..at]), at))
     }
 
-    /// Takes the line of this length that lies whole among the bytes that were read, and gives its number.
+    /// Takes the line of this length, which lies whole among the bytes that were read, and returns its number.
     #[inline(always)]
     pub fn pass_line(&mut self, len: usize) -> u32
         requires whole { IsWhole len self.old }
@@ -311,7 +310,7 @@ impl Scanner {
         self.spare = text;
     }
 
-    // Reads once, where nothing is ready.
+    // Reads once. No byte is ready, and the source hasn't ended.
     fn fill<S: Source>(&mut self, src: &mut S) -> Result<(), Failed>
         requires ready { self.old.ready ≡ [] }
         requires ended { self.old.ended ≡ false }
@@ -329,26 +328,26 @@ impl Scanner {
         Ok(())
     }
 
-    /// The next line. After `ReadFault` or `Memory` no byte is lost.
+    /// Returns the next line. After `ReadFault` or `Memory` no byte is lost.
     pub fn next_line<S: Source>(&mut self, alloc: Global, src: &mut S) -> Result<Line, LineFault>
         ensures line { IfOk result (λ line. scan_lines_left self.old (S.left src.old) ≡ option_map (onto line) (scan_lines_left self.new (S.left src.new))) }
         ensures err { OnErr result (scan_lines_left self.new (S.left src.new) ≡ scan_lines_left self.old (S.left src.old)) }
         ensures cause { ReadCause (S.faults src.old) (S.faults src.new) result }
 
-        // Where what was read decides the line, nothing is read, and the line is the one that
-        // comes whatever the source has left.
+        // If the bytes already read decide the line, nothing is read. The line is then the same for all bytes that the
+        // source may have left.
         ensures unread { is_scan_decided self.old ≡ true → src.new ≡ src.old }
         ensures decided { is_scan_decided self.old ≡ true → IfOk result (λ line. (bs : List ℕ) → scan_lines self.old bs ≡ onto line (scan_lines self.new bs)) }
 
-        // A read that fails was needed too: what was read before it doesn't decide the line.
+        // A read that fails was needed: the bytes read before it don't decide the line.
         ensures open { OnReadFault result (is_scan_decided self.new ≡ false) }
 
-        // After `Limit` and `End` comes the same line again.
+        // After `Limit` and `End` the same line comes again.
         ensures last { IfOk result (λ line. IsLast line.body → scan_lines_left self.new (S.left src.new) ≡ scan_lines_left self.old (S.left src.old)) }
         ensures settled { IfOk result (λ line. IsLast line.body → is_scan_decided self.new ≡ true) }
         ensures again { IfOk result (λ line. IsLast line.body → (bs : List ℕ) → scan_lines self.new bs ≡ line ∷ []) }
 
-        // A caller's loop over the lines ends.
+        // A caller's loop over the lines ends, since each line takes some of the budget.
         ensures takes { IfOk result (λ line. Takes line.body (scan_budget self.old) (scan_budget self.new)) }
         ensures budget { OnErr result (scan_budget self.new ≡ scan_budget self.old) }
     {

@@ -1,4 +1,4 @@
-//! What takes the bytes that are written, as many at a time as it will, and counts the writes that failed.
+//! A receiver of written bytes. It takes any number of bytes at a time, and counts the failed writes.
 ghost use Rattle.std.specs.Prelude.{◌≡◌, ℕ, ◌<◌, ◌≤◌, length, take, List, Option, OnErr, OnOk, IfOk};
 ghost use Rattle.std.specs.Io.KnownBytes.{append_known};
 ghost use Rattle.kc_text.specs.Causes.{Rose};
@@ -6,16 +6,15 @@ ghost use Rattle.kc_text.specs.Writing.{IsProperPrefix};
 
 use crate::Failed;
 
-/// Where bytes go, in pieces of any size.
+/// A destination of bytes, which takes them in pieces of any size.
 pub trait Sink {
-    /// The bytes taken so far. None: they aren't told.
+    /// The bytes taken so far. None: the sink doesn't tell its bytes.
     ghost taken: { Self → Option (List ℕ) };
 
-    /// How often a write has failed. The count never falls, and stands still at its type's end.
+    /// The number of failed writes. The count never falls, and stands still at the last value of its type.
     ghost faults: { Self → ℕ };
 
-    /// Takes some of the first bytes, at least one, and returns how many. After `Failed` none was
-    /// taken.
+    /// Takes some of the first bytes, at least one, and returns their number. After `Failed` none was taken.
     fn write(&mut self, bytes: &[u8]) -> Result<usize, Failed>
         requires { 0 < length bytes.now }
         ensures some { IfOk result (λ k. 0 < k) }
@@ -23,15 +22,15 @@ pub trait Sink {
         ensures taken { IfOk result (λ k. taken self.new ≡ append_known (taken self.old) (take k bytes.now)) }
         ensures failed { OnErr result (taken self.new ≡ taken self.old) }
 
-        // It fails only where the count rose.
+        // The write fails only if the count rose.
         ensures cause { OnErr result (Rose (faults self.old) (faults self.new)) }
         ensures quiet { OnOk result (faults self.new ≡ faults self.old) };
 
-    /// Hands on the bytes taken so far, as far as the sink holds any back. A sink that holds none back does nothing.
+    /// Passes on the bytes taken so far, if the sink holds any of them back. Otherwise does nothing.
     fn flush(&mut self) -> Result<(), Failed>
         ensures taken { taken self.new ≡ taken self.old }
 
-        // It fails only where the count rose.
+        // The flush fails only if the count rose.
         ensures cause { OnErr result (Rose (faults self.old) (faults self.new)) }
         ensures quiet { OnOk result (faults self.new ≡ faults self.old) }
     {
@@ -39,8 +38,7 @@ pub trait Sink {
     }
 }
 
-/// Writes all the bytes, in as many calls as the sink needs. After `Failed` the sink took a
-/// proper prefix of them.
+/// Writes all bytes, in as many calls as the sink needs. After `Failed` the sink took a proper prefix of the bytes.
 pub fn put_all<K: Sink>(sink: &mut K, bytes: &[u8]) -> Result<(), Failed>
     ensures all { OnOk result (K.taken sink.new ≡ append_known (K.taken sink.old) bytes.now) }
     ensures part { OnErr result (IsProperPrefix (K.taken sink.old) (K.taken sink.new) bytes.now) }

@@ -8,21 +8,23 @@ use crate::{Failed, Sink, Told, Untold};
 use std::io::{ErrorKind, Write};
 use std::marker::{Model, PhantomData};
 
-/// A writer as a sink, as the program's standard output. It tells the bytes that its writer tells, if `K` says so; by itself it tells
-/// none.
+/// A sink over a writer, such as the program's standard output. If `K` says so, the sink tells the bytes that its
+/// writer tells. By default it tells none.
 ///
-/// Each error of the writer is a fault, but that a signal interrupted a write: it is made again. A write that takes nothing is a fault too.
-/// A contract sees it as an `Outlet`: what it took, where that is told, its count of faults, and whether it was flushed since the last
-/// write.
+/// Each error of the writer is a fault, except that a write that a signal interrupted is made again. A write that takes
+/// nothing is a fault too.
+///
+/// A contract sees the sink as an `Outlet`: the bytes taken, if the sink tells them, and the count of faults. It also
+/// sees whether the writer was flushed since the last write.
 #[derive(Drop)]
 pub struct StdSink<W: Write, K: Told = Untold> {
-    // What the bytes go to.
+    // The destination of the bytes.
     writer: W,
-    // How many calls have failed, interrupted ones not counted.
+    // The number of failed calls, without interrupted ones.
     faults: u64,
     // Whether the writer was flushed since the last write.
     is_flushed: bool,
-    // Whether the bytes are told.
+    // Whether the sink tells its bytes.
     told: PhantomData<K>,
 }
 
@@ -53,7 +55,8 @@ impl<W: Write + Drop> StdSink<W, Untold> {
 }
 
 impl<W: Write + Drop, K: Told> StdSink<W, K> {
-    /// Returns a sink that writes to `writer`. If `K` says that bytes are told, the writer has to tell them, and the sink tells the same.
+    /// Returns a sink that writes to `writer`. If `K` says that the sink tells its bytes, the writer has to tell its
+    /// own, and the sink tells the same bytes.
     pub fn telling(writer: W) -> Self
         requires { K.told ≡ true → IsTold (W.contents writer) }
         ensures { result ≡ record { taken = told_of K.told (W.contents writer); faults = 0; is_flushed = true } }
@@ -66,7 +69,7 @@ impl<W: Write + Drop, K: Told> StdSink<W, K> {
         }
     }
 
-    /// Returns the writer, with what the sink took. What the writer holds back isn't flushed.
+    /// Returns the writer, which has the bytes that the sink took. Bytes that the writer holds back aren't flushed.
     pub fn into_writer(self) -> W
         ensures tells { K.told ≡ true → IsTold (W.contents result) }
         ensures taken { told_of K.told (W.contents result) ≡ self.taken }
@@ -81,10 +84,10 @@ impl<W: Write + Drop, K: Told> Sink for StdSink<W, K> {
 
     ghost faults = { λ s. s.faults };
 
-    /// Hands bytes to the writer. Afterwards the sink isn't flushed, whatever the answer.
+    /// Passes bytes to the writer. Afterwards the sink isn't flushed, whatever the answer.
     #[tactic(auto, using(crate::proofs::Telling::written, crate::proofs::Telling::written_tells, crate::proofs::Telling::kept, crate::proofs::Telling::kept_tells))]
     fn write(&mut self, bytes: &[u8]) -> Result<usize, Failed>
-        // As the trait has them.
+        // The clauses of the trait.
         ensures some { IfOk result (λ k. 0 < k) }
         ensures bound { IfOk result (λ k. k ≤ length bytes.now) }
         ensures taken { IfOk result (λ k. self.new.taken ≡ append_known self.old.taken (take k bytes.now)) }
@@ -92,7 +95,7 @@ impl<W: Write + Drop, K: Told> Sink for StdSink<W, K> {
         ensures cause { OnErr result (Rose self.old.faults self.new.faults) }
         ensures quiet { OnOk result (self.new.faults ≡ self.old.faults) }
 
-        // And that it isn't flushed.
+        // The sink isn't flushed afterwards.
         ensures unflushed { self.new.is_flushed ≡ false }
     {
         self.is_flushed = false;
@@ -107,17 +110,17 @@ impl<W: Write + Drop, K: Told> Sink for StdSink<W, K> {
         Err(Failed)
     }
 
-    /// Hands on what the writer holds back.
+    /// Passes on the bytes that the writer holds back.
     ///
-    /// Over a buffered writer, bytes that the sink has taken may not have left the program yet.
-    /// A program calls this before it waits and after its last write, and reads `Failed` as a
-    /// write that failed: bytes may be lost.
+    /// Over a buffered writer, bytes that the sink has taken may still be in the program. A program makes this call
+    /// before it waits and after its last write. After `Failed` bytes may be lost, so the program treats it as a failed
+    /// write.
     fn flush(&mut self) -> Result<(), Failed>
-        // As the trait has them.
+        // The clauses of the trait.
         ensures taken { self.new.taken ≡ self.old.taken }
         ensures cause { OnErr result (Rose self.old.faults self.new.faults) }
 
-        // And whether it is flushed afterwards.
+        // Whether the sink is flushed afterwards.
         ensures flushed { OnOk result (self.new ≡ record self.old { is_flushed = true }) }
         ensures kept { OnErr result (self.new.is_flushed ≡ self.old.is_flushed) }
     {

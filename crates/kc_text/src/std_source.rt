@@ -6,18 +6,18 @@ use crate::{Failed, Source, Told, Untold};
 use std::io::{ErrorKind, Read};
 use std::marker::{Model, PhantomData};
 
-/// A reader as a source, as the program's standard input. It tells the bytes that its reader tells, if `K` says so; by itself it
-/// tells none.
+/// A source over a reader, such as the program's standard input. If `K` says so, the source tells the bytes that its
+/// reader tells. By default it tells none.
 ///
-/// Each error of the reader is a fault, but that a signal interrupted a read: it is made again. A contract sees it as an `Inlet`: what
-/// is left, where that is told, and its count of faults.
+/// Each error of the reader is a fault, except that a read that a signal interrupted is made again. A contract sees the
+/// source as an `Inlet`: the bytes left, if the source tells them, and the count of faults.
 #[derive(Drop)]
 pub struct StdSource<R: Read, K: Told = Untold> {
-    // What the bytes come from.
+    // The origin of the bytes.
     reader: R,
-    // How many calls have failed, interrupted ones not counted.
+    // The number of failed calls, without interrupted ones.
     faults: u64,
-    // Whether the bytes are told.
+    // Whether the source tells its bytes.
     told: PhantomData<K>,
 }
 
@@ -47,8 +47,8 @@ impl<R: Read + Drop> StdSource<R, Untold> {
 }
 
 impl<R: Read + Drop, K: Told> StdSource<R, K> {
-    /// Returns a source that reads from `reader`. If `K` says that bytes are told, the reader has to tell them, and the source tells
-    /// the same.
+    /// Returns a source that reads from `reader`. If `K` says that the source tells its bytes, the reader has to tell
+    /// its own, and the source tells the same bytes.
     pub fn telling(reader: R) -> Self
         requires { K.told ≡ true → IsTold (R.remaining reader) }
         ensures { result ≡ record { left = told_of K.told (R.remaining reader); faults = 0 } }

@@ -1,18 +1,22 @@
 //! Whether a source over a reader, or a sink over a writer, tells its bytes.
 use std::marker::Brand;
 
-/// Says whether bytes are told to contracts. A call picks it by [`Brand`]; at run time there is nothing of it.
+/// Says whether contracts see the bytes. The type parameter of a call is picked by [`Brand`] and doesn't exist at run
+/// time.
 ///
-/// The contracts of std tell what some readers have left and what some writers hold: those in memory, and those over one that tells.
-/// They don't say whether a given reader does. So a function that works over any reader has a parameter with this bound, and asks
-/// that it is true only if the reader tells its bytes.
+/// By the contracts of std some readers tell the bytes that they have left, and some writers the bytes that they hold.
+/// These are the ones in memory, and the ones over another one that tells its bytes. For a given reader the contracts
+/// don't say whether it does.
+///
+/// So a function over any reader has a type parameter with this bound. If the parameter is true, the function requires
+/// that the reader tells its bytes.
 pub trait Told {
     ghost use Rattle.std.specs.Prelude.{Bool};
 
     ghost told: { Bool };
 }
 
-/// Bytes that aren't told.
+/// The source or sink doesn't tell its bytes.
 pub struct Untold;
 
 impl Told for Untold {

@@ -1,4 +1,4 @@
-//! A buffer of fixed size between a source and what reads it.
+//! A buffer of fixed size between a source and the scanner that reads it.
 ghost use Rattle.std.specs.Prelude.{◌≡◌, ℕ, ◌<◌, ◌≤◌, [], List, length, drop, IfOk, OnOk, OnErr};
 ghost use Rattle.std.specs.Io.KnownBytes.{prepend_known, IsAtEnd};
 ghost use Rattle.kc_text.specs.Causes.{Rose};
@@ -7,17 +7,17 @@ use crate::{Failed, Source};
 use std::alloc::{AllocError, Global};
 use std::marker::Model;
 
-// The most bytes of one read: as many as a pipe holds by default.
+// The most bytes of one read: the default capacity of a pipe.
 const SIZE: usize = 65536;
 
 /// The bytes of a source that were read and not yet taken. A contract sees them as a list.
 #[derive(Drop)]
 pub struct Window {
-    // what reads fill: never empty
+    // The buffer that reads fill: never empty.
     buf: Vec<u8>,
-    // from here to `to` the bytes were read and not yet taken
+    // The bytes from here to `to` were read and not yet taken.
     from: usize,
-    // at least `from`, and at most the length of `buf`
+    // At least `from`, and at most the length of `buf`.
     to: usize,
 }
 
@@ -33,7 +33,7 @@ impl Model for Window {
 }
 
 impl Window {
-    /// A window that holds nothing.
+    /// Makes an empty window.
     pub fn new(alloc: Global) -> Result<Self, AllocError>
         ensures { IfOk result (λ w. w ≡ []) }
     {
@@ -44,14 +44,14 @@ impl Window {
         })
     }
 
-    /// The bytes that were read and not yet taken.
+    /// Returns the bytes that were read and not yet taken.
     pub fn ready(&self) -> &[u8]
         ensures { result.now ≡ self.now }
     {
         &self.buf[self.from..self.to]
     }
 
-    /// Takes the first n bytes.
+    /// Takes the first n bytes. The window has at least n.
     pub fn pass(&mut self, n: usize)
         requires { n ≤ length self.old }
         ensures { self.new ≡ drop n self.old }
@@ -67,7 +67,7 @@ impl Window {
         self.to = 0;
     }
 
-    /// Reads once, where nothing is left. Nothing is read at the end of the input.
+    /// Reads once. The window is empty before. At the end of the input it stays empty.
     pub fn fill<S: Source>(&mut self, src: &mut S) -> Result<(), Failed>
         requires { self.old ≡ [] }
         ensures given { OnOk result (S.left src.old ≡ prepend_known self.new (S.left src.new)) }

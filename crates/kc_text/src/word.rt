@@ -1,17 +1,17 @@
-//! Where the words of a line begin and end, between its blanks and tabs, which word is a name, and which lines say nothing.
+//! The words of a line between its blanks and tabs: where each begins and ends, names, and lines that are skipped.
 ghost use Rattle.std.specs.Prelude.{◌≡◌, ◌<◌, ◌≤◌, [], length, drop, IfSome, IfNone, false, slice_index};
 ghost use Rattle.std.specs.List.{slice_range};
 ghost use Rattle.std.specs.Str.{bytes_eq};
 ghost use Rattle.kc_text.specs.Words.{words, is_blank, is_skip, WordAt, closed};
 
-// Whether the byte parts words.
+// Returns whether the byte separates words.
 pub(crate) fn parts_words(byte: u8) -> bool
     ensures { result ≡ is_blank byte }
 {
     byte == b' ' || byte == b'\t'
 }
 
-// The first place at or after `from` that isn't blank, or the line's length.
+// Returns the first place at or after `from` that isn't blank, or the line's length.
 #[tactic(auto, using(crate::proofs::Wording::word_steps))]
 pub(crate) fn pass_blanks(line: &[u8], from: usize) -> usize
     requires { from ≤ length line.now }
@@ -30,7 +30,7 @@ pub(crate) fn pass_blanks(line: &[u8], from: usize) -> usize
     at
 }
 
-// Where the word ends that begins at `start`.
+// Returns where the word ends that begins at `start`.
 #[tactic(auto, using(crate::proofs::Wording::word_steps))]
 fn pass_word(line: &[u8], start: usize) -> usize
     requires within { start < length line.now }
@@ -49,8 +49,8 @@ fn pass_word(line: &[u8], start: usize) -> usize
     at
 }
 
-/// Where the first word at or after `from` starts and ends; None where there is none. Words are
-/// parted by blanks and tabs. Cost: the bytes from `from` to the end of the word.
+/// Returns where the first word at or after `from` starts and ends, or None if there is none. Blanks and tabs separate
+/// words. Cost: the bytes from `from` to the end of the word.
 #[tactic(auto, using(crate::proofs::Wording::word_steps))]
 pub fn next_word(line: &[u8], from: usize) -> Option<(usize, usize)>
     requires { from ≤ length line.now }
@@ -65,14 +65,14 @@ pub fn next_word(line: &[u8], from: usize) -> Option<(usize, usize)>
     Some((start, end))
 }
 
-/// Whether a word is this name, byte for byte.
+/// Returns whether a word is this name, byte for byte.
 pub fn is_named(word: &[u8], name: &[u8]) -> bool
     ensures { result ≡ bytes_eq word.now name.now }
 {
     word == name
 }
 
-/// Whether a line says nothing: it has no word, or its first word begins with `#`.
+/// Returns whether a line is skipped: it has no word, or its first word begins with `#`.
 pub fn is_skipped(line: &[u8]) -> bool
     ensures { result ≡ is_skip (words line.now) }
 {

@@ -1,4 +1,4 @@
--- The text of `audit`, from what was read.
+-- The text of `audit` for the content that was read.
 use Rattle.std.proofs.Common.{ℕ, ◌≡◌, Bool, true, List, refl}
 use Rattle.std.specs.Prelude.{Option, Some, None, Result, Ok, Err}
 use Rattle.std.specs.Option.{option_map}
@@ -37,7 +37,7 @@ nothing_written (Some bytes) before f =
     let t = some_text (document_in RUN_LINE_LIMIT INPUT_LIMIT bytes) in
     record { text = t.0; refused = t.1.0; is_text = t.1.1; prefix = prefix_none before before t.0 refl }
 
--- what a reader at the first line was answered is what the bytes say
+-- the answer to a reader at the first line is the content of the bytes
 said : (r : Reading) (bytes : List ℕ) (result : Result RunText AuditFault) → ((left : Option (List ℕ)) → lines_left r left ≡ option_map (lines RUN_LINE_LIMIT INPUT_LIMIT) left)
     → Answers document_of (kept_left r (Some bytes)) result → IsAnswer result (document_in RUN_LINE_LIMIT INPUT_LIMIT bytes)
 said r bytes result new h = rw new at h

@@ -1,4 +1,4 @@
--- What `final` writes is certified.
+-- A text of `final` is certified.
 use Rattle.std.proofs.Common.{ℕ, ◌+◌, ◌≡◌, ◌≤◌, Bool, false, List, ◌++◌, length, ap, ◌∙◌, subst, arith, length-append}
 use Rattle.kc_text.specs.Lines.{lines}
 use Rattle.kc_text.specs.Printing.{printed}

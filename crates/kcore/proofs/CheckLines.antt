@@ -1,4 +1,4 @@
--- The line of `check` as it is put together, and as its definition has it.
+-- The line of `check` as it is composed, and as its definition has it.
 use Rattle.std.proofs.Common.{ℕ, ◌≡◌, List, [], ◌∷◌, ◌++◌, append_assoc}
 use Rattle.std.specs.Prelude.{decimal, codes}
 use Rattle.kc_text.specs.declared.reason.Reason.{Reason}

@@ -1,4 +1,4 @@
--- There is no other answer of a command than the one that its bytes decide, but for a fault that rose and for want of memory.
+-- A command has no other answer than the one that its bytes decide, except for a fault that rose and for no memory.
 use Rattle.std.proofs.Common.{ℕ, ◌≡◌, Bool, true, false, List, refl, sym, ap, ◌∙◌, subst, inl, inr}
 use Rattle.std.specs.Prelude.{Option}
 use Rattle.kc_text.specs.Causes.{Rose}
@@ -38,12 +38,12 @@ use Rattle.kcore.proofs.ExactTexts.{input_has_one_exact_text}
 use Rattle.kcore.proofs.DenseTexts.{input_has_one_dense_text}
 use Rattle.kcore.proofs.LoadTexts.{input_has_one_load_text}
 
--- of two texts of runs of one input both are refused, or none
+-- two texts of runs of one input are both refused, or neither is
 same_run : (input : BatchInput) (text other : List ℕ) (x y : Bool) → HasTextsAlike input → IsRunText input text x → IsRunText input other y → x ≡ y
 same_run (HeaderRefused line) text other x y alike p q = p.1 ∙ sym q.1
 same_run (WithBatches header batches) text other x y alike p q = (alike p.0 q.0 text other x y p.1 q.1).1
 
--- of an input that has one text
+-- the same for an input that has one text
 same_text : (IsText : BatchInput → List ℕ → Bool → Type 0) (bytes text other : List ℕ) (x y : Bool) → HasOneText IsText → IsText (input_said bytes) text x → IsText (input_said bytes) other y → x ≡ y
 same_text IsText bytes text other x y one p q = let there = one bytes in (there.1.1.1 text x p).1 ∙ sym (there.1.1.1 other y q).1
 
@@ -73,7 +73,7 @@ same_audit : (d : run_text.Document) (text other : List ℕ) (x y : Bool) → au
 same_audit (run_text.Accepted run) text other x y p q = p.refusal ∙ same_explained run p.verdict q.verdict p.is_verdict q.is_verdict ∙ sym q.refusal
 same_audit (run_text.Refused line reason) text other x y p q = p.1 ∙ sym q.1
 
--- of two texts of a command for the same bytes both are refused, or none
+-- two texts of a command for the same bytes are both refused, or neither is
 same_refusal : (command : Command) (bytes text other : List ℕ) (x y : Bool) → IsText command bytes text x → IsText command bytes other y → x ≡ y
 same_refusal (Run workers) bytes text other x y p q = same_run (input_said bytes) text other x y (texts_are_alike bytes) p q
 same_refusal (Final workers) bytes text other x y p q = same_text IsFinalText bytes text other x y input_has_one_final_text p q
@@ -96,7 +96,7 @@ ends_as_decided command bytes before now r0 r1 w0 w1 ReadFault w cause r s = abs
 ends_as_decided command bytes before now r0 r1 w0 w1 WriteFault w cause r s = absurd (s cause.1)
 ends_as_decided command bytes before now r0 r1 w0 w1 Memory w cause r s = record { refused = w.refused; decided = decide command bytes w.text w.refused w.is_text; ended = inr refl }
 
--- what is said of an answer and of its cause leaves no other
+-- the clauses on an answer and its cause leave no other answer
 pub complete : (asked : Option Command) (left before now : Option (List ℕ)) (r0 r1 w0 w1 : ℕ) (status : Status) → Answers asked left before now status → HasCause r0 r1 w0 w1 status → IsComplete asked left r0 r1 w0 w1 status
 complete asked left before now r0 r1 w0 w1 status answer cause = λ command bytes is told r s.
     let known : WroteOf command (worked_on command left) before now status = subst (λ (o : Option Command). Answers o left before now status) is answer in

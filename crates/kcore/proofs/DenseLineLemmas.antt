@@ -1,4 +1,4 @@
--- The lines of the text of `dense`, as they are put together.
+-- The lines of the text of `dense` as they are composed.
 use Rattle.std.proofs.Common.{ℕ, ◌≡◌, List, [], ◌∷◌, ◌++◌, append_assoc}
 use Rattle.std.specs.Prelude.{decimal, codes}
 use Rattle.kcore.specs.DenseLines.{size_line, member_line}

@@ -1,4 +1,4 @@
--- The text of `dense`, and what holds of its members.
+-- The text of `dense`, and the facts that hold of its members.
 use Rattle.std.proofs.Common.{ℕ, ◌≡◌, ◌≤◌, inl, inr, List, [], ◌++◌, length, refl, sym, ap, ◌∙◌, subst, arith}
 use Rattle.std.specs.Prelude.{Option, Result, Err}
 use Rattle.std.specs.List.{flat_map}
@@ -43,7 +43,7 @@ has_documents s sound =
     let d = some_members s.graph in
     (dense_text s.graph d.0, record { members = d.0; are_members = d.1; text_is = refl })
 
--- what is after the head, with the number of edges
+-- the part after the head, with the number of edges
 abbrev after_head : List ℕ → ℕ → List ℕ
 after_head members edges = size_line (length members) edges ++ (flat_map member_line members ++ end_line)
 
@@ -56,7 +56,7 @@ dense_written s members n edges before now result e some part within w = record 
   appends = subst (λ (m : ℕ). Appends before now (dense_head_text m ++ after_head members (edges_within s.graph (members_of members))) result) e (subst (λ (k : ℕ). Appends before now (dense_head_text n ++ after_head members k) result) within w);
 }
 
--- nothing of it was
+-- nothing of the text was written
 pub nothing_of_it : {T : Type 0} → (s : State) (before : Option (List ℕ)) (fault : SendFault) → IsSound MAX_EDGES s → WritesDocument {T = T} IsDense s before before (Err fault)
 nothing_of_it s before fault sound = let d = has_documents s sound in record { document = d.0; is_document = d.1; appends = prefix_none before before d.0 refl }
 
@@ -66,7 +66,7 @@ one_document s a b p q = p.text_is ∙ ap (λ (members : List ℕ). dense_text s
 pub input_has_one_dense_text : HasOneText IsDenseText
 input_has_one_dense_text = has_one_text IsDense has_documents one_document
 
--- no vertices are more than twice as dense as the members
+-- no set of vertices is more than twice as dense as the members
 half_density : (g : GraphShape) (members : List ℕ) → IsGraph g → AreMembers g members → IsHalfAsDenseAsAny g members
 half_density g members graph are = elim (cases_lt 0 g.vertices) [
   | inl some ↦ dense_part_is_half_as_dense g members graph (are.some (omega arith))

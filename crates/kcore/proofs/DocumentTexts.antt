@@ -33,7 +33,7 @@ use Rattle.kcore.specs.Laws.{HasOneText}
 use Rattle.kcore.specs.private.Writing.{WritesAfter}
 use Rattle.kcore.proofs.InputTexts.{some_text}
 
--- the batches that these lines say after a header
+-- the batches of these lines after a header
 abbrev said_batches : HeaderShape → List Token → List Next
 said_batches header ls = batches (rules_of header MAX_ITEMS) ls
 
@@ -77,7 +77,7 @@ notes_prefix IsDocument has header (Some ls) before now fault other w =
       prefix = prefix_longer before now (batch_lines Notes 1 (start header.profile header.n) bs w.steps) _ w.prefix;
     }
 
--- the notes, and a prefix of the document
+-- the notes were written, and a prefix of the document
 pub document_prefix : {T : Type 0} → (IsDocument : State → List ℕ → Type 0) (header : HeaderShape) (told : Option (List Next)) (settled : Settled) (before now later : Option (List ℕ)) (fault : SessionFault) (other : SendFault)
     → Settles header told before now (Ok settled) → WritesDocument {T = T} IsDocument settled.engine.state now later (Err other) → WritesAfter (EndsInDocument IsDocument header) told before later (Err fault)
 document_prefix IsDocument header None settled before now later fault other w d = tt
@@ -89,7 +89,7 @@ document_prefix IsDocument header (Some bs) settled before now later fault other
       prefix = prefix_then before now later (batch_lines Notes 1 (start header.profile header.n) bs w.steps) _ w.taken d.appends;
     }
 
--- all of it
+-- the whole text was written
 pub document_written : {T : Type 0} → (IsDocument : State → List ℕ → Type 0) (header : HeaderShape) (told : Option (List Next)) (settled : Settled) (before now later : Option (List ℕ)) (x : T) (refused : Bool)
     → refused ≡ nat_lt 0 settled.refused → Settles header told before now (Ok settled) → WritesDocument {T = T} IsDocument settled.engine.state now later (Ok x) → WritesAfter (EndsInDocument IsDocument header) told before later (Ok refused)
 document_written IsDocument header None settled before now later x refused is w d = tt
@@ -107,7 +107,7 @@ document_written IsDocument header (Some bs) settled before now later x refused 
       taken = append_twice before now later (batch_lines Notes 1 (start header.profile header.n) bs w.steps) _ w.taken d.appends;
     }
 
--- the text is one, where the document of a state is
+-- there is one text if a state has one document
 one_after : (IsDocument : State → List ℕ → Type 0) → ((s : State) (a b : List ℕ) → IsDocument s a → IsDocument s b → a ≡ b) → (text : HeaderText) (a b : List ℕ) (x y : Bool)
     → IsTextOf (EndsInDocument IsDocument) (behind_header MAX_ITEMS text) a x → IsTextOf (EndsInDocument IsDocument) (behind_header MAX_ITEMS text) b y → (a ≡ b) × (x ≡ y)
 one_after IsDocument one (Refused line) a b x y p q = (p.0 ∙ sym q.0, p.1 ∙ sym q.1)

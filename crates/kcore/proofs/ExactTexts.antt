@@ -1,4 +1,4 @@
--- The text of `exact`, and what holds of each command.
+-- The text of `exact`, and the facts that hold of each command.
 use Rattle.std.proofs.Common.{ℕ, ◌≡◌, List, ◌++◌, get_or, refl, sym, ap, ◌∙◌, subst}
 use Rattle.std.specs.Prelude.{Option, Some, None, Result, Err}
 use Rattle.kc_text.specs.declared.buf.SendFault.{SendFault}
@@ -44,7 +44,7 @@ exact_written s cs n before now result e k w = record {
   appends = subst (λ (m : ℕ). Appends before now (exact_head_text m ++ (vertex_lines (exact_vertex_text s cs) m ++ end_line)) result) e w;
 }
 
--- nothing of it was
+-- nothing of the text was written
 pub nothing_of_it : {T : Type 0} → (s : State) (before : Option (List ℕ)) (fault : SendFault) → IsSound MAX_EDGES s → WritesDocument {T = T} IsExact s before before (Err fault)
 nothing_of_it s before fault sound = let d = has_documents s sound in record { document = d.0; is_document = d.1; appends = prefix_none before before d.0 refl }
 

@@ -1,4 +1,4 @@
--- What `run` writes is explained.
+-- A text of `run` is explained.
 use Rattle.std.proofs.Common.{ℕ, ◌≡◌, ◌≤◌, ◌<◌, Bool, false, List, [], ◌∷◌, ◌++◌, length, get_or, refl, sym, ap, ◌∙◌, subst, arith, length-append}
 use Rattle.std.specs.Prelude.{All, codes, decimal}
 use Rattle.kc_graph.specs.declared.limits.TheConstants.{MAX_VERTICES, MAX_EDGES, MAX_ITEMS}
@@ -53,7 +53,7 @@ head_prints n most =
     prints_both magic_line (vertices_line n) (λ rest. kind.Head ∷ rest) (λ rest. kind.Vertices n ∷ rest) (prints_line (codes "kcore-run" ∷ codes "1" ∷ []) kind.Head lines_say_kinds.head)
     (prints_line (codes "vertices" ∷ decimal n ∷ []) (kind.Vertices n) (lines_say_kinds.vertices n (omega (arith, most))))
 
--- the tail of a session at the end of its history, where that is a sound state
+-- the tail of a session at the end of its history, if that is a sound state
 end_prints : (p : Profile) (n : ℕ) (g : GraphShape) (x : List ℕ) (s : State) → 1 ≤ n → n ≤ MAX_VERTICES → g ≡ s.graph → x ≡ s.levels → s.profile ≡ p → s.graph.vertices ≡ n → IsSound MAX_EDGES s
     → Prints (tail_text p g x) (λ rest. vertex_kinds 0 n (kind.Close ∷ rest))
 end_prints p n g x s some most eg ex ep en k =
@@ -73,7 +73,7 @@ all_print head batches readers tail n xs replies h b r t =
 part_fits : (a b c text : List ℕ) → text ≡ a ++ (b ++ c) → length b ≤ length text
 part_fits a b c text e = omega (arith, ap (λ (t : List ℕ). length t) e, length-append a (b ++ c), length-append b c)
 
--- a run whose readers are explained is told to be
+-- the verdict on a run whose readers are explained is `Explained`
 told : (run : RunText) (d : document.Document) (line : List ℕ) (refused : Bool) → d ≡ document.Accepted run → ((r : ℕ) → r < length run.readers → IsExplained run (replies_of run r)) → IsDocumentText d line refused
     → (line ≡ verdict_line verdict.Explained) × (refused ≡ false)
 told run d line refused e explained t =
@@ -81,7 +81,7 @@ told run d line refused e explained t =
     let same = explained_passes run v.verdict explained v.is_verdict in
     (v.text_is ∙ ap verdict_line same, v.refusal ∙ ap is_unexplained same)
 
--- what a history explains its group lines explain, for each reader
+-- if a history explains the replies of each reader, so do its group lines
 all_by_lines : (n : ℕ) (history : List Entry) (replies : List (List Reply)) → All IsQuietUnlessLabelled history → All (AreExplained n history 0) replies
     → All (AreExplained n (runs.history_of (lines_of history)) 0) replies
 all_by_lines n history replies quiet all = λ i d h. lines_explain n history (get_or replies i d) quiet (all i d h)

@@ -1,4 +1,4 @@
--- In each state both invariants hold, and what is printed bounds the coreness.
+-- In each state both invariants hold, and the printed numbers bound the coreness.
 use Rattle.std.proofs.Common.{◌≡◌, List, [], ◌∷◌, refl, ◌∙◌}
 use Rattle.std.specs.Prelude.{All}
 use Rattle.std.proofs.lemmas.List.Elements.{All-nil, All-cons, All-head, All-tail}

@@ -1,4 +1,4 @@
--- What is written of the text of an input, from the way that its reading begins and what is written after its header.
+-- The written part of an input's text, from the beginning of its reading and the text after its header.
 use Rattle.std.proofs.Common.{ℕ, ◌≡◌, Bool, true, List, refl, inl, inr}
 use Rattle.std.specs.Prelude.{Option, Some, None, Result, Ok, Err, ◌⊎◌}
 use Rattle.std.specs.Option.{option_map}

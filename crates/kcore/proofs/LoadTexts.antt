@@ -34,11 +34,11 @@ use Rattle.kcore.specs.Laws.{HasOneText}
 use Rattle.kcore.proofs.InputTexts.{some_text}
 use Rattle.kcore.proofs.Texts as run
 
--- the batches that these lines say after a header
+-- the batches of these lines after a header
 abbrev said_batches : HeaderShape → List Token → List Next
 said_batches header ls = batches (rules_of header MAX_ITEMS) ls
 
--- the line as it is put together
+-- the line as it is composed
 pub load_filled : (e : Ended) (top : ℕ) (old b0 b1 b2 b3 b4 b5 b6 b7 : List ℕ) → old ≡ [] → b0 ≡ (old ++ codes "gen batches ") ++ decimal e.batches → b1 ≡ (b0 ++ codes " refused ") ++ decimal e.refused
     → b2 ≡ (b1 ++ codes " phases ") ++ decimal e.phases → b3 ≡ (b2 ++ codes " groups ") ++ decimal e.groups → b4 ≡ (b3 ++ codes " moves ") ++ decimal e.moves → b5 ≡ (b4 ++ codes " edges ") ++ decimal e.edges
     → b6 ≡ (b5 ++ codes " replies ") ++ decimal e.replies → top ≡ e.top → b7 ≡ (b6 ++ codes " top ") ++ decimal top → b7 ++ 10 ∷ [] ≡ load_line e
@@ -60,7 +60,7 @@ same_number (ask ∷ asks) (r ∷ rs) (o ∷ os) f g =
     let rest : replies_in rs ≡ replies_in os = same_number asks rs os f.1 g.1 in
     sum_by-cons (λ (xs : List Reply). length xs) r rs ∙ ap (λ (m : ℕ). m + replies_in rs) e ∙ ap (λ (m : ℕ). length o + m) rest ∙ sym (sum_by-cons (λ (xs : List Reply). length xs) o os)
 
--- the counts of what batches lead to
+-- the counts of the steps of batches
 abbrev ended_of : HeaderShape → List Next → List Step → List (List Reply) → Ended
 ended_of header bs ts replies = record {
   batches = length bs;
@@ -73,7 +73,7 @@ ended_of header bs ts replies = record {
   top = greatest (last_state (start header.profile header.n) ts).levels;
 }
 
--- what a session came to is a text
+-- the counts of a session are a text
 came_to : (header : HeaderShape) (bs : List Next) (before now : Option (List ℕ)) (ended : Ended) → WroteSession session_text header bs before now ended → IsLoadOf header bs (load_line ended) (nat_lt 0 ended.refused)
 came_to header bs before now ended w = record {
   steps = w.session.steps;
@@ -119,7 +119,7 @@ has_texts header ls =
       ),
     )
 
--- and no other
+-- a header with its batches has only one text
 one_after : (text : HeaderText) (a b : List ℕ) (x y : Bool) → IsLoadText (behind_header MAX_ITEMS text) a x → IsLoadText (behind_header MAX_ITEMS text) b y → (a ≡ b) × (x ≡ y)
 one_after (Refused line) a b x y p q = (p.0 ∙ sym q.0, p.1 ∙ sym q.1)
 one_after (Accepted header rest) a b x y p q =

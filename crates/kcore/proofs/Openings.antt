@@ -1,4 +1,4 @@
--- A refused header, of an input that may not be told.
+-- A refused header of an input, if the source tells its bytes or not.
 use Rattle.std.proofs.Common.{ℕ, ◌≡◌, refl}
 use Rattle.std.specs.Prelude.{Option, Some, None}
 use Rattle.std.specs.Option.{option_map}

@@ -1,11 +1,11 @@
--- The lines of the text of `orient` as they are put together.
+-- The lines of the text of `orient` as they are composed.
 use Rattle.std.proofs.Common.{ℕ, ◌+◌, ◌<◌, ◌≡◌, List, [], ◌∷◌, ◌++◌, length, get_or, take, map, ap, ◌∙◌, append_assoc}
 use Rattle.std.specs.Prelude.{decimal, codes}
 use Rattle.std.specs.List.{join_with_byte, flat_map}
 use Rattle.kc_report.proofs.lemmas.Lines.{members_more, joined}
 use Rattle.kcore.specs.OrientLines.{oriented_line}
 
--- one more vertex was put together
+-- one more vertex was appended
 pub vertex_at : (xs : List ℕ) (i : ℕ) (d w : ℕ) (old buffer more : List ℕ) → i < length xs → w ≡ get_or xs i d → buffer ≡ old ++ flat_map (λ (k : ℕ). 32 ∷ decimal k) (take i xs) → more ≡ (buffer ++ codes " ") ++ decimal w
     → more ≡ old ++ flat_map (λ (k : ℕ). 32 ∷ decimal k) (take (i + 1) xs)
 vertex_at xs i d w old buffer more h is e em =

@@ -1,4 +1,4 @@
--- The text of `orient`, and what holds of it.
+-- The text of `orient`, and the facts that hold of it.
 use Rattle.std.proofs.Common.{ℕ, ◌≡◌, ◌≤◌, List, ◌++◌, length, get_or, refl, sym, ap, ◌∙◌, subst, arith}
 use Rattle.std.specs.Prelude.{Option, Result, Err}
 use Rattle.kc_text.specs.declared.buf.SendFault.{SendFault}
@@ -46,7 +46,7 @@ oriented_written s cs n before now result e k w = record {
   appends = subst (λ (m : ℕ). Appends before now (oriented_text (orientation s.graph s.levels) cs m) result) e w;
 }
 
--- nothing of it was
+-- nothing of the text was written
 pub nothing_of_it : {T : Type 0} → (s : State) (before : Option (List ℕ)) (fault : SendFault) → IsSound MAX_EDGES s → WritesDocument {T = T} IsOrientedText s before before (Err fault)
 nothing_of_it s before fault sound = let d = has_documents s sound in record { document = d.0; is_document = d.1; appends = prefix_none before before d.0 refl }
 

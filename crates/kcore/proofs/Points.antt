@@ -59,7 +59,7 @@ step_leads s header (Items batch) t k e i a =
 step_leads s header (Refused line reason) t k e i a = stayed s t a
 step_leads s header End t k e i a = stayed s t a
 
--- so do those of all
+-- the phases of all batches lead on
 pub steps_lead : (header : HeaderShape) (s : State) (bs : List Next) (ts : List Step) → IsSound MAX_EDGES s → s.graph.vertices ≡ header.n → All (IsNext (rules_of header MAX_ITEMS)) bs → AreSteps s bs ts
     → LeadOn s.profile s.graph s.levels (phases_in ts) (last_state s ts).graph (last_state s ts).levels
 steps_lead header s bs [] k e all a = (refl, refl)

@@ -1,4 +1,4 @@
--- What the writer of a process holds in the end.
+-- The bytes that the writer of a process holds in the end.
 use Rattle.std.proofs.Common.{◌≡◌, ℕ, Bool, true, false, List, [], ◌++◌, refl, ap, sym, ◌∙◌, append_assoc, subst}
 use Rattle.std.specs.Prelude.{Option, Some, None, is_some, ◌↔◌}
 use Rattle.std.proofs.lemmas.List.{append-nil}
@@ -13,7 +13,7 @@ use Rattle.kcore.specs.Commands.{IsText, Wrote, WroteOf, worked_on, Answers}
 use Rattle.kcore.specs.Process.{HoldsWhole, HoldsPrefix, Held, HeldOf, ProcessAnswers}
 use Rattle.kcore.specs.private.Process.{HandsOnSome, HandsOn, last_status}
 
--- what is known is told
+-- a reader or writer whose bytes are known tells them
 told_all : (told : Bool) (known : Option (List ℕ)) → told ≡ is_some known → told_of told known ≡ known
 told_all true None e = refl
 told_all true (Some xs) e = refl
@@ -24,7 +24,7 @@ pub tells : (told : Bool) (known : Option (List ℕ)) → told ≡ is_some known
 tells told None e f = absurd cc
 tells told (Some xs) e f = tt
 
--- a writer whose buffer is empty hands on all
+-- a writer with an empty buffer passes on all bytes
 pub all_on : (old new inner : Option (List ℕ)) (buffer : List ℕ) → new ≡ append_known inner buffer → Keeps old new → buffer ≡ [] → HandsOn true old inner
 all_on None new inner buffer e k f = tt
 all_on (Some xs) None inner buffer e k f = absurd k
@@ -33,14 +33,14 @@ all_on (Some xs) (Some ys) (Some zs) buffer e k f =
     let same : ys ≡ zs ++ buffer = same_Some _ _ e in
     ap Some (sym (sym k ∙ same ∙ ap (λ (b : List ℕ). zs ++ b) f ∙ append-nil zs))
 
--- and each writer a part
+-- each writer passes on a part of the bytes
 pub some_on : (old new inner : Option (List ℕ)) (buffer : List ℕ) → new ≡ append_known inner buffer → Keeps old new → HandsOn false old inner
 some_on None new inner buffer e k = tt
 some_on (Some xs) None inner buffer e k = absurd k
 some_on (Some xs) (Some ys) None buffer e k = absurd cc
 some_on (Some xs) (Some ys) (Some zs) buffer e k = record { said = zs; rest = buffer; all_is = sym k ∙ same_Some _ _ e; holds = refl }
 
--- a text with what was held before it, of which a part was taken
+-- a text with the bytes held before it, of which a part was taken
 longer : (before text said rest all : List ℕ) → text ≡ said ++ rest → Some all ≡ append_known (Some before) said → before ++ text ≡ all ++ rest
 longer before text said rest all e t = ap (λ (b : List ℕ). before ++ b) e ∙ (sym (append_assoc before said rest) ∙ ap (λ (b : List ℕ). b ++ rest) (sym (same_Some _ _ t)))
 
@@ -82,7 +82,7 @@ held command bytes before all now false ReadFault w h = prefix_cut (IsText comma
 held command bytes before all now false WriteFault w h = prefix_cut (IsText command bytes) before all now w h
 held command bytes before all now false Memory w h = prefix_cut (IsText command bytes) before all now w h
 
--- a sink that told what it took before tells what it took
+-- a sink that told its bytes before tells them now
 some_taken : (command : Command) (bytes before : List ℕ) (status : Status) → Wrote command bytes (Some before) None status → ⊥
 some_taken command bytes before Done w = let e = w.taken in cc
 some_taken command bytes before Refused w = let e = w.taken in cc
@@ -101,7 +101,7 @@ answers : (asked : Option Command) (left before mid now : Option (List ℕ)) (do
 answers None left before mid now done status a h = tt
 answers (Some command) left before mid now done status a h = held_of command (worked_on command left) before mid now done status a h
 
--- where nothing was known before of what the writer holds, nothing is said of it
+-- nothing is said of the bytes of a writer that weren't known before
 unknown : (command : Command) (worked now : Option (List ℕ)) (status : Status) → HeldOf command worked None now status
 unknown command None now status = tt
 unknown command (Some bytes) now status = tt
@@ -110,7 +110,7 @@ none_held : (asked : Option Command) (left now : Option (List ℕ)) (status : St
 none_held None left now status = tt
 none_held (Some command) left now status = unknown command (worked_on command left) now status
 
--- the answer of the command, where what is known of the reader and the writer is told, is that of the process
+-- the answer of the command is that of the process, if the reader and the writer tell the bytes that are known of them
 pub process_answers : (asked : Option Command) (J K : Bool) (left before source sink mid held now : Option (List ℕ)) (done : Bool) (status last : Status)
     → source ≡ told_of J left → sink ≡ told_of K before → J ≡ is_some left → K ≡ is_some before
     → Answers asked source sink mid status → told_of K held ≡ mid → HandsOn done held now → last ≡ last_status done status → ProcessAnswers asked left before now last
@@ -131,7 +131,7 @@ last_usage false ReadFault = (λ e. e, λ e. e)
 last_usage false WriteFault = (λ e. e, λ e. e)
 last_usage false Memory = (λ e. e, λ e. e)
 
--- a flush makes no command of words that are none
+-- a flush makes no command of words that are no command
 pub process_usage : (asked : Option Command) (done : Bool) (status last : Status) → ((status ≡ Usage) ↔ (asked ≡ None)) → last ≡ last_status done status → (last ≡ Usage) ↔ (asked ≡ None)
 process_usage asked done status last u l =
     let both = last_usage done status in

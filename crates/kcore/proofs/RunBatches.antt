@@ -1,4 +1,4 @@
--- The batches of a run as its text has them: each line says what it is for, and what they say fits together.
+-- The batches of a run as its text has them: each line has its meaning, and the meanings fit together.
 use Rattle.std.proofs.Common.{ℕ, suc, ◌+◌, ◌≤◌, ◌<◌, ◌≡◌, Bool, true, false, List, [], ◌∷◌, ◌++◌, length, get_or, map, refl, sym, ap, ◌∙◌, subst, arith, append_assoc, length-append}
 use Rattle.std.specs.Prelude.{◌^◌, Option, Some, None, All, codes, decimal}
 use Rattle.std.specs.List.{flat_map}
@@ -257,7 +257,7 @@ last_is : (p : ℕ) (plans : List PhasePlan) → last_phase p (phase_texts plans
 last_is p [] = omega arith
 last_is p (plan ∷ plans) = last_is (suc p) plans ∙ omega arith
 
--- a batch in a state, and what it leads to, as a run text has them
+-- a batch in a state, and its step, as a run text has them
 record IsTakenAs (n : ℕ) (s : State) (b : Next) (t : Step) (x : BatchText) : Type 0 where
   phases : phases_behind s.phases x ≡ t.state.phases
   fits : BatchesFit n s.phases (x ∷ [])
@@ -311,7 +311,7 @@ groups_on : (x : BatchText) (xs : List BatchText) → batch_groups (x ∷ []) ++
 groups_on (Took ys) xs = append_assoc (phase_groups ys) [] (batch_groups xs)
 groups_on Left xs = refl
 
--- batches after the one numbered k, and what they lead to, as a run text has them
+-- the batches after the one numbered k, and their steps, as a run text has them
 pub record AreTakenAs (n : ℕ) (s : State) (bs : List Next) (ts : List Step) (xs : List BatchText) : Type 0 where
   pub fits : BatchesFit n s.phases xs
   pub groups : batch_groups xs ≡ lines_of (history_of ts)
@@ -344,7 +344,7 @@ batches_taken n header s (b ∷ bs) (t ∷ ts) most size k same all small a =
     (step_taken n header s b t most size k z.0 same z.1 i (All-head HasSmallLine b bs small) a.0)
     (batches_taken n header t.state bs ts most size z.0 z.1 (All-tail (IsNext (rules_of header MAX_ITEMS)) b bs all) (All-tail HasSmallLine b bs small) a.1)
 
--- each batch has a line at least
+-- each batch has at least one line
 pub few_batches : (number : ℕ) (s : State) (bs : List Next) (ts : List Step) → All HasSmallLine bs → AreSteps s bs ts → length bs ≤ length (batch_lines Lines number s bs ts)
 few_batches number s [] ts small a = omega arith
 few_batches number s (b ∷ bs) [] small a = absurd a

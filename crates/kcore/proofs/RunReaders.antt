@@ -1,4 +1,4 @@
--- The lines of the readers of a run: each says what it is for, and what they say fits the asks.
+-- The lines of the readers of a run: each line has its meaning, and the meanings fit the asks.
 use Rattle.std.proofs.Common.{ℕ, suc, zero, ◌+◌, ◌≤◌, ◌<◌, ◌≡◌, true, List, [], ◌∷◌, length, refl, sym, ap, subst, arith, length-append}
 use Rattle.std.specs.Prelude.{All, nat_lt}
 use Rattle.std.proofs.lemmas.Bool.{and_from, lt-ltb}

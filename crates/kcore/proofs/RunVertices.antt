@@ -1,4 +1,4 @@
--- The lines of the vertices of a run: each says what it is for.
+-- The lines of the vertices of a run: each line has its meaning.
 use Rattle.std.proofs.Common.{ℕ, suc, zero, ◌+◌, ◌-◌, ◌*◌, ◌≤◌, ◌<◌, ◌≡◌, List, [], ◌∷◌, ◌++◌, get_or, ap, subst, arith}
 use Rattle.std.specs.Prelude.{nat_le, codes}
 use Rattle.std.proofs.lemmas.List.Sums.{count_by-le-length}

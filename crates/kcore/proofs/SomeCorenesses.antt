@@ -1,4 +1,4 @@
--- The corenesses of the vertices of a graph are a list, and only one.
+-- There is exactly one list of the corenesses of a graph's vertices.
 use Rattle.std.proofs.Common.{ℕ, zero, suc, ◌≡◌, ◌≤◌, ◌<◌, List, [], ◌∷◌, ◌++◌, length, get_or, refl, sym, ap, ◌∙◌, arith, subst, inl, inr}
 use Rattle.std.proofs.lemmas.Bool.{cases_lt}
 use Rattle.std.proofs.lemmas.List.{get_or_append_left, length-append}
@@ -9,7 +9,7 @@ use Rattle.std.proofs.lemmas.Grind.{same_number_lists}
 use Rattle.kc_bound.proofs.lemmas.Coreness.{each_has_coreness, coreness_is_one}
 use Rattle.kcore.specs.Corenesses.{AreCorenesses}
 
--- those of the vertices below k
+-- the corenesses of the vertices below k
 corenesses_below : (g : GraphShape) (k : ℕ) → IsGraph g → k ≤ g.vertices → (cs : List ℕ) × ((length cs ≡ k) × ((v : ℕ) → v < k → IsCoreness g v (get_or cs v 0)))
 corenesses_below g zero graph h = ([], (refl, λ v lt. absurd (omega arith)))
 corenesses_below g (suc k) graph h =

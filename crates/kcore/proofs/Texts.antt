@@ -1,4 +1,4 @@
--- The text of a run: one for all replies that fit, and the same but for the lines of the readers.
+-- The text of a run: one for all replies that fit, and equal except for the lines of the readers.
 use Rattle.std.proofs.Common.{ℕ, ◌≡◌, Bool, List, [], ◌∷◌, ◌++◌, length, nat_lt, refl, sym, ap, ◌∙◌, subst, append_assoc}
 use Rattle.std.specs.Prelude.{Option, Some, None, Ok, Err, All}
 use Rattle.std.specs.Option.{option_map}
@@ -40,7 +40,7 @@ use Rattle.kcore.specs.Laws.{HasHistory, InputHasOneHistory, InputHasText, Takes
 use Rattle.kcore.proofs.Points.{are_near}
 use Rattle.kcore.proofs.InputTexts.{some_text}
 
--- the batches that these lines say after a header
+-- the batches of these lines after a header
 abbrev pub said_batches : HeaderShape → List Token → List Next
 said_batches header ls = batches (rules_of header MAX_ITEMS) ls
 
@@ -78,7 +78,7 @@ run_written header (Some ls) before now ended refused e w =
       taken = w.taken;
     }
 
--- a prefix of one was
+-- a prefix of a session was written
 pub run_stopped : (header : HeaderShape) (toks : Option (List Token)) (before now : Option (List ℕ)) (fault other : SessionFault)
     → WritesSession session_text header (option_map (batches (rules_of header MAX_ITEMS)) toks) before now (Err other) → WritesAfter (IsRunOf header) (option_map (batches (rules_of header MAX_ITEMS)) toks) before now (Err fault)
 run_stopped header None before now fault other w = tt
@@ -91,7 +91,7 @@ run_stopped header (Some ls) before now fault other w =
       prefix = w.prefix;
     }
 
--- level 0 in reply to each question
+-- replies of level 0 to each question
 abbrev zero_lists : List Ask → List (List Reply)
 zero_lists [] = []
 zero_lists (ask ∷ asks) = zeros (questions ask) ∷ zero_lists asks
@@ -114,7 +114,7 @@ has_texts header ls =
 pub input_has_text : InputHasText
 input_has_text bytes = some_text IsRunOf has_texts (header_of (kept (lines LINE_LIMIT INPUT_LIMIT bytes)))
 
--- one list of steps, and no other
+-- there is exactly one list of steps
 one_history : (text : HeaderText) → HasHistory (behind_header MAX_ITEMS text)
 one_history (Refused line) = tt
 one_history (Accepted header rest) =

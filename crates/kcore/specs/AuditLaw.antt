@@ -1,4 +1,4 @@
--- What `run` writes is a run text whose groups explain its readers.
+-- A text of `run` is a run text whose groups explain its readers.
 use Rattle.std.specs.Prelude.{ℕ, ◌≡◌, ◌≤◌, ◌<◌, Bool, false, List, length}
 use Rattle.kc_history.specs.declared.replies.Reply.{Reply}
 use Rattle.kc_batch.specs.BatchInputs.{BatchInput, WithBatches, HeaderRefused}
@@ -17,7 +17,9 @@ use Rattle.kcore.specs.RunText.{IsRun}
 abbrev pub recorded : ℕ → List Step → List (List Reply) → RunText
 recorded n steps replies = record { vertices = n; groups = lines_of (history_of steps); readers = replies }
 
--- the text is read as this run, its groups explain each reader from the start on, and the text of `audit` for it is `explained`
+-- the text is read as this run, and its groups explain each reader from the start on
+--
+-- The text of `audit` for it is `explained`.
 pub record IsExplainedText (run : RunText) (text : List ℕ) : Type 0 where
   pub read : document_in RUN_LINE_LIMIT INPUT_LIMIT text ≡ Accepted run
   pub explained : (r : ℕ) → r < length run.readers → IsExplained run (replies_of run r)
@@ -28,6 +30,6 @@ ExplainsAfter (HeaderRefused line) = Unit {0}
 ExplainsAfter (WithBatches header batches) =
     (replies : List (List Reply)) (text : List ℕ) (refused : Bool) → length text ≤ INPUT_LIMIT → (r : IsRun header batches replies text refused) → IsExplainedText (recorded header.n r.steps replies) text
 
--- the text of each run of each input with a header is so, where it isn't longer than an input may be
+-- the text of each run of each input with a header is explained if it is within the limit of an input
 abbrev pub RunIsExplained : Type 0
 RunIsExplained = (bytes : List ℕ) → ExplainsAfter (input_said bytes)

@@ -1,4 +1,4 @@
--- The text of `audit`: what is written for a run text.
+-- The text of `audit` for a run text.
 use Rattle.std.specs.Prelude.{ℕ, ◌≡◌, Bool, true, false, List, [], ◌∷◌, decimal, codes}
 use Rattle.kc_audit.specs.declared.run_text.RunText.{RunText}
 use Rattle.kc_audit.specs.declared.verdict.AuditVerdict.{AuditVerdict}
@@ -19,18 +19,20 @@ abbrev pub is_unexplained : AuditVerdict → Bool
 is_unexplained Explained = false
 is_unexplained (Unexplained reader ask) = true
 
--- the one line for a run of which an audit says this
+-- the line for a run with this verdict
 pub record IsVerdictText (run : RunText) (text : List ℕ) (refused : Bool) : Type 0 where
   pub verdict : AuditVerdict
   pub is_verdict : IsVerdict run verdict
   pub text_is : text ≡ verdict_line verdict
   pub refusal : refused ≡ is_unexplained verdict
 
--- the one line for what bytes say, and whether they are refused, or their verdict is another than `Explained`
+-- the line for this content of bytes
+--
+-- The bytes are refused if they are no run text, or if their verdict is another than `Explained`.
 abbrev pub IsDocumentText : Document → List ℕ → Bool → Type 0
 IsDocumentText (Accepted run) text refused = IsVerdictText run text refused
 IsDocumentText (Refused line reason) text refused = (text ≡ refused_document_line line reason) × (refused ≡ true)
 
--- a line may be as long as the whole input
+-- the line for these bytes; a line of them may be as long as the whole input
 abbrev pub IsAuditText : List ℕ → List ℕ → Bool → Type 0
 IsAuditText bytes text refused = IsDocumentText (document_in RUN_LINE_LIMIT INPUT_LIMIT bytes) text refused

@@ -1,4 +1,4 @@
--- What `final` writes is a certificate that `check` certifies.
+-- A text of `final` is a certificate that `check` certifies.
 use Rattle.std.specs.Prelude.{ℕ, ◌≡◌, ◌≤◌, Bool, false, List, length}
 use Rattle.kc_batch.specs.BatchInputs.{BatchInput, WithBatches, HeaderRefused}
 use Rattle.kc_batch.specs.HeaderShape.{HeaderShape}
@@ -12,7 +12,9 @@ use Rattle.kcore.specs.Documents.{EndsInDocument}
 use Rattle.kcore.specs.FinalText.{certificate_of, IsFinal}
 use Rattle.kcore.specs.Inputs.{input_said}
 
--- the text is read as the certificate of the state after these steps, and the text of `check` for it is `certified`
+-- the text is read as the certificate of the state after these steps
+--
+-- The text of `check` for it is `certified`.
 pub record IsCertified (header : HeaderShape) (steps : List Step) (text : List ℕ) : Type 0 where
   pub read : document_in LINE_LIMIT INPUT_LIMIT text ≡ Accepted (certificate_of (last_state (start header.profile header.n) steps))
   pub checked : (line : List ℕ) (refused : Bool) → IsCheckText text line refused
@@ -23,6 +25,6 @@ CertifiesAfter (HeaderRefused line) = Unit {0}
 CertifiesAfter (WithBatches header batches) =
     (text : List ℕ) (refused : Bool) → length text ≤ INPUT_LIMIT → (e : EndsInDocument IsFinal header batches text refused) → IsCertified header e.steps text
 
--- the text of `final` of each input with a header is so, where it isn't longer than an input may be
+-- the text of `final` of each input with a header is certified if it is within the limit of an input
 abbrev pub FinalIsCertified : Type 0
 FinalIsCertified = (bytes : List ℕ) → CertifiesAfter (input_said bytes)

@@ -1,4 +1,4 @@
--- The text of `check`: what is written for a certificate.
+-- The text of `check` for a certificate.
 use Rattle.std.specs.Prelude.{ℕ, ◌≡◌, Bool, true, false, List, [], ◌∷◌, length, decimal, codes}
 use Rattle.kc_cert.specs.declared.certificate.Certificate.{Certificate}
 use Rattle.kc_cert.specs.declared.verdict.Verdict.{Verdict}
@@ -22,14 +22,16 @@ is_breach Certified = false
 is_breach (Upper v) = true
 is_breach (Lower v) = true
 
--- the one line for a certificate whose levels come to this
+-- the line for a certificate whose levels have this verdict
 pub record IsVerdictText (cert : Certificate) (text : List ℕ) (refused : Bool) : Type 0 where
   pub verdict : Verdict
   pub is_verdict : IsVerdict cert verdict
   pub text_is : text ≡ verdict_line cert verdict
   pub refusal : refused ≡ is_breach verdict
 
--- the one line for what bytes say, and whether they are refused, or their verdict is another than `Certified`
+-- the line for this content of bytes
+--
+-- The bytes are refused if they are no certificate, or if their verdict is another than `Certified`.
 abbrev pub IsDocumentText : Document → List ℕ → Bool → Type 0
 IsDocumentText (Accepted cert) text refused = IsVerdictText cert text refused
 IsDocumentText (Refused line reason) text refused = (text ≡ refused_document_line line reason) × (refused ≡ true)

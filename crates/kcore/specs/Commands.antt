@@ -1,4 +1,4 @@
--- The command lines, and what each command writes for the bytes that it reads.
+-- The command lines, and the text of each command for the bytes that it reads.
 use Rattle.std.specs.Prelude.{ℕ, ◌≡◌, ◌*◌, nat_le, Bool, true, false, ◌&&◌, List, [], ◌∷◌, Option, Some, None, if◌then◌else◌, codes, ◌⊎◌}
 use Rattle.std.specs.Str.{bytes_eq}
 use Rattle.kc_text.specs.Causes.{Rose}
@@ -35,12 +35,15 @@ with_workers name (Some workers) =
     else if bytes_eq name (codes "orient") then Some (Orient workers)
     else None
 
--- the numbers of a load: 1 to 16,777,216 vertices, and 1 to 1,024 batches of at most 1,048,576 items, which are at most 33,554,432 in all
+-- the numbers of a load
+--
+-- These are 1 to 16,777,216 vertices, and 1 to 1,024 batches of at most 1,048,576 items, which are at most 33,554,432
+-- in all.
 abbrev pub fits_load : ℕ → ℕ → ℕ → Bool
 fits_load n batches items =
     (nat_le 1 n && nat_le n MAX_VERTICES) && ((nat_le 1 batches && nat_le batches 1024) && (nat_le items MAX_ITEMS && nat_le (batches * items) 33554432))
 
--- `gen` with these numbers: a seed, and those of a load, and the number of workers
+-- `gen` with these numbers: a seed, those of a load, and the number of workers
 abbrev pub gen_with : Option ℕ → Option ℕ → Option ℕ → Option ℕ → Option ℕ → Option Command
 gen_with (Some seed) (Some n) (Some batches) (Some items) (Some workers) = if fits_load n batches items then Some (Gen seed n batches items workers) else None
 gen_with (Some seed) (Some n) (Some batches) (Some items) None = None
@@ -64,8 +67,9 @@ command_of (w ∷ s ∷ n ∷ b ∷ m ∷ a ∷ []) =
     else None
 command_of _ = None
 
--- the text is the one that the command writes for these bytes, and `refused` says whether it refuses them, or a part of them;
--- it doesn't depend on the number of workers
+-- the text is that of the command for these bytes, for any number of workers
+--
+-- `refused` says whether the command refuses them, or a part of them.
 abbrev pub IsText : Command → List ℕ → List ℕ → Bool → Type 0
 IsText (Run workers) bytes text refused = IsRunText (input_said bytes) text refused
 IsText (Final workers) bytes text refused = IsFinalText (input_said bytes) text refused
@@ -84,7 +88,9 @@ Wrote command bytes before now ReadFault = WritesPrefix (IsText command bytes) b
 Wrote command bytes before now WriteFault = WritesPrefix (IsText command bytes) before now
 Wrote command bytes before now Memory = WritesPrefix (IsText command bytes) before now
 
--- the bytes that a command works on, where they are told: `gen` makes them itself, and to the others the source tells them
+-- the bytes that a command works on, if they are known
+--
+-- `gen` makes them itself; for the other commands the source tells them.
 abbrev pub worked_on : Command → Option (List ℕ) → Option (List ℕ)
 worked_on (Gen seed n batches items workers) left = Some (generated seed n batches items)
 worked_on command left = left
@@ -93,8 +99,10 @@ abbrev pub WroteOf : Command → Option (List ℕ) → Option (List ℕ) → Opt
 WroteOf command None before now status = Unit {0}
 WroteOf command (Some bytes) before now status = Wrote command bytes before now status
 
--- what a sink took, where the words name a command and its bytes are told: with Done and Refused the text of the command for these
--- bytes, refused exactly where the command refuses some of them; with a fault or without memory a prefix of it
+-- the bytes that a sink took, if the words are a command and its bytes are known
+--
+-- With Done and Refused they are the text of the command for these bytes, refused exactly if the command refuses some
+-- of them. With a fault, or if there was no memory, they are a prefix of it.
 abbrev pub Answers : Option Command → Option (List ℕ) → Option (List ℕ) → Option (List ℕ) → Status → Type 0
 Answers None left before now status = Unit {0}
 Answers (Some command) left before now status = WroteOf command (worked_on command left) before now status
@@ -104,10 +112,12 @@ abbrev pub ReadsNothing : Option Command → Type 0
 ReadsNothing (Some (Gen seed n batches items workers)) = Unit {0}
 ReadsNothing _ = ⊥
 
--- where the source tells its bytes, in each state of `final`, of `orient` and of `exact` both invariants hold, and what the levels stand
--- for bounds the coreness, in an exact text also on each line of a vertex the coreness that stands there; in the last state of `orient`
--- no vertex has many out-neighbours for its coreness; the members of `dense` are at least half as dense as any vertices; what holds of a run
--- is in its text
+-- the facts that hold of a command, if the source tells its bytes
+--
+-- In each state of `final`, `orient` and `exact` both invariants hold, and the bounds of each level bound the coreness.
+-- In an exact text they also bound the printed coreness on each line of a vertex. In the last state of `orient` no
+-- vertex has many out-neighbours for its coreness. The members of `dense` are at least half as dense as any vertices.
+-- For `run` the facts are in its text.
 abbrev pub Holds : Option Command → Option (List ℕ) → Type 0
 Holds None left = Unit {0}
 Holds (Some command) None = Unit {0}
@@ -120,20 +130,23 @@ Holds (Some Exact) (Some bytes) = HoldsThroughout (input_said bytes) × FitsExac
 Holds (Some Dense) (Some bytes) = HasHalfDensity (input_said bytes)
 Holds (Some (Gen seed n batches items workers)) (Some bytes) = Unit {0}
 
--- the counts of faults of the source, r, and of the sink, w: a fault is answered only where the count of its object
--- rose, and every other count is as it was
+-- a fault has a cause, for the counts of faults r of the source and w of the sink
+--
+-- A fault is answered only if the count of its object rose, and every other count is as it was.
 abbrev pub HasCause : ℕ → ℕ → ℕ → ℕ → Status → Type 0
 HasCause r0 r1 w0 w1 ReadFault = Rose r0 r1 × (w1 ≡ w0)
 HasCause r0 r1 w0 w1 WriteFault = (r1 ≡ r0) × Rose w0 w1
 HasCause r0 r1 w0 w1 _ = (r1 ≡ r0) × (w1 ≡ w0)
 
--- the bytes decide whether the command refuses them, or a part of them: they have a text, and each of their texts says the same of it
+-- the bytes decide whether the command refuses them, or a part of them
+--
+-- They have a text, and each of their texts says the same about it.
 pub record Decide (command : Command) (bytes : List ℕ) (refused : Bool) : Type 0 where
   pub text : List ℕ
   pub is_text : IsText command bytes text refused
   pub same : (other : List ℕ) (says : Bool) → IsText command bytes other says → says ≡ refused
 
--- how a command ends that refuses this
+-- the status of a command that ran to its end: whether it refused something
 abbrev pub ending : Bool → Status
 ending false = Done
 ending true = Refused
@@ -144,7 +157,9 @@ pub record EndsAsDecided (command : Command) (bytes : List ℕ) (status : Status
   pub decided : Decide command bytes refused
   pub ended : (status ≡ ending refused) ⊎ (status ≡ Memory)
 
--- where the words name a command, its bytes are told, and neither count of faults rose, there is no other answer than these
+-- there is no other answer than that which the bytes decide, or Memory
+--
+-- The condition is that the words are a command, its bytes are known, and neither count of faults rose.
 abbrev pub IsComplete : Option Command → Option (List ℕ) → ℕ → ℕ → ℕ → ℕ → Status → Type 0
 IsComplete asked left r0 r1 w0 w1 status =
     (command : Command) (bytes : List ℕ) → asked ≡ Some command → worked_on command left ≡ Some bytes → ¬ (Rose r0 r1) → ¬ (Rose w0 w1) → EndsAsDecided command bytes status

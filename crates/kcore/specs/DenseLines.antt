@@ -9,7 +9,7 @@ dense_magic_line = line_of (codes "kcore-dense" ∷ codes "1" ∷ [])
 abbrev pub dense_head_text : ℕ → List ℕ
 dense_head_text n = dense_magic_line ++ vertices_line n
 
--- how many members there are, and how many edges between them
+-- the number of members, and the number of edges between them
 abbrev pub size_line : ℕ → ℕ → List ℕ
 size_line size edges = line_of (codes "size" ∷ decimal size ∷ codes "edges" ∷ decimal edges ∷ [])
 

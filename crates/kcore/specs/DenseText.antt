@@ -1,4 +1,4 @@
--- The text of `dense`: what is written for an input.
+-- The text of `dense` for an input.
 use Rattle.std.specs.Prelude.{ℕ, ◌≡◌, ◌≤◌, Bool, List, [], ◌++◌, length}
 use Rattle.std.specs.List.{flat_map}
 use Rattle.kc_graph.specs.Shape.{GraphShape}
@@ -27,7 +27,8 @@ pub record IsDense (s : State) (text : List ℕ) : Type 0 where
   pub are_members : AreMembers s.graph members
   pub text_is : text ≡ dense_text s.graph members
 
--- the text of an input, and whether the input, or a part of it, is refused: a note of each refused batch, and then the dense text of
--- the graph after the last
+-- the text of an input, and whether the input, or a part of it, is refused
+--
+-- It has a note of each refused batch, and then the dense text of the graph after the last batch.
 abbrev pub IsDenseText : BatchInput → List ℕ → Bool → Type 0
 IsDenseText = IsTextOf (EndsInDocument IsDense)

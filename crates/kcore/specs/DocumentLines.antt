@@ -1,4 +1,4 @@
--- The one line for a document that is refused.
+-- The line for a document that is refused.
 use Rattle.std.specs.Prelude.{ℕ, List, [], ◌∷◌, decimal, codes}
 use Rattle.kc_text.specs.declared.reason.Reason.{Reason}
 use Rattle.kc_text.specs.Printing.{printed_line}

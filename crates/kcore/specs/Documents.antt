@@ -8,8 +8,10 @@ use Rattle.kc_session.specs.States.{start, Step, AreSteps, last_state}
 use Rattle.kc_session.specs.Counts.{refused_in}
 use Rattle.kc_session.specs.RunText.{batch_lines}
 
--- a whole text of a header with these batches, and whether some of them are refused: a note of each that is, and then a document of
--- the graph and the levels after the last; `IsDocument` says which documents a state has
+-- a whole text of a header with these batches, and whether some of them are refused
+--
+-- It has a note of each refused batch, and then a document of the graph and the levels after the last. `IsDocument`
+-- defines the documents of a state.
 pub record EndsInDocument (IsDocument : State → List ℕ → Type 0) (header : HeaderShape) (batches : List Next) (text : List ℕ) (refused : Bool) : Type 0 where
   pub steps : List Step
   pub are_steps : AreSteps (start header.profile header.n) batches steps

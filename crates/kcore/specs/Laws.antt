@@ -1,4 +1,4 @@
--- Laws of the texts, each the contract of a function of `laws`.
+-- Laws of the texts; each is the contract of a function in `laws`.
 use Rattle.std.specs.Prelude.{ℕ, ◌≡◌, ◌≤◌, ◌<◌, ◌*◌, Bool, List, ◌++◌, All, get_or}
 use Rattle.kc_levels.specs.declared.profile.Profile.{Profile}
 use Rattle.kc_levels.specs.declared.profile.Profile.TheVariants.{Two}
@@ -26,7 +26,7 @@ use Rattle.kcore.specs.Points.{AreNearAtEachPoint, ArePoints}
 abbrev pub InputHasText : Type 0
 InputHasText = (bytes : List ℕ) → (text : List ℕ) × ((refused : Bool) × IsRunText (input_said bytes) text refused)
 
--- a header with batches leads to exactly one list of steps, one for each batch; so it has one history, that of these steps
+-- a header with batches has exactly one list of steps, one for each batch; so it has one history, that of these steps
 pub record HasOneHistory (header : HeaderShape) (batches : List Next) : Type 0 where
   pub steps : List Step
   pub are_steps : AreSteps (start header.profile header.n) batches steps
@@ -36,7 +36,7 @@ abbrev pub HasHistory : BatchInput → Type 0
 HasHistory (HeaderRefused line) = Unit {0}
 HasHistory (WithBatches header batches) = HasOneHistory header batches
 
--- so does each input
+-- each input has exactly one history
 abbrev pub InputHasOneHistory : Type 0
 InputHasOneHistory = (bytes : List ℕ) → HasHistory (input_said bytes)
 
@@ -51,15 +51,16 @@ TakesReplies (WithBatches header batches) =
 abbrev pub RepliesHaveText : Type 0
 RepliesHaveText = (bytes : List ℕ) → TakesReplies (input_said bytes)
 
--- two texts that are the same but for the lines of the readers
+-- two texts that differ in the lines of the readers alone
 pub record AreAlike (replies others : List (List Reply)) (text other : List ℕ) : Type 0 where
   pub first : List ℕ
   pub last : List ℕ
   pub one : text ≡ first ++ (reader_lines 0 replies ++ last)
   pub two : other ≡ first ++ (reader_lines 0 others ++ last)
 
--- two texts of runs of an input differ in the lines of the readers alone, and the same is refused in both; so with the same replies
--- they are one text
+-- two texts of runs of an input differ in the lines of the readers alone, and both say the same about refusal
+--
+-- So with the same replies they are one text.
 abbrev pub HasTextsAlike : BatchInput → Type 0
 HasTextsAlike (HeaderRefused line) = Unit {0}
 HasTextsAlike (WithBatches header batches) =
@@ -85,7 +86,9 @@ HasPoints (WithBatches header batches) =
 abbrev pub StatesArePoints : Type 0
 StatesArePoints = (bytes : List ℕ) → HasPoints (input_said bytes)
 
--- at each point of its history both invariants hold, and the levels are near the coreness: also between two groups of one phase
+-- at each point of the history both invariants hold, and the levels are near the coreness
+--
+-- This includes the points between two groups of one phase.
 abbrev pub IsNearThroughout : BatchInput → Type 0
 IsNearThroughout (HeaderRefused line) = Unit {0}
 IsNearThroughout (WithBatches header batches) =
@@ -94,8 +97,9 @@ IsNearThroughout (WithBatches header batches) =
 abbrev pub EachPointIsNear : Type 0
 EachPointIsNear = (bytes : List ℕ) → IsNearThroughout (input_said bytes)
 
--- both invariants hold in a state with this profile, and what is printed of each vertex bounds its coreness; in the second
--- profile the coreness is also at most twice the estimate
+-- both invariants hold in a state with this profile, and the printed numbers of each vertex bound its coreness
+--
+-- In the second profile the coreness is also at most twice the estimate.
 pub record HoldsIn (p : Profile) (s : State) : Type 0 where
   pub profile : s.profile ≡ p
   pub both : MeetsBoth s.profile s.graph s.levels
@@ -105,7 +109,7 @@ pub record HoldsIn (p : Profile) (s : State) : Type 0 where
   pub near : (v c : ℕ) → IsCoreness s.graph v c → c ≤ 3 * (printed_of s v).est
   pub nearer : p ≡ Two → (v c : ℕ) → IsCoreness s.graph v c → c ≤ 2 * (printed_of s v).est
 
--- this holds in each state of an input: the first, and the one after each batch
+-- these facts hold in each state of an input: the first, and the one after each batch
 abbrev pub HoldsThroughout : BatchInput → Type 0
 HoldsThroughout (HeaderRefused line) = Unit {0}
 HoldsThroughout (WithBatches header batches) =
@@ -123,7 +127,7 @@ pub record FitsCoreness (p : Profile) (printed : Estimate) (coreness : ℕ) : Ty
   pub near : coreness ≤ 3 * printed.est
   pub nearer : p ≡ Two → coreness ≤ 2 * printed.est
 
--- in the exact text of an input, on the line of each vertex
+-- the printed numbers fit the coreness on the line of each vertex in the exact text of an input
 abbrev pub FitsExactly : BatchInput → Type 0
 FitsExactly (HeaderRefused line) = Unit {0}
 FitsExactly (WithBatches header batches) =
@@ -131,7 +135,7 @@ FitsExactly (WithBatches header batches) =
     → (corenesses : List ℕ) → AreCorenesses (last_state (start header.profile header.n) steps).graph corenesses
     → (v : ℕ) → v < header.n → FitsCoreness header.profile (printed_of (last_state (start header.profile header.n) steps) v) (get_or corenesses v 0)
 
--- in the dense text of an input, no vertices of the graph have more than twice as many edges for each of them as the members
+-- no set of vertices has more than twice as many edges per vertex as the members of the dense text of an input
 abbrev pub HasHalfDensity : BatchInput → Type 0
 HasHalfDensity (HeaderRefused line) = Unit {0}
 HasHalfDensity (WithBatches header batches) =

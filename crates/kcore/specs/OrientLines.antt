@@ -5,7 +5,7 @@ use Rattle.kc_report.specs.Lines.{line_of, vertices_line}
 abbrev pub orient_magic_line : List ℕ
 orient_magic_line = line_of (codes "kcore-orient" ∷ codes "1" ∷ [])
 
--- the two lines ahead of the vertices
+-- the two lines before the vertices
 abbrev pub orient_head_text : ℕ → List ℕ
 orient_head_text n = orient_magic_line ++ vertices_line n
 

@@ -1,4 +1,4 @@
--- The text of `orient`: what is written for an input, and what holds of it.
+-- The text of `orient` for an input, and the facts that hold of it.
 use Rattle.std.specs.Prelude.{ℕ, ◌≡◌, ◌≢◌, ◌≤◌, ◌<◌, ◌*◌, Bool, true, List, [], ◌++◌, length, get_or}
 use Rattle.kc_graph.specs.Shape.{joined}
 use Rattle.kc_levels.specs.declared.profile.Profile.{Profile}
@@ -29,13 +29,16 @@ pub record IsOrientedText (s : State) (text : List ℕ) : Type 0 where
   pub is_colouring : IsColouring (orientation s.graph s.levels).outs colours
   pub text_is : text ≡ oriented_text (orientation s.graph s.levels) colours s.graph.vertices
 
--- the text of an input, and whether the input, or a part of it, is refused: a note of each refused batch, and then the oriented text
--- of the graph and the levels after the last
+-- the text of an input, and whether the input, or a part of it, is refused
+--
+-- It has a note of each refused batch, and then the oriented text of the graph and the levels after the last batch.
 abbrev pub IsOrientText : BatchInput → List ℕ → Bool → Type 0
 IsOrientText = IsTextOf (EndsInDocument IsOrientedText)
 
--- in a state with this profile no vertex has more out-neighbours than six times its coreness, in the second profile than four times;
--- the ends of an edge have different colours, and no colour is above the number of its vertex's out-neighbours
+-- the orientation of a state with this profile is sparse, and its colours are few
+--
+-- No vertex has more out-neighbours than six times its coreness, in the second profile than four times. The ends of an
+-- edge have different colours, and no colour is above the number of its vertex's out-neighbours.
 pub record IsSparse (p : Profile) (s : State) : Type 0 where
   pub profile : s.profile ≡ p
   pub few : (v c : ℕ) → IsCoreness s.graph v c → length (out_neighbours s.graph s.levels v) ≤ 6 * c
@@ -43,7 +46,7 @@ pub record IsSparse (p : Profile) (s : State) : Type 0 where
   pub proper : (colours : List ℕ) → IsColouring (orientation s.graph s.levels).outs colours → (v w : ℕ) → joined v w s.graph.edges ≡ true → get_or colours v 0 ≢ get_or colours w 0
   pub bounded : (colours : List ℕ) → IsColouring (orientation s.graph s.levels).outs colours → (v : ℕ) → v < s.graph.vertices → get_or colours v 0 ≤ length (out_neighbours s.graph s.levels v)
 
--- this holds in the last state of an input
+-- the facts of `IsSparse` hold in the last state of an input
 abbrev pub OrientsSparsely : BatchInput → Type 0
 OrientsSparsely (HeaderRefused line) = Unit {0}
 OrientsSparsely (WithBatches header batches) =

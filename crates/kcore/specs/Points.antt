@@ -1,4 +1,4 @@
--- The points of the history of an input: what its batches lead to, entry by entry.
+-- The points of the history of an input, entry by entry.
 use Rattle.std.specs.Prelude.{ℕ, List, [], ◌∷◌, ◌++◌, take}
 use Rattle.kc_levels.specs.declared.profile.Profile.{Profile}
 use Rattle.kc_history.specs.Points.{graph_at, levels_at}
@@ -13,13 +13,16 @@ abbrev pub phases_in : List Step → List PhasePlan
 phases_in [] = []
 phases_in (t ∷ ts) = t.phases ++ phases_in ts
 
--- at each point of the history of these steps both invariants hold, and the levels are near the coreness; a point past the end is
--- the end
+-- at each point of the history of these steps both invariants hold, and the levels are near the coreness
+--
+-- A point past the end is the end.
 abbrev pub AreNearAtEachPoint : Profile → ℕ → List Step → Type 0
 AreNearAtEachPoint p n steps = (point : ℕ) → IsNear p (graph_at n (history_of steps) point) (levels_at n (history_of steps) point)
 
--- the states of these steps are points of their history: the one after each batch is where the history of the batches up to it
--- ends; and the phases lead from the graph without edges on level 0 to the last state
+-- the states of these steps are points of their history
+--
+-- The history of the batches up to one of them ends at the state after it. The phases lead from the graph without edges
+-- on level 0 to the last state.
 pub record ArePoints (p : Profile) (n : ℕ) (steps : List Step) : Type 0 where
   pub each : (count : ℕ) → IsHistoryOf n (history_of (take count steps)) (last_state (start p n) (take count steps))
   pub last : IsHistoryOf n (history_of steps) (last_state (start p n) steps)

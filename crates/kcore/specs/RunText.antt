@@ -1,4 +1,4 @@
--- The text of `run`: what is written for an input, and what it says of the history of the input's batches.
+-- The text of `run` for an input, and the facts in it about the history of the input's batches.
 use Rattle.std.specs.Prelude.{ℕ, ◌≡◌, nat_lt, Bool, List, All}
 use Rattle.kc_batch.specs.declared.batch.Next.{Next}
 use Rattle.kc_batch.specs.HeaderShape.{HeaderShape}
@@ -16,13 +16,13 @@ use Rattle.kcore.specs.InputTexts.{IsTextOf}
 
 -- a run of a header with these batches and these replies of its readers: its text, and whether some batch is refused
 pub record IsRun (header : HeaderShape) (batches : List Next) (replies : List (List Reply)) (text : List ℕ) (refused : Bool) : Type 0 where
-  -- what each batch leads to: it is refused and changes nothing, or its edges leave and come in, and the levels are lowered and raised
+  -- the step of each batch: refused without any change, or its edges leave and come in, with levels lowered and raised
   pub steps : List Step
   pub are_steps : AreSteps (start header.profile header.n) batches steps
-  -- the entries of all phases in order; a group of vertices that move together is one entry, and so takes effect at once
+  -- the entries of all phases in order; a group of vertices that move together is one entry, so it takes effect at once
   pub history : List Entry
   pub history_is : history ≡ history_of steps
-  -- at each point of the history both invariants hold, and the levels are near the coreness; a point past the end is the end
+  -- both invariants hold at each point of the history, and levels are near coreness; a point past the end is the end
   pub near : (point : ℕ) → IsNear header.profile (graph_at header.n history point) (levels_at header.n history point)
   -- each reader's replies answer the questions of its ask, with levels at points of the history that never go back
   pub fit : Fit header.asks replies
@@ -31,7 +31,7 @@ pub record IsRun (header : HeaderShape) (batches : List Next) (replies : List (L
   pub text_is : text ≡ session_text header batches steps replies
   pub refusal : nat_lt 0 (refused_in (start header.profile header.n) batches steps) ≡ refused
 
--- the text is that of a run, whatever the replies
+-- the text is that of a run with some replies
 abbrev pub IsRunOf : HeaderShape → List Next → List ℕ → Bool → Type 0
 IsRunOf header batches text refused = (replies : List (List Reply)) × IsRun header batches replies text refused
 

@@ -39,8 +39,8 @@ fn write_verdict<K: Sink>(
     buf.send(alloc, sink)
 }
 
-/// Reads a run text and writes the one line of whether its groups explain its readers, or of the line at which it is refused. Says
-/// whether it is refused, or a reader isn't explained.
+/// Reads a run text and writes one line: whether its groups explain its readers, or at which line it is refused.
+/// Returns whether the text is refused, or a reader isn't explained.
 pub fn audit_input<S: Source, K: Sink>(
     alloc: Global,
     src: &mut S,
@@ -65,7 +65,7 @@ pub fn audit_input<S: Source, K: Sink>(
     }
 }
 
-// Whether the replies of some reader aren't explained.
+// Returns whether the replies of some reader aren't explained.
 fn is_unexplained(verdict: AuditVerdict) -> bool
     ensures { result ≡ is_unexplained verdict }
 {

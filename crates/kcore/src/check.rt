@@ -1,4 +1,4 @@
-//! The command `check`: what the levels of a certificate come to.
+//! The command `check`: the verdict on the levels of a certificate.
 ghost use Rattle.std.specs.Prelude.{◌≡◌, ◌++◌, ◌∷◌, [], OnOk};
 ghost use Rattle.kc_text.specs.Writing.{Appends, WriteCause};
 ghost use Rattle.kc_session.specs.Faults.{FaultCause};
@@ -47,8 +47,8 @@ fn write_verdict<K: Sink>(
     buf.send(alloc, sink)
 }
 
-/// Reads a certificate and writes the one line of what its levels come to, or of the line at which it is refused. Says whether it is
-/// refused, or breaks an invariant.
+/// Reads a certificate and writes one line: the verdict on its levels, or at which line it is refused. Returns whether
+/// the certificate is refused, or breaks an invariant.
 pub fn check_input<S: Source, K: Sink>(
     alloc: Global,
     src: &mut S,
@@ -74,7 +74,7 @@ pub fn check_input<S: Source, K: Sink>(
     }
 }
 
-// Whether the levels break an invariant.
+// Returns whether the levels break an invariant.
 fn is_breach(verdict: Verdict) -> bool
     ensures { result ≡ is_breach verdict }
 {

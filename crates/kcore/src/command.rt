@@ -1,4 +1,4 @@
-//! The commands of `kcore`, and which one the words of a command line ask for.
+//! The commands of `kcore`, and the command of a command line.
 ghost use Rattle.std.specs.Prelude.{◌≡◌, ◌≤◌, ◌∷◌, [], IfSome};
 ghost use Rattle.kc_text.specs.Numbers.{number_of};
 ghost use Rattle.kcore.specs.Commands.{few_workers, fits_load, gen_with, command_of};
@@ -7,33 +7,37 @@ ghost use Rattle.kcore.specs.private.Commands.{FitsWorkers};
 use kc_graph::{MAX_ITEMS, MAX_VERTICES};
 use kc_text::{Words, is_named, read_number};
 
-/// What the words of a command line ask for.
+/// The command of a command line.
 #[derive(Clone, Copy, Debug, PartialEq, Eq)]
 pub enum Command {
-    /// `run W`: apply the batches of an input in turn with W workers, 1 to 64, and print each batch and then each vertex.
+    /// `run W`: apply the batches of an input one after another with W workers, 1 to 64. Print each batch, and then
+    /// each vertex.
     Run {
         workers: u32,
     },
-    /// `final W`: apply the batches of an input in turn with W workers, 1 to 64, and print the certificate of the graph and the levels
-    /// after them.
+    /// `final W`: apply the batches of an input one after another with W workers, 1 to 64. Print the certificate of the
+    /// graph and the levels after them.
     Final {
         workers: u32,
     },
-    /// `orient W`: apply the batches of an input in turn with W workers, 1 to 64, and print the colour and the out-neighbours of each
-    /// vertex after them.
+    /// `orient W`: apply the batches of an input one after another with W workers, 1 to 64. Print the colour and the
+    /// out-neighbours of each vertex after them.
     Orient {
         workers: u32,
     },
-    /// `exact`: apply the batches of an input in turn, and print the coreness of each vertex after them.
+    /// `exact`: apply the batches of an input one after another. Print the coreness of each vertex after them.
     Exact,
-    /// `check`: read a certificate, and print what its levels come to.
+    /// `check`: read a certificate, and print the verdict on its levels.
     Check,
     /// `audit`: read a run text, and print whether its groups explain its readers.
     Audit,
-    /// `dense`: apply the batches of an input in turn, and print a dense part of the graph after them.
+    /// `dense`: apply the batches of an input one after another. Print a dense part of the graph after them.
     Dense,
-    /// `gen SEED N B M W`: apply B batches, 1 to 1,024, of M items each, at most 1,048,576, and 33,554,432 in all, that are drawn from a seed
-    /// between N vertices, 1 to 16,777,216, in turn with W workers, 1 to 64, beside two readers, and print what it comes to.
+    /// `gen SEED N B M W`: apply the batches of a generated load one after another with W workers, 1 to 64, beside two
+    /// readers. Print the counts of this session.
+    ///
+    /// The load has N vertices, 1 to 16,777,216, and B batches, 1 to 1,024, of M items each, at most 1,048,576. All
+    /// batches together have at most 33,554,432 items, which are drawn from the seed.
     Gen {
         seed: u32,
         n: u32,
@@ -43,7 +47,7 @@ pub enum Command {
     },
 }
 
-// A number of workers, 1 to 64.
+// Returns a number of workers, 1 to 64.
 fn few_workers(word: &[u8]) -> Option<u32>
     ensures number { result ≡ few_workers (number_of word.now) }
     ensures few { IfSome result (λ workers. (1 ≤ workers) × (workers ≤ 64)) }
@@ -55,7 +59,7 @@ fn few_workers(word: &[u8]) -> Option<u32>
     Some(workers)
 }
 
-// The command of two words.
+// Returns the command of two words.
 #[tactic(auto, unfolding(crate::specs::Commands::command_of))]
 fn of_two(name: &[u8], workers: &[u8]) -> Option<Command>
     ensures command { result ≡ command_of (name.now ∷ workers.now ∷ []) }
@@ -73,7 +77,7 @@ fn of_two(name: &[u8], workers: &[u8]) -> Option<Command>
     }
 }
 
-// The command of one word.
+// Returns the command of one word.
 #[tactic(auto, unfolding(crate::specs::Commands::command_of))]
 fn of_one(name: &[u8]) -> Option<Command>
     ensures command { result ≡ command_of (name.now ∷ []) }
@@ -92,7 +96,7 @@ fn of_one(name: &[u8]) -> Option<Command>
     }
 }
 
-// Whether these are numbers of a load.
+// Returns whether these are numbers of a load.
 fn fits_load(n: u32, batches: u32, items: u32) -> bool
     ensures { result ≡ fits_load n batches items }
 {
@@ -104,7 +108,7 @@ fn fits_load(n: u32, batches: u32, items: u32) -> bool
         && batches * items <= 33_554_432
 }
 
-// `gen` with the numbers that five words say.
+// Returns `gen` with the numbers of five words.
 fn gen_with(seed: &[u8], n: &[u8], batches: &[u8], items: &[u8], workers: &[u8]) -> Option<Command>
     ensures command { result ≡ gen_with (number_of seed.now) (number_of n.now) (number_of batches.now) (number_of items.now) (few_workers (number_of workers.now)) }
     ensures few { FitsWorkers result }
@@ -126,7 +130,7 @@ fn gen_with(seed: &[u8], n: &[u8], batches: &[u8], items: &[u8], workers: &[u8])
     })
 }
 
-// The command of six words.
+// Returns the command of six words.
 #[tactic(auto, unfolding(crate::specs::Commands::command_of))]
 fn of_six(
     name: &[u8],
@@ -147,7 +151,7 @@ fn of_six(
 }
 
 impl Command {
-    /// The command of a command line, or None where the words name none.
+    /// Returns the command of a command line, or None if the words are no command.
     pub fn from_words(words: &Words) -> Option<Command>
         ensures command { result ≡ command_of words.now }
         ensures few { FitsWorkers result }

@@ -29,7 +29,7 @@ fn write_after_size<K: Sink>(
     write_end(alloc, buf, sink)
 }
 
-// Writes what is after the head: the numbers of the members and of their edges, their lines, and the last line.
+// Writes the part after the head: the numbers of the members and of their edges, their lines, and the last line.
 fn write_after_head<K: Sink>(
     alloc: Global,
     buf: &mut LineBuf,
@@ -45,7 +45,7 @@ fn write_after_head<K: Sink>(
     write_after_size(alloc, buf, sink, members)
 }
 
-/// The document of `dense`: the vertices of a dense part, after their number and that of the edges between them.
+/// The document of `dense`: the vertices of a dense part, after their number and the number of edges between them.
 pub struct Dense;
 
 impl Document for Dense {

@@ -40,7 +40,7 @@ fn fill_size(alloc: Global, buf: &mut LineBuf, size: u32, edges: u32) -> Result<
     fill_named(alloc, buf, b" edges ", edges)
 }
 
-/// Writes the line with the number of members, and of the edges between them (`size_line`).
+/// Writes the line with the number of members and the number of edges between them (`size_line`).
 pub fn write_size<K: Sink>(
     alloc: Global,
     buf: &mut LineBuf,

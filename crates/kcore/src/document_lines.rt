@@ -1,4 +1,4 @@
-//! Parts of the one line that `check` and `audit` write.
+//! Parts of the line of `check` and of `audit`.
 ghost use Rattle.std.specs.Prelude.{◌≡◌, ◌++◌, ◌∷◌, [], OnOk};
 ghost use Rattle.kc_text.specs.Writing.{Appends, WriteCause};
 ghost use Rattle.kcore.specs.DocumentLines.{refused_document_line};

@@ -22,10 +22,11 @@ use std::thread::Threads;
 
 /// A document of a graph and its levels.
 pub trait Document {
-    // Which documents a state has.
+    // The documents of a state.
     ghost is_document: { State → List ℕ → Type 0 };
 
-    /// Writes the document of the state of an engine, whose levels go by this profile.
+    /// Writes the document of the state of an engine whose levels have the thresholds of this profile. The engine
+    /// hasn't halted.
     fn write<K: Sink>(
         alloc: Global,
         profile: Profile,
@@ -38,13 +39,14 @@ pub trait Document {
         ensures text { WritesDocument is_document engine.now.state (K.taken sink.old) (K.taken sink.new) result }
         ensures cause { WriteCause (K.faults sink.old) (K.faults sink.new) result };
 
-    /// A law, and nothing is done: each state has a document.
+    /// A law; the function does nothing: each state has a document.
     fn has_documents()
         ensures { HasDocuments is_document };
 }
 
-/// Reads a batch input and applies its batches in turn, with so many `workers`. Asks aren't put. Writes a note of each refused batch,
-/// and then this document of what the others lead to. Says whether something was refused.
+/// Reads a batch input and applies its batches one after another, with at most `workers` threads. Asks aren't put.
+/// Writes a note of each refused batch, and then the document of the state after the batches. Returns whether something
+/// was refused.
 pub fn settle_input<D: Document, R: Threads + Sync, S: Source, K: Sink, G: Gate + Sync>(
     rt: &R,
     alloc: Global,

@@ -41,7 +41,7 @@ impl VertexLines for ExactLines<'_> {
     }
 }
 
-/// The document of `exact`: the coreness of each vertex, beside what its level says of it.
+/// The document of `exact`: the coreness of each vertex, beside the bounds and the estimate of its level.
 pub struct Exact;
 
 impl Document for Exact {

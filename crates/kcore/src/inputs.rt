@@ -1,4 +1,4 @@
-//! The way into a batch input: its header.
+//! The beginning of a batch input: its header.
 ghost use Rattle.std.specs.Option.{option_map};
 ghost use Rattle.kc_session.specs.Faults.{FaultCause};
 ghost use Rattle.kcore.specs.Inputs.{input_said};
@@ -11,8 +11,8 @@ use kc_session::SessionFault;
 use kc_text::{LineBuf, LineReader, Sink, Source};
 use std::alloc::Global;
 
-/// Reads the header of a batch input, and gives it with the reader that stands at the first batch. Where the header is refused, that is
-/// written, and nothing more is to do.
+/// Reads the header of a batch input, and returns it with the reader, which stands at the first batch. If the header is
+/// refused, writes its line and returns None.
 pub fn open_input<S: Source, K: Sink>(
     alloc: Global,
     src: &mut S,

@@ -1,4 +1,4 @@
-//! What the definitions of the texts of `kcore` come to. Each function does nothing; its contract is a law.
+//! What follows from the definitions of the texts of `kcore`. The functions do nothing: each has a law as its contract.
 ghost use Rattle.std.specs.Prelude.{◌≡◌};
 ghost use Rattle.kc_graph.specs.declared.limits.TheConstants.{MAX_VERTICES, MAX_EDGES, MAX_ITEMS};
 ghost use Rattle.kc_history.specs.declared.limits.TheConstants.{MAX_PHASE};
@@ -12,8 +12,11 @@ ghost use Rattle.kcore.specs.OrientText.{IsOrientText};
 ghost use Rattle.kcore.specs.DenseText.{IsDenseText};
 ghost use Rattle.kcore.specs.LoadText.{IsLoadText};
 
-/// The limits that the definitions name, each as its number. The others stand there as numbers: 64 asks and 65,536 questions of
-/// each (`kc_batch`'s `Headers`), 64 workers and the sizes of a load (`Commands`), levels up to 65,535 in a run text (`kc_audit`).
+/// The limits that the definitions name, each as its number. The other limits are numbers in the definitions:
+///
+/// - 64 asks and 65,536 questions of each ask (`Headers` of `kc_batch`);
+/// - 64 workers and the sizes of a load (`Commands`);
+/// - levels up to 65,535 in a run text (`kc_audit`).
 pub fn limits_are()
     ensures line { LINE_LIMIT ≡ 65536 }
     ensures run_line { RUN_LINE_LIMIT ≡ 1073741824 }
@@ -24,25 +27,28 @@ pub fn limits_are()
     ensures phases { MAX_PHASE ≡ 16777215 }
 {}
 
-/// Each input has exactly one list of steps, what each of its batches leads to; so it has exactly one history.
+/// Each input has exactly one list of steps, one step for each of its batches. So it has exactly one history.
 pub fn input_has_one_history()
     ensures { InputHasOneHistory }
 {}
 
-/// Each input has a text of a run, and so have all replies that fit its asks and that the history of its batches explains.
+/// Each input has a text of a run. So has each list of replies that fits its asks and that the history of its batches
+/// explains.
 pub fn input_has_text()
     ensures text { InputHasText }
     ensures replies { RepliesHaveText }
 {}
 
-/// Two texts of runs of one input are the same but for the lines of its readers, and the same is refused in both. So everything else
-/// in them is the same for every number of workers, and however the readers ran beside the batches.
+/// Two texts of runs of one input differ in the lines of its readers alone, and both say the same about refusal. So
+/// everything else in them is the same for every number of workers, and for every way in which the readers ran beside
+/// the batches.
 pub fn texts_are_alike()
     ensures { TextsAreAlike }
 {}
 
-/// What `run` writes of an input with a header, where that isn't longer than an input may be, is read as the groups of the history and
-/// the replies of the readers; the groups explain each reader; and what `audit` writes of it is `explained`.
+/// Take an input with a header, and a text that `run` writes of it within the limit of an input. The text is read as
+/// the groups of the history and the replies of the readers. The groups explain each reader, and `audit` writes
+/// `explained` for the text.
 pub fn run_is_explained()
     ensures { RunIsExplained }
 {}
@@ -57,8 +63,8 @@ pub fn input_has_one_final_text()
     ensures { HasOneText IsFinalText }
 {}
 
-/// What `final` writes of an input with a header, where that isn't longer than an input may be, is read as the certificate of the last
-/// graph and levels, and what `check` writes of it is `certified`.
+/// Take an input with a header, and the text that `final` writes of it, within the limit of an input. The text is read
+/// as the certificate of the last graph and levels, and `check` writes `certified` for it.
 pub fn final_is_certified()
     ensures { FinalIsCertified }
 {}
@@ -73,27 +79,30 @@ pub fn input_has_one_dense_text()
     ensures { HasOneText IsDenseText }
 {}
 
-/// For each input there is exactly one line of `gen`, so what is printed of a generated load is the same at each run, for every number of
-/// workers.
+/// For each input there is exactly one line of `gen`. So the text for a generated load is the same at each run, and for
+/// every number of workers.
 pub fn input_has_one_load_text()
     ensures { HasOneText IsLoadText }
 {}
 
-/// The states of each input are points of its history, which is that of its phases, one after another.
+/// The states of each input are points of its history, and the history is that of its phases, one after another.
 pub fn states_are_points()
     ensures { StatesArePoints }
 {}
 
-/// At each point of the history of each input, between two groups of one phase too, both invariants hold, the coreness of each vertex
-/// lies between the bounds that its level stands for, the estimate is at most twice the coreness, and the coreness at most three
-/// times the estimate; where the header gives the second profile at most twice.
+/// Facts at each point of the history of each input, also between two groups of one phase:
+///
+/// - both invariants hold;
+/// - the coreness of each vertex lies between the bounds of its level;
+/// - the estimate is at most twice the coreness, and the coreness at most three times the estimate, in the second
+///   profile at most twice.
 pub fn each_point_is_near()
     ensures { EachPointIsNear }
 {}
 
-/// In each state of each input, the first and the one after each batch, both invariants hold, and what is printed of a
-/// vertex bounds its coreness: `low <= coreness <= high`, `est <= 2 * coreness` and `coreness <= 3 * est`, and where the header
-/// gives the second profile also `coreness <= 2 * est`.
+/// Facts in each state of each input, the first and the one after each batch. Both invariants hold, and the printed
+/// numbers of each vertex bound its coreness: `low <= coreness <= high`, `est <= 2 * coreness` and
+/// `coreness <= 3 * est`. If the header has the second profile, also `coreness <= 2 * est`.
 pub fn each_state_holds()
     ensures { EachStateHolds }
 {}

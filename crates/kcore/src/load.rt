@@ -1,4 +1,4 @@
-//! The command `gen`: what a generated load comes to.
+//! The command `gen`: the counts of a generated load.
 ghost use Rattle.std.specs.Prelude.{◌≡◌, ◌≤◌, Some};
 ghost use Rattle.kc_session.specs.private.Faults.{StepCause};
 ghost use Rattle.kcore.specs.Inputs.{input_said};
@@ -13,8 +13,8 @@ use kc_text::{NullSink, Sink};
 use std::alloc::Global;
 use std::thread::Threads;
 
-/// Runs a session of the text of the source, which `run` would do too, forgets its text, and writes one line of what it comes to. Says
-/// whether something was refused.
+/// Runs the session of the source's text, as `run` would, drops the text of the session, and writes one line with its
+/// counts. Returns whether something was refused.
 pub fn run_load<R: Threads + Sync, K: Sink, G: Gate + Sync>(
     rt: &R,
     alloc: Global,

@@ -1,4 +1,4 @@
-//! The one line of `gen`: what a generated load came to, in counts.
+//! The line of `gen`: the counts of a generated load.
 ghost use Rattle.std.specs.Prelude.{◌≡◌, ◌++◌, ◌∷◌, [], OnOk};
 ghost use Rattle.kc_text.specs.Writing.{Appends, WriteCause};
 ghost use Rattle.kcore.specs.LoadText.{load_line};
@@ -21,7 +21,7 @@ fn fill_load(alloc: Global, buf: &mut LineBuf, ended: &Ended) -> Result<(), Allo
     fill_named(alloc, buf, b" top ", u32::from(ended.top))
 }
 
-/// Writes the line of what a session ended with (`load_line`).
+/// Writes the line of the counts of a session (`load_line`).
 pub fn write_load<K: Sink>(alloc: Global, sink: &mut K, ended: &Ended) -> Result<(), SendFault>
     ensures text { Appends (K.taken sink.old) (K.taken sink.new) (load_line ended.now) result }
     ensures cause { WriteCause (K.faults sink.old) (K.faults sink.new) result }

@@ -1,9 +1,12 @@
 //! The program `kcore`: an approximate k-core decomposition of a graph, from bytes to bytes.
 //!
-//! [`top::run_command`] is the program. [`process::program`] runs it from a reader to a writer; `main` hands that the words of the
-//! command line and the standard streams, and ends with its exit number. Each command reads a header first ([`inputs`]). Then `run` hands the batches and the readers
-//! over to `kc_session`, and `final`, `orient`, `exact` and `dense` write a document of what the batches lead to ([`documents`]). `check`
-//! reads such a certificate instead ([`check`]), `audit` reads what a run wrote ([`audit`]), and `gen` makes an input itself ([`load`]).
+//! [`top::run_command`] carries out a command. [`process::program`] runs it from a reader to a writer. `main` passes
+//! the words of the command line and the standard streams to it, and ends with its exit number.
+//!
+//! `run`, `final`, `orient`, `exact` and `dense` read a header first ([`inputs`]). Then `run` passes the batches and
+//! the readers to `kc_session`. `final`, `orient`, `exact` and `dense` write a document of the state after the batches
+//! ([`documents`]). `check` reads the certificate that `final` writes ([`check`]), `audit` reads the text that `run`
+//! writes ([`audit`]), and `gen` makes its input itself ([`load`]).
 #![tactic(auto)]
 
 ghost use Rattle.std.specs.Prelude.{◌≡◌, drop, map, string_bytes, IfOk};
@@ -41,10 +44,10 @@ use std::io::{BufWriter, ErrorKind};
 use std::process::ExitCode;
 use std::rt::Env;
 
-// The bytes of the output that are kept back at most.
+// The most bytes of output that are held back.
 const BUFFER: usize = 65_536;
 
-// The words of a command line without its first, the program's name.
+// Returns the words of a command line without the first one, the program's name.
 fn words_from(alloc: Global, args: Args) -> Result<Words, AllocError>
     ensures { IfOk result (λ words. words ≡ drop 1 (map string_bytes (into_iter_items args))) }
 {
@@ -57,7 +60,7 @@ fn words_from(alloc: Global, args: Args) -> Result<Words, AllocError>
     Ok(words)
 }
 
-// The words of the command line. Where one of them isn't text they name no command.
+// Returns the words of the command line. If one of them isn't text, they are no command.
 fn words_of<R: Env + AllocGlobal>(rt: &R) -> Result<Words, Status> {
     match env::args(rt) {
         Ok(args) => words_from(rt.alloc(), args).map_err(|_| Status::Memory),

@@ -1,4 +1,4 @@
-//! The command `orient`: the edges directed and the vertices coloured after the batches of an input.
+//! The command `orient`: the edges directed, and the vertices coloured, after the batches of an input.
 ghost use Rattle.std.specs.Prelude.{◌≡◌, IfOk, length};
 ghost use Rattle.kc_orient.specs.Shape.{orientation};
 ghost use Rattle.kc_orient.specs.Colouring.{IsColouring};
@@ -14,7 +14,7 @@ use kc_report::{VertexLines, write_tail};
 use kc_text::{LineBuf, SendFault, Sink};
 use std::alloc::{AllocError, Global};
 
-// The orientation of the graph by the levels, and the colours of its vertices.
+// Returns the orientation of the graph by the levels, and the colours of its vertices.
 fn orient_and_colour(
     alloc: Global,
     graph: &Graph,
@@ -34,7 +34,7 @@ fn orient_and_colour(
 struct OrientedLines<'a> {
     // The out-neighbours of each vertex.
     oriented: &'a Orientation,
-    // Its colour.
+    // The colour of each vertex.
     colours: &'a [u32],
 }
 

@@ -19,7 +19,7 @@ fn write_magic<K: Sink>(alloc: Global, buf: &mut LineBuf, sink: &mut K) -> Resul
     buf.send(alloc, sink)
 }
 
-/// Writes the two lines ahead of the vertices, for n vertices (`orient_head_text`).
+/// Writes the two lines before the vertices, for n vertices (`orient_head_text`).
 pub fn write_orient_head<K: Sink>(
     alloc: Global,
     buf: &mut LineBuf,

@@ -14,14 +14,16 @@ use std::io::{BufWriter, Read, Write};
 use std::marker::Brand;
 use std::thread::Threads;
 
-/// Carries out the command that the words ask for, from `reader` to `writer`, and flushes the writer. Returns how it ended, and the
-/// writer without its buffer.
+/// Carries out the command of the words from `reader` to `writer`, and flushes the writer. Returns the status of the
+/// command, and the writer without its buffer.
 ///
-/// The contract is that of [`run_command`] at the process's own streams. It speaks where std's contracts tell what the reader has to
-/// give and what the writer holds, as of those in memory. Then the writer holds the whole text of the command with `Done` and `Refused`,
-/// and else a prefix. If the writer can't be flushed, `WriteFault` takes the place of `Done` and `Refused`.
+/// The contract is that of [`run_command`] at the process's own streams. It says something if the contracts of std tell
+/// the bytes that the reader has left and the bytes that the writer holds. They do so for readers and writers in
+/// memory. After `Done` and `Refused` the writer then holds the whole text of the command, and otherwise a prefix. If
+/// the writer can't be flushed, `WriteFault` takes the place of `Done` and `Refused`.
 ///
-/// The same body runs over the standard streams, of which nothing is told: whether bytes are told leaves no trace at run time.
+/// The same body runs over the standard streams, whose bytes the contracts don't tell: telling leaves no trace at run
+/// time.
 pub fn program<T: Threads + Sync + AllocGlobal, R: Read + Drop + Send, W: Write + Drop + Send>(
     rt: &T,
     words: &Words,
@@ -34,7 +36,8 @@ pub fn program<T: Threads + Sync + AllocGlobal, R: Read + Drop + Send, W: Write 
     told::<T, R, W, Brand, Brand>(rt, words, reader, writer)
 }
 
-// The same, with what is told of the reader and of the writer picked.
+// Carries out the command as `program` does. The type parameters say whether the reader and the writer tell their
+// bytes.
 #[tactic(auto, using(crate::proofs::Processes::tells))]
 fn told<
     T: Threads + Sync + AllocGlobal,
@@ -62,7 +65,7 @@ fn told<
     (last_status(status, done), writer)
 }
 
-// The writer without its buffer, after what it held back went out, and whether all of it did.
+// Flushes a writer. Returns whether it passed on all bytes that it held back, and the writer without its buffer.
 #[tactic(auto, using(crate::proofs::Processes::all_on, crate::proofs::Processes::some_on))]
 fn handed_on<W: Write + Drop>(writer: BufWriter<W>) -> (bool, W)
     ensures { HandsOn result.0 (writer_contents W.contents writer) (W.contents result.1) }
@@ -73,8 +76,8 @@ fn handed_on<W: Write + Drop>(writer: BufWriter<W>) -> (bool, W)
     (done, inner)
 }
 
-// How the program ends, after its command ended so, and its output was flushed or couldn't be: a command that came to its end has
-// failed to write then.
+// Returns how the program ends after its command ended with this status. If the output couldn't be flushed, a command
+// that ran to its end has failed to write.
 fn last_status(status: Status, done: bool) -> Status
     ensures { result ≡ last_status done status }
 {

@@ -13,8 +13,8 @@ use kc_text::{Sink, Source};
 use std::alloc::Global;
 use std::thread::Threads;
 
-/// Reads a batch input, applies its batches in turn beside its readers and writes the text of the run. Says whether something was
-/// refused.
+/// Reads a batch input, applies its batches one after another beside its readers, and writes the text of the run.
+/// Returns whether something was refused.
 pub fn run_input<R: Threads + Sync, S: Source + Send, K: Sink + Send, G: Gate + Sync>(
     rt: &R,
     alloc: Global,

@@ -1,14 +1,14 @@
-//! How a command ended.
+//! The ways in which a command ends.
 ghost use Rattle.std.specs.Prelude.{◌≡◌};
 
-/// How a command ended.
+/// The way in which a command ended.
 #[derive(Clone, Copy, Debug, PartialEq, Eq)]
 pub enum Status {
     /// The command ended and refused nothing.
     Done,
-    /// The command ended, and its input, or a part of it, was refused.
+    /// The command ended, and refused its input or a part of it.
     Refused,
-    /// The words name no command; nothing was read or written.
+    /// The words are no command; nothing was read or written.
     Usage,
     /// A read failed.
     ReadFault,
@@ -21,7 +21,7 @@ pub enum Status {
 impl Status {
     ghost use Rattle.kcore.specs.Commands.{exit_number};
 
-    /// The number that the program ends with, 0 to 5.
+    /// Returns the exit number of the program, 0 to 5.
     pub fn exit_number(self) -> u8
         ensures { result ≡ exit_number self }
     {

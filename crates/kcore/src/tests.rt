@@ -1,6 +1,9 @@
-// Commands over sources and sinks in memory, with reads and writes that fail, and gates that watch or hold threads. What a command writes of an
-// input stands in `examples/cases`, and `examples/check.sh` runs the built program on it. `rt try --test` in this crate's folder runs the tests.
-// Helpers stand in `support.rt`. Each text was worked out by hand from its input.
+// Commands over sources and sinks in memory, with reads and writes that fail, and gates that watch or hold threads. The
+// texts of commands for whole inputs stand in `examples/cases`, and `checks/programs/check.sh` runs the built program
+// on them.
+//
+// `rt try --test` in this crate's folder runs the tests. `support.rt` has the helpers. Each text was worked out by hand
+// from its input.
 mod faults;
 mod pieces;
 mod readers;

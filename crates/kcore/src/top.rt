@@ -20,7 +20,7 @@ use kc_text::{Sink, Source, Words};
 use std::alloc::Global;
 use std::thread::Threads;
 
-// How a run ended.
+// Returns the status of a command that ended with this result.
 fn status_of(ended: Result<bool, SessionFault>) -> Status
     ensures { result ≡ status_of ended }
 {
@@ -33,47 +33,54 @@ fn status_of(ended: Result<bool, SessionFault>) -> Status
     }
 }
 
-/// Carries out the command that the words ask for: reads `input` and writes to `output`.
+/// Carries out the command of the words: reads `input` and writes to `output`.
 ///
-/// The answer is `Usage` exactly where the words name no command, and then nothing is read or written. Else, where
-/// `input` tells its bytes, which `gen` makes itself:
+/// The answer is `Usage` exactly if the words are no command, and then nothing is read or written. Otherwise the other
+/// answers say this, if `input` tells its bytes; `gen` makes its bytes itself:
 ///
-/// - with `Done` and `Refused` what `output` took is the whole text of the command for these bytes, and the answer is
-///   `Refused` exactly where the command refuses some of them;
-/// - with `ReadFault`, `WriteFault` and `Memory` it took a prefix of such a text.
+/// - With `Done` and `Refused` the bytes that `output` took are the whole text of the command for these bytes. The
+///   answer is `Refused` exactly if the command refuses some of them.
+/// - With `ReadFault`, `WriteFault` and `Memory` the bytes that `output` took are a prefix of such a text.
 ///
-/// A text of `run` is exactly the history of the accepted batches (`IsRun`). Its levels are the extremal ones, raised after edges came
-/// in and lowered after they left, and each group takes effect at once. The replies of each reader are levels at points of this history
-/// that never go back. At each point of it both invariants hold, the coreness of each vertex lies between the bounds that its level
-/// stands for, and `est <= 2 * coreness` and `coreness <= 3 * est`; where the header gives the second profile also
-/// `coreness <= 2 * est`. All but the lines of the readers is the same for every number of workers ([`laws`](crate::laws)).
+/// `run`: a text is exactly the history of the accepted batches (`IsRun`). The levels are the extremal ones, raised
+/// after edges came in and lowered after edges left, and each group takes effect at once. The replies of each reader
+/// are levels at points of this history that never go back.
 ///
-/// There is one text of `exact`. In each state that the input leads to both invariants hold, and what is printed of a vertex bounds
-/// its coreness likewise; on each line of a vertex it bounds the coreness that stands there.
+/// At each point of the history both invariants hold, and the coreness of each vertex lies between the bounds of its
+/// level. Also `est <= 2 * coreness` and `coreness <= 3 * est`, and if the header has the second profile,
+/// `coreness <= 2 * est`. Everything but the lines of the readers is the same for every number of workers
+/// ([`laws`](crate::laws)).
 ///
-/// There is one text of `final`, the same for every number of workers. Where the header isn't refused it ends in the certificate of the
-/// last state, in which both invariants hold, and within the limit of an input `check` certifies it ([`laws`](crate::laws)).
+/// `exact`: there is one text. In each state of the input both invariants hold, and the printed numbers of each vertex
+/// bound its coreness in the same way. On each line of a vertex they bound the printed coreness.
 ///
-/// The text of `check` is one line: the verdict of the certificate that the bytes are (`IsVerdict` of `kc_cert`), or the first line
-/// that doesn't fit and why; it is refused where it isn't `certified`.
+/// `final`: there is one text, the same for every number of workers. If the header isn't refused, it ends in the
+/// certificate of the last state. In that state both invariants hold, and within the limit of an input `check`
+/// certifies the text ([`laws`](crate::laws)).
 ///
-/// The text of `audit` is one line too: whether the group lines of the run that the bytes are explain its readers (`IsVerdict` of
-/// `kc_audit`), or the first line that doesn't fit and why; it is refused where it isn't `explained`. What `run` writes is
-/// explained, where the header isn't refused and the text isn't longer than an input may be ([`laws`](crate::laws)).
+/// `check`: the text is one line. That is the verdict on the certificate of the bytes (`IsVerdict` of `kc_cert`), or
+/// the first line that doesn't fit, with the reason. The bytes are refused if the verdict isn't `certified`.
 ///
-/// There is one text of `orient` too, whatever the number of workers. The graph after the batches is oriented by the levels after
-/// them: no vertex has more out-neighbours than six times its coreness, and where the header gives the second profile than four
-/// times. The ends of an edge have different colours, and no colour is above the number of its vertex's out-neighbours.
+/// `audit`: the text is one line. That is the verdict on the run of the bytes: whether its group lines explain its
+/// readers (`IsVerdict` of `kc_audit`). Or it is the first line that doesn't fit, with the reason. The bytes are
+/// refused if the verdict isn't `explained`. A text of `run` is explained if the header isn't refused and the text is
+/// within the limit of an input ([`laws`](crate::laws)).
 ///
-/// There is one text of `dense`. Its members are the vertices of the densest suffix of the peeling list of the graph, of several the
-/// longest, and no vertices of the graph have more than twice as many edges between them for each of them.
+/// `orient`: there is one text, the same for every number of workers. The graph after the batches is oriented by the
+/// levels after them. No vertex has more out-neighbours than six times its coreness, and if the header has the second
+/// profile, than four times. The ends of an edge have different colours, and no colour is above the number of its
+/// vertex's out-neighbours.
 ///
-/// There is one text of `gen`, whatever the number of workers, and nothing is read: it works on the bytes that `generated` gives for its
-/// numbers, and writes in one line what their session comes to.
+/// `dense`: there is one text. Its members are the vertices of the densest suffix of the graph's peeling list, of
+/// several the longest. No set of vertices of the graph has more than twice as many edges per vertex as the members.
 ///
-/// `ReadFault` and `WriteFault` come only where the count of faults of `input`, of `output` rose in this call, and
-/// every other count is as it was. So with words of a command, bytes told and no count risen the answer is `Done` or
-/// `Refused`, as the bytes decide, or `Memory`, the one answer without a cause (`IsComplete`).
+/// `gen`: there is one text, the same for every number of workers, and nothing is read. The command works on the bytes
+/// that `generated` has for its numbers, and writes the counts of their session in one line.
+///
+/// `ReadFault` comes only if the count of faults of `input` rose in this call, and `WriteFault` only if that of
+/// `output` rose. Every other count stays. So suppose that the words are a command, its bytes are known and no count
+/// rose. Then the answer is `Done` or `Refused`, as the bytes decide, or `Memory`, the one answer without a cause
+/// (`IsComplete`).
 pub fn run_command<R: Threads + Sync, S: Source + Send, K: Sink + Send, G: Gate + Sync>(
     rt: &R,
     alloc: Global,
@@ -93,7 +100,8 @@ pub fn run_command<R: Threads + Sync, S: Source + Send, K: Sink + Send, G: Gate 
     carry_out(rt, alloc, words, input, output, gate)
 }
 
-// Carries out the command that the words ask for. That there is no other answer than `run_command` tells follows from these clauses.
+// Carries out the command of the words. It follows from these clauses that there is no answer besides those of
+// `run_command`.
 fn carry_out<R: Threads + Sync, S: Source + Send, K: Sink + Send, G: Gate + Sync>(
     rt: &R,
     alloc: Global,

@@ -12,8 +12,9 @@ use Rattle.kserve.specs.Fitting.{items_of}
 abbrev pub start : ℕ → State
 start n = states.start One n 0
 
--- the batches lead from the state s to t, one after another: each is cleaned, its edges leave and come in, and the levels are lowered and
--- raised
+-- the batches lead from the state s to t, one after another
+--
+-- Each is cleaned. Its edges leave and come in, and the levels are lowered and raised.
 abbrev pub LeadTo : State → List (List Update) → State → Type 0
 LeadTo s [] t = t ≡ s
 LeadTo s (batch ∷ batches) t = (u : State) × (IsAfterBatch s (cleaned s.graph (items_of batch)) u × LeadTo u batches t)

@@ -16,8 +16,9 @@ workers_of [] = None
 workers_of (w ∷ []) = few_workers (number_of w)
 workers_of (w ∷ a ∷ more) = None
 
--- the counts of faults of the source, r, and of the sink, w: a fault is answered only where the count of its object rose, and every
--- other count is as it was
+-- the counts of faults of the source, r, and of the sink, w
+--
+-- A fault is answered only if the count of its object rose. Every other count is as it was.
 abbrev pub HasCause : ℕ → ℕ → ℕ → ℕ → ServeStatus → Type 0
 HasCause r0 r1 w0 w1 ReadFault = Rose r0 r1 × (w1 ≡ w0)
 HasCause r0 r1 w0 w1 WriteFault = (r1 ≡ r0) × Rose w0 w1
@@ -32,13 +33,13 @@ exit_number ReadFault = 3
 exit_number WriteFault = 4
 exit_number Memory = 5
 
--- what becomes of a status where the output can't be flushed: a call that came to its end has failed to write
+-- what becomes of a status if the output can't be flushed: a call that was complete has failed to write
 abbrev pub unflushed : ServeStatus → ServeStatus
 unflushed Done = WriteFault
 unflushed Refused = WriteFault
 unflushed status = status
 
--- the program ends as its call did where the output was flushed and its count of faults is as it was; else the count rose
+-- the program ends as its call did if the output was flushed and its count of faults is as it was; else the count rose
 abbrev pub EndsAs : ServeStatus → ServeStatus → Outlet → Outlet → Type 0
 EndsAs status ended before now =
     ((ended ≡ status) × (now ≡ record before { is_flushed = true })) ⊎ ((ended ≡ unflushed status) × Rose before.faults now.faults)

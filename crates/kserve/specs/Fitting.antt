@@ -8,8 +8,10 @@ use Rattle.kserve.specs.declared.limits.TheConstants.{CAPACITY}
 abbrev pub items_of : List Update → List Item
 items_of updates = map (λ u. u.item) updates
 
--- the batches are what the clients with these scripts submitted: each has 1 to 1,024 updates, each update is of one of the clients, and
--- the items of each client, in order, are its script
+-- the batches are what the clients with these scripts submitted
+--
+-- Each has 1 to 1,024 updates, and each update is of one of the clients. The items of each client, in order, are its
+-- script.
 pub record Fit (scripts : List (List Item)) (batches : List (List Update)) : Type 0 where
   pub sizes : All (λ batch. (1 ≤ length batch) × (length batch ≤ CAPACITY)) batches
   pub clients : All (λ u. u.client < length scripts) (all_updates batches)

@@ -1,5 +1,5 @@
--- What an input of scripts says: `kserve 1`, then `vertices N`, then a block for each client. All lines are lines that aren't skipped;
--- `Limit` or `End` is the last of them, so there is always one.
+-- What an input of scripts says: `kserve 1`, then `vertices N`, then a block for each client. All lines are lines that
+-- aren't skipped; `Limit` or `End` is the last of them, so there is always one.
 use Rattle.std.specs.Prelude.{ℕ, ◌+◌, nat_le, nat_lt, Bool, false, ◌&&◌, List, [], ◌∷◌, ◌++◌, length, Option, Some, None, if◌then◌else◌, codes}
 use Rattle.std.specs.Str.{bytes_eq}
 use Rattle.std.specs.List.{sum_by}
@@ -23,7 +23,9 @@ use Rattle.kserve.specs.declared.limits.TheConstants.{LINE_LIMIT, INPUT_LIMIT}
 use Rattle.kserve.specs.declared.head.Head.{Head}
 use Rattle.kserve.specs.declared.head.Head.TheVariants as head
 
--- a number of vertices and the script of each client, in the order of their numbers; or an input that is refused at a line for a reason
+-- a number of vertices and the script of each client, in the order of their numbers
+--
+-- Or the line at which the input is refused, and the reason.
 pub data ScriptInput : Type 0 where
   WithScripts : (n : ℕ) (scripts : List (List Item)) → ScriptInput
   Refused : (line : ℕ) (reason : Reason) → ScriptInput
@@ -36,13 +38,15 @@ rules_for n = record { n = n; profile = One; item_limit = MAX_ITEMS }
 abbrev pub items_in : List (List Item) → ℕ
 items_in scripts = sum_by length scripts
 
--- a script of `more` items may follow `scripts` others, which have `count` items together: there are at most 64 scripts, and at most
--- 1,048,576 items
+-- a script of `more` items may follow `scripts` others, which have `count` items together: there are at most 64
+-- scripts, and at most 1,048,576 items
 abbrev pub has_room : ℕ → ℕ → ℕ → Bool
 has_room scripts count more = nat_lt scripts MAX_CLIENTS && nat_le (count + more) MAX_ITEMS
 
--- the scripts of these and of further blocks, in order. The first block that is refused decides, or the first for which there is no
--- room; it is refused at its `end`, as too many
+-- the scripts of these and of further blocks, in order
+--
+-- The first block that is refused decides, or the first for which there is no room. That one is refused at its `end`,
+-- as too many.
 unfoldable pub scripts_from : ℕ → List (List Item) → List Next → ScriptInput
 scripts_from n found [] = WithScripts n found
 scripts_from n found (next.Items batch ∷ rest) =

@@ -20,8 +20,9 @@ use Rattle.kserve.specs.Lines.{head_text, batch_lines, refused_line}
 abbrev pub served_text : ℕ → List (List Update) → State → List ℕ
 served_text n batches last = head_text n ++ (batch_lines 1 batches ++ tail_text One last.graph last.levels)
 
--- a text of these scripts: the updates that it prints are what the clients submitted, and its lines of the vertices are of the graph and
--- the levels to which they lead, where both invariants hold
+-- a text of these scripts: the updates that it prints are what the clients submitted
+--
+-- The lines of the vertices are of the graph and the levels to which these updates lead. Both invariants hold of them.
 pub record IsServed (n : ℕ) (scripts : List (List Item)) (text : List ℕ) : Type 0 where
   pub batches : List (List Update)
   pub fit : Fit scripts batches
@@ -57,8 +58,10 @@ abbrev pub IsRefused : ScriptInput → Type 0
 IsRefused (WithScripts n scripts) = ⊥
 IsRefused (Refused line reason) = Unit {0}
 
--- what a sink took, by how the call ended: with Done a text of the scripts, with Refused the line for which the input is refused, after a
--- write fault or without memory a prefix of such a text, and else nothing
+-- what a sink took, by how the call ended
+--
+-- With Done it took a text of the scripts, and with Refused the line for which the input is refused. After a write
+-- fault and without memory it took a prefix of such a text, and else nothing.
 abbrev pub Wrote : ScriptInput → Option (List ℕ) → Option (List ℕ) → ServeStatus → Type 0
 Wrote input before now status.Done = IsAccepted input × WritesWhole (IsTextOf input) before now
 Wrote input before now status.Refused = IsRefused input × WritesWhole (IsTextOf input) before now
@@ -67,17 +70,19 @@ Wrote input before now status.ReadFault = now ≡ before
 Wrote input before now status.WriteFault = WritesPrefix (IsTextOf input) before now
 Wrote input before now status.Memory = WritesPrefix (IsTextOf input) before now
 
--- the same of the bytes of the source, where these are told
+-- the same of the bytes of the source, if the source tells them
 abbrev pub Answers : Option (List ℕ) → Option (List ℕ) → Option (List ℕ) → ServeStatus → Type 0
 Answers None before now ended = Unit {0}
 Answers (Some bytes) before now ended = Wrote (input_said bytes) before now ended
 
--- the call ended as the input decides, with `Done` where it has scripts and with `Refused` where it is refused, or there was no memory
+-- the call ended as the input decides, with `Done` if it has scripts and with `Refused` if it is refused; or there was
+-- no memory
 abbrev pub EndsAsDecided : ScriptInput → ServeStatus → Type 0
 EndsAsDecided (WithScripts n scripts) ended = (ended ≡ status.Done) ⊎ (ended ≡ status.Memory)
 EndsAsDecided (Refused line reason) ended = (ended ≡ status.Refused) ⊎ (ended ≡ status.Memory)
 
--- where the words are a number of workers, the bytes are told, and neither count of faults rose, there is no other answer than these
+-- if the words are a number of workers, the source tells its bytes, and no count of faults rose: no other
+-- answer is left
 abbrev pub IsComplete : Option ℕ → Option (List ℕ) → ℕ → ℕ → ℕ → ℕ → ServeStatus → Type 0
 IsComplete workers left r0 r1 w0 w1 ended =
     (count : ℕ) (bytes : List ℕ) → workers ≡ Some count → left ≡ Some bytes → ¬ (Rose r0 r1) → ¬ (Rose w0 w1) → EndsAsDecided (input_said bytes) ended

@@ -17,8 +17,8 @@ use kc_rounds::Gate;
 use std::alloc::{AllocError, Global};
 use std::thread::Threads;
 
-/// The engine before the first batch of a graph of n vertices, whose phases use up to `workers` threads, 1 to 64. The
-/// error is running out of memory.
+/// Makes the engine before the first batch of a graph of n vertices. Its phases use up to `workers` threads, 1 to 64.
+/// Fails only if memory runs out.
 pub fn open(alloc: Global, n: u32, workers: u32) -> Result<Engine, AllocError>
     requires some { 1 ≤ n }
     requires small { n ≤ MAX_VERTICES }
@@ -49,7 +49,7 @@ fn is_due(n: u32, item: Item) -> bool
     }
 }
 
-/// The items of updates, or None where one of them isn't due.
+/// Returns the items of updates, or None if one of them isn't due.
 pub fn items_of(alloc: Global, n: u32, updates: &[Update]) -> Result<Option<Items>, AllocError>
     ensures { IfOk result (λ items. AreItems n updates.now items) }
 {
@@ -63,8 +63,7 @@ pub fn items_of(alloc: Global, n: u32, updates: &[Update]) -> Result<Option<Item
     Ok(Some(Items::from_vec(items)))
 }
 
-/// Applies items to the graph. No level is looked up meanwhile, so no phase is shown. The error is running out of
-/// memory.
+/// Applies items to the graph. No level is looked up meanwhile, so no phase is shown. Fails only if memory runs out.
 pub fn apply<R: Threads + Sync, G: Gate + Sync>(
     rt: &R,
     alloc: Global,

@@ -27,8 +27,8 @@ fn submit<R: Threads + Wait + Sync>(rt: &R, intake: &Intake, client: &mut Client
     unreachable!()
 }
 
-// Submits the items of a script in order. The gate is told `Asking` before the first try of each, and `Replied` once it
-// is submitted.
+// Submits the items of a script in order. The gate gets `Asking` before the first try of each, and `Replied` once it is
+// submitted.
 fn submit_script<R: Threads + Wait + Sync, G: Gate + Sync>(
     rt: &R,
     gate: &G,
@@ -79,11 +79,12 @@ fn run_each<R: Threads + Wait + Sync, G: Gate + Sync>(
     );
 }
 
-/// Runs the clients of an intake that was just opened, each in a thread of its own where one can be made. Client i
-/// submits script i (`HaveEnded`), and the gate is told of it as reader i. There are as many scripts as clients, each
-/// of at most `MAX_ITEMS` items.
+/// Runs the clients of an intake that was just opened. Client i submits script i (`HaveEnded`), and the gate gets its
+/// spots with i as the reader.
 ///
-/// A client that finds the intake full tries again, so the call may wait.
+/// There are as many scripts as clients, each of at most `MAX_ITEMS` items. Each client has a thread of its own if one
+/// can be made; the others submit one after another. A client that finds the intake full tries again, so the call may
+/// wait.
 pub fn run_clients<R: Threads + Wait + Sync, G: Gate + Sync>(
     rt: &R,
     gate: &G,

@@ -3,14 +3,14 @@
 use crate::scripts::Scripts;
 use std::alloc::Global;
 
-/// What stays the same while scripts are served: the threads, the memory, the gate that is told, and the scripts.
+/// What stays the same while scripts are served: the threads, the memory, the gate and the scripts.
 #[derive(Drop)]
 pub struct ServeContext<'a, R, G> {
-    /// By which threads are started.
+    /// The handle that starts threads.
     pub rt: &'a R,
-    /// Where memory comes from.
+    /// The allocator.
     pub alloc: Global,
-    /// The gate that phases and clients tell.
+    /// The gate of phases and clients.
     pub gate: &'a G,
     /// The scripts that are served.
     pub asked: &'a Scripts,

@@ -58,9 +58,9 @@ fn read_vertices<S: Source>(
 /// Reads the lines `kserve 1` and `vertices N`, as `input_from` of `specs/Inputs` says. Afterwards the reader stands
 /// after them.
 ///
-/// `Refused` tells the first of the two that doesn't have its form, or the number of the reader's `End` or `Limit` in
-/// its place. `ReadFault` comes only where the source's count of faults rose. After a fault, and where a line is
-/// refused, the reader isn't used again.
+/// `Refused` has the first of the two that doesn't have its form, or the number of the reader's `End` or `Limit` in its
+/// place. `ReadFault` comes only if the source's count of faults rose. After a fault, and after a refused line, the
+/// reader isn't used again.
 pub fn read_head<S: Source>(
     alloc: Global,
     reader: &mut LineReader,

@@ -4,8 +4,8 @@ ghost use Rattle.kc_graph.specs.declared.limits.TheConstants.{MAX_VERTICES, MAX_
 ghost use Rattle.kc_intake.specs.declared.limits.TheConstants.{MAX_CLIENTS};
 ghost use Rattle.kserve.specs.declared.limits.TheConstants.{LINE_LIMIT, INPUT_LIMIT, CAPACITY};
 
-/// The limits that the definitions name, each as its number. Scripts and the updates of a batch have theirs by them: 64 clients with
-/// 1,048,576 updates in all, and 1,024 updates a batch.
+/// States the limits that the definitions name, each as its number. By them there are at most 64 scripts, 1,048,576
+/// updates in all, and 1,024 updates a batch.
 pub fn limits_are()
     ensures line { LINE_LIMIT ≡ 65536 }
     ensures input { INPUT_LIMIT ≡ 1073741824 }

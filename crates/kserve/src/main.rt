@@ -55,7 +55,7 @@ fn words_from(alloc: Global, args: Args) -> Result<Words, AllocError>
     Ok(words)
 }
 
-// The words of the command line. Where one of them isn't text they name no number of workers.
+// The words of the command line. If one of them isn't text, they name no number of workers.
 fn words_of<R: Env + AllocGlobal>(rt: &R) -> Result<Words, ServeStatus> {
     match env::args(rt) {
         Ok(args) => words_from(rt.alloc(), args).map_err(|_| ServeStatus::Memory),
@@ -87,15 +87,15 @@ fn main(rt: HostRuntime) -> ExitCode {
     ExitCode::from(exit_number_of(status, &mut output))
 }
 
-// The exit number of the program, where its call ended so. The output is flushed.
+// The exit number of the program after a call that ended so. Flushes the output.
 fn exit_number_of<W: Write + Drop>(status: ServeStatus, output: &mut StdSink<W>) -> u8
     ensures { (last : ServeStatus) × (EndsAs status last output.old output.new × (result ≡ exit_number last)) }
 {
     ended(status, output).exit_number()
 }
 
-// The status of the program. What the writer still holds goes out now; where that fails, a call that came to its end
-// has failed to write.
+// The status of the program. What the writer still holds goes out now; if that fails, a call that was complete has
+// failed to write.
 fn ended<W: Write + Drop>(status: ServeStatus, output: &mut StdSink<W>) -> ServeStatus
     ensures { EndsAs status result output.old output.new }
 {

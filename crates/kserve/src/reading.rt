@@ -1,4 +1,4 @@
-//! The scripts of the clients, as an input says them.
+//! Reads the scripts of the clients.
 ghost use Rattle.std.specs.Prelude.{◌≡◌, ◌≤◌, ◌++◌, ◌∷◌, [], IfOk, OnOk};
 ghost use Rattle.std.specs.Option.{option_map};
 ghost use Rattle.kc_batch.specs.Batches.{batches_left};
@@ -75,10 +75,11 @@ fn read_scripts<S: Source>(
     }
 }
 
-/// Reads an input of scripts whole, as `input_said` of `specs/Inputs` says: the script of each client, or the first
-/// line for which it is refused, and why. After that line nothing is read but the rest of its block.
+/// Reads a whole input of scripts, as `input_said` of `specs/Inputs` says.
 ///
-/// `ReadFault` comes only where the source's count of faults rose, and `Memory` where a line or the items found none.
+/// Returns the script of each client, or the first line for which the input is refused, and why. After that line
+/// nothing is read but the rest of its block. `ReadFault` comes only if the source's count of faults rose, and `Memory`
+/// if there was none for a line or the items.
 pub fn read_input<S: Source>(alloc: Global, src: &mut S) -> Result<Said, ServeFault>
     ensures said { IfOk result (λ said. Says said (option_map input_said (S.left src.old))) }
     ensures cause { ReadingCause (S.faults src.old) (S.faults src.new) result }

@@ -78,28 +78,31 @@ fn status_of(ended: Result<bool, ServeFault>) -> ServeStatus
     }
 }
 
-/// Serves the scripts of an input: each client submits its script to an intake, and one server drains it, and applies
-/// and prints batch after batch. A phase of the engine uses up to as many threads as the words say.
+/// Serves the scripts of an input: each client submits its script to an intake. One server drains the intake, and
+/// applies and prints batch after batch. A phase of the engine uses up to as many threads as the words say.
 ///
-/// The answer is `Usage` exactly where the words aren't one number, 1 to 64, and then nothing is read or written. Else,
-/// where `input` tells its bytes:
+/// Returns `Usage` exactly if the words aren't one number, 1 to 64; then nothing is read or written. Else, if `input`
+/// tells its bytes:
 ///
 /// - with `Done` they say scripts, and what `output` took is a text of these (`IsServed`). The batches that it prints
-///   are what the clients submitted: the items of each client, in order, are its script, nothing is lost and nothing is
-///   there twice; each batch has 1 to 1,024 updates. The lines of the vertices are of the graph and the levels after
+///   are what the clients submitted. The items of each client, in order, are its script: none is lost, and none is
+///   there twice. Each batch has 1 to 1,024 updates. The lines of the vertices are of the graph and the levels after
 ///   these batches, in which both invariants hold;
-/// - with `Refused` they don't (`input_said`), and `output` took the one line that tells the first line for which they
-///   are refused, and why;
+/// - with `Refused` they don't (`input_said`). `output` took one line: the number of the first line for which they are
+///   refused, and why;
 /// - with `WriteFault` and `Memory` it took a prefix of such a text, or of that line, and with `ReadFault` nothing.
 ///
-/// `ReadFault` and `WriteFault` come only where the count of faults of `input`, of `output` rose in this call, and
-/// every other count is as it was. So with such words, bytes told and no count risen the answer is `Done` or `Refused`,
-/// as the bytes decide, or `Memory`, the one answer without a cause (`IsComplete`).
+/// `ReadFault` comes only if the count of faults of `input` rose in this call, and `WriteFault` only if that of
+/// `output` did. Every other count is as it was. So suppose that the words are such a number, `input` tells its bytes,
+/// and no count rose. Then the answer is `Done` or `Refused`, as the bytes decide, or `Memory` (`IsComplete`). `Memory`
+/// has no cause in a count.
 ///
 /// All scripts are read before a client runs. A client that finds the intake full tries again, and so does the server
-/// where it is empty: the call may wait, and what it promises holds if it returns. After a fault the server goes on
-/// draining, so that no client is left waiting. The gate is told `Asking` before each update's first try, and `Replied`
-/// once it is submitted, with the client as reader and the place in its script, from 0, as ask.
+/// while the intake is empty. So the call may wait, and what it promises holds if it returns. After a fault the server
+/// goes on draining, so that no client is left waiting.
+///
+/// The gate gets `Asking` before each update's first try, and `Replied` once it is submitted. The reader is the client,
+/// and the ask is the place in its script, from 0.
 pub fn serve<R: Threads + Wait + Sync, S: Source, K: Sink + Send, G: Gate + Sync>(
     rt: &R,
     alloc: Global,

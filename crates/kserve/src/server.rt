@@ -1,4 +1,4 @@
-//! The server: it drains the intake, and applies and prints each batch before it drains the next.
+//! The server drains the intake, and applies and prints each batch before it drains the next.
 ghost use Rattle.std.specs.Prelude.{◌≡◌, ◌≤◌, [], length, OnOk};
 ghost use Rattle.kc_intake.specs.Updates.{all_updates};
 ghost use Rattle.kserve.specs.Batches.{start};
@@ -47,7 +47,7 @@ fn hand_on<K: Sink>(sink: &mut K, course: Result<(), Stop>) -> Result<(), Stop>
 }
 
 impl Server {
-    /// A server with this engine. Takes no memory.
+    /// Makes a server with this engine. Takes no memory.
     pub fn new(alloc: Global, engine: Engine) -> Server
         ensures { result.engine ≡ engine }
     {
@@ -60,9 +60,9 @@ impl Server {
     /// Applies the updates of a drained batch to the graph of the scripts, and prints them as the batch with this
     /// number.
     ///
-    /// `Stray` comes exactly where one of the items isn't due; then nothing is applied or printed. After `WriteFault`,
-    /// which only a failed write gives, and after `Memory` the sink took a prefix of the lines, and the engine isn't
-    /// used again.
+    /// `Stray` comes exactly if one of the items isn't due; then nothing is applied or printed. `WriteFault` comes only
+    /// after a failed write. After it and after `Memory` the sink took a prefix of the lines, and the engine isn't used
+    /// again.
     pub fn take_batch<R: Threads + Sync, K: Sink, G: Gate + Sync>(
         &mut self,
         context: &ServeContext<'_, R, G>,
@@ -112,13 +112,14 @@ impl Server {
         }
     }
 
-    /// Drains an intake until at least as many updates were drained as the scripts have items, and tries again while it
-    /// is empty: then what was printed is flushed first. Each batch is applied to the graph of the scripts and printed
-    /// before the next one is drained (`Serves`). Once a batch can't be, the fault is answered at the end, and the rest
-    /// are only drained, so that no client waits for room.
+    /// Drains an intake until at least as many updates were drained as the scripts have items. While the intake is
+    /// empty it tries again, and flushes first what was printed.
     ///
-    /// The engine and the drainer were just opened. `WriteFault` comes only where a write to the sink failed in this
-    /// call; after it, and after the others, the engine isn't used again. The call may wait.
+    /// Each batch is applied to the graph of the scripts and printed before the next one is drained (`Serves`). After a
+    /// fault the rest are only drained, so that no client waits for room, and the fault is returned at the end.
+    ///
+    /// The engine and the drainer were just opened. `WriteFault` comes only if a write to the sink failed in this call.
+    /// After a fault the engine isn't used again. The call may wait.
     pub fn run<R: Threads + Wait + Sync, K: Sink, G: Gate + Sync>(
         &mut self,
         context: &ServeContext<'_, R, G>,

@@ -124,7 +124,7 @@ fn serve_clients<R: Threads + Wait + Sync, K: Sink + Send, G: Gate + Sync>(
     }
 }
 
-// The same of any number of scripts: where there are none, there are no clients and no batches.
+// The same of any number of scripts: if there are none, there are no clients and no batches.
 fn serve_batches<R: Threads + Wait + Sync, K: Sink + Send, G: Gate + Sync>(
     context: &ServeContext<'_, R, G>,
     server: &mut Server,
@@ -166,10 +166,9 @@ fn serve_opened<R: Threads + Wait + Sync, K: Sink + Send, G: Gate + Sync>(
 
 /// Serves the scripts of an input, with up to `workers` threads a phase, 1 to 64, and writes the text of it (`Writes`).
 ///
-/// The head is written first. Then the clients submit their scripts to an intake, while the server drains it, and
-/// applies and prints batch after batch; where there are no scripts, no intake is opened. Afterwards a line for each
-/// vertex is written, and the last line. `WriteFault` comes only where a write to the sink failed in this call. The
-/// call may wait.
+/// The head is written first. Then the clients submit their scripts to an intake, while the server drains it and prints
+/// batch after batch; without scripts no intake is opened. Afterwards a line for each vertex is written, and the last
+/// line. `WriteFault` comes only if a write to the sink failed in this call. The call may wait.
 pub fn serve_scripts<R: Threads + Wait + Sync, K: Sink + Send, G: Gate + Sync>(
     rt: &R,
     alloc: Global,

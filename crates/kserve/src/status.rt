@@ -21,7 +21,7 @@ pub enum ServeStatus {
 impl ServeStatus {
     ghost use Rattle.kserve.specs.Ending.{exit_number};
 
-    /// The number that the program ends with, 0 to 5.
+    /// Returns the number that the program ends with, 0 to 5.
     pub fn exit_number(self) -> u8
         ensures { result ≡ exit_number self }
     {

@@ -42,11 +42,11 @@ impl VertexLines for EngineLines<'_> {
     }
 }
 
-/// Writes what is after all batches (`tail_text`): a line for each of the n vertices of the engine's graph, with these
-/// levels of them, and the last line.
+/// Writes what is after all batches (`tail_text`): a line for each of the n vertices of the engine's graph, and the
+/// last line.
 ///
-/// The engine has not halted, and the levels are its levels: the counts of neighbours are the engine's. After
-/// `WriteFault`, which only a failed write gives, and after `Memory` the sink took a prefix of the lines.
+/// The engine has not halted, and the levels are its levels: the counts of neighbours are the engine's. `WriteFault`
+/// comes only after a failed write. After it and after `Memory` the sink took a prefix of the lines.
 pub fn write_tail<K: Sink>(
     alloc: Global,
     buf: &mut LineBuf,

@@ -296,7 +296,7 @@ fn comes_to_what_the_definition_says(rt: HostRuntime) {
 #[test]
 fn one_worker_and_many_come_to_the_same(rt: HostRuntime) {
     let mut random = Random::new(2);
-    for (count, may_isolate) in [(40, false), (70_000, false), (70_000, true)] {
+    for (count, may_isolate) in [(40, false), (90_000, false), (90_000, true)] {
         let graph = random_graph(&rt, rt.alloc(), &mut random);
         let items = random_items(&rt, rt.alloc(), &mut random, count, may_isolate);
         check_items(&rt, 5, &items);
@@ -304,6 +304,55 @@ fn one_worker_and_many_come_to_the_same(rt: HostRuntime) {
             let cleaned = clean_by(&rt, rt.alloc(), workers, &graph, &items).expect(&rt, "memory");
             assert!(rt; is_as_defined(&rt, rt.alloc(), &graph, &items, &cleaned));
         }
+    }
+}
+
+// Returns the pairs of a path through the vertices below n.
+fn path(rt: &impl Abort, alloc: Global, n: u32) -> Vec<(u32, u32)> {
+    let mut pairs = Vec::new(alloc);
+    for v in 1..n {
+        pairs.push((v - 1, v)).expect(rt, "memory");
+    }
+    pairs
+}
+
+// Returns insertions and deletions between vertices below n.
+fn drawn_items(rt: &impl Abort, alloc: Global, random: &mut Random, n: u32, count: u32) -> Vec<Item>
+    requires { 0 < n }
+{
+    let mut items = Vec::new(alloc);
+    for _ in 0..count {
+        let (u, v) = (random.below(n), random.below(n));
+        let item = if random.below(2) == 0 {
+            Insert { u, v }
+        } else {
+            Delete { u, v }
+        };
+        items.push(item).expect(rt, "memory");
+    }
+    items
+}
+
+// Keys that are few, dealt as a whole, dealt by ranges, or sorted by threads, on few and on many vertices. The same
+// items are cleaned by the walk for isolations too, with one more of a vertex that no item names.
+#[test]
+fn sorted_keys_come_to_what_a_walk_does(rt: HostRuntime) {
+    let mut random = Random::new(3);
+    for (n, count) in [(12u32, 1_000), (12, 3_000), (300, 3_000), (5_000, 66_000)] {
+        assert!(rt; n > 1);
+        let pairs = path(&rt, rt.alloc(), n - 1);
+        let graph = graph(&rt, rt.alloc(), n, &pairs);
+        let mut items = drawn_items(&rt, rt.alloc(), &mut random, n - 1, count);
+        check_items(&rt, n, &items);
+        let alone = clean_by(&rt, rt.alloc(), 1, &graph, &items).expect(&rt, "memory");
+        let shared = clean_by(&rt, rt.alloc(), 2, &graph, &items).expect(&rt, "memory");
+        items.push(Isolate { v: n - 1 }).expect(&rt, "memory");
+        check_items(&rt, n, &items);
+        let walked = clean(&rt, rt.alloc(), &graph, &items).expect(&rt, "memory");
+        let (removed, added) = (walked.removed.as_slice(), walked.added.as_slice());
+        let counts = (walked.loops, walked.repeats, walked.idle.saturating_sub(1));
+        assert!(rt; has_given(&alone, removed, added, counts));
+        assert!(rt; has_given(&shared, removed, added, counts));
     }
 }
 

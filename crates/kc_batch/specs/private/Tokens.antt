@@ -1,4 +1,4 @@
--- How tokens follow one another from a reader.
+-- The order of tokens that come from a reader.
 use Rattle.std.specs.Prelude.{ℕ, ◌<◌, ◌≤◌, List, [], ◌∷◌, Option, Some, None, if◌then◌else◌}
 use Rattle.kc_graph.specs.declared.items.Item.{Item}
 use Rattle.kc_graph.specs.declared.items.Item.TheVariants.{Insert, Delete}
@@ -10,11 +10,11 @@ use Rattle.kc_batch.specs.declared.token.Kind.{Kind}
 use Rattle.kc_batch.specs.declared.token.Kind.TheVariants.{Limit, InputEnd}
 use Rattle.kc_batch.specs.Tokens.{kind_of_words}
 
--- what a text says, unless it is skipped
+-- the meaning of a text, unless it is skipped
 unfoldable pub kind_of_text : List ℕ → Option Kind
 kind_of_text text = if is_skip (words text) then None else Some (kind_of_words (words text))
 
--- the item that two numbers tell, with this sign before them or with none
+-- the item of two numbers with this sign, or none, before them
 abbrev pub item_of : Option Sign → ℕ → ℕ → Item
 item_of None u v = Insert u v
 item_of (Some Plus) u v = Insert u v
@@ -26,7 +26,7 @@ behind_kind Limit rest = []
 behind_kind InputEnd rest = []
 behind_kind _ rest = rest
 
--- a token and what follows it
+-- a token, and the tokens that follow it
 abbrev pub onto_token : Token → List Token → List Token
 onto_token t rest = t ∷ behind_kind t.kind rest
 

@@ -1,4 +1,4 @@
--- What each step of the queue tells its caller: how the role of the pass changes.
+-- The change of a pass's role at each step of the queue.
 use Rattle.std.specs.Prelude.{◌≡◌, ◌+◌, ◌<◌, List, [], ◌∷◌, ◌++◌, Contains}
 use Rattle.kc_intake.specs.declared.updates.Update.{Update}
 use Rattle.kc_intake.specs.declared.roles.Submitted.{Submitted}
@@ -25,7 +25,7 @@ at_drainer f v = v
 abbrev pub with_client : Role → Role
 with_client = at_drainer (λ d. record d { clients = d.clients + 1 })
 
--- that client
+-- the role of the new client
 abbrev pub client_of : Role → Role
 client_of v = Submits (record { client = (drained_of v).clients; items = [] })
 
@@ -36,7 +36,7 @@ with_sent u s = record s { items = s.items ++ u.item ∷ [] }
 abbrev pub sends : Role → Update → Role → Type 0
 sends v u w = w ≡ at_client (with_sent u) v
 
--- an update is put at the end of the last batch, or begins the first
+-- an update is put at the end of the last batch, or begins the first one
 abbrev pub with_last : Update → List (List Update) → List (List Update)
 with_last u [] = (u ∷ []) ∷ []
 with_last u (batch ∷ []) = (batch ++ u ∷ []) ∷ []
@@ -50,7 +50,9 @@ with_begun u d = record d { taken = d.taken ++ (u ∷ []) ∷ [] }
 abbrev pub with_added : Update → Drained → Drained
 with_added u d = record d { taken = with_last u d.taken }
 
--- the update is of a client of the intake, what was drained is numbered, and the invariant holds of it and of what still waits
+-- the update is of a client of the intake, and the drained updates are numbered
+--
+-- The invariant holds of them and of those that still wait.
 pub record IsSound (holds : Holds) (u : Update) (v w : Role) : Type 0 where
   pub client_in : u.client < (drained_of v).clients
   pub numbers : AreNumbered (drained_of w).taken
@@ -62,7 +64,8 @@ begins holds v u w = (w ≡ at_drainer (with_begun u) v) × IsSound holds u v w
 abbrev pub adds : Holds → Role → Update → Role → Type 0
 adds holds v u w = (w ≡ at_drainer (with_added u) v) × IsSound holds u v w
 
--- what each client that was taken in had sent is what was drained of it, and then what the queue holds of it
+-- the items that each client sent that was taken in are those drained of it, followed by those that the queue holds of
+-- it
 abbrev pub AreWhole : Drained → List Update → Type 0
 AreWhole d items = (s : Submitted) → Contains d.joined s → updates_of s.client (all_updates d.taken ++ items) ≡ updates_in s
 

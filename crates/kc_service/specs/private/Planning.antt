@@ -1,4 +1,4 @@
--- What becomes of a cleaned batch that is planned and shown.
+-- The result of a cleaned batch that is planned and shown.
 use Rattle.std.specs.Prelude.{◌≡◌, false, Result, Ok, Err}
 use Rattle.kc_graph.specs.declared.cleaning.Cleaned.{Cleaned}
 use Rattle.kc_store.specs.declared.roles.WriterState.{WriterState}
@@ -15,7 +15,7 @@ pub record IsShownPlan (e : EngineView) (w : WriterState) (c : Cleaned) (plan : 
   pub engine : f ≡ record between { waits = false }
   pub shown : AreShown plan.phases w x
 
--- what becomes of a cleaned batch, of the engine and of the writer
+-- the results for a cleaned batch, for the engine and for the writer
 abbrev pub PlansAndShows : EngineView → WriterState → Cleaned → Result BatchPlan EngineFault → EngineView → WriterState → Type 0
 PlansAndShows e w c (Ok plan) f x = IsShownPlan e w c plan f x
 PlansAndShows e w c (Err fault) f x = Answers e c (Err fault) f × (x ≡ w)

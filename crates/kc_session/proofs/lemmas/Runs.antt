@@ -1,4 +1,4 @@
--- What other crates may cite of batches in turn, and the states that they lead to.
+-- The lemmas that other crates may cite about batches one after another, and the states after them.
 
 -- the state before the first batch is sound
 pub use Rattle.kc_session.proofs.Steps.{sound_start}
@@ -6,9 +6,9 @@ pub use Rattle.kc_session.proofs.Steps.{sound_start}
 pub use Rattle.kc_session.proofs.Steps.{sound_step}
 -- a batch leaves a state with the same profile
 pub use Rattle.kc_session.proofs.Steps.{profile_step}
--- the batches of each input lead to a state
+-- the batches of each input have a list of steps
 pub use Rattle.kc_session.proofs.Settles.{start_states}
--- the batches of an input lead to one state only
+-- the batches of an input have only one list of steps
 pub use Rattle.kc_session.proofs.Runs.{one_run}
 -- the state after all batches is sound, with as many vertices
 pub use Rattle.kc_session.proofs.Runs.{sound_last}

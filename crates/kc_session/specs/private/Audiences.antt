@@ -1,4 +1,4 @@
--- What an audience is shown.
+-- The history that is shown to an audience.
 use Rattle.std.specs.Prelude.{◌≡◌, List, ◌++◌, Option, Some, None}
 use Rattle.std.specs.Option.{option_map}
 use Rattle.kc_graph.specs.declared.cleaning.Cleaned.{Cleaned}
@@ -12,7 +12,7 @@ use Rattle.kc_engine.specs.Showing as showing
 use Rattle.kc_session.specs.declared.audience.Audience.{Audience}
 use Rattle.kc_session.specs.declared.audience.Audience.TheVariants.{Readers, Nobody}
 
--- the store in which it looks levels up, if it does, and the store's writer
+-- the store in which the audience looks levels up, if there is one, and the store's writer
 abbrev pub store_of : Audience → Option StoreShape
 store_of (Readers store writer) = Some store.now
 store_of Nobody = None
@@ -21,21 +21,21 @@ abbrev pub writer_of : Audience → Option WriterShape
 writer_of (Readers store writer) = Some writer
 writer_of Nobody = None
 
--- the history that it was shown, if it was shown one
+-- the history that was shown to the audience, if there is one
 abbrev pub shown_to : Audience → Option (List Entry)
 shown_to (Readers store writer) = Some writer.state.history
 shown_to Nobody = None
 
--- it was shown all that led to this state
+-- the audience is up to date with this state: everything that led to it was shown
 abbrev pub IsAbreast : Audience → State → Type 0
 IsAbreast (Readers store writer) s = (writer.table ≡ store.now.table) × showing.IsAbreast writer.state s
 IsAbreast Nobody s = Unit {0}
 
--- a history and these entries after it, where there is a history
+-- a history and these entries after it, if there is a history
 abbrev pub longer : Option (List Entry) → List Entry → Option (List Entry)
 longer history entries = option_map (λ es. es ++ entries) history
 
--- these are the phases of a batch after which the state is t, and the audience was shown all that led to the state before it
+-- these are the phases of a batch that leads to the state t, and the audience is up to date with the state before it
 pub record LeadOver (a : Audience) (plans : List PhasePlan) (t : State) : Type 0 where
   pub before : State
   pub batch : Cleaned

@@ -6,7 +6,7 @@ use Rattle.kc_session.specs.declared.counts.Counts.{Counts}
 use Rattle.kc_session.specs.States.{Step, is_refused}
 use Rattle.kc_session.specs.Counts.{capped, groups_of, moves_of, one_if, refused_in, all_groups, all_moves}
 
--- the counts of batches that lead to these steps
+-- the counts of batches with these steps
 abbrev pub counts_of : State → List Next → List Step → Counts
 counts_of s batches steps = record { batches = length steps; refused = refused_in s batches steps; groups = capped (all_groups steps); moves = capped (all_moves steps) }
 

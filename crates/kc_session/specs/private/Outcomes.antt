@@ -1,4 +1,4 @@
--- What became of a batch without a fault.
+-- The result of a batch without a fault.
 use Rattle.std.specs.Prelude.{◌≡◌, List, Option, Some, None}
 use Rattle.kc_graph.specs.declared.cleaning.Cleaned.{Cleaned}
 use Rattle.kc_text.specs.declared.reason.Reason.{Reason}
@@ -12,14 +12,16 @@ use Rattle.kc_session.specs.declared.applying.Outcome.TheVariants.{Accepted, Ref
 use Rattle.kc_session.specs.private.Audiences.{longer}
 use Rattle.kc_session.specs.States.{refusal_of, reason_of}
 
--- a batch that comes to c is refused in the state s for this reason, and leaves the state t
+-- a batch with the cleaning c is refused in the state s for this reason, and leaves the state t
 pub record IsRefusedFor (s : State) (c : Cleaned) (reason : Reason) (t : State) : Type 0 where
   pub fault : EngineFault
   pub refused : refusal_of s c ≡ Some fault
   pub word : reason ≡ reason_of fault
   pub same : t ≡ s
 
--- a batch that comes to c in the state s becomes this, and leaves the state t; the history h, where there is one, grew to i by its entries
+-- a batch with the cleaning c in the state s has this outcome, and leaves the state t
+--
+-- The history h, if there is one, grew to i by the entries of the batch.
 abbrev pub Becomes : State → Cleaned → Outcome → State → Option (List Entry) → Option (List Entry) → Type 0
 Becomes s c (Accepted d plan) t h i = (refusal_of s c ≡ None) × (d ≡ c) × IsAfterPhases s c t plan.phases × (i ≡ longer h (entries_in plan.phases))
 Becomes s c (Refused reason) t h i = IsRefusedFor s c reason t × (i ≡ h)

@@ -1,4 +1,4 @@
--- What has become of batches, and what has been written of them, when they have been run or a fault came.
+-- The result of batches, and the text written for them, after they were run or a fault came.
 use Rattle.std.specs.Prelude.{ℕ, ◌≡◌, ◌+◌, true, false, Bool, List, Option, Some, None, Result, Ok, Err}
 use Rattle.kc_text.specs.Writing.{IsPrefix}
 use Rattle.std.specs.Io.KnownBytes.{append_known}
@@ -17,7 +17,9 @@ use Rattle.kc_session.specs.RunText.{step_text, batch_lines}
 use Rattle.kc_session.specs.States.{Step, IsStep, AreSteps, last_state, history_of}
 use Rattle.kc_session.specs.Running.{WroteSomeBatches}
 
--- a batch was applied to the state s, which became t, it was counted, what is due of it was written, and the history h, where there is one, grew by its entries
+-- a batch was applied to the state s, which became t, and was counted
+--
+-- Its text was written, and the history h, if there is one, grew to i by its entries.
 pub record RanStep (report : Report) (b : Next) (s t : State) (before now : Option (List ℕ)) (old new : Counts) (h i : Option (List Entry)) : Type 0 where
   pub step : Step
   pub is_step : IsStep s b step
@@ -26,13 +28,13 @@ pub record RanStep (report : Report) (b : Next) (s t : State) (before now : Opti
   pub counts : new ≡ counted s b step old
   pub history : i ≡ longer h (entries_in step.phases)
 
--- a prefix of what is due of it was written
+-- a prefix of the text of the batch was written
 pub record WroteSome (report : Report) (number : ℕ) (b : Next) (s : State) (before now : Option (List ℕ)) : Type 0 where
   pub step : Step
   pub is_step : IsStep s b step
   pub prefix : IsPrefix before now (step_text report number s b step.phases)
 
--- the one with Ok, else the other
+-- with Ok the batch was applied, and otherwise a prefix of its text was written
 abbrev pub RunsStep : Report → Next → State → State → Option (List ℕ) → Option (List ℕ) → Counts → Option (List Entry) → Option (List Entry) → Result Counts SessionFault → Type 0
 RunsStep report b s t before now old h i (Ok new) = RanStep report b s t before now old new h i
 RunsStep report b s t before now old h i (Err _) = WroteSome report (old.batches + 1) b s before now
@@ -42,8 +44,9 @@ abbrev pub is_last_batch : Next → Bool
 is_last_batch (Refused line InputLimit) = true
 is_last_batch _ = false
 
--- batches were applied to the state s, which became t, they were counted, what is due of them was written, and the history h, where there
--- is one, grew by their entries
+-- batches were applied to the state s, which became t, and were counted
+--
+-- Their text was written, and the history h, if there is one, grew to i by their entries.
 pub record RanBatches (report : Report) (s t : State) (batches : List Next) (before now : Option (List ℕ)) (h i : Option (List Entry)) (counts : Counts) : Type 0 where
   pub steps : List Step
   pub are_steps : AreSteps s batches steps
@@ -52,7 +55,7 @@ pub record RanBatches (report : Report) (s t : State) (batches : List Next) (bef
   pub counts_are : counts ≡ counts_of s batches steps
   pub history : i ≡ longer h (history_of steps)
 
--- the one with Ok, else the other, where the batches are told
+-- with Ok the batches were applied, and otherwise a prefix of their text was written, if the source tells the batches
 abbrev pub RunsBatches : Report → State → State → Option (List Next) → Option (List ℕ) → Option (List ℕ) → Option (List Entry) → Option (List Entry) → Result Counts SessionFault → Type 0
 RunsBatches report s t None before now h i result = Unit {0}
 RunsBatches report s t (Some batches) before now h i (Ok counts) = RanBatches report s t batches before now h i counts

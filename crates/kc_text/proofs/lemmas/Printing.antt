@@ -1,4 +1,4 @@
--- What other crates may cite of texts that are read back.
+-- The lemmas that other crates may cite about texts that are read back.
 
 -- lines that are printed are read back as those lines
 pub use Rattle.kc_text.proofs.PrintedText.{lines_back as lines_are_read_back}

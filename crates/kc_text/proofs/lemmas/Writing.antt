@@ -1,4 +1,4 @@
--- What other crates may cite of the bytes that a sink has taken, where it tells them.
+-- The lemmas that other crates may cite about the bytes taken by a sink, if the sink tells them.
 
 -- to take nothing changes nothing
 pub use Rattle.kc_text.proofs.Known.{append_none}
@@ -6,9 +6,9 @@ pub use Rattle.kc_text.proofs.Known.{append_none}
 pub use Rattle.kc_text.proofs.Known.{append_twice}
 -- one line is a text of its own
 pub use Rattle.kc_text.proofs.Known.{appends_send}
--- all of a was taken, and then b as far as the result says
+-- all of a was taken, and then as much of b as the result says
 pub use Rattle.kc_text.proofs.Known.{appends_then}
--- where the whole text was taken, a prefix of it was
+-- if the whole text was taken, a prefix of it was
 pub use Rattle.kc_text.proofs.Known.{prefix_all}
 -- a prefix of a is a prefix of a and b
 pub use Rattle.kc_text.proofs.Known.{prefix_longer}

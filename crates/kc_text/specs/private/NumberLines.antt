@@ -1,4 +1,4 @@
--- Where the parts of a line of two numbers stand.
+-- The places of the parts of a line of two numbers.
 use Rattle.std.specs.Prelude.{ℕ, ◌+◌, ◌≡◌, ◌==◌, ◌<◌, ◌≤◌, Bool, true, false, ◌||◌, List, ◌++◌, length, take, get_or, Option, Some, None, if◌then◌else◌}
 use Rattle.std.specs.List.{slice_range}
 use Rattle.kc_text.specs.declared.number_line.Sign.{Sign}
@@ -16,7 +16,7 @@ use Rattle.kc_text.specs.private.WholeLines.{EndsAt}
 abbrev pub sign_of : ℕ → Option Sign
 sign_of b = if b == 43 then Some Plus else if b == 45 then Some Minus else None
 
--- a line that begins with these bytes has the words of this front, and the rest of its words come from `start` on
+-- a line that begins with these bytes has the words of this front, and the rest of its words begin at `start`
 pub record BeginsAt (bytes : List ℕ) (front : List (List ℕ) → List (List ℕ)) (start : ℕ) : Type 0 where
   pub within : start ≤ length bytes
   pub words_are : (rest : List ℕ) → words (take start bytes ++ rest) ≡ front (words rest)
@@ -34,7 +34,9 @@ pub record ClosesAt (bytes : List ℕ) (end len : ℕ) : Type 0 where
 abbrev pub is_plain : ℕ → Bool
 is_plain b = is_digit b || is_blank b
 
--- the bytes from `start` on, up to a line's end, are two numbers and one blank between them; the line feed stands at `len`
+-- the bytes from `start` on, up to a line's end, are two numbers and one blank between them
+--
+-- The line feed stands at `len`.
 pub record NumbersStand (bytes : List ℕ) (start first second len : ℕ) : Type 0 where
   pub middle : ℕ
   pub end : ℕ

@@ -12,17 +12,17 @@ pub record DigitsAt (line : List ℕ) (start value end : ℕ) : Type 0 where
   pub value_is : value_from 0 (slice_range line start end) ≡ value
   pub words_are : words (drop start line) ≡ words_from (slice_range line start end) (drop end line)
 
--- the bytes from `start` to `end` are digits that say this number, which goes into 32 bits
+-- the bytes from `start` to `end` are digits of this number, which fits in 32 bits
 pub record DigitsTo (line : List ℕ) (start value end : ℕ) : Type 0 where
   pub after : start < end
   pub within : end ≤ length line
   pub digits : list_all is_digit (slice_range line start end) ≡ true
   pub number : number_of (slice_range line start end) ≡ Some value
 
--- and no digit follows them
+-- no digit follows the digits before this place
 abbrev pub StopsAt : List ℕ → ℕ → Type 0
 StopsAt line end = is_digit (get_or line end 0) ≡ false
 
--- no digits from `start` on, as many as there are, say a number
+-- digits from `start` on, of any length, are no number
 abbrev pub HasNoNumber : List ℕ → ℕ → Type 0
 HasNoNumber line start = (value end : ℕ) → DigitsTo line start value end → StopsAt line end → ⊥

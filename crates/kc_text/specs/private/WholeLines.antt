@@ -8,7 +8,9 @@ pub record EndsAt (bytes : List ℕ) (len : ℕ) : Type 0 where
   pub here : get_or bytes len 0 ≡ 10
   pub before : (k : ℕ) → k < len → (get_or bytes k 0 == 10) ≡ false
 
--- the next line lies whole among what was read exactly where it lies whole among these bytes, and has the same text
+-- these bytes show the next line of the scanner
+--
+-- The next line lies whole among what was read exactly if it lies whole among these bytes, and has the same text.
 pub record Lends (bytes : List ℕ) (r : Scan) : Type 0 where
   pub whole : (len : ℕ) → EndsAt bytes len → IsWhole len r
   pub ends : (len : ℕ) → IsWhole len r → EndsAt bytes len

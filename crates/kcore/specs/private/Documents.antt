@@ -1,11 +1,11 @@
--- Documents of a state that are written.
+-- The writing of a document of a state.
 use Rattle.std.specs.Prelude.{ℕ, List, Option, Result}
 use Rattle.kc_graph.specs.declared.limits.TheConstants.{MAX_EDGES}
 use Rattle.kc_engine.specs.States.{State, IsSound}
 use Rattle.kc_text.specs.declared.buf.SendFault.{SendFault}
 use Rattle.kc_text.specs.Writing.{Appends}
 
--- a document of a state was written, or with a fault a prefix of one
+-- a document of a state was written, or after a fault a prefix of one
 pub record WritesDocument {T : Type 0} (IsDocument : State → List ℕ → Type 0) (s : State) (before now : Option (List ℕ)) (result : Result T SendFault) : Type 0 where
   pub document : List ℕ
   pub is_document : IsDocument s document

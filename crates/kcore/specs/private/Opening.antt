@@ -1,4 +1,4 @@
--- How the reading of a batch input begins.
+-- The beginning of the reading of a batch input.
 use Rattle.std.specs.Prelude.{ℕ, ◌≡◌, List, Option, Some, None, Result, Ok, Err, ◌⊎◌}
 use Rattle.std.specs.Option.{option_map}
 use Rattle.std.specs.Io.KnownBytes.{append_known}
@@ -11,7 +11,7 @@ use Rattle.kc_batch.specs.BatchInputs.{BatchInput, WithBatches, HeaderRefused, r
 use Rattle.kc_report.specs.Lines.{header_refused_line}
 use Rattle.kc_session.specs.declared.fault.SessionFault.{SessionFault}
 
--- the input is this one, where it is told
+-- the input is this one, if the source tells it
 abbrev pub IsSaid : Option BatchInput → BatchInput → Type 0
 IsSaid None input = Unit {0}
 IsSaid (Some said) input = said ≡ input
@@ -28,7 +28,10 @@ pub record BeginsToRefuse (said : Option BatchInput) (before now : Option (List 
   pub is_said : IsSaid said (HeaderRefused line)
   pub prefix : IsPrefix before now (header_refused_line line)
 
--- a header was read, and the reader and the source have the batches after it to give; or it is refused; or a fault came before that
+-- the reading of an input has begun
+--
+-- A header was read, and the reader and the source have the batches after it to give. Or the header is refused. Or a
+-- fault came before that.
 abbrev pub OpensInput : Option BatchInput → Option (List ℕ) → Option (List ℕ) → Option (List ℕ) → Result (Option (HeaderShape × Reading)) SessionFault → Type 0
 OpensInput said left before now (Ok (Some (header, reader))) = (said ≡ option_map (WithBatches header) (batches_left (rules_of header MAX_ITEMS) reader left)) × (now ≡ before)
 OpensInput said left before now (Ok None) = RefusesHeader said before now

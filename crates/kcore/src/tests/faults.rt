@@ -13,15 +13,16 @@ const CERTIFICATE: &[u8] =
 // The second batch takes out the edge of vertex 0 and puts in another: its level falls and rises again.
 const OUT_AND_IN: &[u8] = b"kcore 1\nvertices 5\nbatch\n0 1\nend\nbatch\n- 0 1\n+ 0 2\nend\n";
 
-// The same, while two vertices that never move are asked for in 40 questions.
+// The same input, with two vertices that never move in 40 questions of an ask.
 pub const ASKED: &[u8] =
     b"kcore 1\nvertices 5\nask 20 4 3\nbatch\n0 1\nend\nbatch\n- 0 1\n+ 0 2\nend\n";
 
-// What `run` writes of no batch and one reader.
+// The text of `run` for no batch and one reader.
 const RUN_TEXT: &[u8] = b"kcore-run 1\nvertices 1\nreader 0 0=0\n\
     vertex 0 level 0 est 0 low 0 high 0 up 0 down 0\nend\n";
 
-// A command line, its input, and how many reads and how many writes it makes in pieces of 7 bytes. Each line of a text is written by itself.
+// A command line, its input, and the number of reads and of writes that the command makes in pieces of 7 bytes. Each
+// line of a text is written by itself.
 type Command = (&'static str, &'static [u8], u32, u32);
 
 const COMMANDS: &[Command] = &[
@@ -36,7 +37,7 @@ const COMMANDS: &[Command] = &[
     ("gen 0 5 1 3 2", b"", 0, 11),
 ];
 
-// A call of a command of which the reads and the writes with these numbers fail. None has the number 0.
+// A call of a command whose reads and writes with these numbers fail. No call has the number 0.
 fn failing<'a>(command: &Command, reads: &'a [u32], writes: &'a [u32]) -> Call<'a> {
     Call {
         line: command.0,
@@ -47,7 +48,7 @@ fn failing<'a>(command: &Command, reads: &'a [u32], writes: &'a [u32]) -> Call<'
     }
 }
 
-// Whether a call ends with this fault, after a part of the text and not all of it.
+// Whether a call ends with this fault, after a part of the text but not the whole.
 fn stops<R: Threads + Sync + AllocGlobal + Abort>(
     rt: &R,
     call: Call<'_>,
@@ -58,7 +59,7 @@ fn stops<R: Threads + Sync + AllocGlobal + Abort>(
     status == fault && sink.bytes().len() < whole.len() && whole.starts_with(sink.bytes())
 }
 
-// Each read fails, then each write, and none where the number is one more.
+// Each read fails, then each write. With a number one greater than the last call no call fails.
 #[test]
 fn each_read_and_each_write_fails(rt: HostRuntime) -> Result<(), Fail> {
     for command in COMMANDS {
@@ -81,7 +82,7 @@ fn each_read_and_each_write_fails(rt: HostRuntime) -> Result<(), Fail> {
     Ok(())
 }
 
-// A command line, all that the first read gives, how the call ends where the second read fails, and what was written.
+// A command line, the bytes of the first read, the status if the second read fails, and the written text.
 type Row = (&'static str, &'static [u8], Status, &'static [u8]);
 
 const NOTED: &[u8] = b"kcore 1\nvertices 2\nbatch\n0 2\nend\n";
@@ -96,7 +97,8 @@ const HEADER: &[u8] = b"refused line 2 header\n";
 const NO_VERTICES: &[u8] = b"kcore 1\nvertices 0\n";
 
 const FIRST_READS: &[Row] = &[
-    // What is decided is written before anything more is read: a batch at its end, beside a reader too, and the note of one that is refused.
+    // Text is written before more bytes are read, if it is decided. That is a batch at its end, also beside a reader,
+    // and the note of a refused batch.
     (
         "run 1",
         b"kcore 1\nvertices 2\nbatch\n0 1\nend\n",
@@ -119,7 +121,7 @@ const FIRST_READS: &[Row] = &[
     ("orient 2", NOTED, Status::ReadFault, NOTE),
     ("exact", NOTED, Status::ReadFault, NOTE),
     ("dense", NOTED, Status::ReadFault, NOTE),
-    // A header, a certificate or a run text that is refused ends the command, and nothing more is read.
+    // A refused header, certificate or run text ends the command, and nothing more is read.
     ("run 1", NO_VERTICES, Status::Refused, HEADER),
     ("final 1", NO_VERTICES, Status::Refused, HEADER),
     ("orient 1", NO_VERTICES, Status::Refused, HEADER),
@@ -155,7 +157,7 @@ const FIRST_READS: &[Row] = &[
         Status::Refused,
         b"refused line 3 bad-vertex\n",
     ),
-    // Nothing is known of a document that may go on.
+    // Nothing is known about a document that may go on.
     ("check", CERTIFICATE, Status::ReadFault, b""),
     ("audit", RUN_TEXT, Status::ReadFault, b""),
 ];

@@ -11,7 +11,7 @@ use std::thread::Threads;
 
 const TURNS: u64 = 10_000_000;
 
-// Holds the first piece 0 that it is told until it was told piece 1, for at most so many turns.
+// Holds the first piece 0 that it gets until it gets piece 1, for at most `TURNS` turns.
 #[derive(Drop)]
 struct Holding {
     has_held: AtomicBool,
@@ -40,7 +40,7 @@ impl Gate for Holding {
     }
 }
 
-// A star, and the same beside a reader.
+// A star, without and with a reader.
 const STARS: &[&[u8]] = &[
     b"kcore 1\nvertices 5\nbatch\n0 1\n0 2\n0 3\n0 4\nend\n",
     b"kcore 1\nvertices 5\nask 3 0 4\nbatch\n0 1\n0 2\n0 3\n0 4\nend\n",
@@ -61,7 +61,7 @@ fn a_first_round_has_two_pieces_at_once(rt: HostRuntime) -> Result<(), Fail> {
     Ok(())
 }
 
-// Keeps the greatest index of the pieces that it is told.
+// Keeps the greatest index of the pieces that it gets.
 #[derive(Drop)]
 struct Greatest {
     index: AtomicU64,
@@ -75,7 +75,7 @@ impl Gate for Greatest {
     }
 }
 
-// Whether a command ends well, and this is the greatest index of a piece that it tells the gate.
+// Whether a command ends well, and this is the greatest index of a piece that the gate gets.
 fn has_greatest_piece<R: Threads + Sync + AllocGlobal + Abort>(
     rt: &R,
     line: &str,
@@ -107,7 +107,7 @@ const COMMANDS: &[(&str, u64)] = &[
     ("gen 0 128 1 128 5", 4),
 ];
 
-// The first round has 128 candidates, and that of the load over 64, so each worker gets a piece.
+// The first round has 128 candidates, and that of the load has more than 64, so each worker gets a piece.
 #[test]
 fn a_first_round_has_a_piece_for_each_worker(rt: HostRuntime) -> Result<(), Fail> {
     for command in COMMANDS {

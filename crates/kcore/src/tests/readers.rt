@@ -1,4 +1,4 @@
-// Readers beside batches: a gate counts what they ask.
+// Readers beside batches: a gate counts their questions.
 use super::faults::ASKED;
 use super::support::{Call, WHOLE, answer_beside};
 use crate::status::Status;
@@ -9,7 +9,7 @@ use std::sync::atomic::Ordering::SeqCst;
 use std::test::Fail;
 use std::thread::Threads;
 
-// Counts the questions of readers and their replies.
+// Counts the questions of readers, and the replies.
 #[derive(Drop)]
 struct Counting {
     asked: AtomicU64,
@@ -30,7 +30,7 @@ impl Gate for Counting {
     }
 }
 
-// Whether a call ends so with this text, once all readers have put their 40 questions.
+// Whether a call ends with this status and text, after all readers have put their 40 questions.
 fn asks_forty<R: Threads + Sync + AllocGlobal + Abort>(
     rt: &R,
     call: Call<'_>,
@@ -48,7 +48,8 @@ fn asks_forty<R: Threads + Sync + AllocGlobal + Abort>(
         && gate.replied.load(SeqCst) == 40
 }
 
-// The batches end with a fault right after the head. The call returns when the readers have ended too: they have put all questions.
+// The batches end with a fault right after the head. The call returns when the readers have ended too: they have put
+// all their questions.
 #[test]
 fn both_branches_have_ended_after_a_fault(rt: HostRuntime) -> Result<(), Fail> {
     let head = b"kcore-run 1\nvertices 5\n";

@@ -6,10 +6,11 @@ use kc_text::{MemSink, MemSource, Words};
 use std::process::Abort;
 use std::thread::Threads;
 
-// What one read gives, or one write takes, where all goes at once.
+// The bytes of one read or one write for which a whole text is one piece.
 pub const WHOLE: u32 = 65_536;
 
-// A command line and an input; how many bytes are read and taken at a time; and the numbers of the reads and of the writes that fail.
+// A call of a command: a command line and an input, the most bytes of one read and of one write, and the failing calls.
+// The numbers are those of the reads and of the writes that fail.
 #[derive(Clone, Copy)]
 pub struct Call<'a> {
     pub line: &'a str,
@@ -19,7 +20,7 @@ pub struct Call<'a> {
     pub writes: &'a [u32],
 }
 
-// A call of which nothing fails.
+// A call without failing reads or writes.
 pub fn in_pieces<'a>(line: &'a str, input: &'a [u8], piece: u32) -> Call<'a> {
     Call {
         line,
@@ -41,7 +42,7 @@ pub fn words_of<R: AllocGlobal + Abort>(rt: &R, line: &str) -> Words {
     words
 }
 
-// What a call answers, and the sink that took what it has written.
+// The status of a call, and the sink with its text.
 pub fn answer_beside<R: Threads + Sync + AllocGlobal + Abort, G: Gate + Sync>(
     rt: &R,
     gate: &G,
@@ -62,7 +63,7 @@ pub fn answer_beside<R: Threads + Sync + AllocGlobal + Abort, G: Gate + Sync>(
     (status, sink)
 }
 
-// The same, watched by nobody.
+// The status of a call that no gate watches, and the sink with its text.
 pub fn answer<R: Threads + Sync + AllocGlobal + Abort>(
     rt: &R,
     call: Call<'_>,
@@ -70,7 +71,7 @@ pub fn answer<R: Threads + Sync + AllocGlobal + Abort>(
     answer_beside(rt, &OpenGate::new(), call)
 }
 
-// Whether a call ends so, and has written this.
+// Whether a call ends with this status, and has written this text.
 pub fn answers<R: Threads + Sync + AllocGlobal + Abort>(
     rt: &R,
     call: Call<'_>,

@@ -5,7 +5,7 @@ use crate::status::Status;
 use std::io::BufWriter;
 use std::test::Fail;
 
-// A command line, an input, how the call ends, and its text.
+// A command line, an input, the status of the call, and its text.
 type Row = (&'static str, &'static [u8], Status, &'static [u8]);
 
 const ROWS: &[Row] = &[
@@ -33,7 +33,7 @@ const ROWS: &[Row] = &[
             vertex 1 level 1 est 2 low 1 high 2 up 2 down 2\n\
             vertex 2 level 1 est 2 low 1 high 2 up 1 down 1\nend\n",
     ),
-    // A reader asks twice where no batch comes.
+    // A reader asks twice in an input without batches.
     (
         "run 064",
         b"kcore 1\nvertices 2\nask 2 1 0\n",
@@ -54,7 +54,7 @@ fn runs_in_any_pieces(rt: HostRuntime) -> Result<(), Fail> {
     Ok(())
 }
 
-// The same from a reader in memory to a writer in memory, of which 16 bytes are kept back.
+// The same, from a reader in memory to a writer in memory that holds back up to 16 bytes.
 #[test]
 fn a_process_leaves_its_text(rt: HostRuntime) -> Result<(), Fail> {
     for row in ROWS {

@@ -24,8 +24,9 @@ pub record HaveEnded (intake : IntakeShape) (scripts : List (List Item)) (client
 abbrev pub AreTakenIn : List (List Update) → List ClientShape → Type 0
 AreTakenIn taken clients = All (λ client. IsPrefix (updates_of client.number (all_updates taken)) (updates_in (submitted client))) clients
 
--- what an intake has drained since it was opened: each batch has 1 to as many updates as the intake holds, each update is of one of the
--- clients
+-- what an intake has drained since it was opened
+--
+-- Each batch has 1 to as many updates as the intake holds. Each update is of one of the clients.
 pub record AreDrained (intake : IntakeShape) (old new : DrainerShape) : Type 0 where
   pub intake_is : new.intake ≡ intake
   pub clients_are : new.clients ≡ old.clients

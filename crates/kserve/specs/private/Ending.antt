@@ -5,7 +5,7 @@ use Rattle.kserve.specs.declared.fault.ServeFault.TheVariants as fault
 use Rattle.kserve.specs.declared.status.ServeStatus.{ServeStatus}
 use Rattle.kserve.specs.declared.status.ServeStatus.TheVariants.{Done, Refused, ReadFault, WriteFault, Memory}
 
--- how a call ended, where the answer says whether the input is refused
+-- how a call ended whose answer says whether the input is refused
 abbrev pub status_of : Result Bool ServeFault → ServeStatus
 status_of (Ok false) = Done
 status_of (Ok true) = Refused

@@ -5,7 +5,8 @@ use Rattle.kc_history.specs.declared.limits.TheConstants.{MAX_PHASE}
 use Rattle.kc_engine.specs.States.{State, IsSound}
 use Rattle.kc_engine.specs.Planning.{EngineView}
 
--- it takes batches: it hasn't halted, no plan waits to be shown, its edge limit is the program's, and its state is sound
+-- it takes batches: it hasn't halted, no plan waits to be shown, its edge limit is the program's, and its state is
+-- sound
 pub record IsOpen (e : EngineView) : Type 0 where
   pub running : e.halted ≡ false
   pub none_waits : e.waits ≡ false

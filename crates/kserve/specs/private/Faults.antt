@@ -28,20 +28,20 @@ abbrev pub stop_of_send : SendFault → Stop
 stop_of_send send.WriteFault = stop.WriteFault
 stop_of_send (send.Memory e) = stop.Memory e
 
--- the fault for which a server stopped; none where an item strayed
+-- the fault for which a server stopped; none if an item strayed
 abbrev pub IsFaultOf : Stop → ServeFault → Type 0
 IsFaultOf stop.WriteFault fault = fault ≡ WriteFault
 IsFaultOf (stop.Memory e) fault = fault ≡ Memory e
 IsFaultOf stop.Stray fault = ⊥
 
--- the source's count of faults: a read fault comes only where it rose, and else it stays; nothing is written
+-- the source's count of faults: a read fault comes only if it rose, and else it stays; nothing is written
 abbrev pub ReadingCause : {T : Type 0} → ℕ → ℕ → Result T ServeFault → Type 0
 ReadingCause before now (Ok _) = now ≡ before
 ReadingCause before now (Err ReadFault) = Rose before now
 ReadingCause before now (Err WriteFault) = ⊥
 ReadingCause before now (Err (Memory _)) = now ≡ before
 
--- the sink's: a write fault comes only where it rose, and else it stays; nothing is read
+-- the sink's: a write fault comes only if it rose, and else it stays; nothing is read
 abbrev pub WritingCause : {T : Type 0} → ℕ → ℕ → Result T ServeFault → Type 0
 WritingCause before now (Ok _) = now ≡ before
 WritingCause before now (Err ReadFault) = ⊥

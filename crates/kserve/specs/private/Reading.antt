@@ -9,7 +9,7 @@ abbrev pub input_as : Said → ScriptInput
 input_as (said.Accepted scripts) = WithScripts scripts.n scripts.scripts.items
 input_as (said.Refused line reason) = Refused line reason
 
--- the answer is what the input says, where that is told
+-- the answer is what the input says, if the source tells its bytes
 abbrev pub Says : Said → Option ScriptInput → Type 0
 Says answer None = Unit {0}
 Says answer (Some input) = input ≡ input_as answer

@@ -16,7 +16,7 @@ use Rattle.kserve.specs.private.Fitting.{are_due}
 use Rattle.kserve.specs.Fitting.{items_of, Fit}
 use Rattle.kserve.specs.Lines.{batch_text, batch_lines}
 
--- the items of updates that are due, or none where one of them isn't
+-- the items of updates that are due, or none if one of them isn't
 abbrev pub AreItems : ℕ → List Update → Option (List Item) → Type 0
 AreItems n updates (Some items) = (items ≡ items_of updates) × (are_due n updates ≡ true)
 AreItems n updates None = are_due n updates ≡ false
@@ -28,12 +28,12 @@ TakesBatch n number batch s t before now (Err WriteFault) = IsPrefix before now 
 TakesBatch n number batch s t before now (Err (Memory _)) = IsPrefix before now (batch_text number batch)
 TakesBatch n number batch s t before now (Err Stray) = (are_due n batch ≡ false) × IsPrefix before now (batch_text number batch)
 
--- that, where the server has gone on so far; once it has stopped, nothing is applied or printed
+-- that, if the server has gone on so far; once it has stopped, nothing is applied or printed
 abbrev pub GoesOn : {T : Type 0} → ℕ → ℕ → List Update → State → State → Option (List ℕ) → Option (List ℕ) → Result T Stop → Result T Stop → Type 0
 GoesOn n number batch s t before now (Ok _) result = TakesBatch n number batch s t before now result
 GoesOn n number batch s t before now (Err stop) result = (result ≡ Err stop) × (now ≡ before)
 
--- where nothing is applied or printed: the server goes on or stops for want of a write; once it has stopped, it has stopped so
+-- nothing is applied or printed: the server goes on, or stops as a write failed; once it has stopped, it stays so
 abbrev pub IsHeld : {T : Type 0} → Result T Stop → Result T Stop → Type 0
 IsHeld (Ok _) (Ok _) = Unit {0}
 IsHeld (Ok _) (Err WriteFault) = Unit {0}

@@ -1,7 +1,10 @@
 // Reads and writes that fail. The call ends each time, and so all threads of it have ended.
-use super::support::{Call, WHOLE, answer, answers, at_once, equal_scripts};
+use super::support::{Call, answer, answers, at_once, equal_scripts};
 use crate::status::ServeStatus;
+use std::process::Abort;
+use std::sync::Wait;
 use std::test::Fail;
+use std::thread::Threads;
 
 // The number of the write that fails, and what was written. The third write is that of the first line of the first
 // batch; the fourth that of its first update.
@@ -11,52 +14,74 @@ const WRITES: &[(u32, &[u8])] = &[
     (4, b"kserve-run 1\nvertices 2\nbatch 1\n"),
 ];
 
+// A call of which this write fails.
+fn failing_write<'a>(input: &'a [u8], write: u32) -> Call<'a> {
+    let call = at_once("2", input);
+    Call { write, ..call }
+}
+
+// Whether a call with a write that fails has written a text that begins so.
+fn has_begun<R: Threads + Wait + Sync + AllocGlobal + Abort>(
+    rt: &R,
+    call: Call<'_>,
+    text: &[u8],
+) -> bool {
+    let (status, sink) = answer(rt, call);
+    status == ServeStatus::WriteFault && sink.bytes().starts_with(text)
+}
+
+// Whether a call ends at each of these writes, and at one in the midst of its text.
+fn each_write_ends<R: Threads + Wait + Sync + AllocGlobal + Abort>(rt: &R, input: &[u8]) -> bool {
+    for (number, text) in WRITES {
+        let call = failing_write(input, *number);
+        if !answers(rt, call, ServeStatus::WriteFault, *text) {
+            return false;
+        }
+    }
+    has_begun(
+        rt,
+        failing_write(input, 5000),
+        b"kserve-run 1\nvertices 2\nbatch 1\ntake ",
+    )
+}
+
 #[test]
 fn clients_wait_for_room_while_a_write_fails(rt: HostRuntime) -> Result<(), Fail> {
     let input = equal_scripts(&rt, 4, 3000);
-    for (number, text) in WRITES {
-        let call = Call {
-            writes: &[*number],
-            ..at_once("2", input.as_slice())
-        };
-        assert!(rt; answers(&rt, call, ServeStatus::WriteFault, *text));
-    }
-    let call = Call {
-        writes: &[5000],
-        ..at_once("2", input.as_slice())
-    };
-    let (status, sink) = answer(&rt, call);
-    assert!(rt; status == ServeStatus::WriteFault);
-    assert!(rt;
-        sink.bytes()
-            .starts_with(b"kserve-run 1\nvertices 2\nbatch 1\ntake ")
-    );
+    assert!(rt; each_write_ends(&rt, input.as_slice()));
     Ok(())
 }
 
 const ONE_EDGE: &[u8] = b"kserve 1\nvertices 2\nbatch\n0 1\nend\n";
 
+// A call that reads an edge in pieces of six bytes, of which this read fails.
+fn failing_read(read: u32) -> Call<'static> {
+    let call = at_once("1", ONE_EDGE);
+    Call {
+        piece: 6,
+        read,
+        ..call
+    }
+}
+
+// Whether nothing is written if one of the seven reads fails. The eighth read isn't made.
+fn nothing_is_written<R: Threads + Wait + Sync + AllocGlobal + Abort>(rt: &R) -> bool {
+    for number in 1..8 {
+        if !answers(rt, failing_read(number), ServeStatus::ReadFault, b"") {
+            return false;
+        }
+    }
+    let (status, _sink) = answer(rt, failing_read(8));
+    status == ServeStatus::Done
+}
+
 #[test]
 fn nothing_is_written_after_a_read_fault(rt: HostRuntime) -> Result<(), Fail> {
-    for number in 1..8 {
-        let call = Call {
-            piece: 6,
-            reads: &[number],
-            ..at_once("1", ONE_EDGE)
-        };
-        assert!(rt; answers(&rt, call, ServeStatus::ReadFault, b""));
-    }
-    let call = Call {
-        piece: 6,
-        reads: &[8],
-        ..at_once("1", ONE_EDGE)
-    };
-    let (status, _sink) = answer(&rt, call);
-    assert!(rt; status == ServeStatus::Done);
+    assert!(rt; nothing_is_written(&rt));
     Ok(())
 }
 
-// What the first read gives, where the second fails, and the line that refuses it.
+// What the first read gives, and the line that refuses it. The second read fails.
 const FIRST_READS: &[(&[u8], &[u8])] = &[
     (b"kcore 1\n", b"refused line 1 header\n"),
     (b"kserve 1\nvertices 0\n", b"refused line 2 header\n"),
@@ -70,16 +95,20 @@ const FIRST_READS: &[(&[u8], &[u8])] = &[
     ),
 ];
 
+// Whether each of these inputs is refused before a second read.
+fn each_is_refused<R: Threads + Wait + Sync + AllocGlobal + Abort>(rt: &R) -> bool {
+    for (input, text) in FIRST_READS {
+        let call = at_once("1", *input);
+        if !answers(rt, Call { read: 2, ..call }, ServeStatus::Refused, *text) {
+            return false;
+        }
+    }
+    true
+}
+
 // Nothing more is read once an input is refused, but the rest of the block with the fault.
 #[test]
 fn a_refusal_waits_for_no_read(rt: HostRuntime) -> Result<(), Fail> {
-    for (input, text) in FIRST_READS {
-        let call = Call {
-            piece: WHOLE,
-            reads: &[2],
-            ..at_once("1", *input)
-        };
-        assert!(rt; answers(&rt, call, ServeStatus::Refused, *text));
-    }
+    assert!(rt; each_is_refused(&rt));
     Ok(())
 }

@@ -1,5 +1,5 @@
-// Gates that hold a client, and a sink that holds the server, until another thread has come to a place, for a bounded
-// number of turns. A turn is one look and one yield.
+// Gates that hold a client, and a sink that holds the server, until another thread has reached a place. They hold it
+// for a bounded number of turns. A turn is one look and one yield.
 ghost use Rattle.std.specs.Prelude.{None};
 
 use super::outputs::are_served;
@@ -17,7 +17,7 @@ use std::thread::Threads;
 
 const MAX_TURNS: u32 = 10_000_000;
 
-// Waits until a counter has come to this, and says whether it has.
+// Waits until a counter has reached this, and says whether it has.
 fn waited(counter: &AtomicU64, wanted: u64) -> bool {
     for _turn in 0..MAX_TURNS {
         if counter.load(SeqCst) >= wanted {
@@ -28,7 +28,7 @@ fn waited(counter: &AtomicU64, wanted: u64) -> bool {
     false
 }
 
-// Holds the first question of each of two clients until the other's was told.
+// Holds the first question of each of two clients until the other client asks.
 #[derive(Drop)]
 struct Meeting {
     first: AtomicU64,
@@ -74,8 +74,8 @@ fn a_long_script_of_one_client(rt: HostRuntime) -> Result<(), Fail> {
     Ok(())
 }
 
-// How many updates clients have begun and ended to submit, how many were printed, and how many pieces of rounds were
-// told; and whether a thread waited in vain or found something out of turn.
+// Counts of the updates that clients have begun and ended to submit, of those that were printed, and of the pieces of
+// rounds. Also whether a thread waited in vain or found something out of order.
 #[derive(Drop)]
 pub struct Counts {
     pub asking: AtomicU64,
@@ -102,13 +102,13 @@ impl Counts {
         }
     }
 
-    // Holds a thread until a counter has come to this.
+    // Holds a thread until a counter has reached this.
     fn hold(&self, counter: &AtomicU64, wanted: u64) {
         self.expect(waited(counter, wanted));
     }
 }
 
-// Takes every piece whole and counts the lines of updates in it. The first of them is held until so many updates were
+// Takes every piece whole and counts the lines of updates in it. Holds the first of them until `wanted` updates were
 // begun to be submitted. It doesn't tell what it took.
 #[derive(Drop)]
 struct Counting<'a> {
@@ -134,13 +134,13 @@ impl Sink for Counting<'_> {
     }
 }
 
-// Whether this many updates, all there are, are submitted and printed, the first of them once `wanted` were begun to be
-// submitted, and no thread waits in vain.
+// Whether this many updates, all there are, are submitted and printed, and no thread waits in vain. The first is
+// printed once `wanted` were begun to be submitted.
 pub fn all_pass<R: Threads + Wait + Sync + AllocGlobal + Abort, G: Gate + Sync>(
     rt: &R,
     gate: &G,
     counts: &Counts,
-    workers: &str,
+    workers: &'static str,
     input: &[u8],
     updates: u64,
     wanted: u64,
@@ -216,8 +216,8 @@ fn updates_are_printed_while_no_others_come(rt: HostRuntime) -> Result<(), Fail>
     Ok(())
 }
 
-// Looks whether one client tells of its updates in turn. The first is held, once it was submitted, until it was
-// printed.
+// Looks whether the gate gets the updates of one client in order. The first is held, once it was submitted, until it
+// was printed.
 #[derive(Drop)]
 struct InTurn<'a> {
     counts: &'a Counts,
@@ -246,8 +246,8 @@ impl Gate for InTurn<'_> {
     }
 }
 
-// The first batch is the first update alone. While the line of it is held, the intake has room for 1,024 more, and so
-// the one after these is told of before it is submitted.
+// The first batch is the first update alone. While the line of it is held, the intake has room for 1,024 more. So the
+// gate gets the one after these before it is submitted.
 #[test]
 fn updates_are_told_before_and_after_they_are_submitted(rt: HostRuntime) -> Result<(), Fail> {
     let counts = Counts::new();

@@ -5,7 +5,7 @@ use std::sync::atomic::AtomicU64;
 use std::sync::atomic::Ordering::SeqCst;
 use std::test::Fail;
 
-// Keeps the greatest index of the pieces that it is told, and holds the second update until the first was printed.
+// Keeps the greatest index of a piece, and holds the second update until the first was printed.
 #[derive(Drop)]
 struct Greatest<'a> {
     holding: Holding<'a>,

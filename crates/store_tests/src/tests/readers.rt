@@ -71,8 +71,8 @@ fn readers_run_at_once(rt: HostRuntime) -> Result<(), Fail> {
 const TWO_BATCHES: &[u8] =
     b"kcore 1\nvertices 4\nask 65536 0\nbatch\n0 1\nend\nbatch\n0 2\n0 3\nend\n";
 
-// The question at which a reader is in a rush, if it comes to it before the second batch. One that looks between its
-// repetitions takes half a minute to come so far, where nothing is shown meanwhile.
+// A reader is in a rush if it puts this question before the second batch is shown. A reader that looks between its
+// repetitions takes half a minute to get so far, if no batch is shown meanwhile.
 const RUSHED: u32 = 8_192;
 
 // For how many milliseconds the second batch is held. A reader in a rush puts that many questions in some of them.

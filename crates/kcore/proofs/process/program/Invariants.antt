@@ -1,4 +1,4 @@
--- What std's contracts tell of the reader and of the writer is told.
+-- The reader and the writer tell the bytes that are known by std's contracts.
 use Rattle.std.specs.Prelude.{is_some}
 use Rattle.std.specs.Io.Buffered.{writer_contents}
 use Rattle.kcore.proofs.process.program.Given as goal

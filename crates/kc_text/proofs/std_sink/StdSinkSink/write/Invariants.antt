@@ -1,4 +1,4 @@
--- No write has ended yet: no fault was counted, the bytes are as they were, and the sink isn't flushed.
+-- No write has ended yet: no fault was counted, the bytes are as before, and the sink isn't flushed.
 use Rattle.std.proofs.Common.{◌≡◌, true, false}
 use Rattle.kc_text.specs.Telling.{IsTold, told_of}
 use Rattle.kc_text.proofs.std_sink.StdSinkSink.write.Given as goal

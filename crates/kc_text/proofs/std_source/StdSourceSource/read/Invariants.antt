@@ -1,4 +1,4 @@
--- No read has ended yet: no fault was counted, and the bytes are as they were.
+-- No read has ended yet: no fault was counted, and the bytes are as before.
 use Rattle.std.proofs.Common.{◌≡◌, true}
 use Rattle.kc_text.specs.Telling.{IsTold, told_of}
 use Rattle.kc_text.proofs.std_source.StdSourceSource.read.Given as goal
