@@ -5,6 +5,7 @@ pub mod Meetings
 pub mod Parts
 pub mod Ranges
 pub mod Rising
+pub mod Round
 pub mod Sharing
 pub mod Telling
 pub mod Watched

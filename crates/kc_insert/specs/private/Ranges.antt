@@ -1,10 +1,14 @@
 -- All ranges of a graph, seen as one: what each vertex counts, and the lists of all ranges one after another.
-use Rattle.std.specs.Prelude.{ℕ, ◌+◌, ◌*◌, ◌^◌, ◌≤◌, ◌<◌, ◌≡◌, ◌++◌, true, false, Bool, List, [], length, get_or}
+use Rattle.std.specs.Prelude.{ℕ, ◌+◌, ◌*◌, ◌^◌, ◌≤◌, ◌<◌, ◌≡◌, ◌⊎◌, ◌++◌, ◌&&◌, ◌||◌, not, true, false, Bool, List, [], filter, length, get_or, set}
 use Rattle.std.specs.List.{flat_map}
+use Rattle.kc_graph.specs.Numbers.{has_number}
 use Rattle.kc_graph.specs.Shape.{Pair}
+use Rattle.kc_levels.specs.Following.{AreDistinct}
+use Rattle.kc_insert.specs.declared.rising.RisingLevels.{RisingLevels}
 use Rattle.kc_insert.specs.private.Parts.{Part}
+use Rattle.kc_insert.specs.private.Rising.{all_at, rises, seen}
 use Rattle.kc_insert.specs.private.Telling.{range_of, Tell}
-use Rattle.kc_insert.specs.private.Watched.{count_at, IsHeld, StayWatched}
+use Rattle.kc_insert.specs.private.Watched.{count_at, is_few, IsHeld, StayWatched}
 
 -- what contracts see of a `Ranges`
 pub record Cut : Type 0 where
@@ -65,3 +69,72 @@ all_stay r = flat_map (λ (p : Part). p.stay) r.parts
 -- the vertices that begin to rise from the level
 abbrev pub all_begun : Cut → List ℕ
 all_begun r = flat_map (λ (p : Part). p.begun) r.parts
+
+-- how ranges keep which vertices rise: each of them began and is kept by its range; all that are kept rose; each that rises and counts
+-- few is on the watch list of its range; and a range keeps and watches vertices of its own alone
+pub record AreKept (levels : RisingLevels) (r : Cut) : Type 0 where
+  pub began : (v : ℕ) → rises levels v ≡ true → has_number v (part_of r v).began ≡ true
+  pub own : (j v : ℕ) → j < length r.parts → has_number v (part_at r j).began ≡ true → IsHeld (part_at r j).watch v
+  pub risen : (j v : ℕ) → j < length r.parts → has_number v (part_at r j).began ≡ true → has_number v (part_at r j).risen ≡ true
+  pub few : (v : ℕ) → rises levels v ≡ true → count_of r v ≤ (part_of r v).watch.most → has_number v (part_of r v).watch.doubtful ≡ true
+  pub inside : (j v : ℕ) → j < length r.parts → has_number v (part_at r j).watch.doubtful ≡ true → IsHeld (part_at r j).watch v
+
+-- the vertices are cut as before, and the lists to tell are as before
+pub record AreCutSo (old new : Cut) : Type 0 where
+  pub bits : new.bits ≡ old.bits
+  pub told : new.told ≡ old.told
+  pub sized : length new.parts ≡ length old.parts
+
+-- what `Ranges::take_waiting` leaves: no vertex waits on the level
+pub record TookWaiting (level : ℕ) (old new : Cut) : Type 0 where
+  pub same : AreCutSo old new
+  pub each : (j : ℕ) (d : Part) → j < length old.parts → get_or new.parts j d ≡ record (get_or old.parts j d) { queue = set (get_or old.parts j d).queue level [] }
+
+-- what `Ranges::let_stay` asks: each range watches vertices of its own alone, and each of them has a level
+pub record CanLetStay (levels : RisingLevels) (old : Cut) : Type 0 where
+  pub small : levels.level < 65535
+  pub inside : (j v : ℕ) (d : Part) → j < length old.parts → has_number v (get_or old.parts j d).watch.doubtful ≡ true → (v < length (seen levels)) × IsHeld (get_or old.parts j d).watch v
+
+-- what `Ranges::let_stay` leaves: the vertices that stay, each once, rise no more, since their counts are within the limits of their
+-- ranges; all others of the watch lists that still rise count more; the watch lists are empty
+pub record AllLetStay (before after : RisingLevels) (old new : Cut) : Type 0 where
+  pub level : after.level ≡ before.level
+  pub levels : seen after ≡ seen before
+  pub same : AreCutSo old new
+  pub each : (j : ℕ) (d : Part) → j < length old.parts → get_or new.parts j d ≡ record (get_or old.parts j d) { watch = record (get_or old.parts j d).watch { doubtful = [] }; stay = (get_or new.parts j d).stay }
+  pub rises_on : (v : ℕ) → rises after v ≡ (rises before v && not (has_number v (all_stay new)))
+  pub stays : (j v : ℕ) (d : Part) → j < length old.parts → has_number v (get_or new.parts j d).stay ≡ true → (rises before v ≡ true) × (count_at (get_or old.parts j d).watch v ≤ (get_or old.parts j d).watch.most) × IsHeld (get_or old.parts j d).watch v
+  pub over : (j v : ℕ) (d : Part) → j < length old.parts → has_number v (get_or old.parts j d).watch.doubtful ≡ true → rises after v ≡ true → (get_or old.parts j d).watch.most < count_at (get_or old.parts j d).watch v
+  pub distinct : AreDistinct (all_stay new)
+
+-- what `Ranges::lift_off` asks: the sweep is at the next level, all the vertices are on the level and in ranges, and none has begun
+pub record CanLiftOff (level : ℕ) (levels : RisingLevels) (vertices : List ℕ) (old : Cut) : Type 0 where
+  pub at : levels.level ≡ level + 1
+  pub below : (v : ℕ) → has_number v vertices ≡ true → v < length (seen levels)
+  pub here : (v : ℕ) → has_number v vertices ≡ true → get_or (seen levels) v 0 ≡ level
+  pub place : (v : ℕ) → has_number v vertices ≡ true → range_of old.bits v < length old.parts
+  pub none : (j : ℕ) (d : Part) → j < length old.parts → (get_or old.parts j d).begun ≡ []
+
+-- what `Ranges::lift_off` leaves: the vertices of the list have begun, each once and in its own range, and are on the next level
+pub record LiftedOff (level : ℕ) (before after : RisingLevels) (vertices : List ℕ) (old new : Cut) : Type 0 where
+  pub level : after.level ≡ before.level
+  pub levels : seen after ≡ all_at (seen before) (all_begun new) (level + 1)
+  pub rising : (v : ℕ) → rises after v ≡ (rises before v || has_number v (all_begun new))
+  pub same : AreCutSo old new
+  pub each : (j : ℕ) (d : Part) → j < length old.parts → get_or new.parts j d ≡ record (get_or old.parts j d) { begun = (get_or new.parts j d).begun }
+  pub own : (j v : ℕ) (d : Part) → j < length old.parts → has_number v (get_or new.parts j d).begun ≡ true → range_of old.bits v ≡ j
+  pub begun : (v : ℕ) → has_number v (all_begun new) ≡ has_number v vertices
+  pub distinct : AreDistinct (all_begun new)
+
+-- what `Ranges::look_anew` asks: each range keeps vertices of its own alone, and each of them has a level
+pub record CanLookAnew (levels : RisingLevels) (old : Cut) : Type 0 where
+  pub inside : (j v : ℕ) (d : Part) → j < length old.parts → has_number v (get_or old.parts j d).began ≡ true → (v < length (seen levels)) × IsHeld (get_or old.parts j d).watch v
+
+-- the range with this limit keeps the vertices alone that rise, and watches those of them that count few
+abbrev pub looked_anew : RisingLevels → ℕ → Part → List ℕ → Part
+looked_anew levels most p stay = record p { watch = record p.watch { most = most; doubtful = filter (is_few p.watch most) (filter (rises levels) p.began) }; began = filter (rises levels) p.began; stay = stay }
+
+-- what `Ranges::look_anew` leaves: each range has the limit, and a range that had another looked anew at all that rise
+pub record LookedAnew (levels : RisingLevels) (most : ℕ) (old new : Cut) : Type 0 where
+  pub same : AreCutSo old new
+  pub each : (j : ℕ) (d : Part) → j < length old.parts → ((most ≡ (get_or old.parts j d).watch.most) × (get_or new.parts j d ≡ get_or old.parts j d)) ⊎ (get_or new.parts j d ≡ looked_anew levels most (get_or old.parts j d) (get_or new.parts j d).stay)
