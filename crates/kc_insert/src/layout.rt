@@ -82,6 +82,19 @@ impl Layout {
         (range as u32) << self.bits
     }
 
+    /// The end of a range of n vertices: the vertex after its last one.
+    pub fn end_of(self, range: usize, n: u32) -> u32
+        requires some { range * 2 ^ self.bits < n }
+        requires few { n ≤ 2 ^ 24 }
+        ensures within { result ≤ n }
+        ensures from { range * 2 ^ self.bits ≤ result }
+        ensures inside { (v : ℕ) → v < n → range_of self.bits v ≡ range → (range * 2 ^ self.bits ≤ v) × (v < result) }
+        ensures own { (v : ℕ) → range * 2 ^ self.bits ≤ v → v < result → range_of self.bits v ≡ range }
+    {
+        let next = self.first_of(range + 1);
+        if next < n { next } else { n }
+    }
+
     /// Whether threads share a pass over so many vertices.
     pub fn is_shared(self, count: usize) -> bool {
         count >= self.least_shared

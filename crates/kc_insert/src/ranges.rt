@@ -1,9 +1,13 @@
 //! All ranges of a graph, and the passes over them: by threads where there is much to do.
 
 ghost use Rattle.std.specs.Prelude.{◌≡◌, ◌+◌, ◌-◌, ◌*◌, ◌++◌, ◌∷◌, ◌<◌, ◌≤◌, ◌^◌, ℕ, [], false, true, All, IfOk, OnOk, length, slice_index_or, slice_set, sum_by};
-ghost use Rattle.kc_insert.specs.private.Ranges.{all_began, count_of, IsIn, meets, part_of, waits};
+ghost use Rattle.std.specs.List.{flat_map};
+ghost use Rattle.kc_graph.specs.Numbers.{has_number};
+ghost use Rattle.kc_insert.specs.private.Ranges.{all_began, all_begun, all_stay, AllLetStay, AreNew, CanLetStay, CanLiftOff, CanLookAnew, count_of, IsIn, LiftedOff, LookedAnew, LooksAnew, meets, part_of, TookWaiting, waits};
+ghost use Rattle.kc_insert.specs.private.Rising.{seen};
 ghost use Rattle.kc_insert.specs.private.Sharing.{AllParted, AllRisen, CanPartAll, CanRiseAll};
 ghost use Rattle.kc_insert.specs.private.Telling.{range_of};
+ghost use Rattle.kc_insert.specs.private.Watched.{IsHeld};
 
 use crate::layout::Layout;
 use crate::passes::Step;
@@ -14,7 +18,6 @@ use crate::telling::Told;
 use kc_rounds::{Gate, Rounds};
 use std::alloc::{AllocError, Global};
 use std::marker::Model;
-use std::mem;
 use std::thread::Threads;
 
 /// The vertices of a graph, cut into ranges. Contracts see it as a `Cut`.
@@ -51,25 +54,113 @@ fn steps_of(items: &mut [Range]) -> usize
     steps
 }
 
+// Appends the second list. It becomes the first if that is empty. Fails only if memory runs out.
+fn append(all: &mut Vec<u32>, some: Vec<u32>) -> Result<(), AllocError>
+    ensures { OnOk result (all.new.items ≡ all.old.items ++ some.items) }
+{
+    if all.is_empty() {
+        *all = some;
+        return Ok(());
+    }
+    all.extend_from_slice(&some)?;
+    Ok(())
+}
+
+// Takes out the vertices that wait on the level, range by range. Fails only if memory runs out.
+fn take_each(alloc: Global, level: u16, items: &mut [Range]) -> Result<Vec<u32>, AllocError>
+    requires { All (λ p. level < length p.queue) items.old }
+    ensures waiting { IfOk result (λ r. r.items ≡ flat_map (λ p. slice_index_or p.queue level []) items.old) }
+    ensures took { OnOk result (TookWaiting level items.old items.new) }
+{
+    let mut all = Vec::new(alloc);
+    for i in 0..items.len() {
+        let range = &mut items[i];
+        let some = range.queue.take_all(alloc, level);
+        append(&mut all, some)?;
+    }
+    Ok(all)
+}
+
+// In each range rising vertices on the watch list whose count is within the limit stop. Returns how many. Fails only if memory runs out.
+fn stop_each(levels: &mut RisingLevels, items: &mut [Range]) -> Result<usize, AllocError>
+    requires { CanLetStay levels.old items.old }
+    ensures stop { OnOk result (AllLetStay levels.old levels.new items.old items.new) }
+    ensures count { IfOk result (λ count. count ≡ length (flat_map (λ p. p.stay) items.new)) }
+{
+    let mut count = 0;
+    for i in 0..items.len() {
+        let range = &mut items[i];
+        range.let_stay(levels)?;
+        count += range.stay.len();
+    }
+    Ok(count)
+}
+
+// The vertices begin to rise, each in its range. Returns how many there are. Fails only if memory runs out.
+fn lift_each(
+    levels: &mut RisingLevels,
+    level: u16,
+    vertices: &[u32],
+    layout: Layout,
+    items: &mut [Range],
+) -> Result<usize, AllocError>
+    requires { CanLiftOff level levels.old vertices.now layout.bits items.old }
+    ensures lifted { OnOk result (LiftedOff level levels.old levels.new vertices.now layout.bits items.old items.new) }
+    ensures count { IfOk result (λ count. count ≡ length (flat_map (λ p. p.begun) items.new)) }
+{
+    let mut count = 0;
+    for v in vertices {
+        if levels.get(*v) == level {
+            levels.begin(*v);
+            let range = &mut items[layout.range_of(*v)];
+            range.begun.push(*v)?;
+            count += 1;
+        }
+    }
+    Ok(count)
+}
+
+// Looks anew at all that rise in the range if it had another limit. Fails only if memory runs out.
+fn look_at(levels: &RisingLevels, most: u32, range: &mut Range) -> Result<(), AllocError>
+    requires { (v : ℕ) → has_number v range.old.began ≡ true → (v < length (seen levels.now)) × IsHeld range.old.watch v }
+    ensures { OnOk result (LooksAnew levels.now most range.old range.new) }
+{
+    if most != range.watched.most() {
+        range.look_anew(levels, most)?;
+    }
+    Ok(())
+}
+
+// Looks anew at all that rise in each range that had another limit. Fails only if memory runs out.
+fn look_each(levels: &RisingLevels, most: u32, items: &mut [Range]) -> Result<(), AllocError>
+    requires { CanLookAnew levels.now items.old }
+    ensures { OnOk result (LookedAnew levels.now most items.old items.new) }
+{
+    for i in 0..items.len() {
+        let range = &mut items[i];
+        look_at(levels, most, range)?;
+    }
+    Ok(())
+}
+
 impl Ranges {
-    /// The vertices with these counts, of which none rises or waits.
+    /// The vertices with these counts, of which none rises or waits. Fails only if memory runs out.
     pub fn new(
         alloc: Global,
         layout: Layout,
         counts: &[u32],
         levels: u16,
-    ) -> Result<Self, AllocError> {
+    ) -> Result<Self, AllocError>
+        requires { length counts.now ≤ 2 ^ 24 }
+        ensures { IfOk result (λ ranges. AreNew layout.bits counts.now levels ranges) }
+    {
         let n = counts.len() as u32;
         let ranges = layout.ranges(n);
         let mut items = Vec::with_capacity(alloc, ranges)?;
         let mut told = Vec::with_capacity(alloc, ranges)?;
         for i in 0..ranges {
             let first = layout.first_of(i);
-            let end = if i + 1 < ranges {
-                layout.first_of(i + 1)
-            } else {
-                n
-            };
+            let end = layout.end_of(i, n);
             let part = &counts[first as usize..end as usize];
             items.push(Range::new(alloc, first, part, levels, ranges)?)?;
             told.push(Told::new(alloc, ranges)?)?;
@@ -174,47 +265,39 @@ impl Ranges {
         false
     }
 
-    /// Takes out the vertices that wait on the level.
-    pub fn take_waiting(&mut self, alloc: Global, level: u16) -> Result<Vec<u32>, AllocError> {
-        let mut all = Vec::new(alloc);
-        for range in &mut self.items {
-            let mut some = range.queue.take_all(alloc, level);
-            if all.is_empty() {
-                mem::swap(&mut all, &mut some);
-            } else {
-                all.extend_from_slice(&some)?;
-            }
-        }
-        Ok(all)
+    /// Takes out the vertices that wait on the level. Fails only if memory runs out.
+    pub fn take_waiting(&mut self, alloc: Global, level: u16) -> Result<Vec<u32>, AllocError>
+        requires { All (λ p. level < length p.queue) self.old.parts }
+        ensures waiting { IfOk result (λ r. r.items ≡ waits self.old level) }
+        ensures took { OnOk result (TookWaiting level self.old.parts self.new.parts) }
+        ensures same { (self.new.bits ≡ self.old.bits) × (self.new.told ≡ self.old.told) }
+    {
+        take_each(alloc, level, &mut self.items)
     }
 
-    /// Rising vertices on a watch list whose count is within the limit stop here. Returns how many.
-    pub fn let_stay(&mut self, levels: &mut RisingLevels) -> Result<usize, AllocError> {
-        let mut count = 0;
-        for range in &mut self.items {
-            range.let_stay(levels)?;
-            count += range.stay.len();
-        }
-        Ok(count)
+    /// Rising vertices on a watch list whose count is within the limit stop here. Returns how many. Fails only if memory runs out.
+    pub fn let_stay(&mut self, levels: &mut RisingLevels) -> Result<usize, AllocError>
+        requires { CanLetStay levels.old self.old.parts }
+        ensures stay { OnOk result (AllLetStay levels.old levels.new self.old.parts self.new.parts) }
+        ensures count { IfOk result (λ count. count ≡ length (all_stay self.new)) }
+        ensures same { (self.new.bits ≡ self.old.bits) × (self.new.told ≡ self.old.told) }
+    {
+        stop_each(levels, &mut self.items)
     }
 
-    /// Those of the vertices that were on the level before begin to rise. Returns how many.
+    /// The vertices, all of which were on the level before, begin to rise. Returns how many there are. Fails only if memory runs out.
     pub fn lift_off(
         &mut self,
         levels: &mut RisingLevels,
         level: u16,
         vertices: &[u32],
-    ) -> Result<usize, AllocError> {
-        let mut count = 0;
-        for v in vertices {
-            if levels.get(*v) == level {
-                levels.begin(*v);
-                let range = &mut self.items[self.layout.range_of(*v)];
-                range.begun.push(*v)?;
-                count += 1;
-            }
-        }
-        Ok(count)
+    ) -> Result<usize, AllocError>
+        requires { CanLiftOff level levels.old vertices.now self.old.bits self.old.parts }
+        ensures lifted { OnOk result (LiftedOff level levels.old levels.new vertices.now self.old.bits self.old.parts self.new.parts) }
+        ensures count { IfOk result (λ count. count ≡ length (all_begun self.new)) }
+        ensures same { (self.new.bits ≡ self.old.bits) × (self.new.told ≡ self.old.told) }
+    {
+        lift_each(levels, level, vertices, self.layout, &mut self.items)
     }
 
     /// The number of meetings on a level.
@@ -229,14 +312,13 @@ impl Ranges {
         count
     }
 
-    /// Looks anew at all that rise, with another limit.
-    pub fn look_anew(&mut self, levels: &RisingLevels, most: u32) -> Result<(), AllocError> {
-        for range in &mut self.items {
-            if most != range.watched.most() {
-                range.look_anew(levels, most)?;
-            }
-        }
-        Ok(())
+    /// From now on the limit is `most`: each range that had another looks anew at all that rise. Fails only if memory runs out.
+    pub fn look_anew(&mut self, levels: &RisingLevels, most: u32) -> Result<(), AllocError>
+        requires { CanLookAnew levels.now self.old.parts }
+        ensures looked { OnOk result (LookedAnew levels.now most self.old.parts self.new.parts) }
+        ensures same { (self.new.bits ≡ self.old.bits) × (self.new.told ≡ self.old.told) }
+    {
+        look_each(levels, most, &mut self.items)
     }
 
     /// Whether what is told of `count` vertices is dealt to the ranges, and heard by each of them.

@@ -1,5 +1,5 @@
 -- All ranges of a graph, seen as one: what each vertex counts, and the lists of all ranges one after another.
-use Rattle.std.specs.Prelude.{ℕ, ◌+◌, ◌*◌, ◌^◌, ◌≤◌, ◌<◌, ◌≡◌, ◌⊎◌, ◌++◌, ◌&&◌, ◌||◌, not, true, false, Bool, List, [], filter, length, get_or, set}
+use Rattle.std.specs.Prelude.{ℕ, ◌+◌, ◌*◌, ◌^◌, ◌≤◌, ◌<◌, ◌≡◌, ◌⊎◌, ◌++◌, ◌&&◌, ◌||◌, not, true, false, Bool, List, [], filter, length, get_or, replicate, set}
 use Rattle.std.specs.List.{flat_map}
 use Rattle.kc_graph.specs.Numbers.{has_number}
 use Rattle.kc_graph.specs.Shape.{Pair}
@@ -79,62 +79,67 @@ pub record AreKept (levels : RisingLevels) (r : Cut) : Type 0 where
   pub few : (v : ℕ) → rises levels v ≡ true → count_of r v ≤ (part_of r v).watch.most → has_number v (part_of r v).watch.doubtful ≡ true
   pub inside : (j v : ℕ) → j < length r.parts → has_number v (part_at r j).watch.doubtful ≡ true → IsHeld (part_at r j).watch v
 
--- the vertices are cut as before, and the lists to tell are as before
-pub record AreCutSo (old new : Cut) : Type 0 where
-  pub bits : new.bits ≡ old.bits
-  pub told : new.told ≡ old.told
-  pub sized : length new.parts ≡ length old.parts
-
 -- what `Ranges::take_waiting` leaves: no vertex waits on the level
-pub record TookWaiting (level : ℕ) (old new : Cut) : Type 0 where
-  pub same : AreCutSo old new
-  pub each : (j : ℕ) (d : Part) → j < length old.parts → get_or new.parts j d ≡ record (get_or old.parts j d) { queue = set (get_or old.parts j d).queue level [] }
+pub record TookWaiting (level : ℕ) (old new : List Part) : Type 0 where
+  pub sized : length new ≡ length old
+  pub each : (j : ℕ) (d : Part) → j < length old → get_or new j d ≡ record (get_or old j d) { queue = set (get_or old j d).queue level [] }
 
 -- what `Ranges::let_stay` asks: each range watches vertices of its own alone, and each of them has a level
-pub record CanLetStay (levels : RisingLevels) (old : Cut) : Type 0 where
+pub record CanLetStay (levels : RisingLevels) (old : List Part) : Type 0 where
   pub small : levels.level < 65535
-  pub inside : (j v : ℕ) (d : Part) → j < length old.parts → has_number v (get_or old.parts j d).watch.doubtful ≡ true → (v < length (seen levels)) × IsHeld (get_or old.parts j d).watch v
+  pub inside : (j v : ℕ) (d : Part) → j < length old → has_number v (get_or old j d).watch.doubtful ≡ true → (v < length (seen levels)) × IsHeld (get_or old j d).watch v
 
 -- what `Ranges::let_stay` leaves: the vertices that stay, each once, rise no more, since their counts are within the limits of their
 -- ranges; all others of the watch lists that still rise count more; the watch lists are empty
-pub record AllLetStay (before after : RisingLevels) (old new : Cut) : Type 0 where
+pub record AllLetStay (before after : RisingLevels) (old new : List Part) : Type 0 where
   pub level : after.level ≡ before.level
   pub levels : seen after ≡ seen before
-  pub same : AreCutSo old new
-  pub each : (j : ℕ) (d : Part) → j < length old.parts → get_or new.parts j d ≡ record (get_or old.parts j d) { watch = record (get_or old.parts j d).watch { doubtful = [] }; stay = (get_or new.parts j d).stay }
-  pub rises_on : (v : ℕ) → rises after v ≡ (rises before v && not (has_number v (all_stay new)))
-  pub stays : (j v : ℕ) (d : Part) → j < length old.parts → has_number v (get_or new.parts j d).stay ≡ true → (rises before v ≡ true) × (count_at (get_or old.parts j d).watch v ≤ (get_or old.parts j d).watch.most) × IsHeld (get_or old.parts j d).watch v
-  pub over : (j v : ℕ) (d : Part) → j < length old.parts → has_number v (get_or old.parts j d).watch.doubtful ≡ true → rises after v ≡ true → (get_or old.parts j d).watch.most < count_at (get_or old.parts j d).watch v
-  pub distinct : AreDistinct (all_stay new)
+  pub sized : length new ≡ length old
+  pub each : (j : ℕ) (d : Part) → j < length old → get_or new j d ≡ record (get_or old j d) { watch = record (get_or old j d).watch { doubtful = [] }; stay = (get_or new j d).stay }
+  pub rises_on : (v : ℕ) → rises after v ≡ (rises before v && not (has_number v (flat_map (λ (p : Part). p.stay) new)))
+  pub stays : (j v : ℕ) (d : Part) → j < length old → has_number v (get_or new j d).stay ≡ true → (rises before v ≡ true) × (count_at (get_or old j d).watch v ≤ (get_or old j d).watch.most) × IsHeld (get_or old j d).watch v
+  pub over : (j v : ℕ) (d : Part) → j < length old → has_number v (get_or old j d).watch.doubtful ≡ true → rises after v ≡ true → (get_or old j d).watch.most < count_at (get_or old j d).watch v
+  pub distinct : AreDistinct (flat_map (λ (p : Part). p.stay) new)
 
 -- what `Ranges::lift_off` asks: the sweep is at the next level, all the vertices are on the level and in ranges, and none has begun
-pub record CanLiftOff (level : ℕ) (levels : RisingLevels) (vertices : List ℕ) (old : Cut) : Type 0 where
+pub record CanLiftOff (level : ℕ) (levels : RisingLevels) (vertices : List ℕ) (bits : ℕ) (old : List Part) : Type 0 where
   pub at : levels.level ≡ level + 1
   pub below : (v : ℕ) → has_number v vertices ≡ true → v < length (seen levels)
   pub here : (v : ℕ) → has_number v vertices ≡ true → get_or (seen levels) v 0 ≡ level
-  pub place : (v : ℕ) → has_number v vertices ≡ true → range_of old.bits v < length old.parts
-  pub none : (j : ℕ) (d : Part) → j < length old.parts → (get_or old.parts j d).begun ≡ []
+  pub place : (v : ℕ) → has_number v vertices ≡ true → range_of bits v < length old
+  pub none : (j : ℕ) (d : Part) → j < length old → (get_or old j d).begun ≡ []
 
 -- what `Ranges::lift_off` leaves: the vertices of the list have begun, each once and in its own range, and are on the next level
-pub record LiftedOff (level : ℕ) (before after : RisingLevels) (vertices : List ℕ) (old new : Cut) : Type 0 where
+pub record LiftedOff (level : ℕ) (before after : RisingLevels) (vertices : List ℕ) (bits : ℕ) (old new : List Part) : Type 0 where
   pub level : after.level ≡ before.level
-  pub levels : seen after ≡ all_at (seen before) (all_begun new) (level + 1)
-  pub rising : (v : ℕ) → rises after v ≡ (rises before v || has_number v (all_begun new))
-  pub same : AreCutSo old new
-  pub each : (j : ℕ) (d : Part) → j < length old.parts → get_or new.parts j d ≡ record (get_or old.parts j d) { begun = (get_or new.parts j d).begun }
-  pub own : (j v : ℕ) (d : Part) → j < length old.parts → has_number v (get_or new.parts j d).begun ≡ true → range_of old.bits v ≡ j
-  pub begun : (v : ℕ) → has_number v (all_begun new) ≡ has_number v vertices
-  pub distinct : AreDistinct (all_begun new)
+  pub levels : seen after ≡ all_at (seen before) (flat_map (λ (p : Part). p.begun) new) (level + 1)
+  pub rising : (v : ℕ) → rises after v ≡ (rises before v || has_number v (flat_map (λ (p : Part). p.begun) new))
+  pub sized : length new ≡ length old
+  pub each : (j : ℕ) (d : Part) → j < length old → get_or new j d ≡ record (get_or old j d) { begun = (get_or new j d).begun }
+  pub own : (j v : ℕ) (d : Part) → j < length old → has_number v (get_or new j d).begun ≡ true → range_of bits v ≡ j
+  pub begun : (v : ℕ) → has_number v (flat_map (λ (p : Part). p.begun) new) ≡ has_number v vertices
+  pub distinct : AreDistinct (flat_map (λ (p : Part). p.begun) new)
 
 -- what `Ranges::look_anew` asks: each range keeps vertices of its own alone, and each of them has a level
-pub record CanLookAnew (levels : RisingLevels) (old : Cut) : Type 0 where
-  pub inside : (j v : ℕ) (d : Part) → j < length old.parts → has_number v (get_or old.parts j d).began ≡ true → (v < length (seen levels)) × IsHeld (get_or old.parts j d).watch v
+pub record CanLookAnew (levels : RisingLevels) (old : List Part) : Type 0 where
+  pub inside : (j v : ℕ) (d : Part) → j < length old → has_number v (get_or old j d).began ≡ true → (v < length (seen levels)) × IsHeld (get_or old j d).watch v
 
--- the range with this limit keeps the vertices alone that rise, and watches those of them that count few
+-- the range, with this limit, keeps the vertices alone that rise, and watches those of them that count few
 abbrev pub looked_anew : RisingLevels → ℕ → Part → List ℕ → Part
 looked_anew levels most p stay = record p { watch = record p.watch { most = most; doubtful = filter (is_few p.watch most) (filter (rises levels) p.began) }; began = filter (rises levels) p.began; stay = stay }
 
--- what `Ranges::look_anew` leaves: each range has the limit, and a range that had another looked anew at all that rise
-pub record LookedAnew (levels : RisingLevels) (most : ℕ) (old new : Cut) : Type 0 where
-  pub same : AreCutSo old new
-  pub each : (j : ℕ) (d : Part) → j < length old.parts → ((most ≡ (get_or old.parts j d).watch.most) × (get_or new.parts j d ≡ get_or old.parts j d)) ⊎ (get_or new.parts j d ≡ looked_anew levels most (get_or old.parts j d) (get_or new.parts j d).stay)
+-- the range has the limit; if it had another before it looked anew at all that rise
+abbrev pub LooksAnew : RisingLevels → ℕ → Part → Part → Type 0
+LooksAnew levels most old new = ((most ≡ old.watch.most) × (new ≡ old)) ⊎ (new ≡ looked_anew levels most old new.stay)
+
+-- what `Ranges::look_anew` leaves
+pub record LookedAnew (levels : RisingLevels) (most : ℕ) (old new : List Part) : Type 0 where
+  pub sized : length new ≡ length old
+  pub each : (j : ℕ) (d : Part) → j < length old → LooksAnew levels most (get_or old j d) (get_or new j d)
+
+-- what `Ranges::new` leaves: the vertices, with these counts, are cut, and none of them rises or waits
+pub record AreNew (bits : ℕ) (counts : List ℕ) (levels : ℕ) (new : Cut) : Type 0 where
+  pub bits : new.bits ≡ bits
+  pub cut : IsCut (length counts) levels new
+  pub counts : (v : ℕ) → v < length counts → count_of new v ≡ get_or counts v 0
+  pub each : (j : ℕ) (d : Part) → j < length new.parts → get_or new.parts j d ≡ record { watch = record { first = (get_or new.parts j d).watch.first; counts = (get_or new.parts j d).watch.counts; most = 0; doubtful = [] }; queue = replicate levels []; meetings = replicate levels []; began = []; risen = []; stay = []; begun = []; tell = record { all = []; lists = replicate (length new.parts) [] }; steps = 0; is_short = false }
