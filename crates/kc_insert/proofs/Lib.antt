@@ -4,6 +4,7 @@ mod Buckets
 mod Coming
 mod Dealing
 mod Direct
+mod Efforts
 mod Flips
 mod Following
 mod Hearing
@@ -12,6 +13,7 @@ mod Leaving
 mod Lifting
 mod Looking
 mod Meeting
+mod Members
 mod Nearest
 mod Pairs
 mod Parting
@@ -19,5 +21,6 @@ mod Rows
 mod Seen
 mod Shared
 mod Staying
+mod Stepping
 mod Summing
 mod Watching
