@@ -23,4 +23,6 @@ mod Shared
 mod Staying
 mod Stepping
 mod Summing
+mod Sweeps
+mod Together
 mod Watching

@@ -2,12 +2,12 @@
 --
 -- A sweep that began with the levels x is at one level, on which all rising vertices are. Below it no vertex breaks the upper
 -- invariant. The vertices that rise came to the level in the sweep; all others on it or above stand where they stood in x.
-use Rattle.std.specs.Prelude.{ℕ, ◌+◌, ◌≤◌, ◌<◌, ◌≡◌, ◌⊎◌, true, false, List, length, get_or, filter}
+use Rattle.std.specs.Prelude.{ℕ, ◌+◌, ◌≤◌, ◌<◌, ◌≡◌, ◌⊎◌, true, false, List, [], length, get_or, filter}
 use Rattle.kc_graph.specs.Numbers.{has_number}
 use Rattle.kc_graph.specs.Shape.{GraphShape, Pair, has_edge}
 use Rattle.kc_levels.specs.declared.profile.Profile.{Profile}
 use Rattle.kc_levels.specs.Following.{AreDistinct}
-use Rattle.kc_levels.specs.LevelList.{MeetsUpper, at_least}
+use Rattle.kc_levels.specs.LevelList.{at_least, IsCapped, MeetsUpper}
 use Rattle.kc_levels.specs.Moved.{is_moved}
 use Rattle.kc_levels.specs.private.LevelList.{IsRaising}
 use Rattle.kc_adj.specs.Degrees.{degrees}
@@ -15,7 +15,7 @@ use Rattle.kc_insert.specs.Effort.{effort}
 use Rattle.kc_insert.specs.declared.rising.RisingLevels.{RisingLevels}
 use Rattle.kc_insert.specs.private.Meetings.{AreApart, IsMeeting}
 use Rattle.kc_insert.specs.private.Ranges.{Cut, all_began, all_risen, count_of, meets, waits}
-use Rattle.kc_insert.specs.private.Rising.{rises, seen}
+use Rattle.kc_insert.specs.private.Rising.{all_at, rises, seen}
 
 -- a sweep on its way, seen as sets: the level that it is at; the levels by now; what each vertex counts; the vertices that rise, and
 -- all that rose; the vertices that wait on a level, and the meetings there
@@ -79,3 +79,26 @@ pub record IsUnderWay (p : Profile) (g : GraphShape) (s : Sweeping) : Type 0 whe
 -- and of another pass and one more for each that rose, for when it is lifted in the graph
 abbrev pub IsPaid : GraphShape → List ℕ → Sweeping → ℕ → ℕ → Type 0
 IsPaid g x s first now = now + (degrees g s.rising + (degrees g s.risen + length s.risen)) ≤ first + effort g x s.levels g.vertices
+
+-- each vertex that waits is on its level by x, and each that doesn't meets the upper invariant
+pub record IsQueued (p : Profile) (g : GraphShape) (x : List ℕ) (waits : ℕ → List ℕ) : Type 0 where
+  pub waiting : (k v : ℕ) → has_number v (waits k) ≡ true → (v < g.vertices) × (get_or x v 0 ≡ k)
+  pub found : (v : ℕ) → v < g.vertices → (has_number v (waits (get_or x v 0)) ≡ true) ⊎ MeetsUpper p g x v
+
+-- a sweep that begins with the levels x
+pub record IsFirst (p : Profile) (g : GraphShape) (x : List ℕ) (s : Sweeping) : Type 0 where
+  pub sized : length x ≡ g.vertices
+  pub capped : IsCapped p g.vertices x
+  pub levels : s.levels ≡ x
+  pub counted : AreCounted g x s.count
+  pub queued : IsQueued p g x s.waits
+  pub none : (s.rising ≡ []) × (s.risen ≡ []) × ((k : ℕ) → s.meets k ≡ [])
+
+-- on the levels from l on before k no vertex waits, and on those and on k none is to be met
+pub record IsFree (l k : ℕ) (waits : ℕ → List ℕ) (meets : ℕ → List Pair) : Type 0 where
+  pub none_waits : (j : ℕ) → l ≤ j → j < k → waits j ≡ []
+  pub none_meets : (j : ℕ) → l ≤ j → j ≤ k → meets j ≡ []
+
+-- the sweep with the vertices that came to its level on the level k, which it is at
+abbrev pub together : Sweeping → ℕ → Sweeping
+together s k = record s { level = k; levels = all_at s.levels s.rising k }
