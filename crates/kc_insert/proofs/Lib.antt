@@ -9,6 +9,7 @@ mod Flips
 mod Following
 mod Hearing
 mod Inside
+mod Joined
 mod Leaving
 mod Lifting
 mod Looking
@@ -17,6 +18,9 @@ mod Members
 mod Nearest
 mod Pairs
 mod Parting
+mod RoundLifted
+mod RoundParts
+mod RoundRising
 mod Rows
 mod Seen
 mod Shared
@@ -24,5 +28,6 @@ mod Staying
 mod Stepping
 mod Summing
 mod Sweeps
+mod Tests
 mod Together
 mod Watching
