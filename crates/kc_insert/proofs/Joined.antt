@@ -198,3 +198,12 @@ copies_joined e f h (p ∷ ps) = omega (
   copies-append e (h p) (flat_map h ps),
   copies_joined e f h ps,
 )
+
+-- pairs that are apart in all lists are apart in each
+pub copies_part : (e : Pair) (f : Part → List Pair) (ps : List Part) (j : ℕ) → j < length ps → copies e (f (get_or ps j no_part)) ≤ copies e (flat_map f ps)
+copies_part e f [] j at = absurd (omega (arith, at))
+copies_part e f (p ∷ ps) zero at = omega (arith, copies-append e (f p) (flat_map f ps))
+copies_part e f (p ∷ ps) (suc j) at = omega (arith, copies-append e (f p) (flat_map f ps), copies_part e f ps j (omega (arith, at)))
+
+pub apart_part : (f : Part → List Pair) (ps : List Part) (j : ℕ) → j < length ps → AreApart (flat_map f ps) → AreApart (f (get_or ps j no_part))
+apart_part f ps j at apart = copies_apart (f (get_or ps j no_part)) (λ e. omega (arith, copies_part e f ps j at, apart_copies e (flat_map f ps) apart))

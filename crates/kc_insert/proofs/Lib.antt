@@ -21,6 +21,7 @@ mod Parting
 mod RoundLifted
 mod RoundParts
 mod RoundRising
+mod RoundTold
 mod Rows
 mod Seen
 mod Shared
