@@ -18,6 +18,7 @@ mod Members
 mod Nearest
 mod Pairs
 mod Parting
+mod RoundCounts
 mod RoundLifted
 mod RoundParts
 mod RoundRising
