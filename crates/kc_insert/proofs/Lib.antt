@@ -15,14 +15,17 @@ mod Lifting
 mod Looking
 mod Meeting
 mod Members
+mod MetRows
 mod Nearest
 mod Pairs
 mod Parting
 mod RoundCounts
 mod RoundLifted
+mod RoundMeets
 mod RoundParts
 mod RoundRising
 mod RoundTold
+mod RoundWaits
 mod Rows
 mod Seen
 mod Shared

@@ -39,14 +39,14 @@ module _ (p : Profile) (g : GraphShape) (x : List ℕ) (r : Passage) (k : AreKee
   near_v v = neighbours_of v g.edges
 
   -- the range of v
-  abbrev home : ℕ → ℕ
+  abbrev pub home : ℕ → ℕ
   home v = range_of r.bits v
 
   module _ (v : ℕ) (at : v < g.vertices) where
-    inside : home v < length r.p0
+    pub inside : home v < length r.p0
     inside = (vertex_in p g x r.bits r.most r.levels r.s0 r.p0 r.told0 k v at).0
 
-    held : IsHeld (place_of r.bits r.p0 v).watch v
+    pub held : IsHeld (place_of r.bits r.p0 v).watch v
     held = (vertex_in p g x r.bits r.most r.levels r.s0 r.p0 r.told0 k v at).1
 
     pub count2 : counts_of r.bits r.p2 v ≡ counts_of r.bits r.p0 v
@@ -72,7 +72,7 @@ module _ (p : Profile) (g : GraphShape) (x : List ℕ) (r : Passage) (k : AreKee
       ]
     ]
 
-    abbrev count_mid : ℕ
+    abbrev pub count_mid : ℕ
     count_mid = count_at (mid g r h (home v) inside).watch v
 
     count5 : counts_of r.bits r.p5 v ≡ count_mid + told v
@@ -84,10 +84,18 @@ module _ (p : Profile) (g : GraphShape) (x : List ℕ) (r : Passage) (k : AreKee
     pub fresh_count : has_number v (begun_in r.p4) ≡ true → counts_of r.bits r.p5 v ≡ count_by (λ u. ltb r.s0.level (get_or r.s3.stored u 0)) (near_v v) + told v
     fresh_count new = count5 ∙ ap (λ n. n + told v) ((rose_at g r h (home v) inside).risen.own v (begun_home ∙ new))
 
+    mid_count : has_number v (begun_in r.p4) ≡ false → count_mid + left v ≡ counts_of r.bits r.p4 v
+    mid_count none = (rose_at g r h (home v) inside).risen.others v (omega (arith, held.from, first4 g r h (home v) inside)) (begun_home ∙ none)
+
+    -- a vertex that neither goes on nor begins counts as before until it is told of others
+    pub mid_same : rises r.s1 v ≡ false → has_number v (begun_in r.p4) ≡ false → count_mid ≡ counts_of r.bits r.p0 v
+    mid_same off none =
+        let rests : rises r.s3 v ≡ false = rises3 p g x r k h v ∙ or_none (rises r.s1 v) (has_number v (begun_in r.p4)) off none in
+        let less = ap {B = ℕ} (λ b. cond b (count_by (λ u. has_number u (stay_in r.p2)) (near_v v)) 0) off in
+        omega (arith, mid_count none, count4, less, left_none p g x r k h graph small v rests)
+
     pub other_count : has_number v (begun_in r.p4) ≡ false → counts_of r.bits r.p5 v + left v ≡ counts_of r.bits r.p4 v + told v
-    other_count none =
-        let before = (rose_at g r h (home v) inside).risen.others v (omega (arith, held.from, first4 g r h (home v) inside)) (begun_home ∙ none) in
-        omega (arith, count5, before)
+    other_count none = omega (arith, count5, mid_count none)
 
   abbrev old_at : ℕ → ℕ
   old_at u = get_or (seen r.s0) u 0
