@@ -19,7 +19,9 @@ mod MetRows
 mod Nearest
 mod Pairs
 mod Parting
+mod Round
 mod RoundCounts
+mod RoundKept
 mod RoundLifted
 mod RoundMeets
 mod RoundParts
@@ -32,6 +34,7 @@ mod Shared
 mod Staying
 mod Stepping
 mod Summing
+mod SweepSame
 mod Sweeps
 mod Tests
 mod Together

@@ -60,7 +60,7 @@ module _ (p : Profile) (g : GraphShape) (x : List ℕ) (r : Passage) (k : AreKee
         ∙ h.parted.less v no_part (omega (arith, inside, long2 g r h)) (held2 g r h (home v) inside v held)
         ∙ count2
 
-    begun_home : has_number v (place_of r.bits r.p4 v).begun ≡ has_number v (begun_in r.p4)
+    pub begun_home : has_number v (place_of r.bits r.p4 v).begun ≡ has_number v (begun_in r.p4)
     begun_home = elim (cases_Bool (has_number v (begun_in r.p4))) [
       | inl there ↦
           let in_ = joined_in (λ (q : Part). q.begun) r.p4 v there in
@@ -75,7 +75,7 @@ module _ (p : Profile) (g : GraphShape) (x : List ℕ) (r : Passage) (k : AreKee
     abbrev pub count_mid : ℕ
     count_mid = count_at (mid g r h (home v) inside).watch v
 
-    count5 : counts_of r.bits r.p5 v ≡ count_mid + told v
+    pub count5 : counts_of r.bits r.p5 v ≡ count_mid + told v
     count5 =
         (met_at g r h (home v) inside).more v (held_mid g r h (home v) inside v held).from
         ∙ ap (λ n. count_mid + n) (in_range_times r.bits v (rise_told (second_step p g x r k h graph small) r.p4))

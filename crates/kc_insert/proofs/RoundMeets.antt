@@ -32,7 +32,7 @@ module _ (p : Profile) (g : GraphShape) (x : List ℕ) (r : Passage) (k : AreKee
   past_old : (j i : ℕ) → j < length r.p0 → 65535 ≤ i → get_or (at_place r.p0 j).meetings i [] ≡ []
   past_old j i at past = get_or_past (at_place r.p0 j).meetings i [] (omega (arith, past, few, k.shape.meetings j at))
 
-  past_new : (j i : ℕ) → j < length r.p0 → 65535 ≤ i → get_or (at_place r.p5 j).meetings i [] ≡ []
+  pub past_new : (j i : ℕ) → j < length r.p0 → 65535 ≤ i → get_or (at_place r.p5 j).meetings i [] ≡ []
   past_new j i at past =
       ap (λ (m : List (List Pair)). get_or m i []) (meetings5 g r h j at)
       ∙ get_or_past (mid g r h j at).meetings i [] (omega (arith, past, few, k.shape.meetings j at, (rose_at g r h j at).risen.meetings.sized, length-set (at_place r.p4 j).meetings r.s0.level [], ap (λ (m : List (List Pair)). length m) (meetings4 g r h j at)))
