@@ -141,6 +141,15 @@ pub record LookedAnew (levels : RisingLevels) (most : ℕ) (old new : List Part)
   pub sized : length new ≡ length old
   pub each : (j : ℕ) (d : Part) → j < length old → LooksAnew levels most (get_or old j d) (get_or new j d)
 
+-- but for what the vertices count, and which of them wait, all is as before
+pub record IsSameCut (old new : Cut) : Type 0 where
+  pub bits : new.bits ≡ old.bits
+  pub told : new.told ≡ old.told
+  pub sized : length new.parts ≡ length old.parts
+  pub each : (j : ℕ) (d : Part) → j < length old.parts → get_or new.parts j d ≡ record (get_or old.parts j d) { watch = record (get_or old.parts j d).watch { counts = (get_or new.parts j d).watch.counts }; queue = (get_or new.parts j d).queue }
+  pub counts : (j : ℕ) (d : Part) → j < length old.parts → length (get_or new.parts j d).watch.counts ≡ length (get_or old.parts j d).watch.counts
+  pub queues : (j : ℕ) (d : Part) → j < length old.parts → length (get_or new.parts j d).queue ≡ length (get_or old.parts j d).queue
+
 -- a range of vertices from `first` on, with these counts, of which none rises or waits
 abbrev pub new_part : ℕ → ℕ → ℕ → List ℕ → Part
 new_part levels ranges first counts = record { watch = record { first = first; counts = counts; most = 0; doubtful = [] }; queue = replicate levels []; meetings = replicate levels []; began = []; risen = []; stay = []; begun = []; tell = record { all = []; lists = replicate ranges [] }; steps = 0; is_short = false }
