@@ -1,0 +1,118 @@
+-- Lists of the same numbers.
+use Rattle.std.proofs.Common.{ℕ, suc, ◌+◌, ◌<◌, ◌≡◌, ◌≢◌, inl, inr, Bool, true, false, eqb, not, ◌&&◌, ◌||◌, List, [], ◌∷◌, ◌++◌, length, filter, refl, ap, sym, ◌∙◌, arith}
+use Rattle.std.proofs.lemmas.Bool.{cases_eq, cases_Bool, true≢false}
+use Rattle.std.proofs.lemmas.Bool.Decides.{nat_tests}
+use Rattle.kc_graph.specs.Numbers.{has_number}
+use Rattle.kc_graph.specs.Shape.{GraphShape, neighbours_of}
+use Rattle.kc_graph.proofs.lemmas.Numbers.{has_number-append}
+use Rattle.kc_levels.specs.Following.{AreDistinct}
+use Rattle.kc_adj.specs.Degrees.{degrees}
+use Rattle.kc_insert.proofs.Buckets.{has_number-filter}
+
+pub filter_yes : (p : ℕ → Bool) (v : ℕ) (vs : List ℕ) → p v ≡ true → filter p (v ∷ vs) ≡ v ∷ filter p vs
+filter_yes p v vs e = grind (arith, nat_tests, e)
+
+pub filter_no : (p : ℕ → Bool) (v : ℕ) (vs : List ℕ) → p v ≡ false → filter p (v ∷ vs) ≡ filter p vs
+filter_no p v vs e = grind (arith, nat_tests, e)
+
+-- tests that agree on the numbers of a list keep the same of them
+pub filter_agree : (p q : ℕ → Bool) (vs : List ℕ) → ((v : ℕ) → has_number v vs ≡ true → p v ≡ q v) → filter p vs ≡ filter q vs
+filter_agree p q [] same = refl
+filter_agree p q (v ∷ vs) same =
+    let rest : filter p vs ≡ filter q vs = filter_agree p q vs (λ u there. same u (grind (arith, nat_tests, there))) in
+    let here : p v ≡ q v = same v (grind (arith, nat_tests)) in
+    elim (cases_Bool (q v)) [
+      | inl yes_ ↦ filter_yes p v vs (here ∙ yes_) ∙ ap (λ us. v ∷ us) rest ∙ sym (filter_yes q v vs yes_)
+      | inr no_ ↦ filter_no p v vs (here ∙ no_) ∙ rest ∙ sym (filter_no q v vs no_)
+    ]
+
+pub filter_all : (p : ℕ → Bool) (vs : List ℕ) → ((v : ℕ) → has_number v vs ≡ true → p v ≡ true) → filter p vs ≡ vs
+filter_all p [] all = refl
+filter_all p (v ∷ vs) all = filter_yes p v vs (all v (grind (arith, nat_tests))) ∙ ap (λ us. v ∷ us) (filter_all p vs (λ u there. all u (grind (arith, nat_tests, there))))
+
+-- one test after another
+pub filter_both : (p q : ℕ → Bool) (vs : List ℕ) → filter p (filter q vs) ≡ filter (λ v. q v && p v) vs
+filter_both p q [] = refl
+filter_both p q (v ∷ vs) = elim (cases_Bool (q v)) [
+  | inr no_ ↦ ap (filter p) (filter_no q v vs no_) ∙ filter_both p q vs ∙ sym (filter_no (λ u. q u && p u) v vs (grind (arith, nat_tests, no_)))
+  | inl yes_ ↦ ap (filter p) (filter_yes q v vs yes_) ∙ elim (cases_Bool (p v)) [
+    | inl on ↦ filter_yes p v (filter q vs) on ∙ ap (λ us. v ∷ us) (filter_both p q vs) ∙ sym (filter_yes (λ u. q u && p u) v vs (grind (arith, nat_tests, yes_, on)))
+    | inr off ↦ filter_no p v (filter q vs) off ∙ filter_both p q vs ∙ sym (filter_no (λ u. q u && p u) v vs (grind (arith, nat_tests, yes_, off)))
+  ]
+]
+
+pub none_in : (vs : List ℕ) → ((v : ℕ) → has_number v vs ≡ false) → vs ≡ []
+none_in [] none = refl
+none_in (v ∷ vs) none = absurd (true≢false (sym (grind (arith, nat_tests)) ∙ none v))
+
+pub distinct_filter : (test : ℕ → Bool) (vs : List ℕ) → AreDistinct vs → AreDistinct (filter test vs)
+distinct_filter test [] d = record {}
+distinct_filter test (v ∷ vs) d = elim (cases_Bool (test v)) [
+  | inl yes_ ↦ rw (filter_yes test v vs yes_) (none, distinct_filter test vs d.1)
+  | inr no_ ↦ rw (filter_no test v vs no_) (distinct_filter test vs d.1)
+]
+  where
+    none : has_number v (filter test vs) ≡ false
+    none = has_number-filter v test vs ∙ ap (λ b. b && test v) d.0
+
+pub distinct_append : (us vs : List ℕ) → AreDistinct us → AreDistinct vs → ((u : ℕ) → has_number u us ≡ true → has_number u vs ≡ false) → AreDistinct (us ++ vs)
+distinct_append [] vs d e apart = e
+distinct_append (u ∷ us) vs d e apart = (
+  has_number-append u us vs ∙ grind (arith, nat_tests, d.0, apart u (grind (arith, nat_tests))),
+  distinct_append us vs d.1 e (λ w there. apart w (grind (arith, nat_tests, there))),
+)
+
+-- all but one number
+abbrev but : ℕ → ℕ → Bool
+but v u = not (eqb u v)
+
+-- a weight for each number of the list
+abbrev pub weigh : (ℕ → ℕ) → List ℕ → ℕ
+weigh f [] = 0
+weigh f (v ∷ vs) = f v + weigh f vs
+
+pub weigh-append : (f : ℕ → ℕ) (us vs : List ℕ) → weigh f (us ++ vs) ≡ weigh f us + weigh f vs
+weigh-append f [] vs = omega arith
+weigh-append f (u ∷ us) vs = omega (arith, weigh-append f us vs)
+
+pub weigh_degrees : (g : GraphShape) (vs : List ℕ) → weigh (λ v. length (neighbours_of v g.edges)) vs ≡ degrees g vs
+weigh_degrees g [] = refl
+weigh_degrees g (v ∷ vs) = omega (arith, weigh_degrees g vs)
+
+pub weigh_length : (vs : List ℕ) → weigh (λ v. 1) vs ≡ length vs
+weigh_length [] = refl
+weigh_length (v ∷ vs) = omega (arith, weigh_length vs)
+
+weigh_but : (f : ℕ → ℕ) (v : ℕ) (vs : List ℕ) → AreDistinct vs → has_number v vs ≡ true → weigh f vs ≡ f v + weigh f (filter (but v) vs)
+weigh_but f v [] once there = absurd (true≢false (sym there))
+weigh_but f v (u ∷ us) once there = elim (cases_eq u v) [
+  | inl e ↦
+      let all : filter (but v) us ≡ us = filter_all (but v) us (λ w at. grind (arith, nat_tests, other e w at)) in
+      let kept : filter (but v) (u ∷ us) ≡ us = filter_no (but v) u us (grind (arith, nat_tests, e)) ∙ all in
+      omega (arith, ap (weigh f) kept, ap f e)
+  | inr ne ↦
+      let later : has_number v us ≡ true = grind (arith, nat_tests, there, ne) in
+      let kept : filter (but v) (u ∷ us) ≡ u ∷ filter (but v) us = filter_yes (but v) u us (grind (arith, nat_tests, ne)) in
+      omega (arith, ap (weigh f) kept, weigh_but f v us once.1 later)
+]
+  where
+    other : u ≡ v → (w : ℕ) → has_number w us ≡ true → w ≢ v
+    other e w at f = true≢false (sym at ∙ ap (λ t. has_number t us) (f ∙ sym e) ∙ once.0)
+
+-- the weight depends on which numbers are in the list, and not on their order
+pub weigh_same : (f : ℕ → ℕ) (vs us : List ℕ) → AreDistinct vs → AreDistinct us → ((v : ℕ) → has_number v vs ≡ has_number v us) → weigh f vs ≡ weigh f us
+weigh_same f [] us once too same = ap (weigh f) (sym (none_in us (λ v. sym (same v))))
+weigh_same f (v ∷ vs) us once too same =
+    let here : has_number v us ≡ true = sym (same v) ∙ grind (arith, nat_tests) in
+    let rest : weigh f vs ≡ weigh f (filter (but v) us) = weigh_same f vs (filter (but v) us) once.1 (distinct_filter (but v) us too) (λ u. left u ∙ sym (has_number-filter u (but v) us)) in
+    omega (arith, rest, weigh_but f v us too here)
+  where
+    left : (u : ℕ) → has_number u vs ≡ has_number u us && but v u
+    left u = elim (cases_eq u v) [
+      | inl e ↦ ap (λ t. has_number t vs) e ∙ once.0 ∙ grind (arith, nat_tests, e)
+      | inr ne ↦ grind (arith, nat_tests, ne, same u)
+    ]
+
+-- the numbers of one list are those of two others together
+pub weigh_parts : (f : ℕ → ℕ) (vs us ws : List ℕ) → AreDistinct vs → AreDistinct us → AreDistinct ws → ((v : ℕ) → has_number v us ≡ true → has_number v ws ≡ false) → ((v : ℕ) → has_number v vs ≡ has_number v us || has_number v ws) → weigh f vs ≡ weigh f us + weigh f ws
+weigh_parts f vs us ws once too three apart same = weigh_same f vs (us ++ ws) once (distinct_append us ws too three apart) (λ v. same v ∙ sym (has_number-append v us ws)) ∙ weigh-append f us ws

@@ -1,0 +1,342 @@
+-- The step of a sweep from its level to the next keeps what is stated of the sweep.
+use Rattle.std.proofs.Common.{ℕ, ◌+◌, ◌*◌, ◌≤◌, ◌<◌, ◌≡◌, ◌≢◌, ◌⊎◌, inl, inr, Bool, true, false, leb, eqb, not, ◌&&◌, ◌||◌, List, [], length, get_or, filter, refl, ap, sym, ◌∙◌, arith, subst}
+use Rattle.std.specs.Prelude.{count_by}
+use Rattle.std.proofs.lemmas.Bool.{cases_lt, cases_eq, cases_Bool, true≢false}
+use Rattle.std.proofs.lemmas.Bool.Decides.{nat_tests}
+use Rattle.std.proofs.lemmas.List.{get_or_past}
+use Rattle.std.proofs.lemmas.Grind.{same_number_lists}
+use Rattle.kc_graph.specs.Numbers.{has_number}
+use Rattle.kc_graph.specs.Shape.{GraphShape, IsGraph, neighbours_of}
+use Rattle.kc_levels.specs.declared.profile.Profile.{Profile}
+use Rattle.kc_levels.specs.Thresholds.{high, group_of, top_level}
+use Rattle.kc_levels.specs.LevelList.{at_least, MeetsUpper}
+use Rattle.kc_levels.specs.Following.{AreDistinct}
+use Rattle.kc_levels.specs.Moved.{is_moved}
+use Rattle.kc_levels.proofs.lemmas.AtLeast.{below_everywhere}
+use Rattle.kc_levels.proofs.lemmas.Raising.{raising_many}
+use Rattle.kc_adj.specs.Degrees.{degrees}
+use Rattle.kc_insert.specs.Effort.{effort}
+use Rattle.kc_insert.specs.private.LevelStep.{ArePassed, HasStepped}
+use Rattle.kc_insert.specs.private.Meetings.{IsMeeting}
+use Rattle.kc_insert.specs.private.Rising.{all_at}
+use Rattle.kc_insert.specs.private.Sweeping.{AreAwaited, AreRising, IsAwaited, IsPaid, IsPlaced, IsSweeping, Sweeping}
+use Rattle.kc_insert.proofs.Buckets.{has_number-filter}
+use Rattle.kc_insert.proofs.Efforts.{effort_up}
+use Rattle.kc_insert.proofs.Flips.{count_agree}
+use Rattle.kc_insert.proofs.Lifting.{length-all_at, all_at_here, all_at_other}
+use Rattle.kc_insert.proofs.Members.{distinct_filter, weigh, weigh_degrees, weigh_length, weigh_parts}
+
+-- what is stated of a sweep, for one vertex
+module _ (p : Profile) (g : GraphShape) (x : List ℕ) (s : Sweeping) (i : IsSweeping p g x s) where
+  pub under : (v : ℕ) → get_or x v 0 ≤ get_or s.levels v 0
+  under v = below_everywhere g.vertices x s.levels v i.placed.start i.placed.raising.from
+
+  -- a vertex on another level doesn't rise
+  pub off_level : (v : ℕ) → get_or s.levels v 0 ≢ s.level → has_number v s.rising ≡ false
+  off_level v off = elim (cases_Bool (has_number v s.rising)) [
+    | inr none ↦ none
+    | inl there ↦ absurd (off (i.rise.came v there).1)
+  ]
+
+  -- a vertex that stood on the level or above doesn't rise, and is there
+  pub stood_above : (v : ℕ) → s.level ≤ get_or x v 0 → (has_number v s.rising ≡ false) × (get_or s.levels v 0 ≡ get_or x v 0)
+  stood_above v at =
+      let none : has_number v s.rising ≡ false = elim (cases_Bool (has_number v s.rising)) [
+        | inr none ↦ none
+        | inl there ↦ absurd (omega (arith, at, (i.rise.came v there).2))
+      ] in
+      (none, i.placed.stood v (omega (arith, at, under v)) none)
+
+  pub waits_here : (k v : ℕ) → s.level ≤ k → has_number v (s.waits k) ≡ true → (v < g.vertices) × (get_or x v 0 ≡ k) × (get_or s.levels v 0 ≡ k) × (has_number v s.rising ≡ false)
+  waits_here k v at there =
+      let it = i.awaited.waiting k v at there in
+      let stood = stood_above v (omega (arith, at, it.1)) in
+      (it.0, it.1, stood.1 ∙ it.1, stood.0)
+
+  -- a vertex that rose stood below the level
+  pub rose_below : (v : ℕ) → has_number v s.risen ≡ true → (v < g.vertices) × (get_or x v 0 < s.level)
+  rose_below v rose =
+      let moved : is_moved x s.levels v ≡ true = sym (i.rise.moved v) ∙ rose in
+      let ne : get_or x v 0 ≢ get_or s.levels v 0 = differ (get_or x v 0) (get_or s.levels v 0) moved in
+      let inside : v < g.vertices = elim (cases_lt v g.vertices) [
+        | inl h ↦ h
+        | inr past ↦ absurd (ne (get_or_past x v 0 (omega (arith, past, i.placed.start)) ∙ sym (get_or_past s.levels v 0 (omega (arith, past, i.placed.raising.sized)))))
+      ] in
+      (inside, elim (cases_lt (get_or x v 0) s.level) [
+        | inl lt ↦ lt
+        | inr ge ↦ absurd (ne (sym (stood_above v ge).1))
+      ])
+    where
+      differ : (a b : ℕ) → not (eqb a b) ≡ true → a ≢ b
+      differ a b e = grind (arith, nat_tests, e)
+
+  pub rises_rose : (v : ℕ) → has_number v s.rising ≡ true → has_number v s.risen ≡ true
+  rises_rose v there = let it = i.rise.came v there in i.rise.moved v ∙ differs (get_or x v 0) (get_or s.levels v 0) (omega (arith, it.1, it.2))
+    where
+      differs : (a b : ℕ) → a < b → not (eqb a b) ≡ true
+      differs a b lt = grind (arith, nat_tests, lt)
+
+  pub count_at_level : (v k : ℕ) → v < g.vertices → get_or s.levels v 0 ≡ k → s.count v ≡ at_least g s.levels v k
+  count_at_level v k h on = i.awaited.counted v h ∙ ap (at_least g s.levels v) on
+
+  -- a vertex that counts no more than its group allows meets the upper invariant, and one that counts more doesn't
+  pub few_meets : (v k : ℕ) → v < g.vertices → get_or s.levels v 0 ≡ k → s.count v ≤ high p (group_of p g.vertices k) → MeetsUpper p g s.levels v
+  few_meets v k h on few = subst (λ j. at_least g s.levels v j ≤ high p (group_of p g.vertices j)) (sym on) (omega (arith, few, count_at_level v k h on))
+
+  pub many_breaks : (v k : ℕ) → v < g.vertices → get_or s.levels v 0 ≡ k → high p (group_of p g.vertices k) < s.count v → ¬ (MeetsUpper p g s.levels v)
+  many_breaks v k h on many meets =
+      let few : at_least g s.levels v k ≤ high p (group_of p g.vertices k) = subst (λ j. at_least g s.levels v j ≤ high p (group_of p g.vertices j)) on meets in
+      absurd (omega (arith, few, many, count_at_level v k h on))
+
+module _ (p : Profile) (g : GraphShape) (x : List ℕ) (s t : Sweeping) (most above : ℕ) (i : IsSweeping p g x s) (r : HasStepped g x s t most above) where
+  long : length t.levels ≡ g.vertices
+  long = r.step.sized ∙ i.placed.raising.sized
+
+  past_end : (v : ℕ) → g.vertices ≤ v → get_or t.levels v 0 ≡ get_or s.levels v 0
+  past_end v past = get_or_past t.levels v 0 (omega (arith, past, long)) ∙ sym (get_or_past s.levels v 0 (omega (arith, past, i.placed.raising.sized)))
+
+  -- a vertex goes to the next level, or it is where it was
+  abbrev IsCase : ℕ → Type 0
+  IsCase v = ((v < g.vertices) × (get_or s.levels v 0 ≡ s.level) × (most < s.count v) × (get_or t.levels v 0 ≡ s.level + 1) × (has_number v t.rising ≡ true)) ⊎ ((get_or t.levels v 0 ≡ get_or s.levels v 0) × (has_number v t.rising ≡ false) × (v < g.vertices → get_or s.levels v 0 ≡ s.level → s.count v ≤ most))
+
+  pub case_of : (v : ℕ) → IsCase v
+  case_of v = elim (cases_Bool (has_number v t.rising)) [
+    | inl there ↦ let it = r.lifted.rise v there in inl (it.0, it.1, it.2, r.step.goes v it.0 it.1 it.2, there)
+    | inr none ↦ inr (
+      elim (cases_lt v g.vertices) [
+        | inr past ↦ past_end v past
+        | inl h ↦ elim (cases_eq (get_or s.levels v 0) s.level) [
+          | inr off ↦ r.step.others v off
+          | inl on ↦ r.step.stays v h on (few v none h on) ∙ sym on
+        ]
+      ],
+      none,
+      few v none,
+    )
+  ]
+    where
+      few : (v : ℕ) → has_number v t.rising ≡ false → v < g.vertices → get_or s.levels v 0 ≡ s.level → s.count v ≤ most
+      few v none h on = elim (cases_lt most (s.count v)) [
+        | inr le ↦ le
+        | inl over ↦ absurd (true≢false (sym (r.lifted.all v h on over) ∙ none))
+      ]
+
+  -- the number of neighbours from a level on is the same in both lists, but for the level that some come to
+  same_count : (v k : ℕ) → k ≢ s.level + 1 → at_least g s.levels v k ≡ at_least g t.levels v k
+  unfolding at_least
+  same_count v k ne = count_agree (λ u. leb k (get_or s.levels u 0)) (λ u. leb k (get_or t.levels u 0)) (neighbours_of v g.edges) (λ u near. agree u (case_of u))
+    where
+      agree : (u : ℕ) → IsCase u → leb k (get_or s.levels u 0) ≡ leb k (get_or t.levels u 0)
+      agree u (inl it) = grind (arith, nat_tests, it.1, it.3, ne)
+      agree u (inr it) = ap (leb k) (sym it.0)
+
+  came_on : (v : ℕ) → has_number v t.rising ≡ true → (v < g.vertices) × (get_or t.levels v 0 ≡ t.level) × (get_or x v 0 < t.level)
+  came_on v there =
+      let it = r.lifted.rise v there in
+      (it.0, r.step.goes v it.0 it.1 it.2 ∙ sym r.level, omega (arith, under p g x s i v, it.1, r.level))
+
+  stood_on : (v : ℕ) → t.level ≤ get_or t.levels v 0 → has_number v t.rising ≡ false → get_or t.levels v 0 ≡ get_or x v 0
+  stood_on v at none = elim (case_of v) [
+    | inl it ↦ absurd (true≢false (sym it.4 ∙ none))
+    | inr it ↦ it.0 ∙ i.placed.stood v (omega (arith, at, it.0, r.level)) (off_level p g x s i v (λ on. absurd (omega (arith, at, it.0, r.level, on))))
+  ]
+
+  moved_on : (v : ℕ) → has_number v t.risen ≡ is_moved x t.levels v
+  moved_on v = r.lifted.risen v ∙ elim (case_of v) [
+    | inl it ↦ ap (λ b. has_number v s.risen || b) it.4 ∙ or_true (has_number v s.risen) ∙ sym (differs (get_or x v 0) (get_or t.levels v 0) (omega (arith, under p g x s i v, it.1, it.3)))
+    | inr it ↦ ap (λ b. has_number v s.risen || b) it.1 ∙ or_false (has_number v s.risen) ∙ i.rise.moved v ∙ ap (λ k. not (eqb (get_or x v 0) k)) (sym it.0)
+  ]
+    where
+      differs : (a b : ℕ) → a < b → not (eqb a b) ≡ true
+      differs a b lt = grind (arith, nat_tests, lt)
+
+      or_true : (b : Bool) → b || true ≡ true
+      or_true b = grind (arith, nat_tests)
+
+      or_false : (b : Bool) → b || false ≡ b
+      or_false b = grind (arith, nat_tests)
+
+  module _ (graph : IsGraph g) (room : s.level < top_level p g.vertices) (most_is : most ≡ high p (group_of p g.vertices s.level)) (above_is : above ≡ high p (group_of p g.vertices (s.level + 1))) where
+    placed_on : IsPlaced p g x t
+    placed_on = record {
+      start = i.placed.start;
+      raising = raising_many p g x s.levels t.levels graph i.placed.raising long (λ v h. elim (case_of v) [
+        | inl it ↦ inr (omega (arith, it.1, it.3), many_breaks p g x s i v s.level it.0 it.1 (omega (arith, it.2, most_is)))
+        | inr it ↦ inl it.0
+      ]);
+      stood = stood_on;
+    }
+
+    rising_on : AreRising g x t
+    rising_on = record { came = came_on; distinct = r.lifted.distinct; moved = moved_on; once = r.lifted.once }
+
+    meets_still : (v : ℕ) → get_or t.levels v 0 ≡ get_or s.levels v 0 → get_or s.levels v 0 ≢ s.level + 1 → MeetsUpper p g s.levels v → MeetsUpper p g t.levels v
+    meets_still v same off meets = subst (λ k. at_least g t.levels v k ≤ high p (group_of p g.vertices k)) (sym same) (omega (arith, meets, same_count v (get_or s.levels v 0) off))
+
+    -- a vertex that stood on the next level
+    found_next : (v : ℕ) → v < g.vertices → get_or s.levels v 0 ≡ s.level + 1 → get_or t.levels v 0 ≡ s.level + 1 → MeetsUpper p g t.levels v ⊎ IsAwaited t v
+    found_next v h on now = elim (cases_lt above (t.count v)) [
+      | inr few ↦ inl (subst (λ k. at_least g t.levels v k ≤ high p (group_of p g.vertices k)) (sym now) (omega (arith, few, above_is, r.step.counted v h, ap (at_least g t.levels v) now)))
+      | inl many ↦ inr (inr (omega (arith, r.level, now), ap (λ k. has_number v (t.waits k)) now ∙ waits many))
+    ]
+      where
+        none : has_number v s.rising ≡ false
+        none = off_level p g x s i v (λ e. absurd (omega (arith, on, e)))
+
+        waits : above < t.count v → has_number v (t.waits (s.level + 1)) ≡ true
+        waits many = elim (r.waiting.noted v h (sym (i.placed.stood v (omega (arith, on)) none) ∙ on) many) [
+          | inr there ↦ there
+          | inl was ↦ elim (i.awaited.found v h) [
+            | inl meets ↦ absurd (many_breaks p g x s i v (s.level + 1) h on (omega (arith, was, above_is)) meets)
+            | inr (inl rises) ↦ absurd (true≢false (sym rises ∙ none))
+            | inr (inr it) ↦ r.waiting.still (s.level + 1) v (λ e. absurd (omega (arith, e))) (ap (λ k. has_number v (s.waits k)) (sym on) ∙ it.1)
+          ]
+        ]
+
+    found_on : (v : ℕ) → v < g.vertices → MeetsUpper p g t.levels v ⊎ IsAwaited t v
+    found_on v h = elim (case_of v) [
+      | inl it ↦ inr (inl it.4)
+      | inr it ↦ elim (cases_eq (get_or s.levels v 0) s.level) [
+        | inl on ↦ inl (meets_still v it.0 (λ e. absurd (omega (arith, e, on))) (few_meets p g x s i v s.level h on (omega (arith, it.2 h on, most_is))))
+        | inr off ↦ elim (cases_eq (get_or s.levels v 0) (s.level + 1)) [
+          | inl next ↦ found_next v h next (it.0 ∙ next)
+          | inr far ↦ elim (i.awaited.found v h) [
+            | inl meets ↦ inl (meets_still v it.0 far meets)
+            | inr (inl rises) ↦ absurd (off (i.rise.came v rises).1)
+            | inr (inr waits) ↦ inr (inr (omega (arith, r.level, it.0, waits.0, off), ap (λ k. has_number v (t.waits k)) it.0 ∙ r.waiting.still (get_or s.levels v 0) v off waits.1))
+          ]
+        ]
+      ]
+    ]
+
+    awaited_on : AreAwaited p g x t
+    awaited_on = record {
+      counted = r.step.counted;
+      waiting = λ k v at there. elim (r.waiting.only k v (omega (arith, at, r.level)) there) [
+        | inl was ↦ i.awaited.waiting k v (omega (arith, at, r.level)) was
+        | inr new ↦ new
+      ];
+      found = found_on;
+      met = λ k v w at there. elim (r.meeting.only k v w (omega (arith, at, r.level)) there) [
+        | inl was ↦ let it = i.awaited.met k v w (omega (arith, at, r.level)) was in (r.lifted.risen v ∙ ap (λ b. b || has_number v t.rising) it.0, it.1)
+        | inr new ↦ (r.lifted.risen v ∙ right (has_number v s.risen) (has_number v t.rising) new.0, new.1)
+      ];
+      each = λ k v w at rose it. elim (cases_Bool (has_number v s.risen)) [
+        | inl was ↦ r.meeting.still k v w (omega (arith, at, r.level)) (i.awaited.each k v w (omega (arith, at, r.level)) was it)
+        | inr new ↦
+            let rises : has_number v t.rising ≡ true = other (has_number v s.risen) (has_number v t.rising) (sym (r.lifted.risen v) ∙ rose) new in
+            let from : get_or x v 0 ≡ get_or s.levels v 0 = same (get_or x v 0) (get_or s.levels v 0) (sym (i.rise.moved v) ∙ new) in
+            r.meeting.each k v w (omega (arith, at, r.level)) rises (from ∙ (r.lifted.rise v rises).1) it
+      ];
+      apart = λ k at. r.meeting.apart k (omega (arith, at, r.level));
+    }
+      where
+        right : (a b : Bool) → b ≡ true → a || b ≡ true
+        right a b e = grind (arith, nat_tests, e)
+
+        other : (a b : Bool) → a || b ≡ true → a ≡ false → b ≡ true
+        other a b e f = grind (arith, nat_tests, e, f)
+
+        same : (a b : ℕ) → not (eqb a b) ≡ false → a ≡ b
+        same a b e = grind (arith, nat_tests, e)
+
+    -- a step keeps what is stated of the sweep
+    pub stepped : IsSweeping p g x t
+    stepped = record { placed = placed_on; rise = rising_on; awaited = awaited_on }
+
+  -- the levels after the step
+  levels_are : t.levels ≡ all_at s.levels t.rising (s.level + 1)
+  levels_are = same_number_lists t.levels (all_at s.levels t.rising (s.level + 1)) (r.step.sized ∙ sym (length-all_at s.levels t.rising (s.level + 1))) (λ v h. elim (case_of v) [
+    | inl it ↦ it.3 ∙ sym (all_at_here s.levels t.rising (s.level + 1) v (omega (arith, it.0, i.placed.raising.sized)) it.4)
+    | inr it ↦ it.0 ∙ sym (all_at_other s.levels t.rising (s.level + 1) v it.1)
+  ])
+
+  module _ (stay begun : List ℕ) (passed : ArePassed s t stay begun) (f : ℕ → ℕ) where
+    -- the vertices that rose, and those that began
+    risen_parts : weigh f t.risen ≡ weigh f s.risen + weigh f begun
+    risen_parts = weigh_parts f t.risen s.risen begun r.lifted.once i.rise.once passed.begun_once
+        (λ v rose. passed.begins v ∙ fresh v rose)
+        (λ v. r.lifted.risen v ∙ all v (cases_Bool (has_number v s.rising)))
+      where
+        fresh : (v : ℕ) → has_number v s.risen ≡ true → has_number v t.rising && not (has_number v s.rising) ≡ false
+        fresh v rose = elim (cases_Bool (has_number v t.rising)) [
+          | inr none ↦ grind (arith, nat_tests, none)
+          | inl rises ↦
+              let on = (r.lifted.rise v rises).1 in
+              let low = (rose_below p g x s i v rose).1 in
+              let was : has_number v s.rising ≡ true = elim (cases_Bool (has_number v s.rising)) [
+                | inl was ↦ was
+                | inr none ↦ absurd (omega (arith, low, on, i.placed.stood v (omega (arith, on)) none))
+              ] in
+              grind (arith, nat_tests, was)
+        ]
+
+        all : (v : ℕ) → (has_number v s.rising ≡ true) ⊎ (has_number v s.rising ≡ false) → has_number v s.risen || has_number v t.rising ≡ has_number v s.risen || has_number v begun
+        all v (inl was) = grind (arith, nat_tests, rises_rose p g x s i v was)
+        all v (inr none) = ap (λ b. has_number v s.risen || b) (sym (passed.begins v ∙ grind (arith, nat_tests, none)))
+
+    abbrev up : List ℕ
+    up = filter (λ v. has_number v t.rising) s.rising
+
+    up_once : AreDistinct up
+    up_once = distinct_filter (λ v. has_number v t.rising) s.rising i.rise.distinct
+
+    up_is : (v : ℕ) → has_number v up ≡ has_number v s.rising && has_number v t.rising
+    up_is v = has_number-filter v (λ u. has_number u t.rising) s.rising
+
+    -- of the vertices that came to the level some go on and some stay
+    came_parts : weigh f s.rising ≡ weigh f up + weigh f stay
+    came_parts = weigh_parts f s.rising up stay i.rise.distinct up_once passed.stay_once
+        (λ v there. passed.stays v ∙ apart (has_number v s.rising) (has_number v t.rising) (sym (up_is v) ∙ there))
+        (λ v. parts (has_number v s.rising) (has_number v t.rising) ∙ ap (λ b. b || (has_number v s.rising && not (has_number v t.rising))) (sym (up_is v)) ∙ ap (λ b. has_number v up || b) (sym (passed.stays v)))
+      where
+        apart : (a b : Bool) → a && b ≡ true → a && not b ≡ false
+        apart a b e = grind (arith, nat_tests, e)
+
+        parts : (a b : Bool) → a ≡ (a && b) || (a && not b)
+        parts true true = refl
+        parts true false = refl
+        parts false b = refl
+
+    -- the vertices that rise go on or begin
+    rise_parts : weigh f t.rising ≡ weigh f up + weigh f begun
+    rise_parts = weigh_parts f t.rising up begun r.lifted.distinct up_once passed.begun_once
+        (λ v there. passed.begins v ∙ apart (has_number v s.rising) (has_number v t.rising) (sym (up_is v) ∙ there))
+        (λ v. parts (has_number v s.rising) (has_number v t.rising) ∙ ap (λ b. b || (has_number v t.rising && not (has_number v s.rising))) (sym (up_is v)) ∙ ap (λ b. has_number v up || b) (sym (passed.begins v)))
+      where
+        apart : (a b : Bool) → a && b ≡ true → b && not a ≡ false
+        apart a b e = grind (arith, nat_tests, e)
+
+        parts : (a b : Bool) → b ≡ (a && b) || (b && not a)
+        parts true true = refl
+        parts true false = refl
+        parts false true = refl
+        parts false false = refl
+
+  -- a step keeps what is stated of the steps: each vertex that stays or begins costs a pass over its neighbours
+  pub paid_on : (stay begun : List ℕ) (first now : ℕ) → ArePassed s t stay begun → IsPaid g x s first now → IsPaid g x t first (now + (degrees g stay + degrees g begun))
+  paid_on stay begun first now passed paid =
+      let more : effort g x t.levels g.vertices ≡ effort g x s.levels g.vertices + (3 * degrees g t.rising + length t.rising) = ap (λ z. effort g x z g.vertices) levels_are ∙ effort_up g x s.levels t.rising s.level g.vertices r.lifted.distinct (λ v there.
+      let it = r.lifted.rise v there in
+      (it.0, omega (arith, it.0, i.placed.raising.sized), it.1, omega (arith, under p g x s i v, it.1))) in
+      let d : ℕ → ℕ = λ v. length (neighbours_of v g.edges) in
+      omega (
+        arith,
+        paid,
+        more,
+        risen_parts stay begun passed d,
+        risen_parts stay begun passed (λ v. 1),
+        came_parts stay begun passed d,
+        rise_parts stay begun passed d,
+        rise_parts stay begun passed (λ v. 1),
+        weigh_degrees g stay,
+        weigh_degrees g begun,
+        weigh_degrees g t.rising,
+        weigh_degrees g s.rising,
+        weigh_degrees g t.risen,
+        weigh_degrees g s.risen,
+        weigh_length begun,
+        weigh_length t.risen,
+        weigh_length s.risen,
+        weigh_length t.rising,
+      )

@@ -1,0 +1,79 @@
+-- How a sweep begins, goes on to the next level where a vertex waits, and ends.
+use Rattle.std.proofs.Common.{ℕ, ◌+◌, ◌≤◌, ◌<◌, ◌≡◌, inl, inr, Bool, true, false, not, eqb, List, [], length, get_or, refl, ap, sym, ◌∙◌, arith, subst}
+use Rattle.std.proofs.lemmas.Bool.{cases_lt, true≢false}
+use Rattle.std.proofs.lemmas.Bool.Decides.{nat_tests}
+use Rattle.kc_graph.specs.Numbers.{has_number}
+use Rattle.kc_graph.specs.Shape.{GraphShape, Pair, IsGraph, has_edge}
+use Rattle.kc_levels.specs.declared.profile.Profile.{Profile}
+use Rattle.kc_levels.specs.Thresholds.{top_level}
+use Rattle.kc_levels.specs.LevelList.{IsCapped, IsRaised}
+use Rattle.kc_levels.specs.Moved.{is_moved}
+use Rattle.kc_levels.proofs.lemmas.Raising.{raising_first, raising_done, top_meets_upper}
+use Rattle.kc_insert.specs.private.Meetings.{AreApart}
+use Rattle.kc_insert.specs.private.Sweeping.{AreCounted, IsFirst, IsPaid, IsQueued, IsSweeping, Sweeping}
+use Rattle.kc_insert.proofs.Efforts.{effort_none}
+
+sweeping_first : (p : Profile) (g : GraphShape) (x y : List ℕ) (count : ℕ → ℕ) (rising risen : List ℕ) (waits : ℕ → List ℕ) (meets : ℕ → List Pair) → length x ≡ g.vertices → IsCapped p g.vertices x → y ≡ x → AreCounted g x count → IsQueued p g x waits → rising ≡ [] → risen ≡ [] → ((k : ℕ) → meets k ≡ []) → IsSweeping p g x (record { level = 0; levels = y; count = count; rising = rising; risen = risen; waits = waits; meets = meets })
+sweeping_first p g x y count rising risen waits meets long capped same counted q none none_yet empty = rw (same, none, none_yet) (record {
+  placed = record { start = long; raising = raising_first p g x long capped; stood = λ v at off. refl };
+  rise = record {
+    came = λ v there. absurd (true≢false (sym there));
+    distinct = record {};
+    moved = λ v. unmoved (get_or x v 0);
+    once = record {};
+  };
+  awaited = record {
+    counted = counted;
+    waiting = λ k v at there. q.waiting k v there;
+    found = λ v h. elim (q.found v h) [ inl waits_ ↦ inr (inr (omega arith, waits_)) | inr meets_ ↦ inl meets_ ];
+    met = λ k v w at there. absurd (true≢false (sym there ∙ ap (has_edge (v, w)) (empty k)));
+    each = λ k v w at rose it. absurd (true≢false (sym rose));
+    apart = λ k at. subst AreApart (sym (empty k)) (record {});
+  };
+})
+  where
+    unmoved : (a : ℕ) → false ≡ not (eqb a a)
+    unmoved a = grind (arith, nat_tests)
+
+-- the sweep is put on the lowest level
+pub sweeping_starts : (p : Profile) (g : GraphShape) (x : List ℕ) (s : Sweeping) → IsFirst p g x s → IsSweeping p g x (record s { level = 0 })
+sweeping_starts p g x s f = sweeping_first p g x s.levels s.count s.rising s.risen s.waits s.meets f.sized f.capped f.levels f.counted f.queued f.none.0 f.none.1 f.none.2
+
+paid_first : (g : GraphShape) (x y : List ℕ) (count : ℕ → ℕ) (rising risen : List ℕ) (waits : ℕ → List ℕ) (meets : ℕ → List Pair) (now : ℕ) → y ≡ x → rising ≡ [] → risen ≡ [] → IsPaid g x (record { level = 0; levels = y; count = count; rising = rising; risen = risen; waits = waits; meets = meets }) now now
+paid_first g x y count rising risen waits meets now same none none_yet = rw (same, none, none_yet) (omega (arith, effort_none g x g.vertices))
+
+pub paid_starts : (p : Profile) (g : GraphShape) (x : List ℕ) (s : Sweeping) (now : ℕ) → IsFirst p g x s → IsPaid g x (record s { level = 0 }) now now
+paid_starts p g x s now f = paid_first g x s.levels s.count s.rising s.risen s.waits s.meets now f.levels f.none.0 f.none.1
+
+-- if no vertex rises, and none waits on the level and on those that follow up to another level, the sweep is at that level
+pub sweeping_on : (p : Profile) (g : GraphShape) (x : List ℕ) (s : Sweeping) (k : ℕ) → s.rising ≡ [] → s.level ≤ k → ((j : ℕ) → s.level ≤ j → j < k → s.waits j ≡ []) → IsSweeping p g x s → IsSweeping p g x (record s { level = k })
+sweeping_on p g x s k none le bare i = record {
+  placed = record { start = i.placed.start; raising = i.placed.raising; stood = λ v at off. i.placed.stood v (omega (arith, at, le)) off };
+  rise = record { came = λ v there. absurd (nobody v there); distinct = i.rise.distinct; moved = i.rise.moved; once = i.rise.once };
+  awaited = record {
+    counted = i.awaited.counted;
+    waiting = λ j v at there. i.awaited.waiting j v (omega (arith, at, le)) there;
+    found = λ v h. elim (i.awaited.found v h) [
+      | inl meets ↦ inl meets
+      | inr (inl rises) ↦ absurd (nobody v rises)
+      | inr (inr waits) ↦ elim (cases_lt (get_or s.levels v 0) k) [
+        | inl lt ↦ absurd (true≢false (sym waits.1 ∙ ap (has_number v) (bare (get_or s.levels v 0) waits.0 lt)))
+        | inr ge ↦ inr (inr (ge, waits.1))
+      ]
+    ];
+    met = λ j v w at there. i.awaited.met j v w (omega (arith, at, le)) there;
+    each = λ j v w at rose it. i.awaited.each j v w (omega (arith, at, le)) rose it;
+    apart = λ j at. i.awaited.apart j (omega (arith, at, le));
+  };
+}
+  where
+    nobody : (v : ℕ) → has_number v s.rising ≡ true → ⊥
+    nobody v there = true≢false (sym there ∙ ap (has_number v) none)
+
+-- at the top no vertex breaks the upper invariant
+pub sweeping_last : (p : Profile) (g : GraphShape) (x : List ℕ) (s : Sweeping) → IsGraph g → top_level p g.vertices ≤ s.level → IsSweeping p g x s → IsRaised p g x s.levels
+sweeping_last p g x s graph end i = raising_done p g x s.levels i.placed.raising (λ v h. elim (i.awaited.found v h) [
+  | inl meets ↦ meets
+  | inr (inl rises) ↦ top_meets_upper p g s.levels v graph h (omega (arith, (i.rise.came v rises).1, end, i.placed.raising.capped v h))
+  | inr (inr waits) ↦ top_meets_upper p g s.levels v graph h (omega (arith, waits.0, end, i.placed.raising.capped v h))
+])

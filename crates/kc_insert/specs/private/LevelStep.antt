@@ -1,0 +1,62 @@
+-- The step of a sweep from its level to the next.
+use Rattle.std.specs.Prelude.{ℕ, ◌+◌, ◌≤◌, ◌<◌, ◌≡◌, ◌≢◌, ◌⊎◌, ◌||◌, ◌&&◌, not, true, List, [], length, get_or}
+use Rattle.kc_graph.specs.Numbers.{has_number}
+use Rattle.kc_graph.specs.Shape.{GraphShape, Pair, has_edge}
+use Rattle.kc_levels.specs.Following.{AreDistinct}
+use Rattle.kc_insert.specs.private.Meetings.{AreApart, IsMeeting}
+use Rattle.kc_insert.specs.private.Ranges.{Cut, part_at}
+use Rattle.kc_insert.specs.private.Sweeping.{AreCounted, Sweeping}
+use Rattle.kc_insert.specs.private.Watched.{IsHeld}
+
+-- from the levels y to z, where vertices count c before and d after: each vertex on the level l that counts more than `most` goes to
+-- the next level, and no other vertex moves
+pub record IsLevelStep (g : GraphShape) (y z : List ℕ) (c d : ℕ → ℕ) (l most : ℕ) : Type 0 where
+  pub sized : length z ≡ length y
+  pub goes : (v : ℕ) → v < g.vertices → get_or y v 0 ≡ l → most < c v → get_or z v 0 ≡ l + 1
+  pub stays : (v : ℕ) → v < g.vertices → get_or y v 0 ≡ l → c v ≤ most → get_or z v 0 ≡ l
+  pub others : (v : ℕ) → get_or y v 0 ≢ l → get_or z v 0 ≡ get_or y v 0
+  pub counted : AreCounted g z d
+
+-- the vertices that rise after the step are all that go to the next level; each that rises rose
+pub record AreLifted (g : GraphShape) (s t : Sweeping) (most : ℕ) : Type 0 where
+  pub rise : (v : ℕ) → has_number v t.rising ≡ true → (v < g.vertices) × (get_or s.levels v 0 ≡ s.level) × (most < s.count v)
+  pub all : (v : ℕ) → v < g.vertices → get_or s.levels v 0 ≡ s.level → most < s.count v → has_number v t.rising ≡ true
+  pub distinct : AreDistinct t.rising
+  pub risen : (v : ℕ) → has_number v t.risen ≡ (has_number v s.risen || has_number v t.rising)
+  pub once : AreDistinct t.risen
+
+-- a vertex that waits on another level waits still; on the next level, where vertices stood by x, each waits that came to count more
+-- than `above`, and no other vertices wait besides
+pub record WaitOn (g : GraphShape) (x : List ℕ) (s t : Sweeping) (above : ℕ) : Type 0 where
+  pub still : (k v : ℕ) → k ≢ s.level → has_number v (s.waits k) ≡ true → has_number v (t.waits k) ≡ true
+  pub only : (k v : ℕ) → s.level < k → has_number v (t.waits k) ≡ true → (has_number v (s.waits k) ≡ true) ⊎ ((v < g.vertices) × (get_or x v 0 ≡ k))
+  pub noted : (v : ℕ) → v < g.vertices → get_or x v 0 ≡ s.level + 1 → above < t.count v → (above < s.count v) ⊎ (has_number v (t.waits (s.level + 1)) ≡ true)
+
+-- the meetings above the level are as before, and besides those of the vertices that begin to rise from it
+pub record MeetOn (g : GraphShape) (x : List ℕ) (s t : Sweeping) : Type 0 where
+  pub still : (k v w : ℕ) → s.level < k → has_edge (v, w) (s.meets k) ≡ true → has_edge (v, w) (t.meets k) ≡ true
+  pub only : (k v w : ℕ) → s.level < k → has_edge (v, w) (t.meets k) ≡ true → (has_edge (v, w) (s.meets k) ≡ true) ⊎ ((has_number v t.rising ≡ true) × IsMeeting g x k v w)
+  pub each : (k v w : ℕ) → s.level < k → has_number v t.rising ≡ true → get_or x v 0 ≡ s.level → IsMeeting g x k v w → has_edge (v, w) (t.meets k) ≡ true
+  pub apart : (k : ℕ) → s.level < k → AreApart (t.meets k)
+
+-- what the step leaves of a sweep that began with the levels x
+pub record HasStepped (g : GraphShape) (x : List ℕ) (s t : Sweeping) (most above : ℕ) : Type 0 where
+  pub level : t.level ≡ s.level + 1
+  pub step : IsLevelStep g s.levels t.levels s.count t.count s.level most
+  pub lifted : AreLifted g s t most
+  pub waiting : WaitOn g x s t above
+  pub meeting : MeetOn g x s t
+
+-- the vertices that stay on the level and those that begin there, each once
+pub record ArePassed (s t : Sweeping) (stay begun : List ℕ) : Type 0 where
+  pub stays : (v : ℕ) → has_number v stay ≡ (has_number v s.rising && not (has_number v t.rising))
+  pub begins : (v : ℕ) → has_number v begun ≡ (has_number v t.rising && not (has_number v s.rising))
+  pub stay_once : AreDistinct stay
+  pub begun_once : AreDistinct begun
+
+-- between steps all ranges have the limit; each meeting is kept by the range of the vertex that rises; no list or steps of a step are left
+pub record AreAtRest (most : ℕ) (r : Cut) : Type 0 where
+  pub limit : (j : ℕ) → j < length r.parts → (part_at r j).watch.most ≡ most
+  pub own : (j k v w : ℕ) → j < length r.parts → has_edge (v, w) (get_or (part_at r j).meetings k []) ≡ true → IsHeld (part_at r j).watch v
+  pub begun : (j : ℕ) → j < length r.parts → (part_at r j).begun ≡ []
+  pub steps : (j : ℕ) → j < length r.parts → (part_at r j).steps ≡ 0
