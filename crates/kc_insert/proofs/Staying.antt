@@ -22,6 +22,7 @@ pub record IsLettingStay (old : RisingLevels) (watch : Watch) (listed : List ℕ
   pub seen_on : seen new ≡ seen old
   pub rises_on : (v : ℕ) → rises new v ≡ rises old v && not (has_number v stay)
   pub stays : (v : ℕ) → has_number v stay ≡ true → (rises old v ≡ true) × (count_at watch v ≤ watch.most)
+  pub from : (v : ℕ) → has_number v stay ≡ true → has_number v listed ≡ true
   pub over : (j : ℕ) → j < i → rises new (get_or listed j 0) ≡ true → watch.most < count_at watch (get_or listed j 0)
   pub distinct : AreDistinct stay
 
@@ -31,6 +32,7 @@ letting_first old watch listed stay none = rw none (record {
   seen_on = refl;
   rises_on = λ v. grind (arith, nat_tests);
   stays = λ v there. absurd (true≢false (sym there));
+  from = λ v there. absurd (true≢false (sym there));
   over = λ j h. absurd (omega (arith, h));
   distinct = record {};
 })
@@ -39,14 +41,18 @@ module _ (old : RisingLevels) (watch : Watch) (listed : List ℕ) (i : ℕ) (new
   abbrev item : ℕ
   item = get_or listed i 0
 
-  pub letting_stays : (next : RisingLevels) → next.level ≡ new.level → seen next ≡ seen new → ((u : ℕ) → rises next u ≡ rises new u && not (eqb u item)) → rises new item ≡ true → count_at watch item ≤ watch.most → IsLettingStay old watch listed (i + 1) next (stay ++ item ∷ [])
-  letting_stays next level same left on few = record {
+  pub letting_stays : (next : RisingLevels) → has_number item listed ≡ true → next.level ≡ new.level → seen next ≡ seen new → ((u : ℕ) → rises next u ≡ rises new u && not (eqb u item)) → rises new item ≡ true → count_at watch item ≤ watch.most → IsLettingStay old watch listed (i + 1) next (stay ++ item ∷ [])
+  letting_stays next there level same left on few = record {
     level = level ∙ s.level;
     seen_on = same ∙ s.seen_on;
     rises_on = λ u. left u ∙ grind (arith, nat_tests, s.rises_on u, has_number-push u item stay);
-    stays = λ u there. elim (pushed_is u item stay there) [
+    stays = λ u in_it. elim (pushed_is u item stay in_it) [
       | inr early ↦ s.stays u early
       | inl e ↦ rw e (was, few)
+    ];
+    from = λ u in_it. elim (pushed_is u item stay in_it) [
+      | inr early ↦ s.from u early
+      | inl e ↦ rw e there
     ];
     over = λ j h up. elim (cases_eq j i) [
       | inr ne ↦ s.over j (omega (arith, h, ne)) (grind (arith, nat_tests, up, left (get_or listed j 0)))
@@ -70,6 +76,7 @@ module _ (old : RisingLevels) (watch : Watch) (listed : List ℕ) (i : ℕ) (new
     seen_on = s.seen_on;
     rises_on = s.rises_on;
     stays = s.stays;
+    from = s.from;
     over = λ j h up. elim (cases_eq j i) [
       | inr ne ↦ s.over j (omega (arith, h, ne)) up
       | inl e ↦ subst (λ k. watch.most < count_at watch (get_or listed k 0)) (sym e) (over (ap (λ k. rises new (get_or listed k 0)) (sym e) ∙ up))
@@ -81,6 +88,7 @@ pub letting_last : (old : RisingLevels) (w : Watch) (i : ℕ) (new : RisingLevel
 letting_last old w i new stay end s = record {
   rises_on = s.rises_on;
   stays = s.stays;
+  watched = s.from;
   over = λ v there up.
       let place = has_number_index v w.doubtful there in
       subst (λ u. w.most < count_at w u) place.2 (s.over place.0 (omega (arith, place.1, end)) (ap (rises new) place.2 ∙ up));

@@ -4,7 +4,9 @@ use Rattle.kc_graph.specs.Numbers.{has_number}
 use Rattle.kc_levels.specs.declared.profile.Profile.{Profile}
 use Rattle.kc_levels.specs.Thresholds.{high, group_of, top_level}
 use Rattle.kc_levels.specs.LevelList.{IsCapped}
+use Rattle.kc_levels.specs.private.Following.{IsCopied}
 use Rattle.kc_insert.specs.private.Parts.{Part}
+use Rattle.kc_insert.specs.private.Ranges.{counts_of, Cut, IsCut, IsSameCut, waits}
 use Rattle.kc_insert.specs.private.Watched.{Watch, count_at, IsHeld}
 
 -- v counts `own` from now on, and waits on its level by y if it counted otherwise before and its group allows fewer
@@ -35,3 +37,21 @@ pub record CanFollow (p : Profile) (n : ℕ) (y fresh : List ℕ) (old : Part) :
 pub record HasFiled (p : Profile) (n : ℕ) (y fresh : List ℕ) (old new : Part) : Type 0 where
   pub part : new ≡ record old { watch = new.watch; queue = new.queue }
   pub filed : HaveFiled p n y fresh (length old.watch.counts) old.watch new.watch old.queue new.queue
+
+-- each vertex that waits does so on its level; each that counts more neighbours by `fresh` than its group allows waits, but for those
+-- whose place in `counts` is as in `before`
+pub record IsFiling (p : Profile) (n : ℕ) (y fresh before counts : List ℕ) (queue : ℕ → List ℕ) : Type 0 where
+  pub waiting : (k v : ℕ) → has_number v (queue k) ≡ true → (v < n) × (get_or y v 0 ≡ k)
+  pub found : (v : ℕ) → v < n → (has_number v (queue (get_or y v 0)) ≡ true) ⊎ ((get_or fresh v 0 ≤ high p (group_of p n (get_or y v 0))) ⊎ (get_or counts v 0 ≡ get_or before v 0))
+
+-- the vertices of the list are cut, each has a level that there is, and each level has a list
+pub record CanFile (p : Profile) (n : ℕ) (y fresh : List ℕ) (old : Cut) : Type 0 where
+  pub few : length fresh ≤ 2 ^ 24
+  pub levels : (length y ≡ length fresh) × (n ≡ length fresh) × IsCapped p n y
+  pub cut : IsCut (length fresh) (top_level p n + 1) old
+
+-- all vertices but those that are spared count afresh, and wait if they count otherwise than before and more than their groups allow
+pub record HaveCounted (p : Profile) (n : ℕ) (y fresh : List ℕ) (spared : ℕ → Type 0) (old new : Cut) : Type 0 where
+  pub same : IsSameCut old new
+  pub copied : IsCopied fresh (counts_of old) (counts_of new) spared
+  pub filing : (before : List ℕ) → IsFiling p n y fresh before (counts_of old) (waits old) → IsFiling p n y fresh before (counts_of new) (waits new)

@@ -29,6 +29,7 @@ pub record Part : Type 0 where
 pub record LetStay (old : RisingLevels) (watch : Watch) (new : RisingLevels) (stay : List ℕ) : Type 0 where
   pub rises_on : (v : ℕ) → rises new v ≡ (rises old v && not (has_number v stay))
   pub stays : (v : ℕ) → has_number v stay ≡ true → (rises old v ≡ true) × (count_at watch v ≤ watch.most)
+  pub watched : (v : ℕ) → has_number v stay ≡ true → has_number v watch.doubtful ≡ true
   pub over : (v : ℕ) → has_number v watch.doubtful ≡ true → rises new v ≡ true → watch.most < count_at watch v
   pub distinct : AreDistinct stay
 

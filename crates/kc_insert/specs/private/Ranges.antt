@@ -32,6 +32,10 @@ part_of r v = part_at r (range_of r.bits v)
 abbrev pub count_of : Cut → ℕ → ℕ
 count_of r v = count_at (part_of r v).watch v
 
+-- how many neighbours each vertex counts
+abbrev pub counts_of : Cut → List ℕ
+counts_of r = flat_map (λ (p : Part). p.watch.counts) r.parts
+
 -- v is a vertex of its range
 pub record IsIn (r : Cut) (v : ℕ) : Type 0 where
   pub place : range_of r.bits v < length r.parts
@@ -92,7 +96,7 @@ pub record CanLetStay (levels : RisingLevels) (old : List Part) : Type 0 where
 -- what `Ranges::let_stay` leaves: the vertices that stay, each once, rise no more, since their counts are within the limits of their
 -- ranges; all others of the watch lists that still rise count more; the watch lists are empty
 pub record AllLetStay (before after : RisingLevels) (old new : List Part) : Type 0 where
-  pub level : after.level ≡ before.level
+  pub on : after.level ≡ before.level
   pub levels : seen after ≡ seen before
   pub sized : length new ≡ length old
   pub each : (j : ℕ) (d : Part) → j < length old → get_or new j d ≡ record (get_or old j d) { watch = record (get_or old j d).watch { doubtful = [] }; stay = (get_or new j d).stay }
@@ -111,7 +115,7 @@ pub record CanLiftOff (level : ℕ) (levels : RisingLevels) (vertices : List ℕ
 
 -- what `Ranges::lift_off` leaves: the vertices of the list have begun, each once and in its own range, and are on the next level
 pub record LiftedOff (level : ℕ) (before after : RisingLevels) (vertices : List ℕ) (bits : ℕ) (old new : List Part) : Type 0 where
-  pub level : after.level ≡ before.level
+  pub on : after.level ≡ before.level
   pub levels : seen after ≡ all_at (seen before) (flat_map (λ (p : Part). p.begun) new) (level + 1)
   pub rising : (v : ℕ) → rises after v ≡ (rises before v || has_number v (flat_map (λ (p : Part). p.begun) new))
   pub sized : length new ≡ length old
@@ -137,9 +141,22 @@ pub record LookedAnew (levels : RisingLevels) (most : ℕ) (old new : List Part)
   pub sized : length new ≡ length old
   pub each : (j : ℕ) (d : Part) → j < length old → LooksAnew levels most (get_or old j d) (get_or new j d)
 
+-- but for what the vertices count, and which of them wait, all is as before
+pub record IsSameCut (old new : Cut) : Type 0 where
+  pub bits : new.bits ≡ old.bits
+  pub told : new.told ≡ old.told
+  pub sized : length new.parts ≡ length old.parts
+  pub each : (j : ℕ) (d : Part) → j < length old.parts → get_or new.parts j d ≡ record (get_or old.parts j d) { watch = record (get_or old.parts j d).watch { counts = (get_or new.parts j d).watch.counts }; queue = (get_or new.parts j d).queue }
+  pub counts : (j : ℕ) (d : Part) → j < length old.parts → length (get_or new.parts j d).watch.counts ≡ length (get_or old.parts j d).watch.counts
+  pub queues : (j : ℕ) (d : Part) → j < length old.parts → length (get_or new.parts j d).queue ≡ length (get_or old.parts j d).queue
+
+-- a range of vertices from `first` on, with these counts, of which none rises or waits
+abbrev pub new_part : ℕ → ℕ → ℕ → List ℕ → Part
+new_part levels ranges first counts = record { watch = record { first = first; counts = counts; most = 0; doubtful = [] }; queue = replicate levels []; meetings = replicate levels []; began = []; risen = []; stay = []; begun = []; tell = record { all = []; lists = replicate ranges [] }; steps = 0; is_short = false }
+
 -- what `Ranges::new` leaves: the vertices, with these counts, are cut, and none of them rises or waits
 pub record AreNew (bits : ℕ) (counts : List ℕ) (levels : ℕ) (new : Cut) : Type 0 where
-  pub bits : new.bits ≡ bits
+  pub shape : new.bits ≡ bits
   pub cut : IsCut (length counts) levels new
-  pub counts : (v : ℕ) → v < length counts → count_of new v ≡ get_or counts v 0
-  pub each : (j : ℕ) (d : Part) → j < length new.parts → get_or new.parts j d ≡ record { watch = record { first = (get_or new.parts j d).watch.first; counts = (get_or new.parts j d).watch.counts; most = 0; doubtful = [] }; queue = replicate levels []; meetings = replicate levels []; began = []; risen = []; stay = []; begun = []; tell = record { all = []; lists = replicate (length new.parts) [] }; steps = 0; is_short = false }
+  pub counted : (v : ℕ) → v < length counts → count_of new v ≡ get_or counts v 0
+  pub each : (j : ℕ) (d : Part) → j < length new.parts → get_or new.parts j d ≡ new_part levels (length new.parts) (get_or new.parts j d).watch.first (get_or new.parts j d).watch.counts

@@ -24,7 +24,7 @@ pub loop-v-preserved : goal.loop-v-preserved
 loop-v-preserved c = elim c.if-rises.branch [
   | then-rises+then-count-most+in_ok-push w ↦
       rw (w.levels-is, w.stay-is, w.in_ok-push.ensures.items)
-      (letting_stays _ _ _ _ _ _ c.loop-v.invariant _ w.settle.ensures.level w.settle.ensures.seen w.settle.ensures.rises (sym c.rises.ensures ∙ w.if-rises.true) (omega (arith, w.count.ensures, w.if-count-most.true, c.most-most.ensures)))
+      (letting_stays _ _ _ _ _ _ c.loop-v.invariant _ (has_number_at (get_or c.doubtful-doubtful.result.now c.loop-v.v-index 0) c.doubtful-doubtful.result.now c.loop-v.v-index c.loop-v-test.true refl) w.settle.ensures.level w.settle.ensures.seen w.settle.ensures.rises (sym c.rises.ensures ∙ w.if-rises.true) (omega (arith, w.count.ensures, w.if-count-most.true, c.most-most.ensures)))
   | else-rises w ↦
       rw (w.levels-is, w.stay-is)
       (letting_passes _ _ _ _ _ _ c.loop-v.invariant (elim w.else-rises.branch [
