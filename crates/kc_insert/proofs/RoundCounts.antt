@@ -21,7 +21,7 @@ use Rattle.kc_insert.specs.private.Watched.{count_at, IsHeld, Watch}
 use Rattle.kc_insert.proofs.Flips.{count_agree}
 use Rattle.kc_insert.proofs.Joined.{joined_in, joined_of}
 use Rattle.kc_insert.proofs.RoundLifted.{after_step, before_step, begun_fresh, step_goes, step_others, step_stays}
-use Rattle.kc_insert.proofs.RoundParts.{at_place, begun_in, counts_of, first4, first_mid, HasPassed, held2, held4, held_mid, long2, long4, met_at, mid, Passage, place_of, rose_at, stay_in, step_at, watch2, watch4}
+use Rattle.kc_insert.proofs.RoundParts.{at_place, begun_in, count_in, first4, first_mid, HasPassed, held2, held4, held_mid, long2, long4, met_at, mid, Passage, place_of, rose_at, stay_in, step_at, watch2, watch4}
 use Rattle.kc_insert.proofs.RoundRising.{AreKeeping, begun_here, left_here, listed, move_of, IsMove, goes, begins, stays, rises3, seen_begun, seen_on, seen_same, sized3, stay_few, vertex_in}
 use Rattle.kc_insert.proofs.RoundTold.{above_is, left_none, left_told, less_told, met_on, more_told, near, on_next, second_step, stored_still, told_none}
 use Rattle.kc_insert.proofs.Shared.{in_range_times}
@@ -49,14 +49,14 @@ module _ (p : Profile) (g : GraphShape) (x : List ℕ) (r : Passage) (k : AreKee
     pub held : IsHeld (place_of r.bits r.p0 v).watch v
     held = (vertex_in p g x r.bits r.most r.levels r.s0 r.p0 r.told0 k v at).1
 
-    pub count2 : counts_of r.bits r.p2 v ≡ counts_of r.bits r.p0 v
+    pub count2 : count_in r.bits r.p2 v ≡ count_in r.bits r.p0 v
     count2 = ap (λ (w : Watch). count_at w v) (watch2 g r h (home v) inside)
 
     -- after the vertices that stay were told of
-    pub count4 : counts_of r.bits r.p4 v + cond (rises r.s1 v) (count_by (λ u. has_number u (stay_in r.p2)) (near_v v)) 0 ≡ counts_of r.bits r.p0 v
+    pub count4 : count_in r.bits r.p4 v + cond (rises r.s1 v) (count_by (λ u. has_number u (stay_in r.p2)) (near_v v)) 0 ≡ count_in r.bits r.p0 v
     count4 =
         ap (λ n. n + cond (rises r.s1 v) (count_by (λ u. has_number u (stay_in r.p2)) (near_v v)) 0) (ap (λ (w : Watch). count_at w v) (watch4 g r h (home v) inside))
-        ∙ ap (λ n. counts_of r.bits r.p3 v + n) (sym (less_told p g x r k h graph small v))
+        ∙ ap (λ n. count_in r.bits r.p3 v + n) (sym (less_told p g x r k h graph small v))
         ∙ h.parted.less v no_part (omega (arith, inside, long2 g r h)) (held2 g r h (home v) inside v held)
         ∙ count2
 
@@ -75,26 +75,26 @@ module _ (p : Profile) (g : GraphShape) (x : List ℕ) (r : Passage) (k : AreKee
     abbrev pub count_mid : ℕ
     count_mid = count_at (mid g r h (home v) inside).watch v
 
-    pub count5 : counts_of r.bits r.p5 v ≡ count_mid + told v
+    pub count5 : count_in r.bits r.p5 v ≡ count_mid + told v
     count5 =
         (met_at g r h (home v) inside).more v (held_mid g r h (home v) inside v held).from
         ∙ ap (λ n. count_mid + n) (in_range_times r.bits v (rise_told (second_step p g x r k h graph small) r.p4))
 
     -- a vertex that begins counts afresh
-    pub fresh_count : has_number v (begun_in r.p4) ≡ true → counts_of r.bits r.p5 v ≡ count_by (λ u. ltb r.s0.level (get_or r.s3.stored u 0)) (near_v v) + told v
+    pub fresh_count : has_number v (begun_in r.p4) ≡ true → count_in r.bits r.p5 v ≡ count_by (λ u. ltb r.s0.level (get_or r.s3.stored u 0)) (near_v v) + told v
     fresh_count new = count5 ∙ ap (λ n. n + told v) ((rose_at g r h (home v) inside).risen.own v (begun_home ∙ new))
 
-    mid_count : has_number v (begun_in r.p4) ≡ false → count_mid + left v ≡ counts_of r.bits r.p4 v
+    mid_count : has_number v (begun_in r.p4) ≡ false → count_mid + left v ≡ count_in r.bits r.p4 v
     mid_count none = (rose_at g r h (home v) inside).risen.others v (omega (arith, held.from, first4 g r h (home v) inside)) (begun_home ∙ none)
 
     -- a vertex that neither goes on nor begins counts as before until it is told of others
-    pub mid_same : rises r.s1 v ≡ false → has_number v (begun_in r.p4) ≡ false → count_mid ≡ counts_of r.bits r.p0 v
+    pub mid_same : rises r.s1 v ≡ false → has_number v (begun_in r.p4) ≡ false → count_mid ≡ count_in r.bits r.p0 v
     mid_same off none =
         let rests : rises r.s3 v ≡ false = rises3 p g x r k h v ∙ or_none (rises r.s1 v) (has_number v (begun_in r.p4)) off none in
         let less = ap {B = ℕ} (λ b. cond b (count_by (λ u. has_number u (stay_in r.p2)) (near_v v)) 0) off in
         omega (arith, mid_count none, count4, less, left_none p g x r k h graph small v rests)
 
-    pub other_count : has_number v (begun_in r.p4) ≡ false → counts_of r.bits r.p5 v + left v ≡ counts_of r.bits r.p4 v + told v
+    pub other_count : has_number v (begun_in r.p4) ≡ false → count_in r.bits r.p5 v + left v ≡ count_in r.bits r.p4 v + told v
     other_count none = omega (arith, count5, mid_count none)
 
   abbrev old_at : ℕ → ℕ
@@ -145,7 +145,7 @@ module _ (p : Profile) (g : GraphShape) (x : List ℕ) (r : Passage) (k : AreKee
           ]
     ]
       where
-        out : (u : ℕ) → r.most < counts_of r.bits r.p0 u → has_number u (stay_in r.p2) ≡ false
+        out : (u : ℕ) → r.most < count_in r.bits r.p0 u → has_number u (stay_in r.p2) ≡ false
         out u many = elim (cases_Bool (has_number u (stay_in r.p2))) [ inr none ↦ none | inl there ↦ absurd (omega (arith, many, (stay_few p g x r k h u there).1)) ]
 
         off_level_ : (u : ℕ) → new_at u ≢ r.s0.level → met u ≡ false
@@ -233,12 +233,12 @@ module _ (p : Profile) (g : GraphShape) (x : List ℕ) (r : Passage) (k : AreKee
         | inr ge ↦ le_true j a (omega (arith, e, ge)) ∙ sym (le_true j b (omega (arith, f, ge)))
       ]
 
-  old_count : (v j : ℕ) → v < g.vertices → old_at v ≡ j → counts_of r.bits r.p0 v ≡ count_by (λ u. leb j (old_at u)) (near_v v)
+  old_count : (v j : ℕ) → v < g.vertices → old_at v ≡ j → count_in r.bits r.p0 v ≡ count_by (λ u. leb j (old_at u)) (near_v v)
   unfolding at_least
   old_count v j at on = count_at_level p g x (before_step r) k.sweeping v j at on
 
   -- each vertex counts its neighbours on its level or above
-  new_count : (v : ℕ) → v < g.vertices → counts_of r.bits r.p5 v ≡ count_by (λ u. leb (new_at v) (new_at u)) (near_v v)
+  new_count : (v : ℕ) → v < g.vertices → count_in r.bits r.p5 v ≡ count_by (λ u. leb (new_at v) (new_at u)) (near_v v)
   new_count v at = elim (move_of p g x r k h v) [
     | goes on none ↦
         let it = left_here p g x r k h v on in
@@ -246,14 +246,14 @@ module _ (p : Profile) (g : GraphShape) (x : List ℕ) (r : Passage) (k : AreKee
         let less = ap {B = ℕ} (λ b. cond b (count_by (λ u. has_number u (stay_in r.p2)) (near_v v)) 0) on in
         let behind = left_told p g x r k h graph small v at (rises3 p g x r k h v ∙ or_left (rises r.s1 v) (has_number v (begun_in r.p4)) on) in
         let hears = told_none p g x r k h graph small v at (λ e. absurd (omega (arith, e, it.1))) in
-        let now : counts_of r.bits r.p5 v ≡ count_by (λ u. leb (r.s0.level + 1) (new_at u)) (near_v v) = omega (arith, other_count v at none, count4 v at, less, behind, hears, old_count v r.s0.level at it.1, went_parts v on) in
+        let now : count_in r.bits r.p5 v ≡ count_by (λ u. leb (r.s0.level + 1) (new_at u)) (near_v v) = omega (arith, other_count v at none, count4 v at, less, behind, hears, old_count v r.s0.level at it.1, went_parts v on) in
         now ∙ ap (λ j. count_by (λ u. leb j (new_at u)) (near_v v)) (sym to)
     | begins off new ↦
         let it = begun_here p g x r k h v new in
         let to = seen_begun p g x r k h v new in
         let hears = told_none p g x r k h graph small v at (λ e. absurd (omega (arith, e, it.2))) in
         let fresh : count_by (λ u. ltb r.s0.level (get_or r.s3.stored u 0)) (near_v v) ≡ count_by (λ u. leb (r.s0.level + 1) (new_at u)) (near_v v) = count_agree (λ u. ltb r.s0.level (get_or r.s3.stored u 0)) (λ u. leb (r.s0.level + 1) (new_at u)) (near_v v) (λ u there. above_is p g x r k h graph small u (neighbour_below g.vertices v u g.edges graph there)) in
-        let now : counts_of r.bits r.p5 v ≡ count_by (λ u. leb (r.s0.level + 1) (new_at u)) (near_v v) = omega (arith, fresh_count v at new, fresh, hears) in
+        let now : count_in r.bits r.p5 v ≡ count_by (λ u. leb (r.s0.level + 1) (new_at u)) (near_v v) = omega (arith, fresh_count v at new, fresh, hears) in
         now ∙ ap (λ j. count_by (λ u. leb j (new_at u)) (near_v v)) (sym to)
     | stays off none ↦
         let same = seen_same p g x r k h v off none in
@@ -264,21 +264,21 @@ module _ (p : Profile) (g : GraphShape) (x : List ℕ) (r : Passage) (k : AreKee
           | inl next ↦
               let heard = more_told p g x r k h graph small v in
               let there = ap {B = ℕ} (λ b. cond b (count_by (λ u. has_number u (begun_in r.p4)) (near_v v)) 0) (eq_true (get_or r.s3.stored v 0) (r.s0.level + 1) (stored_still p g x r k h graph small v at rests ∙ same ∙ next)) in
-              let now : counts_of r.bits r.p5 v ≡ count_by (λ u. leb (r.s0.level + 1) (new_at u)) (near_v v) = omega (arith, other_count v at none, count4 v at, less, behind, heard, there, old_count v (r.s0.level + 1) at next, next_parts v at next) in
+              let now : count_in r.bits r.p5 v ≡ count_by (λ u. leb (r.s0.level + 1) (new_at u)) (near_v v) = omega (arith, other_count v at none, count4 v at, less, behind, heard, there, old_count v (r.s0.level + 1) at next, next_parts v at next) in
               now ∙ ap (λ j. count_by (λ u. leb j (new_at u)) (near_v v)) (sym (same ∙ next))
           | inr far ↦
               let hears = told_none p g x r k h graph small v at far in
-              let now : counts_of r.bits r.p5 v ≡ counts_of r.bits r.p0 v = omega (arith, other_count v at none, count4 v at, less, behind, hears) in
+              let now : count_in r.bits r.p5 v ≡ count_in r.bits r.p0 v = omega (arith, other_count v at none, count4 v at, less, behind, hears) in
               now ∙ old_count v (old_at v) at refl ∙ same_parts v (old_at v) far ∙ ap (λ j. count_by (λ u. leb j (new_at u)) (near_v v)) (sym same)
         ]
   ]
 
-  pub counted : AreCounted g (seen r.s3) (counts_of r.bits r.p5)
+  pub counted : AreCounted g (seen r.s3) (count_in r.bits r.p5)
   unfolding at_least
   counted v at = new_count v at
 
   -- the step from level to level
-  pub level_step : IsLevelStep g (seen r.s0) (seen r.s3) (counts_of r.bits r.p0) (counts_of r.bits r.p5) r.s0.level r.most
+  pub level_step : IsLevelStep g (seen r.s0) (seen r.s3) (count_in r.bits r.p0) (count_in r.bits r.p5) r.s0.level r.most
   level_step = record {
     sized = sized3 p g x r k h;
     goes = step_goes p g x r k h;

@@ -11,7 +11,7 @@ use Rattle.kc_levels.specs.declared.profile.Profile.{Profile}
 use Rattle.kc_levels.specs.Thresholds.{top_level}
 use Rattle.kc_adj.specs.Degrees.{degrees}
 use Rattle.kc_insert.specs.private.Crossing.{meetings_of}
-use Rattle.kc_insert.specs.private.LevelStep.{AreAtRest}
+use Rattle.kc_insert.specs.private.LevelStep.{AreAtRest, HasLimit}
 use Rattle.kc_insert.specs.private.Parts.{Part}
 use Rattle.kc_insert.specs.private.Ranges.{AreKept, IsCut, IsIn, no_part}
 use Rattle.kc_insert.specs.private.Rising.{rises, seen}
@@ -24,7 +24,7 @@ use Rattle.kc_insert.proofs.MetRows.{rows_on}
 use Rattle.kc_insert.proofs.RoundCounts.{begun_home, count2, count5, inside}
 use Rattle.kc_insert.proofs.RoundLifted.{after_step}
 use Rattle.kc_insert.proofs.RoundMeets.{past_new}
-use Rattle.kc_insert.proofs.RoundParts.{at_place, begun_in, began4, began5, begun5, counts_of, first2, first4, HasPassed, held5, held_back2, held_back4, held_back5, long2, long4, long5, meetings4, meetings5, met_at, mid, most2, most4, most5, Passage, place_of, queue_mid, risen4, risen5, rose_at, stay_in, steps5, watch2, watch4, watch5, watched3, watched_mid}
+use Rattle.kc_insert.proofs.RoundParts.{at_place, begun_in, began4, began5, begun5, count_in, first2, first4, HasPassed, held5, held_back2, held_back4, held_back5, long2, long4, long5, meetings4, meetings5, met_at, mid, most2, most4, most5, Passage, place_of, queue_mid, risen4, risen5, rose_at, stay_in, steps5, watch2, watch4, watch5, watched3, watched_mid}
 use Rattle.kc_insert.proofs.RoundRising.{AreKeeping, began_at, begun_here, cut_of, left_here, move_of, IsMove, goes, begins, stays, rises3, vertex_in}
 use Rattle.kc_insert.proofs.RoundTold.{second_step}
 use Rattle.kc_insert.proofs.Tests.{or_either, or_left, or_none, or_right}
@@ -131,7 +131,7 @@ module _ (p : Profile) (g : GraphShape) (x : List ℕ) (r : Passage) (k : AreKee
     doubtful6 j at = ap (λ (w : Watch). w.doubtful) (watch6 j at)
 
     -- a vertex that rises and comes to count few is on the watch list
-    many_before : (v : ℕ) → rises r.s3 v ≡ true → (v < g.vertices) × (r.most < counts_of r.bits r.p0 v)
+    many_before : (v : ℕ) → rises r.s3 v ≡ true → (v < g.vertices) × (r.most < count_in r.bits r.p0 v)
     many_before v up = elim (move_of p g x r k h v) [
       | goes on none ↦ let it = left_here p g x r k h v on in (it.0, it.4)
       | begins off new ↦ let it = begun_here p g x r k h v new in (it.0, it.4)
@@ -152,19 +152,19 @@ module _ (p : Profile) (g : GraphShape) (x : List ℕ) (r : Passage) (k : AreKee
       from = (vertex_in p g x r.bits r.most r.levels r.s0 r.p0 r.told0 k v in_graph).1.from
 
       -- it counted many when the vertices that stay were told of, and few afterwards
-      few_then : counts_of r.bits r.p4 v ≤ r.most → has_number v (at_place r.p3 j).watch.doubtful ≡ true
-      few_then low = elim ((watched3 g r h j at).fell v (omega (arith, from, first2 g r h j at)) (omega (arith, low, ap (λ (w : Watch). count_at w v) (watch4 g r h j at), most2 g r h j at, k.rest.limit j at))) [
+      few_then : count_in r.bits r.p4 v ≤ r.most → has_number v (at_place r.p3 j).watch.doubtful ≡ true
+      few_then low = elim ((watched3 g r h j at).fell v (omega (arith, from, first2 g r h j at)) (omega (arith, low, ap (λ (w : Watch). count_at w v) (watch4 g r h j at), most2 g r h j at, k.limit j at))) [
         | inr there ↦ there
-        | inl was ↦ absurd (omega (arith, was, most2 g r h j at, k.rest.limit j at, count2 p g x r k h graph small v in_graph, (many_before v up).1))
+        | inl was ↦ absurd (omega (arith, was, most2 g r h j at, k.limit j at, count2 p g x r k h graph small v in_graph, (many_before v up).1))
       ]
 
       few_mid : count_at (mid g r h j at).watch v ≤ r.most → has_number v (mid g r h j at).watch.doubtful ≡ true
-      few_mid low = elim ((watched_mid g r h j at).fell v (omega (arith, from, first4 g r h j at)) (omega (arith, low, most4 g r h j at, k.rest.limit j at))) [
+      few_mid low = elim ((watched_mid g r h j at).fell v (omega (arith, from, first4 g r h j at)) (omega (arith, low, most4 g r h j at, k.limit j at))) [
         | inr there ↦ there
-        | inl was ↦ (watched_mid g r h j at).still v (ap (λ (w : Watch). has_number v w.doubtful) (watch4 g r h j at) ∙ few_then (omega (arith, was, most4 g r h j at, k.rest.limit j at)))
+        | inl was ↦ (watched_mid g r h j at).still v (ap (λ (w : Watch). has_number v w.doubtful) (watch4 g r h j at) ∙ few_then (omega (arith, was, most4 g r h j at, k.limit j at)))
       ]
 
-      few_on : counts_of r.bits p6 v ≤ (place_of r.bits p6 v).watch.most → has_number v (place_of r.bits p6 v).watch.doubtful ≡ true
+      few_on : count_in r.bits p6 v ≤ (place_of r.bits p6 v).watch.most → has_number v (place_of r.bits p6 v).watch.doubtful ≡ true
       few_on low =
           ap (has_number v) (doubtful6 j at) ∙ ap (λ (w : Watch). has_number v w.doubtful) (watch5 g r h j at)
           ∙ few_mid (omega (
@@ -173,7 +173,7 @@ module _ (p : Profile) (g : GraphShape) (x : List ℕ) (r : Passage) (k : AreKee
             ap (λ (w : Watch). count_at w v) (watch6 j at),
             ap (λ (w : Watch). w.most) (watch6 j at),
             most5 g r h j at,
-            k.rest.limit j at,
+            k.limit j at,
             count5 p g x r k h graph small v in_graph,
           ))
 
@@ -214,9 +214,11 @@ module _ (p : Profile) (g : GraphShape) (x : List ℕ) (r : Passage) (k : AreKee
           ]);
     }
 
-    pub rest_on : AreAtRest r.most (cut_of r.bits p6 told6)
+    pub limit_on : HasLimit r.most (cut_of r.bits p6 told6)
+    limit_on j at = let within : j < length r.p0 = omega (arith, at, long60) in ap (λ (w : Watch). w.most) (watch6 j within) ∙ most5 g r h j within ∙ k.limit j within
+
+    pub rest_on : AreAtRest (cut_of r.bits p6 told6)
     rest_on = record {
-      limit = λ j at. let within : j < length r.p0 = omega (arith, at, long60) in ap (λ (w : Watch). w.most) (watch6 j within) ∙ most5 g r h j within ∙ k.rest.limit j within;
       own = λ j i v w at there.
           let within : j < length r.p0 = omega (arith, at, long60) in
           let now : has_edge (v, w) (get_or (at_place r.p5 j).meetings i []) ≡ true = ap (λ (q : Part). has_edge (v, w) (get_or q.meetings i [])) (sym (taken_at j within)) ∙ there in

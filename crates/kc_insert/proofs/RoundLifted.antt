@@ -14,7 +14,7 @@ use Rattle.kc_insert.specs.private.Telling.{times}
 use Rattle.kc_insert.proofs.Adding.{times-filter, times_none}
 use Rattle.kc_insert.proofs.Buckets.{has_number-filter}
 use Rattle.kc_insert.proofs.Joined.{distinct_times, has_joined, joined_in, joined_of, joined_same, times_distinct, times_joined}
-use Rattle.kc_insert.proofs.RoundParts.{at_place, begun_in, began4, began5, counts_of, HasPassed, long4, long5, Passage, risen4, risen5, stay_in, waits_in}
+use Rattle.kc_insert.proofs.RoundParts.{at_place, begun_in, began4, began5, count_in, HasPassed, long4, long5, Passage, risen4, risen5, stay_in, waits_in}
 use Rattle.kc_insert.proofs.RoundRising.{AreKeeping, began_at, began_in, begun_here, begun_is, cut_of, left_here, left_is, listed, move_of, IsMove, goes, begins, stays, risen_in, rises3, seen_begun, seen_on, seen_same, stay_few}
 use Rattle.kc_insert.proofs.Stepping.{many_breaks, off_level, rises_rose, rose_below}
 use Rattle.kc_insert.proofs.Tests.{and_both, and_left, and_off, lt_true, or_either, or_left, or_none, or_off, or_right}
@@ -31,22 +31,22 @@ module _ (p : Profile) (g : GraphShape) (x : List ℕ) (r : Passage) (k : AreKee
   listed0 v = listed p g x r.bits r.most r.levels r.s0 r.p0 r.told0 k v
 
   -- each vertex on the level that counts many goes on or begins
-  many_move : (v : ℕ) → v < g.vertices → get_or (seen r.s0) v 0 ≡ r.s0.level → r.most < counts_of r.bits r.p0 v → (rises r.s1 v ≡ true) ⊎ (has_number v (begun_in r.p4) ≡ true)
+  many_move : (v : ℕ) → v < g.vertices → get_or (seen r.s0) v 0 ≡ r.s0.level → r.most < count_in r.bits r.p0 v → (rises r.s1 v ≡ true) ⊎ (has_number v (begun_in r.p4) ≡ true)
   many_move v at on many = elim (cases_Bool (rises r.s0 v)) [
-    | inl up ↦ inl (left_is p g x r k h v ∙ and_both (rises r.s0 v) _ up (lt_true r.most (counts_of r.bits r.p0 v) many))
+    | inl up ↦ inl (left_is p g x r k h v ∙ and_both (rises r.s0 v) _ up (lt_true r.most (count_in r.bits r.p0 v) many))
     | inr none ↦ elim (k.sweeping.awaited.found v at) [
       | inl meets ↦ absurd (many_breaks p g x (before_step r) k.sweeping v r.s0.level at on (omega (arith, many, k.most_is)) meets)
       | inr (inl rises_) ↦ absurd (true≢false (sym rises_ ∙ listed0 v ∙ none))
       | inr (inr waits) ↦
           let there : has_number v (waits_in r.s0.level r.p0) ≡ true = ap (λ l. has_number v (waits_in l r.p0)) (sym on) ∙ waits.1 in
-          inr (begun_is p g x r k h v ∙ and_both (has_number v (waits_in r.s0.level r.p0)) _ there (lt_true r.most (counts_of r.bits r.p0 v) many))
+          inr (begun_is p g x r k h v ∙ and_both (has_number v (waits_in r.s0.level r.p0)) _ there (lt_true r.most (count_in r.bits r.p0 v) many))
     ]
   ]
 
-  pub step_goes : (v : ℕ) → v < g.vertices → get_or (seen r.s0) v 0 ≡ r.s0.level → r.most < counts_of r.bits r.p0 v → get_or (seen r.s3) v 0 ≡ r.s0.level + 1
+  pub step_goes : (v : ℕ) → v < g.vertices → get_or (seen r.s0) v 0 ≡ r.s0.level → r.most < count_in r.bits r.p0 v → get_or (seen r.s3) v 0 ≡ r.s0.level + 1
   step_goes v at on many = elim (many_move v at on many) [ inl up ↦ seen_on p g x r k h v up | inr there ↦ seen_begun p g x r k h v there ]
 
-  pub step_stays : (v : ℕ) → v < g.vertices → get_or (seen r.s0) v 0 ≡ r.s0.level → counts_of r.bits r.p0 v ≤ r.most → get_or (seen r.s3) v 0 ≡ r.s0.level
+  pub step_stays : (v : ℕ) → v < g.vertices → get_or (seen r.s0) v 0 ≡ r.s0.level → count_in r.bits r.p0 v ≤ r.most → get_or (seen r.s3) v 0 ≡ r.s0.level
   step_stays v at on few = elim (move_of p g x r k h v) [
     | goes up none ↦ absurd (omega (arith, few, (left_here p g x r k h v up).4))
     | begins off there ↦ absurd (omega (arith, few, (begun_here p g x r k h v there).4))
@@ -166,7 +166,7 @@ module _ (p : Profile) (g : GraphShape) (x : List ℕ) (r : Passage) (k : AreKee
             )
       ]
 
-  few_out : (v : ℕ) → counts_of r.bits r.p0 v ≤ r.most → rises r.s1 v || has_number v (begun_in r.p4) ≡ false
+  few_out : (v : ℕ) → count_in r.bits r.p0 v ≤ r.most → rises r.s1 v || has_number v (begun_in r.p4) ≡ false
   few_out v few = elim (move_of p g x r k h v) [
     | goes on none ↦ absurd (omega (arith, few, (left_here p g x r k h v on).4))
     | begins off new ↦ absurd (omega (arith, few, (begun_here p g x r k h v new).4))

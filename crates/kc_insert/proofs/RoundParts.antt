@@ -23,8 +23,8 @@ abbrev pub place_of : ℕ → List Part → ℕ → Part
 place_of bits ps v = get_or ps (range_of bits v) no_part
 
 -- how many neighbours v counts
-abbrev pub counts_of : ℕ → List Part → ℕ → ℕ
-counts_of bits ps v = count_at (place_of bits ps v).watch v
+abbrev pub count_in : ℕ → List Part → ℕ → ℕ
+count_in bits ps v = count_at (place_of bits ps v).watch v
 
 -- the lists of all ranges one after another
 abbrev pub stay_in : List Part → List ℕ
@@ -67,7 +67,7 @@ pub record Passage : Type 0 where
 -- `starting`; some vertices stay; the others hear of it; all that rise go to the next level; those in `starting` begin; all ranges rise
 pub record HasPassed (g : GraphShape) (r : Passage) : Type 0 where
   pub took : TookWaiting r.s0.level r.p0 r.p1
-  pub movers : r.starting ≡ filter (is_over (counts_of r.bits r.p1) r.most) (waits_in r.s0.level r.p0)
+  pub movers : r.starting ≡ filter (is_over (count_in r.bits r.p1) r.most) (waits_in r.s0.level r.p0)
   pub stopped : AllLetStay r.s0 r.s1 r.p1 r.p2
   pub parted : AllParted (step_at g r.s1 r.bits r.s0.level r.less) r.p2 r.p3
   pub gone : (risers : List ℕ) → ((v : ℕ) → rises r.s1 v ≡ has_number v risers) → seen r.s2 ≡ all_at (seen r.s1) risers (r.s0.level + 1)

@@ -22,7 +22,7 @@ use Rattle.kc_insert.proofs.Flips.{count_agree}
 use Rattle.kc_insert.proofs.Joined.{apart_part, joined_ends, joined_rows, joined_same, pairs_in, pairs_of, times_joined}
 use Rattle.kc_insert.proofs.Pairs.{times_firsts, times_seconds}
 use Rattle.kc_insert.proofs.RoundLifted.{before_step}
-use Rattle.kc_insert.proofs.RoundParts.{at_place, begun_in, counts_of, HasPassed, long4, meetings4, Passage, place_of, stay_in, step_at}
+use Rattle.kc_insert.proofs.RoundParts.{at_place, begun_in, count_in, HasPassed, long4, meetings4, Passage, place_of, stay_in, step_at}
 use Rattle.kc_insert.proofs.RoundRising.{AreKeeping, begun_here, cut_of, left_here, level3, listed, move_of, IsMove, goes, begins, stays, own_count, rises3, seen_begun, seen_on, seen_same, sized3, vertex_in}
 use Rattle.kc_insert.proofs.Seen.{stored_at}
 use Rattle.kc_insert.proofs.Stepping.{stood_above}

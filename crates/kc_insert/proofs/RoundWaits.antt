@@ -19,7 +19,7 @@ use Rattle.kc_insert.proofs.Inside.{inside_both, inside_ends, inside_rows}
 use Rattle.kc_insert.proofs.Joined.{joined_in, joined_of, pairs_of}
 use Rattle.kc_insert.proofs.RoundCounts.{home, inside, held, mid_same}
 use Rattle.kc_insert.proofs.RoundLifted.{after_step, before_step}
-use Rattle.kc_insert.proofs.RoundParts.{at_place, begun_in, counts_of, HasPassed, held_mid, long4, long5, meetings4, met_at, mid, Passage, queue_mid}
+use Rattle.kc_insert.proofs.RoundParts.{at_place, begun_in, count_in, HasPassed, held_mid, long4, long5, meetings4, met_at, mid, Passage, queue_mid}
 use Rattle.kc_insert.proofs.RoundRising.{AreKeeping, begun_here, left_here, move_of, IsMove, goes, begins, stays, rises3, seen_same}
 use Rattle.kc_insert.proofs.RoundTold.{met_on, second_step, stored_rising, stored_still}
 use Rattle.kc_insert.proofs.Shared.{in_range_has}
