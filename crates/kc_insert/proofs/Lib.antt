@@ -25,6 +25,7 @@ mod Nearest
 mod Pairs
 mod Parting
 mod Round
+mod RoundBefore
 mod RoundCounts
 mod RoundKept
 mod RoundLifted

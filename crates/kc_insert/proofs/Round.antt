@@ -1,10 +1,9 @@
 -- The step of a sweep, from what its calls leave.
-use Rattle.std.proofs.Common.{ℕ, ◌+◌, ◌<◌, ◌≤◌, ◌≡◌, List, ap}
+use Rattle.std.proofs.Common.{ℕ, ◌+◌, ◌<◌, ◌≤◌, ◌≡◌, List}
 use Rattle.std.specs.List.{sum_by}
 use Rattle.kc_graph.specs.Shape.{GraphShape, IsGraph}
 use Rattle.kc_levels.specs.declared.profile.Profile.{Profile}
 use Rattle.kc_levels.specs.Thresholds.{high, group_of, top_level}
-use Rattle.kc_adj.specs.Degrees.{degrees}
 use Rattle.kc_insert.specs.private.LevelStep.{HasStepped}
 use Rattle.kc_insert.specs.private.Parts.{Part}
 use Rattle.kc_insert.specs.private.Sweeping.{IsPaid, IsSweeping}
@@ -20,7 +19,7 @@ use Rattle.kc_insert.proofs.Stepping.{paid_on, stepped}
 module _ (p : Profile) (g : GraphShape) (x : List ℕ) (r : Passage) (k : AreKeeping p g x r.bits r.most r.levels r.s0 r.p0 r.told0) (h : HasPassed g r) (graph : IsGraph g) (small : r.s0.level < 65534) (few : r.levels ≤ 65535) (tops : top_level p g.vertices < 65535) where
   pub has_stepped : HasStepped g x (before_step r) (after_step r) r.most r.above
   has_stepped = record {
-    level = level3 p g x r k h;
+    level = level3 p g x r k h.before;
     step = level_step p g x r k h graph small;
     lifted = lifted p g x r k h;
     waiting = waiting p g x r k h graph small;

@@ -1,5 +1,5 @@
 -- A step of a sweep: how the ranges keep their vertices afterwards.
-use Rattle.std.proofs.Common.{ℕ, suc, ◌+◌, ◌≤◌, ◌<◌, ◌≡◌, ◌≢◌, ◌⊎◌, inl, inr, Bool, true, false, ◌&&◌, ◌||◌, List, [], ◌∷◌, ◌++◌, length, get_or, set, filter, refl, ap, sym, subst, ◌∙◌, arith}
+use Rattle.std.proofs.Common.{ℕ, suc, ◌+◌, ◌≤◌, ◌<◌, ◌≡◌, inl, inr, true, List, [], ◌∷◌, ◌++◌, length, get_or, set, filter, refl, ap, sym, subst, ◌∙◌, arith}
 use Rattle.std.specs.List.{flat_map, sum_by}
 use Rattle.std.proofs.lemmas.Bool.{cases_lt, cases_eq, cases_Bool, true≢false}
 use Rattle.std.proofs.lemmas.List.Sums.{sum_by-cons}
@@ -13,19 +13,20 @@ use Rattle.kc_adj.specs.Degrees.{degrees}
 use Rattle.kc_insert.specs.private.Crossing.{meetings_of}
 use Rattle.kc_insert.specs.private.LevelStep.{AreAtRest, HasLimit}
 use Rattle.kc_insert.specs.private.Parts.{Part}
-use Rattle.kc_insert.specs.private.Ranges.{AreKept, IsCut, IsIn, no_part}
-use Rattle.kc_insert.specs.private.Rising.{rises, seen}
+use Rattle.kc_insert.specs.private.Ranges.{AreKept, IsCut, no_part}
+use Rattle.kc_insert.specs.private.Rising.{rises}
 use Rattle.kc_insert.specs.private.Sweeping.{IsSame, sweeping_of}
 use Rattle.kc_insert.specs.private.Telling.{range_of, Tell}
 use Rattle.kc_insert.specs.private.Watched.{count_at, IsHeld, Watch}
 use Rattle.kc_insert.proofs.Efforts.{degrees-append}
 use Rattle.kc_insert.proofs.Joined.{has_edge-append, joined_of, joined_same}
 use Rattle.kc_insert.proofs.MetRows.{rows_on}
-use Rattle.kc_insert.proofs.RoundCounts.{begun_home, count2, count5, inside}
+use Rattle.kc_insert.proofs.RoundBefore.{begun_home, count2, inside}
+use Rattle.kc_insert.proofs.RoundCounts.{count5}
 use Rattle.kc_insert.proofs.RoundLifted.{after_step}
 use Rattle.kc_insert.proofs.RoundMeets.{past_new}
 use Rattle.kc_insert.proofs.RoundParts.{at_place, begun_in, began4, began5, begun5, count_in, first2, first4, HasPassed, held5, held_back2, held_back4, held_back5, long2, long4, long5, meetings4, meetings5, met_at, mid, most2, most4, most5, Passage, place_of, queue_mid, risen4, risen5, rose_at, stay_in, steps5, watch2, watch4, watch5, watched3, watched_mid}
-use Rattle.kc_insert.proofs.RoundRising.{AreKeeping, began_at, begun_here, cut_of, left_here, move_of, IsMove, goes, begins, stays, rises3, vertex_in}
+use Rattle.kc_insert.proofs.RoundRising.{AreKeeping, began_at, begun_here, cut_of, left_here, move_of, goes, begins, stays, rises3, vertex_in}
 use Rattle.kc_insert.proofs.RoundTold.{second_step}
 use Rattle.kc_insert.proofs.Tests.{or_either, or_left, or_none, or_right}
 
@@ -59,7 +60,7 @@ steps_sum g (q ∷ qs) (p ∷ ps) (r ∷ rs) long too each = omega (
 module _ (p : Profile) (g : GraphShape) (x : List ℕ) (r : Passage) (k : AreKeeping p g x r.bits r.most r.levels r.s0 r.p0 r.told0) (h : HasPassed g r) (graph : IsGraph g) (small : r.s0.level < 65534) (few : r.levels ≤ 65535) (tops : top_level p g.vertices < 65535) where
   -- the steps of the ranges are those of passes over the neighbours of the vertices that stay and of those that begin
   pub steps_are : sum_by (λ (q : Part). q.steps) r.p5 ≡ degrees g (stay_in r.p2) + degrees g (begun_in r.p4)
-  steps_are = steps_sum g r.p5 r.p2 r.p4 (long5 g r h ∙ sym (long4 g r h)) (long2 g r h ∙ sym (long4 g r h)) (λ j at. let within : j < length r.p0 = omega (arith, at, long4 g r h) in omega (arith, steps5 g r h j within, k.rest.steps j within))
+  steps_are = steps_sum g r.p5 r.p2 r.p4 (long5 g r h ∙ sym (long4 g r h.before)) (long2 g r h.before ∙ sym (long4 g r h.before)) (λ j at. let within : j < length r.p0 = omega (arith, at, long4 g r h.before) in omega (arith, steps5 g r h j within, k.rest.steps j within))
 
   -- after the steps were counted
   module _ (p6 : List Part) (told6 : List Tell) (long6 : length p6 ≡ length r.p5) (taken : (j : ℕ) → j < length r.p5 → at_place p6 j ≡ record (at_place r.p5 j) { steps = 0 }) (tells : (length told6 ≡ length r.p5) × ((j : ℕ) (d : Tell) → j < length r.p5 → length (get_or told6 j d).lists ≡ length r.p5)) where
@@ -101,8 +102,8 @@ module _ (p : Profile) (g : GraphShape) (x : List ℕ) (r : Passage) (k : AreKee
     -- a vertex that begins is of its range
     begun_held : (j v : ℕ) → j < length r.p0 → has_number v (at_place r.p4 j).begun ≡ true → IsHeld (at_place r.p0 j).watch v
     begun_held j v at there =
-        let own = h.lifted.own j v no_part (omega (arith, at, long4 g r h, h.lifted.sized)) there in
-        let it = begun_here p g x r k h v (joined_of (λ (q : Part). q.begun) r.p4 v j (omega (arith, at, long4 g r h)) there) in
+        let own = h.before.lifted.own j v no_part (omega (arith, at, long4 g r h.before, h.before.lifted.sized)) there in
+        let it = begun_here p g x r k h.before v (joined_of (λ (q : Part). q.begun) r.p4 v j (omega (arith, at, long4 g r h.before)) there) in
         subst (λ i. IsHeld (at_place r.p0 i).watch v) own (vertex_in p g x r.bits r.most r.levels r.s0 r.p0 r.told0 k v it.0).1
 
     pub cut_on : IsCut g.vertices r.levels (cut_of r.bits p6 told6)
@@ -114,28 +115,28 @@ module _ (p : Profile) (g : GraphShape) (x : List ℕ) (r : Passage) (k : AreKee
           ap (λ (q : Part). length q.queue) (taken_at j within) ∙ (met_at g r h j within).levels ∙ ap (λ (q : List (List ℕ)). length q) (queue_mid g r h j within) ∙ length-set (at_place r.p0 j).queue r.s0.level [] ∙ k.shape.queues j within;
       meetings = λ j at.
           let within : j < length r.p0 = omega (arith, at, long60) in
-          ap (λ (q : Part). length q.meetings) (taken_at j within) ∙ ap (λ (m : List (List Pair)). length m) (meetings5 g r h j within) ∙ (rose_at g r h j within).risen.meetings.sized ∙ length-set (at_place r.p4 j).meetings r.s0.level [] ∙ ap (λ (m : List (List Pair)). length m) (meetings4 g r h j within) ∙ k.shape.meetings j within;
+          ap (λ (q : Part). length q.meetings) (taken_at j within) ∙ ap (λ (m : List (List Pair)). length m) (meetings5 g r h j within) ∙ (rose_at g r h j within).risen.meetings.sized ∙ length-set (at_place r.p4 j).meetings r.s0.level [] ∙ ap (λ (m : List (List Pair)). length m) (meetings4 g r h.before j within) ∙ k.shape.meetings j within;
       tells = λ j at.
           let within : j < length r.p0 = omega (arith, at, long60) in
-          ap (λ (q : Part). length q.tell.lists) (taken_at j within) ∙ h.risen.lists j no_part (omega (arith, within, long4 g r h)) ∙ long4 g r h ∙ sym long60;
+          ap (λ (q : Part). length q.tell.lists) (taken_at j within) ∙ h.risen.lists j no_part (omega (arith, within, long4 g r h.before)) ∙ long4 g r h.before ∙ sym long60;
       told = (tells.0 ∙ sym long6, λ j d at. tells.1 j d (omega (arith, at, long6)) ∙ sym long6);
     }
 
     began6 : (j : ℕ) → j < length r.p0 → (at_place p6 j).began ≡ (at_place r.p0 j).began ++ (at_place r.p4 j).begun
-    began6 j at = ap (λ (q : Part). q.began) (taken_at j at) ∙ began5 g r h j at ∙ ap (λ vs. vs ++ (at_place r.p4 j).begun) (began4 g r h j at)
+    began6 j at = ap (λ (q : Part). q.began) (taken_at j at) ∙ began5 g r h j at ∙ ap (λ vs. vs ++ (at_place r.p4 j).begun) (began4 g r h.before j at)
 
     risen6 : (j : ℕ) → j < length r.p0 → (at_place p6 j).risen ≡ (at_place r.p0 j).risen ++ (at_place r.p4 j).begun
-    risen6 j at = ap (λ (q : Part). q.risen) (taken_at j at) ∙ risen5 g r h j at ∙ ap (λ vs. vs ++ (at_place r.p4 j).begun) (risen4 g r h j at)
+    risen6 j at = ap (λ (q : Part). q.risen) (taken_at j at) ∙ risen5 g r h j at ∙ ap (λ vs. vs ++ (at_place r.p4 j).begun) (risen4 g r h.before j at)
 
     doubtful6 : (j : ℕ) → j < length r.p0 → (at_place p6 j).watch.doubtful ≡ (at_place r.p5 j).watch.doubtful
     doubtful6 j at = ap (λ (w : Watch). w.doubtful) (watch6 j at)
 
     -- a vertex that rises and comes to count few is on the watch list
     many_before : (v : ℕ) → rises r.s3 v ≡ true → (v < g.vertices) × (r.most < count_in r.bits r.p0 v)
-    many_before v up = elim (move_of p g x r k h v) [
-      | goes on none ↦ let it = left_here p g x r k h v on in (it.0, it.4)
-      | begins off new ↦ let it = begun_here p g x r k h v new in (it.0, it.4)
-      | stays off none ↦ absurd (true≢false (sym up ∙ rises3 p g x r k h v ∙ or_none (rises r.s1 v) (has_number v (begun_in r.p4)) off none))
+    many_before v up = elim (move_of p g x r k h.before v) [
+      | goes on none ↦ let it = left_here p g x r k h.before v on in (it.0, it.4)
+      | begins off new ↦ let it = begun_here p g x r k h.before v new in (it.0, it.4)
+      | stays off none ↦ absurd (true≢false (sym up ∙ rises3 p g x r k h.before v ∙ or_none (rises r.s1 v) (has_number v (begun_in r.p4)) off none))
     ]
 
     module _ (v : ℕ) (up : rises r.s3 v ≡ true) where
@@ -146,22 +147,22 @@ module _ (p : Profile) (g : GraphShape) (x : List ℕ) (r : Passage) (k : AreKee
       in_graph = (many_before v up).0
 
       abbrev at : j < length r.p0
-      at = inside p g x r k h graph small v in_graph
+      at = inside p g x r k h.before graph small v in_graph
 
       from : (at_place r.p0 j).watch.first ≤ v
       from = (vertex_in p g x r.bits r.most r.levels r.s0 r.p0 r.told0 k v in_graph).1.from
 
       -- it counted many when the vertices that stay were told of, and few afterwards
       few_then : count_in r.bits r.p4 v ≤ r.most → has_number v (at_place r.p3 j).watch.doubtful ≡ true
-      few_then low = elim ((watched3 g r h j at).fell v (omega (arith, from, first2 g r h j at)) (omega (arith, low, ap (λ (w : Watch). count_at w v) (watch4 g r h j at), most2 g r h j at, k.limit j at))) [
+      few_then low = elim ((watched3 g r h.before j at).fell v (omega (arith, from, first2 g r h.before j at)) (omega (arith, low, ap (λ (w : Watch). count_at w v) (watch4 g r h.before j at), most2 g r h.before j at, k.limit j at))) [
         | inr there ↦ there
-        | inl was ↦ absurd (omega (arith, was, most2 g r h j at, k.limit j at, count2 p g x r k h graph small v in_graph, (many_before v up).1))
+        | inl was ↦ absurd (omega (arith, was, most2 g r h.before j at, k.limit j at, count2 p g x r k h.before graph small v in_graph, (many_before v up).1))
       ]
 
       few_mid : count_at (mid g r h j at).watch v ≤ r.most → has_number v (mid g r h j at).watch.doubtful ≡ true
-      few_mid low = elim ((watched_mid g r h j at).fell v (omega (arith, from, first4 g r h j at)) (omega (arith, low, most4 g r h j at, k.limit j at))) [
+      few_mid low = elim ((watched_mid g r h j at).fell v (omega (arith, from, first4 g r h.before j at)) (omega (arith, low, most4 g r h.before j at, k.limit j at))) [
         | inr there ↦ there
-        | inl was ↦ (watched_mid g r h j at).still v (ap (λ (w : Watch). has_number v w.doubtful) (watch4 g r h j at) ∙ few_then (omega (arith, was, most4 g r h j at, k.limit j at)))
+        | inl was ↦ (watched_mid g r h j at).still v (ap (λ (w : Watch). has_number v w.doubtful) (watch4 g r h.before j at) ∙ few_then (omega (arith, was, most4 g r h.before j at, k.limit j at)))
       ]
 
       few_on : count_in r.bits p6 v ≤ (place_of r.bits p6 v).watch.most → has_number v (place_of r.bits p6 v).watch.doubtful ≡ true
@@ -179,15 +180,15 @@ module _ (p : Profile) (g : GraphShape) (x : List ℕ) (r : Passage) (k : AreKee
 
     pub kept_on : AreKept r.s3 (cut_of r.bits p6 told6)
     kept_on = record {
-      began = λ v up. elim (move_of p g x r k h v) [
+      began = λ v up. elim (move_of p g x r k h.before v) [
         | goes on none ↦
-            let was = began_at p g x r.bits r.most r.levels r.s0 r.p0 r.told0 k v (left_here p g x r k h v on).3 in
-            ap (has_number v) (began6 (range_of r.bits v) was.0) ∙ has_number-append v (place_of r.bits r.p0 v).began (place_of r.bits r.p4 v).begun ∙ or_left (has_number v (place_of r.bits r.p0 v).began) (has_number v (place_of r.bits r.p4 v).begun) (k.kept.began v (left_here p g x r k h v on).3)
+            let was = began_at p g x r.bits r.most r.levels r.s0 r.p0 r.told0 k v (left_here p g x r k h.before v on).3 in
+            ap (has_number v) (began6 (range_of r.bits v) was.0) ∙ has_number-append v (place_of r.bits r.p0 v).began (place_of r.bits r.p4 v).begun ∙ or_left (has_number v (place_of r.bits r.p0 v).began) (has_number v (place_of r.bits r.p4 v).begun) (k.kept.began v (left_here p g x r k h.before v on).3)
         | begins off new ↦
-            let it = begun_here p g x r k h v new in
+            let it = begun_here p g x r k h.before v new in
             let at = (vertex_in p g x r.bits r.most r.levels r.s0 r.p0 r.told0 k v it.0).0 in
-            ap (has_number v) (began6 (range_of r.bits v) at) ∙ has_number-append v (place_of r.bits r.p0 v).began (place_of r.bits r.p4 v).begun ∙ or_right (has_number v (place_of r.bits r.p0 v).began) (has_number v (place_of r.bits r.p4 v).begun) (begun_home p g x r k h graph small v it.0 ∙ new)
-        | stays off none ↦ absurd (true≢false (sym up ∙ rises3 p g x r k h v ∙ or_none (rises r.s1 v) (has_number v (begun_in r.p4)) off none))
+            ap (has_number v) (began6 (range_of r.bits v) at) ∙ has_number-append v (place_of r.bits r.p0 v).began (place_of r.bits r.p4 v).begun ∙ or_right (has_number v (place_of r.bits r.p0 v).began) (has_number v (place_of r.bits r.p4 v).begun) (begun_home p g x r k h.before graph small v it.0 ∙ new)
+        | stays off none ↦ absurd (true≢false (sym up ∙ rises3 p g x r k h.before v ∙ or_none (rises r.s1 v) (has_number v (begun_in r.p4)) off none))
       ];
       own = λ j v at there.
           let within : j < length r.p0 = omega (arith, at, long60) in
@@ -206,10 +207,10 @@ module _ (p : Profile) (g : GraphShape) (x : List ℕ) (r : Passage) (k : AreKee
           let within : j < length r.p0 = omega (arith, at, long60) in
           let now : has_number v (mid g r h j within).watch.doubtful ≡ true = ap (λ (w : Watch). has_number v w.doubtful) (sym (watch5 g r h j within)) ∙ ap (has_number v) (sym (doubtful6 j within)) ∙ there in
           held6 j v within (elim ((watched_mid g r h j within).inside v now) [
-            | inr is ↦ held_back4 g r h j within v is
-            | inl was ↦ elim ((watched3 g r h j within).inside v (ap (λ (w : Watch). has_number v w.doubtful) (sym (watch4 g r h j within)) ∙ was)) [
-              | inr is ↦ held_back2 g r h j within v is
-              | inl listed ↦ absurd (true≢false (sym listed ∙ ap (λ (w : Watch). has_number v w.doubtful) (watch2 g r h j within)))
+            | inr is ↦ held_back4 g r h.before j within v is
+            | inl was ↦ elim ((watched3 g r h.before j within).inside v (ap (λ (w : Watch). has_number v w.doubtful) (sym (watch4 g r h.before j within)) ∙ was)) [
+              | inr is ↦ held_back2 g r h.before j within v is
+              | inl listed ↦ absurd (true≢false (sym listed ∙ ap (λ (w : Watch). has_number v w.doubtful) (watch2 g r h.before j within)))
             ]
           ]);
     }
@@ -232,8 +233,8 @@ module _ (p : Profile) (g : GraphShape) (x : List ℕ) (r : Passage) (k : AreKee
       where
         met_held : (j i v w : ℕ) → j < length r.p0 → i < 65535 → has_edge (v, w) (get_or (at_place r.p5 j).meetings i []) ≡ true → IsHeld (at_place r.p0 j).watch v
         met_held j i v w within low now =
-            let is : get_or (at_place r.p5 j).meetings i [] ≡ get_or (set (at_place r.p4 j).meetings r.s0.level []) i [] ++ flat_map (meetings_of (second_step p g x r k h graph small) i) (at_place r.p4 j).begun = ap (λ (m : List (List Pair)). get_or m i []) (meetings5 g r h j within) ∙ (rose_at g r h j within).risen.meetings.filed i low in
+            let is : get_or (at_place r.p5 j).meetings i [] ≡ get_or (set (at_place r.p4 j).meetings r.s0.level []) i [] ++ flat_map (meetings_of (second_step p g x r k h.before graph small) i) (at_place r.p4 j).begun = ap (λ (m : List (List Pair)). get_or m i []) (meetings5 g r h j within) ∙ (rose_at g r h j within).risen.meetings.filed i low in
             elim (cases_Bool (has_edge (v, w) (get_or (set (at_place r.p4 j).meetings r.s0.level []) i []))) [
-              | inl was ↦ k.rest.own j i v w within (ap (λ (m : List (List Pair)). has_edge (v, w) (get_or m i [])) (sym (meetings4 g r h j within)) ∙ cleared (at_place r.p4 j).meetings r.s0.level i (v, w) was)
-              | inr none ↦ begun_held j v within (rows_on g r.s3.stored r.s0.level i (at_place r.p4 j).begun v w (or_either (has_edge (v, w) (get_or (set (at_place r.p4 j).meetings r.s0.level []) i [])) _ (sym (ap (has_edge (v, w)) is ∙ has_edge-append (v, w) (get_or (set (at_place r.p4 j).meetings r.s0.level []) i []) (flat_map (meetings_of (second_step p g x r k h graph small) i) (at_place r.p4 j).begun)) ∙ now) none)).0
+              | inl was ↦ k.rest.own j i v w within (ap (λ (m : List (List Pair)). has_edge (v, w) (get_or m i [])) (sym (meetings4 g r h.before j within)) ∙ cleared (at_place r.p4 j).meetings r.s0.level i (v, w) was)
+              | inr none ↦ begun_held j v within (rows_on g r.s3.stored r.s0.level i (at_place r.p4 j).begun v w (or_either (has_edge (v, w) (get_or (set (at_place r.p4 j).meetings r.s0.level []) i [])) _ (sym (ap (has_edge (v, w)) is ∙ has_edge-append (v, w) (get_or (set (at_place r.p4 j).meetings r.s0.level []) i []) (flat_map (meetings_of (second_step p g x r k h.before graph small) i) (at_place r.p4 j).begun)) ∙ now) none)).0
             ]

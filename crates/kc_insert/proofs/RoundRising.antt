@@ -1,30 +1,27 @@
 -- A step of a sweep: which vertices go on, begin and stay, and where they are.
-use Rattle.std.proofs.Common.{ℕ, ◌+◌, ◌≤◌, ◌<◌, ◌≡◌, ◌≢◌, ◌⊎◌, inl, inr, Bool, true, false, cond, ltb, not, ◌&&◌, ◌||◌, List, [], ◌++◌, length, get_or, filter, refl, ap, sym, subst, ◌∙◌, arith}
+use Rattle.std.proofs.Common.{ℕ, ◌+◌, ◌≤◌, ◌<◌, ◌≡◌, inl, inr, true, false, ltb, not, ◌&&◌, ◌||◌, List, [], length, get_or, filter, refl, ap, sym, subst, ◌∙◌, arith}
 use Rattle.std.specs.List.{flat_map}
-use Rattle.std.proofs.lemmas.Bool.{cases_lt, cases_eq, cases_Bool, true≢false}
-use Rattle.std.proofs.lemmas.Bool.Decides.{nat_tests}
+use Rattle.std.proofs.lemmas.Bool.{cases_lt, cases_Bool, true≢false}
 use Rattle.std.proofs.lemmas.List.{get_or_past}
 use Rattle.kc_graph.specs.Numbers.{has_number}
 use Rattle.kc_graph.specs.Shape.{GraphShape}
 use Rattle.kc_levels.specs.declared.profile.Profile.{Profile}
 use Rattle.kc_levels.specs.Thresholds.{high, group_of}
-use Rattle.kc_levels.specs.Following.{AreDistinct}
 use Rattle.kc_insert.specs.declared.rising.RisingLevels.{RisingLevels}
 use Rattle.kc_insert.specs.private.LevelStep.{AreAtRest, HasLimit}
 use Rattle.kc_insert.specs.private.Parts.{Part}
 use Rattle.kc_insert.specs.private.Ranges.{AreKept, Cut, IsCut, no_part}
 use Rattle.kc_insert.specs.private.Rising.{all_at, rises, seen}
 use Rattle.kc_insert.specs.private.Round.{is_over}
-use Rattle.kc_insert.specs.private.Sweeping.{IsSweeping, Sweeping, sweeping_of}
-use Rattle.kc_insert.specs.private.Telling.{range_of, Tell, times}
+use Rattle.kc_insert.specs.private.Sweeping.{IsSweeping, sweeping_of}
+use Rattle.kc_insert.specs.private.Telling.{range_of, Tell}
 use Rattle.kc_insert.specs.private.Watched.{count_at, IsHeld, Watch}
-use Rattle.kc_insert.proofs.Adding.{times-filter, times_none}
 use Rattle.kc_insert.proofs.Buckets.{has_number-filter}
-use Rattle.kc_insert.proofs.Joined.{distinct_times, has_joined, joined_in, joined_of, joined_same, times_distinct, times_joined}
+use Rattle.kc_insert.proofs.Joined.{joined_in, joined_of}
 use Rattle.kc_insert.proofs.Lifting.{length-all_at, all_at_here, all_at_other}
-use Rattle.kc_insert.proofs.RoundParts.{at_place, begun_in, began5, count_in, HasPassed, Passage, long1, long2, long4, long5, risen5, stay_in, waits_in, watch1}
-use Rattle.kc_insert.proofs.Tests.{and_both, and_first, and_left, and_off, and_second, lt_false, lt_true, not_second, or_left, or_none, or_off, or_right, true_lt}
-use Rattle.kc_insert.proofs.Stepping.{many_breaks, off_level, rises_rose, rose_below, waits_here}
+use Rattle.kc_insert.proofs.RoundParts.{at_place, begun_in, count_in, HasLifted, Passage, stay_in, waits_in, watch1}
+use Rattle.kc_insert.proofs.Tests.{and_both, and_first, and_left, and_off, and_second, lt_false, lt_true, not_second, true_lt}
+use Rattle.kc_insert.proofs.Stepping.{rose_below, waits_here}
 
 abbrev pub cut_of : ℕ → List Part → List Tell → Cut
 cut_of bits ps ts = record { bits = bits; parts = ps; told = ts }
@@ -74,7 +71,7 @@ module _ (p : Profile) (g : GraphShape) (x : List ℕ) (bits most levels : ℕ) 
   pub vertex_in : (v : ℕ) → v < g.vertices → (range_of bits v < length p0) × IsHeld (at_place p0 (range_of bits v)).watch v
   vertex_in v h = let it = k.shape.vertex v h in (it.place, it.held)
 
-module _ (p : Profile) (g : GraphShape) (x : List ℕ) (r : Passage) (k : AreKeeping p g x r.bits r.most r.levels r.s0 r.p0 r.told0) (h : HasPassed g r) where
+module _ (p : Profile) (g : GraphShape) (x : List ℕ) (r : Passage) (k : AreKeeping p g x r.bits r.most r.levels r.s0 r.p0 r.told0) (h : HasLifted g r) where
   count1 : (v : ℕ) → count_in r.bits r.p1 v ≡ count_in r.bits r.p0 v
   count1 v = elim (cases_lt (range_of r.bits v) (length r.p0)) [
     | inl at ↦ ap (λ (w : Watch). count_at w v) (watch1 g r h (range_of r.bits v) at)
@@ -187,4 +184,11 @@ module _ (p : Profile) (g : GraphShape) (x : List ℕ) (r : Passage) (k : AreKee
       | inr off ↦ begins off there
     ]
     | inr none ↦ elim (cases_Bool (rises r.s1 v)) [ inl on ↦ goes on none | inr off ↦ stays off none ]
+  ]
+
+  -- a vertex that rose doesn't begin again
+  pub begun_fresh : (v : ℕ) → has_number v (begun_in r.p4) ≡ true → has_number v (risen_in r.p0) ≡ false
+  begun_fresh v there = elim (cases_Bool (has_number v (risen_in r.p0))) [
+    | inr none ↦ none
+    | inl rose ↦ absurd (omega (arith, (rose_below p g x (sweeping_of r.s0 (cut_of r.bits r.p0 r.told0)) k.sweeping v rose).1, (begun_here v there).1))
   ]

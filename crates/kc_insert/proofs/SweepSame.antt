@@ -1,5 +1,5 @@
 -- What is stated of a sweep depends on what its tests say alone.
-use Rattle.std.proofs.Common.{ℕ, ◌+◌, ◌≤◌, ◌<◌, ◌≡◌, ◌⊎◌, inl, inr, List, get_or, ap, sym, ◌∙◌, refl, arith, subst}
+use Rattle.std.proofs.Common.{ℕ, ◌≡◌, inl, inr, List, get_or, ap, sym, ◌∙◌, subst}
 use Rattle.kc_graph.specs.Numbers.{has_number}
 use Rattle.kc_graph.specs.Shape.{GraphShape, Pair, has_edge}
 use Rattle.kc_levels.specs.declared.profile.Profile.{Profile}

@@ -1,7 +1,7 @@
 -- The step of a sweep from its level to the next.
 use Rattle.std.specs.Prelude.{ℕ, ◌+◌, ◌≤◌, ◌<◌, ◌≡◌, ◌≢◌, ◌⊎◌, ◌||◌, ◌&&◌, not, true, List, [], length, get_or}
 use Rattle.kc_graph.specs.Numbers.{has_number}
-use Rattle.kc_graph.specs.Shape.{GraphShape, Pair, has_edge}
+use Rattle.kc_graph.specs.Shape.{GraphShape, has_edge}
 use Rattle.kc_levels.specs.declared.profile.Profile.{Profile}
 use Rattle.kc_levels.specs.Following.{AreDistinct}
 use Rattle.kc_levels.specs.Thresholds.{top_level}
