@@ -1,5 +1,6 @@
 mod Across
 mod Adding
+mod Anew
 mod Beginners
 mod Beginning
 mod Buckets
@@ -14,6 +15,7 @@ mod Halting
 mod Hearing
 mod Inside
 mod Joined
+mod Kept
 mod Leaving
 mod Lifting
 mod Looking

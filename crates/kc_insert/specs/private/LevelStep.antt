@@ -7,7 +7,7 @@ use Rattle.kc_levels.specs.Following.{AreDistinct}
 use Rattle.kc_levels.specs.Thresholds.{top_level}
 use Rattle.kc_insert.specs.declared.rising.RisingLevels.{RisingLevels}
 use Rattle.kc_insert.specs.private.Meetings.{AreApart, IsMeeting}
-use Rattle.kc_insert.specs.private.Ranges.{AreKept, Cut, IsCut, part_at}
+use Rattle.kc_insert.specs.private.Ranges.{all_began, all_risen, AreKept, Cut, IsCut, meets, part_at}
 use Rattle.kc_insert.specs.private.Sweeping.{AreCounted, Sweeping}
 use Rattle.kc_insert.specs.private.Watched.{IsHeld}
 
@@ -72,3 +72,11 @@ pub record AreInOrder (p : Profile) (g : GraphShape) (s : RisingLevels) (r : Cut
   pub shape : IsCut g.vertices (top_level p g.vertices + 1) r
   pub kept : AreKept s r
   pub rest : AreAtRest r
+
+-- between phases no vertex rises, waits or is to be met, and the watch lists have vertices of their own ranges alone
+pub record AreQuiet (p : Profile) (g : GraphShape) (r : Cut) : Type 0 where
+  pub shape : IsCut g.vertices (top_level p g.vertices + 1) r
+  pub none : (all_began r ≡ []) × (all_risen r ≡ []) × ((k : ℕ) → meets r k ≡ [])
+  pub begun : (j : ℕ) → j < length r.parts → (part_at r j).begun ≡ []
+  pub steps : (j : ℕ) → j < length r.parts → (part_at r j).steps ≡ 0
+  pub inside : (j v : ℕ) → j < length r.parts → has_number v (part_at r j).watch.doubtful ≡ true → IsHeld (part_at r j).watch v
