@@ -3,6 +3,7 @@ mod Adding
 mod Anew
 mod Beginners
 mod Beginning
+mod Bounds
 mod Buckets
 mod Coming
 mod Dealing
@@ -27,6 +28,7 @@ mod Nearest
 mod Pairs
 mod Parting
 mod Round
+mod RoundAsks
 mod RoundBefore
 mod RoundCounts
 mod RoundKept
