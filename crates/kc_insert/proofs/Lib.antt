@@ -35,6 +35,7 @@ mod RoundKept
 mod RoundLifted
 mod RoundMeets
 mod RoundParts
+mod RoundRiseAsks
 mod RoundRising
 mod RoundTold
 mod RoundWaits
