@@ -4,9 +4,11 @@ mod Beginners
 mod Beginning
 mod Buckets
 mod Coming
+mod Copying
 mod Dealing
 mod Direct
 mod Efforts
+mod Filled
 mod Flat
 mod Flips
 mod Following

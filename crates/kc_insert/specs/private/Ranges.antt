@@ -91,6 +91,7 @@ pub record TookWaiting (level : ℕ) (old new : List Part) : Type 0 where
 -- what `Ranges::let_stay` asks: each range watches vertices of its own alone, and each of them has a level
 pub record CanLetStay (levels : RisingLevels) (old : List Part) : Type 0 where
   pub small : levels.level < 65535
+  pub few : length (seen levels) ≤ 2 ^ 24
   pub inside : (j v : ℕ) (d : Part) → j < length old → has_number v (get_or old j d).watch.doubtful ≡ true → (v < length (seen levels)) × IsHeld (get_or old j d).watch v
 
 -- what `Ranges::let_stay` leaves: the vertices that stay, each once, rise no more, since their counts are within the limits of their
