@@ -122,3 +122,6 @@ copied_whole {A} spares items i fresh a b end s = subst (λ (xs : List A). AreCo
 -- the row of v
 pub copied_row : (fresh ws : List ℕ) (v i : ℕ) (a b : Cut) → length ws ≤ i → AreCopied fresh (λ u. (u ≢ v) × All (λ (w : ℕ). u ≢ w) (take i ws)) a b → AreCopied fresh (λ u. (u ≢ v) × (has_number u ws ≡ false)) a b
 copied_row fresh ws v i a b end s = copied_on fresh (λ u. (u ≢ v) × All (λ (w : ℕ). u ≢ w) (take i ws)) (λ u. u ≡ u) (λ u. (u ≢ v) × (has_number u ws ≡ false)) a b b s (copied_none fresh (λ u. u ≡ u) b (λ u. refl)) (λ u p q. (p.0, has_number_nowhere u ws (λ k h e. subst (All (λ (w : ℕ). u ≢ w)) (take_all i ws end) p.1 k 0 h (sym e))))
+
+pub copied_row_next : (fresh ws : List ℕ) (v i : ℕ) (a b c : Cut) → i < length ws → AreCopied fresh (λ u. (u ≢ v) × All (λ (w : ℕ). u ≢ w) (take i ws)) a b → AreCopied fresh (λ u. u ≢ get_or ws i 0) b c → AreCopied fresh (λ u. (u ≢ v) × All (λ (w : ℕ). u ≢ w) (take (i + 1) ws)) a c
+copied_row_next fresh ws v i a b c at s t = copied_on fresh (λ u. (u ≢ v) × All (λ (w : ℕ). u ≢ w) (take i ws)) (λ u. u ≢ get_or ws i 0) (λ u. (u ≢ v) × All (λ (w : ℕ). u ≢ w) (take (i + 1) ws)) a b c s t (λ u p q. (p.0, subst (All (λ (w : ℕ). u ≢ w)) (sym (take_more ws i 0 at)) (All-push (λ (w : ℕ). u ≢ w) (take i ws) (get_or ws i 0) p.1 q)))

@@ -182,7 +182,7 @@ fn file_all<R: Threads + Sync>(
 ) -> Result<(), AllocError>
     requires threads { 0 < threads }
     requires can { CanFile th.now.profile th.now.vertices levels.now fresh.now ranges.old }
-    ensures { OnOk result ((spared : ℕ → Type 0) → HaveCounted th.now.profile th.now.vertices levels.now fresh.now spared ranges.old ranges.new) }
+    ensures { OnOk result (HaveCounted th.now.profile th.now.vertices levels.now fresh.now (λ v. v ≢ v) ranges.old ranges.new) }
 {
     follow_each(rt, threads, th, levels, fresh, &mut ranges.items);
     check(&ranges.items)?;
