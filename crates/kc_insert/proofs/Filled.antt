@@ -9,7 +9,7 @@ use Rattle.kc_levels.specs.declared.profile.Profile.{Profile}
 use Rattle.kc_levels.specs.Thresholds.{high, group_of, top_level}
 use Rattle.kc_levels.specs.private.Following.{IsCopied}
 use Rattle.kc_levels.proofs.lemmas.Writes.{copied_all, copied_first, copied_next, copied_then}
-use Rattle.kc_insert.specs.private.Filed.{CanFile, HasFiled, HasFollowed, HaveCounted, HaveFiled, IsFiling}
+use Rattle.kc_insert.specs.private.Filed.{CanFile, CanFollow, HasFiled, HasFollowed, HaveCounted, HaveFiled, IsFiling}
 use Rattle.kc_insert.specs.private.Parts.{Part}
 use Rattle.kc_insert.specs.private.Ranges.{count_of, counts_of, Cut, IsCut, IsSameCut, no_part, part_of, waits}
 use Rattle.kc_insert.specs.private.Telling.{range_of, Tell}
@@ -265,3 +265,11 @@ module _ (p : Profile) (n : ℕ) (y fresh : List ℕ) where
 -- all ranges followed their fresh counts
 pub all_filed : (p : Profile) (n : ℕ) (y fresh : List ℕ) (old new : Cut) → CanFile p n y fresh old → new.bits ≡ old.bits → new.told ≡ old.told → length new.parts ≡ length old.parts → ((j : ℕ) (d : Part) → j < length old.parts → HasFiled p n y fresh (get_or old.parts j d) (get_or new.parts j d)) → HaveCounted p n y fresh (λ v. v ≢ v) old new
 all_filed p n y fresh old new can bits told sized each = have_counted p n y fresh (λ v. v ≢ v) old new can bits told sized (λ j d h. filed_all p n y fresh (λ v. v ≢ v) (get_or old.parts j d) (get_or new.parts j d) (each j d h))
+
+pub can_follow : (p : Profile) (n : ℕ) (y fresh : List ℕ) (old : Cut) → CanFile p n y fresh old → (j : ℕ) (d : Part) → j < length old.parts → CanFollow p n y fresh (get_or old.parts j d)
+can_follow p n y fresh old can j d h = rw (any_default old.parts j d no_part h) (record {
+  inside = λ v held. (can.cut.own j v h held).0;
+  few = can.few;
+  levels = can.levels;
+  room = omega (arith, can.cut.queues j h);
+})

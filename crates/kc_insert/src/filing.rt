@@ -60,7 +60,7 @@ fn follow_counts(
     watched: &mut WatchedCounts,
     queue: &mut LevelLists<u32>,
 ) -> Result<(), AllocError>
-    requires inside { watched.old.first + length watched.old.counts ≤ length fresh.now }
+    requires inside { (v : ℕ) → IsHeld watched.old v → v < length fresh.now }
     requires few { length fresh.now ≤ 2 ^ 24 }
     requires levels { (length levels.now ≡ length fresh.now) × (th.now.vertices ≡ length fresh.now) × IsCapped th.now.profile th.now.vertices levels.now }
     requires room { top_level th.now.profile th.now.vertices < length queue.old }
@@ -171,7 +171,26 @@ fn follow_each<R: Threads + Sync>(
     );
 }
 
-// All vertices count afresh: each range by a thread of its own. Fails only if memory runs out.
+// In each range all vertices count afresh. Fails only if memory runs out.
+fn follow_all<R: Threads + Sync>(
+    rt: &R,
+    threads: usize,
+    th: &Thresholds,
+    levels: &Levels,
+    fresh: &[u32],
+    items: &mut [Range],
+) -> Result<(), AllocError>
+    requires threads { 0 < threads }
+    requires ready { (i : ℕ) (d : _) → i < length items.old → CanFollow th.now.profile th.now.vertices levels.now fresh.now (slice_index_or items.old i d) }
+    ensures { OnOk result ((length items.new ≡ length items.old) × ((i : ℕ) (d : _) → i < length items.old → HasFiled th.now.profile th.now.vertices levels.now fresh.now (slice_index_or items.old i d) (slice_index_or items.new i d))) }
+{
+    follow_each(rt, threads, th, levels, fresh, items);
+    check(items)?;
+    Ok(())
+}
+
+// All vertices count afresh, and each waits that counts otherwise than before and more than its group allows. Fails only if memory
+// runs out.
 fn file_all<R: Threads + Sync>(
     rt: &R,
     threads: usize,
@@ -184,8 +203,7 @@ fn file_all<R: Threads + Sync>(
     requires can { CanFile th.now.profile th.now.vertices levels.now fresh.now ranges.old }
     ensures { OnOk result (HaveCounted th.now.profile th.now.vertices levels.now fresh.now (λ v. v ≢ v) ranges.old ranges.new) }
 {
-    follow_each(rt, threads, th, levels, fresh, &mut ranges.items);
-    check(&ranges.items)?;
+    follow_all(rt, threads, th, levels, fresh, &mut ranges.items)?;
     Ok(())
 }
 

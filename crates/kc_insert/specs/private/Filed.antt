@@ -28,7 +28,7 @@ pub record HaveFiled (p : Profile) (n : ℕ) (y fresh : List ℕ) (i : ℕ) (old
 
 -- the range is of the vertices of the list, each of which has a level that there is
 pub record CanFollow (p : Profile) (n : ℕ) (y fresh : List ℕ) (old : Part) : Type 0 where
-  pub inside : old.watch.first + length old.watch.counts ≤ length fresh
+  pub inside : (v : ℕ) → IsHeld old.watch v → v < length fresh
   pub few : length fresh ≤ 2 ^ 24
   pub levels : (length y ≡ length fresh) × (n ≡ length fresh) × IsCapped p n y
   pub room : top_level p n < length old.queue

@@ -10,7 +10,7 @@ loop-e-preserved c =
     let at_a = in_same c.args.ranges.now c.loop-e.ranges c.e.inside.a c.loop-e.invariant.same (c.requires.vertices c.e.inside.a low) in
     let one = copied_one_vertex c.args.fresh.now c.e.inside.a (get_or c.args.fresh.now c.e.inside.a 0) c.loop-e.ranges c.set.new.self at_a refl c.set.ensures in
     let at_b = in_same c.loop-e.ranges c.set.new.self c.e.inside.b one.same (in_same c.args.ranges.now c.loop-e.ranges c.e.inside.b c.loop-e.invariant.same (c.requires.vertices c.e.inside.b high)) in
-    let two = copied_one_vertex c.args.fresh.now c.e.inside.b (get_or c.args.fresh.now c.e.inside.b 0) c.set.new.self _ at_b refl ? in
+    let two = copied_one_vertex c.args.fresh.now c.e.inside.b (get_or c.args.fresh.now c.e.inside.b 0) c.set.new.self c.set-in-loop-e.new.self at_b refl c.set-in-loop-e.ensures in
     copied_more (λ v (e : Pair). (v ≢ e.0) × (v ≢ e.1)) c.args.edges.now c.loop-e.e-index _ (c.e.inside.a, c.e.inside.b) c.args.fresh.now c.args.ranges.now c.loop-e.ranges _ c.loop-e-test.true (c.e.view_is ∙ c.e-item.is) c.loop-e.invariant
     (copied_on c.args.fresh.now (λ v. v ≢ c.e.inside.a) (λ v. v ≢ c.e.inside.b) (λ v. (v ≢ c.e.inside.a) × (v ≢ c.e.inside.b)) c.loop-e.ranges c.set.new.self _ one two (λ v p q. (p, q)))
 
