@@ -11,6 +11,7 @@ mod Efforts
 mod Filled
 mod Flat
 mod Flips
+mod Followed
 mod Following
 mod Halting
 mod Hearing
@@ -25,6 +26,7 @@ mod Members
 mod Nearest
 mod Pairs
 mod Parting
+mod Queueing
 mod RoundLifted
 mod RoundParts
 mod RoundRising
