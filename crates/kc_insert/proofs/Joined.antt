@@ -1,5 +1,5 @@
 -- Lists of all ranges, one after another.
-use Rattle.std.proofs.Common.{ℕ, suc, zero, ◌+◌, ◌≤◌, ◌<◌, ◌≡◌, ◌≢◌, ◌⊎◌, inl, inr, Bool, true, false, cond, eqb, ◌&&◌, ◌||◌, List, [], ◌∷◌, ◌++◌, length, get_or, map, filter, refl, ap, sym, ◌∙◌, arith}
+use Rattle.std.proofs.Common.{ℕ, suc, zero, ◌+◌, ◌≤◌, ◌<◌, ◌≡◌, ◌≢◌, inl, inr, Bool, true, false, cond, eqb, ◌||◌, List, [], ◌∷◌, ◌++◌, length, get_or, map, filter, refl, ap, sym, ◌∙◌, arith}
 use Rattle.std.specs.List.{flat_map}
 use Rattle.std.proofs.lemmas.Bool.{cases_eq, cases_Bool, true≢false}
 use Rattle.std.proofs.lemmas.Bool.Decides.{nat_tests}
@@ -94,6 +94,19 @@ has_joined v f h (p ∷ ps) =
     ∙ swap (has_number v (f p)) (has_number v (h p)) (has_number v (flat_map f ps)) (has_number v (flat_map h ps))
     ∙ ap (λ b. b || (has_number v (h p) || has_number v (flat_map h ps))) (sym (has_number-append v (f p) (flat_map f ps)))
     ∙ ap (λ b. has_number v (flat_map f (p ∷ ps)) || b) (sym (has_number-append v (h p) (flat_map h ps)))
+  where
+    swap : (a b c d : Bool) → (a || b) || (c || d) ≡ (a || c) || (b || d)
+    swap a b c d = grind (arith, nat_tests)
+
+pub pairs_joined : (e : Pair) (f h : Part → List Pair) (ps : List Part) → has_edge e (flat_map (λ p. f p ++ h p) ps) ≡ has_edge e (flat_map f ps) || has_edge e (flat_map h ps)
+pairs_joined e f h [] = refl
+pairs_joined e f h (p ∷ ps) =
+    has_edge-append e (f p ++ h p) (flat_map (λ q. f q ++ h q) ps)
+    ∙ ap (λ b. b || has_edge e (flat_map (λ q. f q ++ h q) ps)) (has_edge-append e (f p) (h p))
+    ∙ ap (λ b. (has_edge e (f p) || has_edge e (h p)) || b) (pairs_joined e f h ps)
+    ∙ swap (has_edge e (f p)) (has_edge e (h p)) (has_edge e (flat_map f ps)) (has_edge e (flat_map h ps))
+    ∙ ap (λ b. b || (has_edge e (h p) || has_edge e (flat_map h ps))) (sym (has_edge-append e (f p) (flat_map f ps)))
+    ∙ ap (λ b. has_edge e (flat_map f (p ∷ ps)) || b) (sym (has_edge-append e (h p) (flat_map h ps)))
   where
     swap : (a b c d : Bool) → (a || b) || (c || d) ≡ (a || c) || (b || d)
     swap a b c d = grind (arith, nat_tests)

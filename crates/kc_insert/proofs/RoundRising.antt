@@ -1,30 +1,27 @@
 -- A step of a sweep: which vertices go on, begin and stay, and where they are.
-use Rattle.std.proofs.Common.{ℕ, ◌+◌, ◌≤◌, ◌<◌, ◌≡◌, ◌≢◌, ◌⊎◌, inl, inr, Bool, true, false, cond, ltb, not, ◌&&◌, ◌||◌, List, [], ◌++◌, length, get_or, filter, refl, ap, sym, subst, ◌∙◌, arith}
+use Rattle.std.proofs.Common.{ℕ, ◌+◌, ◌≤◌, ◌<◌, ◌≡◌, inl, inr, true, false, ltb, not, ◌&&◌, ◌||◌, List, [], length, get_or, filter, refl, ap, sym, subst, ◌∙◌, arith}
 use Rattle.std.specs.List.{flat_map}
-use Rattle.std.proofs.lemmas.Bool.{cases_lt, cases_eq, cases_Bool, true≢false}
-use Rattle.std.proofs.lemmas.Bool.Decides.{nat_tests}
+use Rattle.std.proofs.lemmas.Bool.{cases_lt, cases_Bool, true≢false}
 use Rattle.std.proofs.lemmas.List.{get_or_past}
 use Rattle.kc_graph.specs.Numbers.{has_number}
 use Rattle.kc_graph.specs.Shape.{GraphShape}
 use Rattle.kc_levels.specs.declared.profile.Profile.{Profile}
 use Rattle.kc_levels.specs.Thresholds.{high, group_of}
-use Rattle.kc_levels.specs.Following.{AreDistinct}
 use Rattle.kc_insert.specs.declared.rising.RisingLevels.{RisingLevels}
-use Rattle.kc_insert.specs.private.LevelStep.{AreAtRest, AreLifted, ArePassed}
+use Rattle.kc_insert.specs.private.LevelStep.{AreAtRest, HasLimit}
 use Rattle.kc_insert.specs.private.Parts.{Part}
 use Rattle.kc_insert.specs.private.Ranges.{AreKept, Cut, IsCut, no_part}
 use Rattle.kc_insert.specs.private.Rising.{all_at, rises, seen}
 use Rattle.kc_insert.specs.private.Round.{is_over}
-use Rattle.kc_insert.specs.private.Sweeping.{IsSweeping, Sweeping, sweeping_of}
-use Rattle.kc_insert.specs.private.Telling.{range_of, Tell, times}
+use Rattle.kc_insert.specs.private.Sweeping.{IsSweeping, sweeping_of}
+use Rattle.kc_insert.specs.private.Telling.{range_of, Tell}
 use Rattle.kc_insert.specs.private.Watched.{count_at, IsHeld, Watch}
-use Rattle.kc_insert.proofs.Adding.{times-filter, times_none}
 use Rattle.kc_insert.proofs.Buckets.{has_number-filter}
-use Rattle.kc_insert.proofs.Joined.{distinct_times, has_joined, joined_in, joined_of, joined_same, times_distinct, times_joined}
+use Rattle.kc_insert.proofs.Joined.{joined_in, joined_of}
 use Rattle.kc_insert.proofs.Lifting.{length-all_at, all_at_here, all_at_other}
-use Rattle.kc_insert.proofs.RoundParts.{at_place, begun_in, began5, counts_of, HasPassed, Passage, long1, long2, long4, long5, risen5, stay_in, waits_in, watch1}
-use Rattle.kc_insert.proofs.Tests.{and_both, and_first, and_left, and_off, and_second, lt_false, lt_true, not_second, or_left, or_none, or_off, or_right, true_lt}
-use Rattle.kc_insert.proofs.Stepping.{many_breaks, off_level, rises_rose, rose_below, waits_here}
+use Rattle.kc_insert.proofs.RoundParts.{at_place, begun_in, count_in, HasLifted, Passage, stay_in, waits_in, watch1}
+use Rattle.kc_insert.proofs.Tests.{and_both, and_first, and_left, and_off, and_second, lt_false, lt_true, not_second, true_lt}
+use Rattle.kc_insert.proofs.Stepping.{rose_below, waits_here}
 
 abbrev pub cut_of : ℕ → List Part → List Tell → Cut
 cut_of bits ps ts = record { bits = bits; parts = ps; told = ts }
@@ -39,7 +36,8 @@ risen_in ps = flat_map (λ (q : Part). q.risen) ps
 pub record AreKeeping (p : Profile) (g : GraphShape) (x : List ℕ) (bits most levels : ℕ) (s0 : RisingLevels) (p0 : List Part) (t0 : List Tell) : Type 0 where
   pub shape : IsCut g.vertices levels (cut_of bits p0 t0)
   pub kept : AreKept s0 (cut_of bits p0 t0)
-  pub rest : AreAtRest most (cut_of bits p0 t0)
+  pub rest : AreAtRest (cut_of bits p0 t0)
+  pub limit : HasLimit most (cut_of bits p0 t0)
   pub sweeping : IsSweeping p g x (sweeping_of s0 (cut_of bits p0 t0))
   pub most_is : most ≡ high p (group_of p g.vertices s0.level)
 
@@ -65,7 +63,7 @@ module _ (p : Profile) (g : GraphShape) (x : List ℕ) (bits most levels : ℕ) 
   ]
 
   -- a vertex that a range has is of the graph, and the range is its own
-  pub own_count : (j v : ℕ) → j < length p0 → IsHeld (at_place p0 j).watch v → (v < g.vertices) × (range_of bits v ≡ j) × (counts_of bits p0 v ≡ count_at (at_place p0 j).watch v)
+  pub own_count : (j v : ℕ) → j < length p0 → IsHeld (at_place p0 j).watch v → (v < g.vertices) × (range_of bits v ≡ j) × (count_in bits p0 v ≡ count_at (at_place p0 j).watch v)
   own_count j v at held =
       let it = k.shape.own j v at held in
       (it.0, it.1, ap (λ i. count_at (at_place p0 i).watch v) it.1)
@@ -73,29 +71,29 @@ module _ (p : Profile) (g : GraphShape) (x : List ℕ) (bits most levels : ℕ) 
   pub vertex_in : (v : ℕ) → v < g.vertices → (range_of bits v < length p0) × IsHeld (at_place p0 (range_of bits v)).watch v
   vertex_in v h = let it = k.shape.vertex v h in (it.place, it.held)
 
-module _ (p : Profile) (g : GraphShape) (x : List ℕ) (r : Passage) (k : AreKeeping p g x r.bits r.most r.levels r.s0 r.p0 r.told0) (h : HasPassed g r) where
-  count1 : (v : ℕ) → counts_of r.bits r.p1 v ≡ counts_of r.bits r.p0 v
+module _ (p : Profile) (g : GraphShape) (x : List ℕ) (r : Passage) (k : AreKeeping p g x r.bits r.most r.levels r.s0 r.p0 r.told0) (h : HasLifted g r) where
+  count1 : (v : ℕ) → count_in r.bits r.p1 v ≡ count_in r.bits r.p0 v
   count1 v = elim (cases_lt (range_of r.bits v) (length r.p0)) [
     | inl at ↦ ap (λ (w : Watch). count_at w v) (watch1 g r h (range_of r.bits v) at)
     | inr past ↦ ap (λ (q : Part). count_at q.watch v) (get_or_past r.p1 (range_of r.bits v) no_part (omega (arith, past, h.took.sized)) ∙ sym (get_or_past r.p0 (range_of r.bits v) no_part past))
   ]
 
   -- a vertex that rises on counts many
-  over_left : (v : ℕ) → rises r.s1 v ≡ true → (rises r.s0 v ≡ true) × (r.most < counts_of r.bits r.p0 v)
+  over_left : (v : ℕ) → rises r.s1 v ≡ true → (rises r.s0 v ≡ true) × (r.most < count_in r.bits r.p0 v)
   over_left v on =
       let was : rises r.s0 v ≡ true = and_first (rises r.s0 v) (not (has_number v (stay_in r.p2))) (sym (h.stopped.rises_on v) ∙ on) in
       let at : range_of r.bits v < length r.p0 = (began_at p g x r.bits r.most r.levels r.s0 r.p0 r.told0 k v was).0 in
-      (was, elim (cases_lt r.most (counts_of r.bits r.p0 v)) [
+      (was, elim (cases_lt r.most (count_in r.bits r.p0 v)) [
         | inl over ↦ over
         | inr few ↦
             let same = watch1 g r h (range_of r.bits v) at in
-            let listed_ = k.kept.few v was (omega (arith, few, k.rest.limit (range_of r.bits v) at)) in
+            let listed_ = k.kept.few v was (omega (arith, few, k.limit (range_of r.bits v) at)) in
             let over = h.stopped.over (range_of r.bits v) v no_part (omega (arith, at, h.took.sized)) (ap (λ (w : Watch). has_number v w.doubtful) same ∙ listed_) on in
-            omega (arith, over, ap (λ (w : Watch). w.most) same, ap (λ (w : Watch). count_at w v) same, k.rest.limit (range_of r.bits v) at)
+            omega (arith, over, ap (λ (w : Watch). w.most) same, ap (λ (w : Watch). count_at w v) same, k.limit (range_of r.bits v) at)
       ])
 
   -- a vertex that stays counts few
-  pub stay_few : (v : ℕ) → has_number v (stay_in r.p2) ≡ true → (rises r.s0 v ≡ true) × (counts_of r.bits r.p0 v ≤ r.most) × (v < g.vertices)
+  pub stay_few : (v : ℕ) → has_number v (stay_in r.p2) ≡ true → (rises r.s0 v ≡ true) × (count_in r.bits r.p0 v ≤ r.most) × (v < g.vertices)
   stay_few v there =
       let in_ = joined_in (λ (q : Part). q.stay) r.p2 v there in
       let at : in_.0 < length r.p0 = omega (arith, in_.1, h.stopped.sized, h.took.sized) in
@@ -103,31 +101,31 @@ module _ (p : Profile) (g : GraphShape) (x : List ℕ) (r : Passage) (k : AreKee
       let same = watch1 g r h in_.0 at in
       let held : IsHeld (at_place r.p0 in_.0).watch v = subst (λ w. IsHeld w v) same it.2 in
       let own = own_count p g x r.bits r.most r.levels r.s0 r.p0 r.told0 k in_.0 v at held in
-      (it.0, omega (arith, it.1, own.2, ap (λ (w : Watch). w.most) same, ap (λ (w : Watch). count_at w v) same, k.rest.limit in_.0 at), own.0)
+      (it.0, omega (arith, it.1, own.2, ap (λ (w : Watch). w.most) same, ap (λ (w : Watch). count_at w v) same, k.limit in_.0 at), own.0)
 
   -- the vertices that rise on are those that rise and count many
-  pub left_is : (v : ℕ) → rises r.s1 v ≡ rises r.s0 v && is_over (counts_of r.bits r.p0) r.most v
+  pub left_is : (v : ℕ) → rises r.s1 v ≡ rises r.s0 v && is_over (count_in r.bits r.p0) r.most v
   left_is v = elim (cases_Bool (rises r.s1 v)) [
-    | inl on ↦ let it = over_left v on in on ∙ sym (and_both (rises r.s0 v) (is_over (counts_of r.bits r.p0) r.most v) it.0 (lt_true r.most (counts_of r.bits r.p0 v) it.1))
+    | inl on ↦ let it = over_left v on in on ∙ sym (and_both (rises r.s0 v) (is_over (count_in r.bits r.p0) r.most v) it.0 (lt_true r.most (count_in r.bits r.p0 v) it.1))
     | inr off ↦ off ∙ sym (elim (cases_Bool (rises r.s0 v)) [
-      | inr none ↦ ap (λ b. b && is_over (counts_of r.bits r.p0) r.most v) none
-      | inl was ↦ and_off (rises r.s0 v) (is_over (counts_of r.bits r.p0) r.most v) (lt_false r.most (counts_of r.bits r.p0 v) (stay_few v (not_second (rises r.s0 v) (has_number v (stay_in r.p2)) was (sym (h.stopped.rises_on v) ∙ off))).1)
+      | inr none ↦ ap (λ b. b && is_over (count_in r.bits r.p0) r.most v) none
+      | inl was ↦ and_off (rises r.s0 v) (is_over (count_in r.bits r.p0) r.most v) (lt_false r.most (count_in r.bits r.p0 v) (stay_few v (not_second (rises r.s0 v) (has_number v (stay_in r.p2)) was (sym (h.stopped.rises_on v) ∙ off))).1)
     ])
   ]
 
   -- the vertices that begin are those that wait and count many
-  pub begun_is : (v : ℕ) → has_number v (begun_in r.p4) ≡ has_number v (waits_in r.s0.level r.p0) && is_over (counts_of r.bits r.p0) r.most v
+  pub begun_is : (v : ℕ) → has_number v (begun_in r.p4) ≡ has_number v (waits_in r.s0.level r.p0) && is_over (count_in r.bits r.p0) r.most v
   begun_is v =
-      h.lifted.begun v ∙ ap (has_number v) h.movers ∙ has_number-filter v (is_over (counts_of r.bits r.p1) r.most) (waits_in r.s0.level r.p0)
+      h.lifted.begun v ∙ ap (has_number v) h.movers ∙ has_number-filter v (is_over (count_in r.bits r.p1) r.most) (waits_in r.s0.level r.p0)
       ∙ ap (λ c. has_number v (waits_in r.s0.level r.p0) && ltb r.most c) (count1 v)
 
-  pub begun_here : (v : ℕ) → has_number v (begun_in r.p4) ≡ true → (v < g.vertices) × (get_or x v 0 ≡ r.s0.level) × (get_or (seen r.s0) v 0 ≡ r.s0.level) × (rises r.s0 v ≡ false) × (r.most < counts_of r.bits r.p0 v)
+  pub begun_here : (v : ℕ) → has_number v (begun_in r.p4) ≡ true → (v < g.vertices) × (get_or x v 0 ≡ r.s0.level) × (get_or (seen r.s0) v 0 ≡ r.s0.level) × (rises r.s0 v ≡ false) × (r.most < count_in r.bits r.p0 v)
   begun_here v there =
-      let both : has_number v (waits_in r.s0.level r.p0) && is_over (counts_of r.bits r.p0) r.most v ≡ true = sym (begun_is v) ∙ there in
-      let it = waits_here p g x (sweeping_of r.s0 (cut_of r.bits r.p0 r.told0)) k.sweeping r.s0.level v (omega arith) (and_first (has_number v (waits_in r.s0.level r.p0)) (is_over (counts_of r.bits r.p0) r.most v) both) in
-      (it.0, it.1, it.2, sym (listed p g x r.bits r.most r.levels r.s0 r.p0 r.told0 k v) ∙ it.3, true_lt r.most (counts_of r.bits r.p0 v) (and_second (has_number v (waits_in r.s0.level r.p0)) (is_over (counts_of r.bits r.p0) r.most v) both))
+      let both : has_number v (waits_in r.s0.level r.p0) && is_over (count_in r.bits r.p0) r.most v ≡ true = sym (begun_is v) ∙ there in
+      let it = waits_here p g x (sweeping_of r.s0 (cut_of r.bits r.p0 r.told0)) k.sweeping r.s0.level v (omega arith) (and_first (has_number v (waits_in r.s0.level r.p0)) (is_over (count_in r.bits r.p0) r.most v) both) in
+      (it.0, it.1, it.2, sym (listed p g x r.bits r.most r.levels r.s0 r.p0 r.told0 k v) ∙ it.3, true_lt r.most (count_in r.bits r.p0 v) (and_second (has_number v (waits_in r.s0.level r.p0)) (is_over (count_in r.bits r.p0) r.most v) both))
 
-  pub left_here : (v : ℕ) → rises r.s1 v ≡ true → (v < g.vertices) × (get_or (seen r.s0) v 0 ≡ r.s0.level) × (get_or x v 0 < r.s0.level) × (rises r.s0 v ≡ true) × (r.most < counts_of r.bits r.p0 v)
+  pub left_here : (v : ℕ) → rises r.s1 v ≡ true → (v < g.vertices) × (get_or (seen r.s0) v 0 ≡ r.s0.level) × (get_or x v 0 < r.s0.level) × (rises r.s0 v ≡ true) × (r.most < count_in r.bits r.p0 v)
   left_here v on =
       let it = over_left v on in
       let came = k.sweeping.rise.came v (listed p g x r.bits r.most r.levels r.s0 r.p0 r.told0 k v ∙ it.0) in
@@ -186,4 +184,11 @@ module _ (p : Profile) (g : GraphShape) (x : List ℕ) (r : Passage) (k : AreKee
       | inr off ↦ begins off there
     ]
     | inr none ↦ elim (cases_Bool (rises r.s1 v)) [ inl on ↦ goes on none | inr off ↦ stays off none ]
+  ]
+
+  -- a vertex that rose doesn't begin again
+  pub begun_fresh : (v : ℕ) → has_number v (begun_in r.p4) ≡ true → has_number v (risen_in r.p0) ≡ false
+  begun_fresh v there = elim (cases_Bool (has_number v (risen_in r.p0))) [
+    | inr none ↦ none
+    | inl rose ↦ absurd (omega (arith, (rose_below p g x (sweeping_of r.s0 (cut_of r.bits r.p0 r.told0)) k.sweeping v rose).1, (begun_here v there).1))
   ]

@@ -1,39 +1,37 @@
 -- A step of a sweep: what is told of a vertex, as counts over its neighbours.
-use Rattle.std.proofs.Common.{ℕ, ◌+◌, ◌≤◌, ◌<◌, ◌≡◌, ◌≢◌, inl, inr, Bool, true, false, cond, leb, ltb, eqb, ◌&&◌, List, [], ◌++◌, length, get_or, map, filter, refl, ap, sym, ◌∙◌, arith, subst}
+use Rattle.std.proofs.Common.{ℕ, ◌+◌, ◌<◌, ◌≡◌, ◌≢◌, inl, inr, true, false, cond, leb, ltb, eqb, ◌&&◌, List, [], get_or, ap, sym, ◌∙◌, arith, subst}
 use Rattle.std.specs.Prelude.{count_by}
 use Rattle.std.specs.List.{flat_map}
-use Rattle.std.proofs.lemmas.Bool.{cases_lt, cases_eq, cases_Bool, true≢false}
+use Rattle.std.proofs.lemmas.Bool.{cases_lt, cases_Bool, true≢false}
 use Rattle.std.proofs.lemmas.Bool.Decides.{nat_tests}
-use Rattle.std.proofs.lemmas.List.{get_or_past}
 use Rattle.kc_graph.specs.Numbers.{has_number}
 use Rattle.kc_graph.specs.Shape.{GraphShape, Pair, IsGraph, neighbours_of, has_edge}
-use Rattle.kc_graph.proofs.lemmas.Neighbours.{neighbour_below, neighbours_both, neighbours_rise}
+use Rattle.kc_graph.proofs.lemmas.Neighbours.{neighbours_both, neighbours_rise}
 use Rattle.kc_levels.specs.declared.profile.Profile.{Profile}
 use Rattle.kc_insert.specs.declared.rising.RisingLevels.{RisingLevels}
 use Rattle.kc_insert.specs.private.Crossing.{Crossing, left_at, met_by, next_near, rising_near}
-use Rattle.kc_insert.specs.private.Meetings.{AreApart, IsMeeting}
+use Rattle.kc_insert.specs.private.Meetings.{AreApart}
 use Rattle.kc_insert.specs.private.Parts.{Part}
 use Rattle.kc_insert.specs.private.Rising.{rises, seen}
 use Rattle.kc_insert.specs.private.Sharing.{rise_told}
 use Rattle.kc_insert.specs.private.Telling.{range_of, times}
-use Rattle.kc_insert.specs.private.Watched.{count_at, Watch}
 use Rattle.kc_insert.proofs.Adding.{times_rows}
 use Rattle.kc_insert.proofs.Flips.{count_agree}
 use Rattle.kc_insert.proofs.Joined.{apart_part, joined_ends, joined_rows, joined_same, pairs_in, pairs_of, times_joined}
 use Rattle.kc_insert.proofs.Pairs.{times_firsts, times_seconds}
 use Rattle.kc_insert.proofs.RoundLifted.{before_step}
-use Rattle.kc_insert.proofs.RoundParts.{at_place, begun_in, counts_of, HasPassed, long4, meetings4, Passage, place_of, stay_in, step_at}
-use Rattle.kc_insert.proofs.RoundRising.{AreKeeping, begun_here, cut_of, left_here, level3, listed, move_of, IsMove, goes, begins, stays, own_count, rises3, seen_begun, seen_on, seen_same, sized3, vertex_in}
+use Rattle.kc_insert.proofs.RoundParts.{at_place, begun_in, HasLifted, long4, meetings4, Passage, place_of, stay_in, step_at}
+use Rattle.kc_insert.proofs.RoundRising.{AreKeeping, move_of, goes, begins, stays, own_count, rises3, seen_begun, seen_on, seen_same, sized3, vertex_in}
 use Rattle.kc_insert.proofs.Seen.{stored_at}
 use Rattle.kc_insert.proofs.Stepping.{stood_above}
-use Rattle.kc_insert.proofs.Tests.{and_first, count_none, eq_false, eq_true, firsts_none, le_true, le_false, lt_true, lt_false, or_left, or_right, or_none}
+use Rattle.kc_insert.proofs.Tests.{count_none, eq_false, firsts_none, le_true, le_false, lt_true, lt_false, or_left, or_right, or_none}
 
 -- what stands in the list for a vertex that rises
 rising_stored : (s : RisingLevels) (v : ℕ) → rises s v ≡ true → get_or s.stored v 0 ≡ 65535
 unfolding rises
 rising_stored s v up = grind (arith, nat_tests, up)
 
-module _ (p : Profile) (g : GraphShape) (x : List ℕ) (r : Passage) (k : AreKeeping p g x r.bits r.most r.levels r.s0 r.p0 r.told0) (h : HasPassed g r) (graph : IsGraph g) (small : r.s0.level < 65534) where
+module _ (p : Profile) (g : GraphShape) (x : List ℕ) (r : Passage) (k : AreKeeping p g x r.bits r.most r.levels r.s0 r.p0 r.told0) (h : HasLifted g r) (graph : IsGraph g) (small : r.s0.level < 65534) where
   abbrev pub near : ℕ → List ℕ
   near v = neighbours_of v g.edges
 

@@ -1,6 +1,5 @@
 -- The step of a sweep from its level to the next keeps what is stated of the sweep.
-use Rattle.std.proofs.Common.{ℕ, ◌+◌, ◌*◌, ◌≤◌, ◌<◌, ◌≡◌, ◌≢◌, ◌⊎◌, inl, inr, Bool, true, false, leb, eqb, not, ◌&&◌, ◌||◌, List, [], length, get_or, filter, refl, ap, sym, ◌∙◌, arith, subst}
-use Rattle.std.specs.Prelude.{count_by}
+use Rattle.std.proofs.Common.{ℕ, ◌+◌, ◌*◌, ◌≤◌, ◌<◌, ◌≡◌, ◌≢◌, ◌⊎◌, inl, inr, Bool, true, false, leb, eqb, not, ◌&&◌, ◌||◌, List, length, get_or, filter, refl, ap, sym, ◌∙◌, arith, subst}
 use Rattle.std.proofs.lemmas.Bool.{cases_lt, cases_eq, cases_Bool, true≢false}
 use Rattle.std.proofs.lemmas.Bool.Decides.{nat_tests}
 use Rattle.std.proofs.lemmas.List.{get_or_past}
@@ -17,7 +16,6 @@ use Rattle.kc_levels.proofs.lemmas.Raising.{raising_many}
 use Rattle.kc_adj.specs.Degrees.{degrees}
 use Rattle.kc_insert.specs.Effort.{effort}
 use Rattle.kc_insert.specs.private.LevelStep.{ArePassed, HasStepped}
-use Rattle.kc_insert.specs.private.Meetings.{IsMeeting}
 use Rattle.kc_insert.specs.private.Rising.{all_at}
 use Rattle.kc_insert.specs.private.Sweeping.{AreAwaited, AreRising, IsAwaited, IsPaid, IsPlaced, IsSweeping, Sweeping}
 use Rattle.kc_insert.proofs.Buckets.{has_number-filter}

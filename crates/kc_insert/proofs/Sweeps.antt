@@ -1,5 +1,5 @@
 -- How a sweep begins, goes on to the next level where a vertex waits, and ends.
-use Rattle.std.proofs.Common.{ℕ, ◌+◌, ◌≤◌, ◌<◌, ◌≡◌, inl, inr, Bool, true, false, not, eqb, List, [], length, get_or, refl, ap, sym, ◌∙◌, arith, subst}
+use Rattle.std.proofs.Common.{ℕ, ◌≤◌, ◌<◌, ◌≡◌, inl, inr, true, false, not, eqb, List, [], length, get_or, refl, ap, sym, ◌∙◌, arith, subst}
 use Rattle.std.proofs.lemmas.Bool.{cases_lt, true≢false}
 use Rattle.std.proofs.lemmas.Bool.Decides.{nat_tests}
 use Rattle.kc_graph.specs.Numbers.{has_number}
@@ -7,7 +7,6 @@ use Rattle.kc_graph.specs.Shape.{GraphShape, Pair, IsGraph, has_edge}
 use Rattle.kc_levels.specs.declared.profile.Profile.{Profile}
 use Rattle.kc_levels.specs.Thresholds.{top_level}
 use Rattle.kc_levels.specs.LevelList.{IsCapped, IsRaised}
-use Rattle.kc_levels.specs.Moved.{is_moved}
 use Rattle.kc_levels.proofs.lemmas.Raising.{raising_first, raising_done, top_meets_upper}
 use Rattle.kc_insert.specs.private.Meetings.{AreApart}
 use Rattle.kc_insert.specs.private.Sweeping.{AreCounted, IsFirst, IsPaid, IsQueued, IsSweeping, Sweeping}

@@ -1,6 +1,6 @@
 -- The vertices that came to a level rise from it together, over several levels at once: they count each other on each of the levels,
 -- and no other vertex that they count, or that counts them, stands on the way.
-use Rattle.std.proofs.Common.{ℕ, suc, zero, ◌+◌, ◌-◌, ◌≤◌, ◌<◌, ◌≡◌, ◌⊎◌, inl, inr, true, false, leb, eqb, not, List, [], length, get_or, refl, ap, sym, ◌∙◌, arith, subst}
+use Rattle.std.proofs.Common.{ℕ, suc, zero, ◌+◌, ◌-◌, ◌≤◌, ◌<◌, ◌≡◌, ◌⊎◌, inl, inr, true, false, leb, eqb, not, List, get_or, refl, ap, sym, ◌∙◌, arith, subst}
 use Rattle.std.proofs.lemmas.Bool.{cases_lt, cases_Bool, true≢false}
 use Rattle.std.proofs.lemmas.Bool.Decides.{nat_tests}
 use Rattle.std.proofs.lemmas.Grind.{same_number_lists}
@@ -8,17 +8,16 @@ use Rattle.kc_graph.specs.Numbers.{has_number}
 use Rattle.kc_graph.specs.Shape.{GraphShape, Pair, IsGraph, neighbours_of, has_edge}
 use Rattle.kc_graph.proofs.lemmas.Neighbours.{neighbours_both}
 use Rattle.kc_levels.specs.declared.profile.Profile.{Profile}
-use Rattle.kc_levels.specs.Thresholds.{high, group_of, top_level}
+use Rattle.kc_levels.specs.Thresholds.{high, group_of}
 use Rattle.kc_levels.specs.LevelList.{at_least}
 use Rattle.kc_levels.specs.private.LevelList.{IsRaising}
 use Rattle.kc_levels.proofs.lemmas.Raising.{raising_many}
-use Rattle.kc_insert.specs.Effort.{effort}
 use Rattle.kc_insert.specs.private.Rising.{all_at}
 use Rattle.kc_insert.specs.private.Sweeping.{AreAwaited, AreRising, IsFree, IsPaid, IsSweeping, Sweeping, together}
 use Rattle.kc_insert.proofs.Efforts.{effort_more}
 use Rattle.kc_insert.proofs.Flips.{count_agree}
 use Rattle.kc_insert.proofs.Lifting.{length-all_at, all_at_here, all_at_other}
-use Rattle.kc_insert.proofs.Stepping.{rises_rose, stood_above}
+use Rattle.kc_insert.proofs.Stepping.{rises_rose}
 
 pub free_less : (l j k : ℕ) (waits : ℕ → List ℕ) (meets : ℕ → List Pair) → j ≤ k → IsFree l k waits meets → IsFree l j waits meets
 free_less l j k waits meets le free = record {

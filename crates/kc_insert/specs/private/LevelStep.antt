@@ -1,10 +1,13 @@
 -- The step of a sweep from its level to the next.
 use Rattle.std.specs.Prelude.{ℕ, ◌+◌, ◌≤◌, ◌<◌, ◌≡◌, ◌≢◌, ◌⊎◌, ◌||◌, ◌&&◌, not, true, List, [], length, get_or}
 use Rattle.kc_graph.specs.Numbers.{has_number}
-use Rattle.kc_graph.specs.Shape.{GraphShape, Pair, has_edge}
+use Rattle.kc_graph.specs.Shape.{GraphShape, has_edge}
+use Rattle.kc_levels.specs.declared.profile.Profile.{Profile}
 use Rattle.kc_levels.specs.Following.{AreDistinct}
+use Rattle.kc_levels.specs.Thresholds.{top_level}
+use Rattle.kc_insert.specs.declared.rising.RisingLevels.{RisingLevels}
 use Rattle.kc_insert.specs.private.Meetings.{AreApart, IsMeeting}
-use Rattle.kc_insert.specs.private.Ranges.{Cut, part_at}
+use Rattle.kc_insert.specs.private.Ranges.{all_began, all_risen, AreKept, Cut, IsCut, meets, part_at}
 use Rattle.kc_insert.specs.private.Sweeping.{AreCounted, Sweeping}
 use Rattle.kc_insert.specs.private.Watched.{IsHeld}
 
@@ -54,9 +57,26 @@ pub record ArePassed (s t : Sweeping) (stay begun : List ℕ) : Type 0 where
   pub stay_once : AreDistinct stay
   pub begun_once : AreDistinct begun
 
--- between steps all ranges have the limit; each meeting is kept by the range of the vertex that rises; no list or steps of a step are left
-pub record AreAtRest (most : ℕ) (r : Cut) : Type 0 where
-  pub limit : (j : ℕ) → j < length r.parts → (part_at r j).watch.most ≡ most
+-- all ranges have the limit
+abbrev pub HasLimit : ℕ → Cut → Type 0
+HasLimit most r = (j : ℕ) → j < length r.parts → (part_at r j).watch.most ≡ most
+
+-- between steps each meeting is kept by the range of the vertex that rises, and no vertices or steps of a step are left
+pub record AreAtRest (r : Cut) : Type 0 where
   pub own : (j k v w : ℕ) → j < length r.parts → has_edge (v, w) (get_or (part_at r j).meetings k []) ≡ true → IsHeld (part_at r j).watch v
   pub begun : (j : ℕ) → j < length r.parts → (part_at r j).begun ≡ []
   pub steps : (j : ℕ) → j < length r.parts → (part_at r j).steps ≡ 0
+
+-- between steps the ranges of a graph have their vertices and a list for each level, and keep what rises
+pub record AreInOrder (p : Profile) (g : GraphShape) (s : RisingLevels) (r : Cut) : Type 0 where
+  pub shape : IsCut g.vertices (top_level p g.vertices + 1) r
+  pub kept : AreKept s r
+  pub rest : AreAtRest r
+
+-- between phases no vertex rises, waits or is to be met, and the watch lists have vertices of their own ranges alone
+pub record AreQuiet (p : Profile) (g : GraphShape) (r : Cut) : Type 0 where
+  pub shape : IsCut g.vertices (top_level p g.vertices + 1) r
+  pub none : (all_began r ≡ []) × (all_risen r ≡ []) × ((k : ℕ) → meets r k ≡ [])
+  pub begun : (j : ℕ) → j < length r.parts → (part_at r j).begun ≡ []
+  pub steps : (j : ℕ) → j < length r.parts → (part_at r j).steps ≡ 0
+  pub inside : (j v : ℕ) → j < length r.parts → has_number v (part_at r j).watch.doubtful ≡ true → IsHeld (part_at r j).watch v

@@ -102,3 +102,12 @@ pub record IsFree (l k : ℕ) (waits : ℕ → List ℕ) (meets : ℕ → List P
 -- the sweep with the vertices that came to its level on the level k, which it is at
 abbrev pub together : Sweeping → ℕ → Sweeping
 together s k = record s { level = k; levels = all_at s.levels s.rising k }
+
+-- two states of a sweep that are the same to each test
+pub record IsSame (s t : Sweeping) : Type 0 where
+  pub level : t.level ≡ s.level
+  pub levels : t.levels ≡ s.levels
+  pub count : (v : ℕ) → t.count v ≡ s.count v
+  pub lists : (t.rising ≡ s.rising) × (t.risen ≡ s.risen)
+  pub waits : (k : ℕ) → t.waits k ≡ s.waits k
+  pub meets : (k : ℕ) → t.meets k ≡ s.meets k
