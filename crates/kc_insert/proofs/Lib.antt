@@ -42,6 +42,7 @@ mod RoundTold
 mod RoundWaits
 mod Rows
 mod Seen
+mod SettleAll
 mod Shared
 mod Staying
 mod Stepping

@@ -161,3 +161,8 @@ pub record AreNew (bits : ℕ) (counts : List ℕ) (levels : ℕ) (new : Cut) : 
   pub cut : IsCut (length counts) levels new
   pub counted : (v : ℕ) → v < length counts → count_of new v ≡ get_or counts v 0
   pub each : (j : ℕ) (d : Part) → j < length new.parts → get_or new.parts j d ≡ new_part levels (length new.parts) (get_or new.parts j d).watch.first (get_or new.parts j d).watch.counts
+
+-- there are lists to tell n ranges for each of them
+pub record AreToldAll (n : ℕ) (told : List Tell) : Type 0 where
+  pub long : length told ≡ n
+  pub lists : (j : ℕ) (d : Tell) → j < n → length (get_or told j d).lists ≡ n
