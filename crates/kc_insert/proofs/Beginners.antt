@@ -29,6 +29,7 @@ pub record IsStarting (level : ℕ) (before now : RisingLevels) (vertices : List
   pub sized : length new ≡ length old
   pub each : (j : ℕ) (d : Part) → j < length old → get_or new j d ≡ record (get_or old j d) { begun = in_range bits j lifted }
   pub counted : count ≡ length (flat_map (λ (p : Part). p.begun) new)
+  pub few : count ≤ i
 
 none_begun : (parts : List Part) → ((j : ℕ) (d : Part) → j < length parts → (get_or parts j d).begun ≡ []) → length (flat_map (λ (p : Part). p.begun) parts) ≡ 0
 none_begun [] none = refl
@@ -43,6 +44,7 @@ starting_first level levels vertices bits parts can = record {
   sized = refl;
   each = λ j d h. ap (λ vs. record (get_or parts j d) { begun = vs }) (can.none j d h);
   counted = sym (none_begun parts can.none);
+  few = omega arith;
 }
 
 -- the step of a loop at place i
@@ -68,6 +70,7 @@ module _ (level : ℕ) (before now : RisingLevels) (vertices : List ℕ) (bits i
     sized = s.sized;
     each = s.each;
     counted = s.counted;
+    few = omega (arith, s.few);
   }
 
   pub starting_begins : (next : RisingLevels) (p d0 : Part) → get_or (seen now) item 0 ≡ level → next.level ≡ now.level → seen next ≡ set (seen now) item now.level → ((u : ℕ) → rises next u ≡ (rises now u || eqb u item)) → p ≡ record (get_or new (range_of bits item) d0) { begun = (get_or new (range_of bits item) d0).begun ++ item ∷ [] } → IsStarting level before next vertices bits (i + 1) (count + 1) old (set new (range_of bits item) p)
@@ -82,6 +85,7 @@ module _ (level : ℕ) (before now : RisingLevels) (vertices : List ℕ) (bits i
       | inr ne ↦ rw (get_or-set_other new (range_of bits item) j p d ne) (s.each j d h ∙ ap (λ vs. record (get_or old j d) { begun = vs }) (sym (other j ne)))
     ];
     counted = omega (arith, s.counted, length_set (λ (q : Part). q.begun) new (range_of bits item) p d0 starting_place, ap (λ (q : Part). length q.begun) made ∙ length-append (get_or new (range_of bits item) d0).begun (item ∷ []));
+    few = omega (arith, s.few);
   }
     where
       joined : (b x y : Bool) (u v : ℕ) → y ≡ x || eqb v u → (b || x) || eqb u v ≡ b || y

@@ -29,7 +29,7 @@ pub record IsHalting (before now : RisingLevels) (i count : ℕ) (old new : List
   pub later : (j : ℕ) (d : Part) → i ≤ j → get_or new j d ≡ get_or old j d
   pub rises_on : (v : ℕ) → rises now v ≡ (rises before v && not (has_number v (stays_in i new)))
   pub stays : (j v : ℕ) (d : Part) → j < i → j < length old → has_number v (get_or new j d).stay ≡ true → (rises before v ≡ true) × (count_at (get_or old j d).watch v ≤ (get_or old j d).watch.most) × IsHeld (get_or old j d).watch v
-  pub below : (v : ℕ) → has_number v (stays_in i new) ≡ true → v < length (seen before)
+  pub below : (v : ℕ) → has_number v (stays_in i new) ≡ true → v < 16777216
   pub over : (j v : ℕ) (d : Part) → j < i → j < length old → has_number v (get_or old j d).watch.doubtful ≡ true → rises now v ≡ true → (get_or old j d).watch.most < count_at (get_or old j d).watch v
   pub distinct : AreDistinct (stays_in i new)
   pub counted : count ≡ length (stays_in i new)
@@ -66,6 +66,9 @@ module _ (before now next : RisingLevels) (i count : ℕ) (old new : List Part) 
   own : (d : Part) (v : ℕ) → has_number v p.stay ≡ true → (v < length (seen before)) × IsHeld (get_or old i d).watch v
   own d v there = can.inside i v d at (ap (λ (q : Part). has_number v q.watch.doubtful) (sym (was d)) ∙ t.watched v there)
 
+  own_small : (v : ℕ) → has_number v p.stay ≡ true → v < 16777216
+  own_small v there = omega (arith, (own d0 v there).0, can.few)
+
   apart : (v : ℕ) → has_number v (stays_in i new) ≡ true → has_number v p.stay ≡ false
   apart v there = elim (cases_Bool (has_number v p.stay)) [
     | inr none ↦ none
@@ -73,8 +76,8 @@ module _ (before now next : RisingLevels) (i count : ℕ) (old new : List Part) 
   ]
 
   -- few enough to be counted
-  pub halting_few : length (seen before) ≤ 16777216 → count + length p.stay ≤ 33554432
-  halting_few small = omega (arith, small, s.counted, few_distinct (length (seen before)) (stays_in i new) s.distinct s.below, few_distinct (length (seen before)) p.stay t.distinct (λ v there. (own d0 v there).0))
+  pub halting_few : count + length p.stay ≤ 33554432
+  halting_few = omega (arith, s.counted, few_distinct 16777216 (stays_in i new) s.distinct s.below, few_distinct 16777216 p.stay t.distinct own_small)
 
   pub halting_next : IsHalting before next (i + 1) (count + length p.stay) old (set new i p)
   halting_next = record {
@@ -97,7 +100,7 @@ module _ (before now next : RisingLevels) (i count : ℕ) (old new : List Part) 
     ];
     below = λ v there. elim (cases_Bool (has_number v (stays_in i new))) [
       | inl first ↦ s.below v first
-      | inr none ↦ (own d0 v (second (has_number v (stays_in i new)) (has_number v p.stay) (sym (ap (has_number v) more ∙ has_number-append v (stays_in i new) p.stay) ∙ there) none)).0
+      | inr none ↦ own_small v (second (has_number v (stays_in i new)) (has_number v p.stay) (sym (ap (has_number v) more ∙ has_number-append v (stays_in i new) p.stay) ∙ there) none)
     ];
     over = λ j v d h in_it there up. elim (cases_eq j i) [
       | inl e ↦ rw e (subst (λ (q : Part). q.watch.most < count_at q.watch v) (was d) (t.over v (ap (λ (q : Part). has_number v q.watch.doubtful) (was d) ∙ (rw e at there)) up))

@@ -6,11 +6,14 @@ mod Beginning
 mod Bounds
 mod Buckets
 mod Coming
+mod Copying
 mod Dealing
 mod Direct
 mod Efforts
+mod Filled
 mod Flat
 mod Flips
+mod Followed
 mod Following
 mod Halting
 mod Hearing
@@ -27,6 +30,7 @@ mod MetRows
 mod Nearest
 mod Pairs
 mod Parting
+mod Queueing
 mod Round
 mod RoundAsks
 mod RoundBefore
@@ -41,6 +45,7 @@ mod RoundTold
 mod RoundWaits
 mod Rows
 mod Seen
+mod SettleAll
 mod Shared
 mod Staying
 mod Stepping

@@ -1,9 +1,12 @@
 //! How the counts of a sweep follow those of the graph, and which vertices wait when it begins.
 
-ghost use Rattle.std.specs.Prelude.{◌≡◌, ◌+◌, ◌<◌, ◌≤◌, ◌^◌, false, OnOk, length, slice_index};
+ghost use Rattle.std.specs.Prelude.{◌≡◌, ◌≢◌, ◌+◌, ◌<◌, ◌≤◌, ◌^◌, ℕ, false, All, OnOk, length, slice_index, slice_index_or};
+ghost use Rattle.kc_graph.specs.Numbers.{has_number};
+ghost use Rattle.kc_graph.specs.Shape.{neighbours_of};
 ghost use Rattle.kc_levels.specs.LevelList.{IsCapped};
 ghost use Rattle.kc_levels.specs.Thresholds.{top_level};
-ghost use Rattle.kc_insert.specs.private.Filed.{CanFollow, HasFiled, HasFollowed, HaveFiled};
+ghost use Rattle.kc_insert.specs.private.Filed.{AreCopied, CanFile, CanFollow, HasFiled, HasFollowed, HaveCounted, HaveFiled};
+ghost use Rattle.kc_insert.specs.private.Ranges.{IsIn};
 ghost use Rattle.kc_insert.specs.private.Watched.{IsHeld};
 
 use crate::range::Range;
@@ -57,7 +60,7 @@ fn follow_counts(
     watched: &mut WatchedCounts,
     queue: &mut LevelLists<u32>,
 ) -> Result<(), AllocError>
-    requires inside { watched.old.first + length watched.old.counts ≤ length fresh.now }
+    requires inside { (v : ℕ) → IsHeld watched.old v → v < length fresh.now }
     requires few { length fresh.now ≤ 2 ^ 24 }
     requires levels { (length levels.now ≡ length fresh.now) × (th.now.vertices ≡ length fresh.now) × IsCapped th.now.profile th.now.vertices levels.now }
     requires room { top_level th.now.profile th.now.vertices < length queue.old }
@@ -79,7 +82,11 @@ fn file_end(
     fresh: &[u32],
     ranges: &mut Ranges,
     v: u32,
-) -> Result<(), AllocError> {
+) -> Result<(), AllocError>
+    requires vertex { v < length fresh.now }
+    requires can { CanFile th.now.profile th.now.vertices levels.now fresh.now ranges.old }
+    ensures { OnOk result (HaveCounted th.now.profile th.now.vertices levels.now fresh.now (λ u. u ≢ v) ranges.old ranges.new) }
+{
     let range = &mut ranges.items[ranges.layout.range_of(v)];
     follow_count(
         th,
@@ -88,7 +95,44 @@ fn file_end(
         fresh[v as usize],
         &mut range.watched,
         &mut range.queue,
-    )
+    )?;
+    Ok(())
+}
+
+// As `file_end` says, for the lesser end of each edge.
+fn file_lesser_ends(
+    th: &Thresholds,
+    levels: &Levels,
+    fresh: &[u32],
+    ranges: &mut Ranges,
+    edges: &[Edge],
+) -> Result<(), AllocError>
+    requires inside { All (λ e. e.1 < length fresh.now) edges.now }
+    requires can { CanFile th.now.profile th.now.vertices levels.now fresh.now ranges.old }
+    ensures { OnOk result (HaveCounted th.now.profile th.now.vertices levels.now fresh.now (λ v. All (λ e. v ≢ e.0) edges.now) ranges.old ranges.new) }
+{
+    for e in edges {
+        file_end(th, levels, fresh, ranges, e.a)?;
+    }
+    Ok(())
+}
+
+// As `file_end` says, for the greater end of each edge.
+fn file_greater_ends(
+    th: &Thresholds,
+    levels: &Levels,
+    fresh: &[u32],
+    ranges: &mut Ranges,
+    edges: &[Edge],
+) -> Result<(), AllocError>
+    requires inside { All (λ e. e.1 < length fresh.now) edges.now }
+    requires can { CanFile th.now.profile th.now.vertices levels.now fresh.now ranges.old }
+    ensures { OnOk result (HaveCounted th.now.profile th.now.vertices levels.now fresh.now (λ v. All (λ e. v ≢ e.1) edges.now) ranges.old ranges.new) }
+{
+    for e in edges {
+        file_end(th, levels, fresh, ranges, e.b)?;
+    }
+    Ok(())
 }
 
 impl Range {
@@ -103,6 +147,66 @@ impl Range {
     }
 }
 
+// In each range all vertices count afresh, as `Range::try_follow` says.
+fn follow_each<R: Threads + Sync>(
+    rt: &R,
+    threads: usize,
+    th: &Thresholds,
+    levels: &Levels,
+    fresh: &[u32],
+    items: &mut [Range],
+)
+    requires threads { 0 < threads }
+    requires ready { (i : ℕ) (d : _) → i < length items.old → CanFollow th.now.profile th.now.vertices levels.now fresh.now (slice_index_or items.old i d) }
+    ensures { (i : ℕ) (d : _) → i < length items.old → (slice_index_or items.new i d).is_short ≡ false → HasFiled th.now.profile th.now.vertices levels.now fresh.now (slice_index_or items.old i d) (slice_index_or items.new i d) }
+{
+    thread::for_each_mut(
+        rt,
+        items,
+        threads,
+        &|_: usize, range: &mut Range|
+            requires { CanFollow th.now.profile th.now.vertices levels.now fresh.now range.old }
+            ensures { range.new.is_short ≡ false → HasFiled th.entry.now.profile th.entry.now.vertices levels.entry.now fresh.entry.now range.old range.new }
+        { range.try_follow(th, levels, fresh) },
+    );
+}
+
+// In each range all vertices count afresh. Fails only if memory runs out.
+fn follow_all<R: Threads + Sync>(
+    rt: &R,
+    threads: usize,
+    th: &Thresholds,
+    levels: &Levels,
+    fresh: &[u32],
+    items: &mut [Range],
+) -> Result<(), AllocError>
+    requires threads { 0 < threads }
+    requires ready { (i : ℕ) (d : _) → i < length items.old → CanFollow th.now.profile th.now.vertices levels.now fresh.now (slice_index_or items.old i d) }
+    ensures { OnOk result ((length items.new ≡ length items.old) × ((i : ℕ) (d : _) → i < length items.old → HasFiled th.now.profile th.now.vertices levels.now fresh.now (slice_index_or items.old i d) (slice_index_or items.new i d))) }
+{
+    follow_each(rt, threads, th, levels, fresh, items);
+    check(items)?;
+    Ok(())
+}
+
+// All vertices count afresh, and each waits that counts otherwise than before and more than its group allows. Fails only if memory
+// runs out.
+fn file_all<R: Threads + Sync>(
+    rt: &R,
+    threads: usize,
+    th: &Thresholds,
+    levels: &Levels,
+    fresh: &[u32],
+    ranges: &mut Ranges,
+) -> Result<(), AllocError>
+    requires threads { 0 < threads }
+    requires can { CanFile th.now.profile th.now.vertices levels.now fresh.now ranges.old }
+    ensures { OnOk result (HaveCounted th.now.profile th.now.vertices levels.now fresh.now (λ v. v ≢ v) ranges.old ranges.new) }
+{
+    follow_all(rt, threads, th, levels, fresh, &mut ranges.items)?;
+    Ok(())
+}
+
 /// Copies the fresh counts of the ends of the edges, and files each end once, by its level, whose count is another one than before
 /// and more than its group allows. Fails only if memory runs out.
 pub fn file_ends<R: Threads + Sync, G: Gate + Sync>(
@@ -112,14 +216,14 @@ pub fn file_ends<R: Threads + Sync, G: Gate + Sync>(
     fresh: &[u32],
     ranges: &mut Ranges,
     edges: &[Edge],
-) -> Result<(), AllocError> {
+) -> Result<(), AllocError>
+    requires inside { All (λ e. e.1 < length fresh.now) edges.now }
+    requires can { CanFile th.now.profile th.now.vertices levels.now fresh.now ranges.old }
+    ensures { OnOk result (HaveCounted th.now.profile th.now.vertices levels.now fresh.now (λ v. All (λ e. (v ≢ e.0) × (v ≢ e.1)) edges.now) ranges.old ranges.new) }
+{
     if edges.len() < fresh.len() / LEAST_SHARE {
-        for e in edges {
-            file_end(th, levels, fresh, ranges, e.a)?;
-        }
-        for e in edges {
-            file_end(th, levels, fresh, ranges, e.b)?;
-        }
+        file_lesser_ends(th, levels, fresh, ranges, edges)?;
+        file_greater_ends(th, levels, fresh, ranges, edges)?;
         return Ok(());
     }
     let threads = if ranges.items.len() > 1 {
@@ -127,29 +231,44 @@ pub fn file_ends<R: Threads + Sync, G: Gate + Sync>(
     } else {
         1
     };
-    thread::for_each_mut(
-        rounds.runtime(),
-        ranges.items.as_mut_slice(),
-        threads,
-        &|_: usize, range: &mut Range| { range.try_follow(th, levels, fresh) },
-    );
-    check(&ranges.items)
+    file_all(rounds.runtime(), threads, th, levels, fresh, ranges)?;
+    Ok(())
 }
 
 /// Copies the counts of the ends of the edges.
-pub fn copy_ends(ranges: &mut Ranges, fresh: &[u32], edges: &[Edge]) {
+pub fn copy_ends(ranges: &mut Ranges, fresh: &[u32], edges: &[Edge])
+    requires vertices { (v : ℕ) → v < length fresh.now → IsIn ranges.old v }
+    requires inside { All (λ e. e.1 < length fresh.now) edges.now }
+    ensures { AreCopied fresh.now (λ v. All (λ e. (v ≢ e.0) × (v ≢ e.1)) edges.now) ranges.old ranges.new }
+{
     for e in edges {
         ranges.set(e.a, fresh[e.a as usize]);
         ranges.set(e.b, fresh[e.b as usize]);
     }
 }
 
+// Copies the counts of v and of its neighbours.
+fn copy_row(ranges: &mut Ranges, fresh: &[u32], graph: &Graph, v: u32)
+    requires vertices { (v : ℕ) → v < length fresh.now → IsIn ranges.old v }
+    requires scale { length fresh.now ≡ graph.now.vertices }
+    requires vertex { v < graph.now.vertices }
+    ensures { AreCopied fresh.now (λ u. (u ≢ v) × (has_number u (neighbours_of v graph.now.edges) ≡ false)) ranges.old ranges.new }
+{
+    let _n = graph.vertices();
+    ranges.set(v, fresh[v as usize]);
+    for w in graph.neighbours(v) {
+        ranges.set(*w, fresh[*w as usize]);
+    }
+}
+
 /// Copies the counts of the vertices that moved, and of their neighbours.
-pub fn copy_rows(ranges: &mut Ranges, fresh: &[u32], graph: &Graph, moves: &[Move]) {
+pub fn copy_rows(ranges: &mut Ranges, fresh: &[u32], graph: &Graph, moves: &[Move])
+    requires vertices { (v : ℕ) → v < length fresh.now → IsIn ranges.old v }
+    requires scale { length fresh.now ≡ graph.now.vertices }
+    requires inside { All (λ m. m.vertex < graph.now.vertices) moves.now }
+    ensures { AreCopied fresh.now (λ u. All (λ m. (u ≢ m.vertex) × (has_number u (neighbours_of m.vertex graph.now.edges) ≡ false)) moves.now) ranges.old ranges.new }
+{
     for m in moves {
-        ranges.set(m.vertex, fresh[m.vertex as usize]);
-        for w in graph.neighbours(m.vertex) {
-            ranges.set(*w, fresh[*w as usize]);
-        }
+        copy_row(ranges, fresh, graph, m.vertex);
     }
 }

@@ -3,7 +3,7 @@
 ghost use Rattle.std.specs.Prelude.{◌≡◌, ◌+◌, ◌-◌, ◌*◌, ◌++◌, ◌∷◌, ◌<◌, ◌≤◌, ◌^◌, ℕ, [], false, true, All, IfOk, OnOk, length, slice_index_or, slice_set, sum_by};
 ghost use Rattle.std.specs.List.{flat_map};
 ghost use Rattle.kc_graph.specs.Numbers.{has_number};
-ghost use Rattle.kc_insert.specs.private.Ranges.{all_began, all_begun, all_stay, AllLetStay, AreNew, CanLetStay, CanLiftOff, CanLookAnew, count_of, IsIn, LiftedOff, LookedAnew, LooksAnew, meets, part_of, TookWaiting, waits};
+ghost use Rattle.kc_insert.specs.private.Ranges.{all_began, all_begun, all_stay, AllLetStay, AreNew, AreToldAll, CanLetStay, CanLiftOff, CanLookAnew, count_of, IsIn, LiftedOff, LookedAnew, LooksAnew, meets, part_of, TookWaiting, waits};
 ghost use Rattle.kc_insert.specs.private.Rising.{seen};
 ghost use Rattle.kc_insert.specs.private.Sharing.{AllParted, AllRisen, CanPartAll, CanRiseAll};
 ghost use Rattle.kc_insert.specs.private.Telling.{range_of};
@@ -341,18 +341,22 @@ impl Ranges {
         }
     }
 
-    /// The vertices that stay on the level, `count` in all, are counted no more by those that rise on.
+    /// The vertices that stay on the level, `count` in all, are counted no more by those that rise on. Fails only if memory runs out.
     pub fn part<R: Threads + Sync, G: Gate + Sync>(
         &mut self,
         rounds: &Rounds<R, G>,
         step: &Step<'_>,
         count: usize,
     ) -> Result<(), AllocError>
-        requires { CanPartAll step.now self.old.parts self.old.told }
+        requires ready { CanPartAll step.now self.old.parts self.old.told }
+        requires count { count ≡ length (all_stay self.old) }
         ensures parted { OnOk result (AllParted step.now self.old.parts self.new.parts) }
-        ensures told { OnOk result (All (λ t. length t.lists ≡ length self.old.parts) self.new.told) }
+        ensures told { OnOk result (AreToldAll (length self.old.parts) self.new.told) }
         ensures same { self.new.bits ≡ self.old.bits }
     {
+        if count == 0 {
+            return Ok(());
+        }
         let threads = self.threads(rounds, count);
         part_all(
             rounds.runtime(),
@@ -364,7 +368,8 @@ impl Ranges {
         Ok(())
     }
 
-    /// The vertices that begin, and those that came up, `count` in all, meet the neighbours that stood on the next level.
+    /// The vertices that begin, and those that came up, `count` in all, meet the neighbours that stood on the next level. Fails only if
+    /// memory runs out.
     pub fn rise<R: Threads + Sync, G: Gate + Sync>(
         &mut self,
         rounds: &Rounds<R, G>,
@@ -375,7 +380,7 @@ impl Ranges {
     ) -> Result<(), AllocError>
         requires { CanRiseAll step.now self.old.parts self.old.told }
         ensures risen { OnOk result (AllRisen step.now most self.old.parts self.new.parts) }
-        ensures told { OnOk result (All (λ t. length t.lists ≡ length self.old.parts) self.new.told) }
+        ensures told { OnOk result (AreToldAll (length self.old.parts) self.new.told) }
         ensures same { self.new.bits ≡ self.old.bits }
     {
         let threads = self.threads(rounds, count);

@@ -28,7 +28,7 @@ pub record HaveFiled (p : Profile) (n : ℕ) (y fresh : List ℕ) (i : ℕ) (old
 
 -- the range is of the vertices of the list, each of which has a level that there is
 pub record CanFollow (p : Profile) (n : ℕ) (y fresh : List ℕ) (old : Part) : Type 0 where
-  pub inside : old.watch.first + length old.watch.counts ≤ length fresh
+  pub inside : (v : ℕ) → IsHeld old.watch v → v < length fresh
   pub few : length fresh ≤ 2 ^ 24
   pub levels : (length y ≡ length fresh) × (n ≡ length fresh) × IsCapped p n y
   pub room : top_level p n < length old.queue
@@ -55,3 +55,9 @@ pub record HaveCounted (p : Profile) (n : ℕ) (y fresh : List ℕ) (spared : �
   pub same : IsSameCut old new
   pub copied : IsCopied fresh (counts_of old) (counts_of new) spared
   pub filing : (before : List ℕ) → IsFiling p n y fresh before (counts_of old) (waits old) → IsFiling p n y fresh before (counts_of new) (waits new)
+
+-- all vertices but those that are spared count afresh, however many levels there are, and all else is as before
+pub record AreCopied (fresh : List ℕ) (spared : ℕ → Type 0) (old new : Cut) : Type 0 where
+  pub same : IsSameCut old new
+  pub queues : (j : ℕ) (d : Part) → j < length old.parts → (get_or new.parts j d).queue ≡ (get_or old.parts j d).queue
+  pub copied : (levels : ℕ) → IsCut (length fresh) levels old → IsCopied fresh (counts_of old) (counts_of new) spared

@@ -91,6 +91,7 @@ pub record TookWaiting (level : ℕ) (old new : List Part) : Type 0 where
 -- what `Ranges::let_stay` asks: each range watches vertices of its own alone, and each of them has a level
 pub record CanLetStay (levels : RisingLevels) (old : List Part) : Type 0 where
   pub small : levels.level < 65535
+  pub few : length (seen levels) ≤ 2 ^ 24
   pub inside : (j v : ℕ) (d : Part) → j < length old → has_number v (get_or old j d).watch.doubtful ≡ true → (v < length (seen levels)) × IsHeld (get_or old j d).watch v
 
 -- what `Ranges::let_stay` leaves: the vertices that stay, each once, rise no more, since their counts are within the limits of their
@@ -160,3 +161,8 @@ pub record AreNew (bits : ℕ) (counts : List ℕ) (levels : ℕ) (new : Cut) : 
   pub cut : IsCut (length counts) levels new
   pub counted : (v : ℕ) → v < length counts → count_of new v ≡ get_or counts v 0
   pub each : (j : ℕ) (d : Part) → j < length new.parts → get_or new.parts j d ≡ new_part levels (length new.parts) (get_or new.parts j d).watch.first (get_or new.parts j d).watch.counts
+
+-- there are lists to tell n ranges for each of them
+pub record AreToldAll (n : ℕ) (told : List Tell) : Type 0 where
+  pub long : length told ≡ n
+  pub lists : (j : ℕ) (d : Tell) → j < n → length (get_or told j d).lists ≡ n

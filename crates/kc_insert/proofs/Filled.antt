@@ -1,6 +1,6 @@
 -- What filing leaves, of one range and of all.
-use Rattle.std.proofs.Common.{ℕ, ◌+◌, ◌-◌, ◌≤◌, ◌<◌, ◌≡◌, ◌≢◌, ◌⊎◌, inl, inr, Bool, true, false, cond, ltb, eqb, not, ◌&&◌, List, [], ◌∷◌, ◌++◌, length, get_or, set, refl, ap, sym, subst, ◌∙◌, arith}
-use Rattle.std.specs.List.{flat_map}
+use Rattle.std.proofs.Common.{ℕ, ◌+◌, ◌-◌, ◌≤◌, ◌<◌, ◌≡◌, ◌≢◌, ◌⊎◌, inl, inr, Bool, true, false, cond, ltb, eqb, not, ◌&&◌, List, [], ◌∷◌, ◌++◌, length, get_or, set, take, refl, ap, sym, subst, ◌∙◌, arith}
+use Rattle.std.specs.List.{All, flat_map}
 use Rattle.std.proofs.lemmas.Bool.{cases_Bool, cases_eq, cases_lt, true≢false}
 use Rattle.std.proofs.lemmas.Bool.Decides.{nat_tests}
 use Rattle.std.proofs.lemmas.List.{get_or-set_same, get_or-set_other, get_or_past, length-set}
@@ -8,7 +8,8 @@ use Rattle.kc_graph.specs.Numbers.{has_number}
 use Rattle.kc_levels.specs.declared.profile.Profile.{Profile}
 use Rattle.kc_levels.specs.Thresholds.{high, group_of, top_level}
 use Rattle.kc_levels.specs.private.Following.{IsCopied}
-use Rattle.kc_insert.specs.private.Filed.{CanFile, HasFiled, HasFollowed, HaveCounted, HaveFiled, IsFiling}
+use Rattle.kc_levels.proofs.lemmas.Writes.{copied_all, copied_first, copied_next, copied_then}
+use Rattle.kc_insert.specs.private.Filed.{CanFile, CanFollow, HasFiled, HasFollowed, HaveCounted, HaveFiled, IsFiling}
 use Rattle.kc_insert.specs.private.Parts.{Part}
 use Rattle.kc_insert.specs.private.Ranges.{count_of, counts_of, Cut, IsCut, IsSameCut, no_part, part_of, waits}
 use Rattle.kc_insert.specs.private.Telling.{range_of, Tell}
@@ -231,3 +232,44 @@ module _ (p : Profile) (n : ℕ) (y fresh : List ℕ) (v : ℕ) where
 
 pub can_file_on : (p : Profile) (n : ℕ) (y fresh : List ℕ) (old new : Cut) → CanFile p n y fresh old → IsSameCut old new → CanFile p n y fresh new
 can_file_on p n y fresh old new can same = record { few = can.few; levels = can.levels; cut = cut_same (length fresh) (top_level p n + 1) old new can.cut same }
+
+-- loops over a list
+module _ (p : Profile) (n : ℕ) (y fresh : List ℕ) where
+  pub counted_first : (spared : ℕ → Type 0) (a : Cut) → ((v : ℕ) → spared v) → HaveCounted p n y fresh spared a a
+  counted_first spared a rest = record { same = same_cut a; copied = copied_first fresh (counts_of a) spared rest; filing = λ before s. s }
+
+  pub counted_wider : (few many : ℕ → Type 0) (a b : Cut) → ((v : ℕ) → few v → many v) → HaveCounted p n y fresh few a b → HaveCounted p n y fresh many a b
+  counted_wider few many a b wider s = record {
+    same = s.same;
+    copied = record { sized = s.copied.sized; each = λ v. elim (s.copied.each v) [ inl done ↦ inl done | inr kept ↦ inr (kept.0, wider v kept.1) ] };
+    filing = s.filing;
+  }
+
+  pub counted_next : {A : Type 0} (spares : ℕ → A → Type 0) (items : List A) (i : ℕ) (d item : A) (a b c : Cut) → i < length items → item ≡ get_or items i d → HaveCounted p n y fresh (λ v. All (spares v) (take i items)) a b → HaveCounted p n y fresh (λ v. spares v item) b c → HaveCounted p n y fresh (λ v. All (spares v) (take (i + 1) items)) a c
+  counted_next spares items i d item a b c at is s t = record {
+    same = same_on a b c s.same t.same;
+    copied = copied_next spares items i d item fresh (counts_of a) (counts_of b) (counts_of c) at is s.copied t.copied;
+    filing = λ before f. t.filing before (s.filing before f);
+  }
+
+  pub counted_all : {A : Type 0} (spares : ℕ → A → Type 0) (items : List A) (i : ℕ) (a b : Cut) → length items ≤ i → HaveCounted p n y fresh (λ v. All (spares v) (take i items)) a b → HaveCounted p n y fresh (λ v. All (spares v) items) a b
+  counted_all spares items i a b end s = record { same = s.same; copied = copied_all spares items i fresh (counts_of a) (counts_of b) end s.copied; filing = s.filing }
+
+  pub counted_both : (few many : ℕ → Type 0) (a b c : Cut) → HaveCounted p n y fresh few a b → HaveCounted p n y fresh many b c → HaveCounted p n y fresh (λ v. few v × many v) a c
+  counted_both few many a b c s t = record {
+    same = same_on a b c s.same t.same;
+    copied = copied_then fresh (counts_of a) (counts_of b) (counts_of c) few many (λ v. few v × many v) s.copied t.copied (λ v q r. (q, r));
+    filing = λ before f. t.filing before (s.filing before f);
+  }
+
+-- all ranges followed their fresh counts
+pub all_filed : (p : Profile) (n : ℕ) (y fresh : List ℕ) (old new : Cut) → CanFile p n y fresh old → new.bits ≡ old.bits → new.told ≡ old.told → length new.parts ≡ length old.parts → ((j : ℕ) (d : Part) → j < length old.parts → HasFiled p n y fresh (get_or old.parts j d) (get_or new.parts j d)) → HaveCounted p n y fresh (λ v. v ≢ v) old new
+all_filed p n y fresh old new can bits told sized each = have_counted p n y fresh (λ v. v ≢ v) old new can bits told sized (λ j d h. filed_all p n y fresh (λ v. v ≢ v) (get_or old.parts j d) (get_or new.parts j d) (each j d h))
+
+pub can_follow : (p : Profile) (n : ℕ) (y fresh : List ℕ) (old : Cut) → CanFile p n y fresh old → (j : ℕ) (d : Part) → j < length old.parts → CanFollow p n y fresh (get_or old.parts j d)
+can_follow p n y fresh old can j d h = rw (any_default old.parts j d no_part h) (record {
+  inside = λ v held. (can.cut.own j v h held).0;
+  few = can.few;
+  levels = can.levels;
+  room = omega (arith, can.cut.queues j h);
+})
