@@ -30,10 +30,12 @@ mod MetRows
 mod Nearest
 mod Pairs
 mod Parting
+mod Phases
 mod Queueing
 mod Round
 mod RoundAsks
 mod RoundBefore
+mod RoundCalls
 mod RoundCounts
 mod RoundKept
 mod RoundLifted

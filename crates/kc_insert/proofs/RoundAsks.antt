@@ -1,5 +1,5 @@
 -- A step of a sweep: what its calls ask, up to the vertices that begin.
-use Rattle.std.proofs.Common.{ℕ, ◌+◌, ◌^◌, ◌≤◌, ◌<◌, ◌≡◌, ◌≢◌, inl, inr, Bool, true, false, cond, leb, ltb, not, ◌&&◌, List, [], ◌++◌, length, get_or, filter, refl, ap, sym, subst, ◌∙◌, arith}
+use Rattle.std.proofs.Common.{ℕ, ◌+◌, ◌^◌, ◌≤◌, ◌<◌, ◌≡◌, inl, inr, Bool, true, false, cond, leb, not, List, [], length, get_or, filter, refl, ap, sym, subst, ◌∙◌, arith}
 use Rattle.std.specs.Prelude.{All, count_by}
 use Rattle.std.specs.List.{flat_map}
 use Rattle.std.proofs.lemmas.Bool.{cases_Bool, true≢false}
@@ -13,20 +13,20 @@ use Rattle.kc_adj.specs.Degrees.{degrees}
 use Rattle.kc_insert.specs.declared.rising.RisingLevels.{RisingLevels}
 use Rattle.kc_insert.specs.private.Crossing.{rising_near}
 use Rattle.kc_insert.specs.private.Parts.{CanPart, Part}
-use Rattle.kc_insert.specs.private.Ranges.{AllLetStay, CanLetStay, CanLiftOff, Cut, IsIn, no_part, TookWaiting}
+use Rattle.kc_insert.specs.private.Ranges.{AllLetStay, CanLetStay, CanLiftOff, IsIn, no_part, TookWaiting}
 use Rattle.kc_insert.specs.private.Rising.{all_at, rises, seen}
 use Rattle.kc_insert.specs.private.Round.{is_over}
-use Rattle.kc_insert.specs.private.Sharing.{AllParted, CanLessen, CanPartAll}
+use Rattle.kc_insert.specs.private.Sharing.{AllParted, CanPartAll}
 use Rattle.kc_insert.specs.private.Sweeping.{sweeping_of}
 use Rattle.kc_insert.specs.private.Telling.{range_of, Tell, times}
-use Rattle.kc_insert.specs.private.Watched.{count_at, IsHeld, StayWatched, Watch}
-use Rattle.kc_insert.proofs.Adding.{times_none, times_rows}
+use Rattle.kc_insert.specs.private.Watched.{count_at, IsHeld, Watch}
+use Rattle.kc_insert.proofs.Adding.{times_rows}
 use Rattle.kc_insert.proofs.Buckets.{has_number-filter}
 use Rattle.kc_insert.proofs.Inside.{inside_rows, near_inside}
 use Rattle.kc_insert.proofs.Joined.{distinct_part, joined_in, joined_of}
 use Rattle.kc_insert.proofs.Lifting.{length-all_at, all_at_other}
 use Rattle.kc_insert.proofs.Members.{none_in}
-use Rattle.kc_insert.proofs.RoundParts.{at_place, count_in, place_of, stay_in, step_at, waits_in}
+use Rattle.kc_insert.proofs.RoundParts.{at_place, count_in, stay_in, step_at, waits_in}
 use Rattle.kc_insert.proofs.RoundRising.{AreKeeping, began_at, began_in, cut_of, listed, own_count, vertex_in}
 use Rattle.kc_insert.proofs.Stepping.{count_at_level, waits_here}
 use Rattle.kc_insert.proofs.Summing.{few_distinct}
@@ -51,9 +51,10 @@ module _ (p : Profile) (g : GraphShape) (x : List ℕ) (bits most levels : ℕ) 
       }
 
   -- the watch lists have vertices of their own ranges
-  pub ask_stay : (p1 : List Part) → TookWaiting s0.level p0 p1 → s0.level < 65535 → CanLetStay s0 p1
-  ask_stay p1 took small = record {
+  pub ask_stay : (p1 : List Part) → TookWaiting s0.level p0 p1 → s0.level < 65535 → g.vertices ≤ 2 ^ 24 → CanLetStay s0 p1
+  ask_stay p1 took small few = record {
     small = small;
+    few = omega (arith, few, k.sweeping.placed.raising.sized);
     inside = λ j v d at there.
         let within : j < length p0 = omega (arith, at, took.sized) in
         let is = get_or_default p1 j d no_part at ∙ took.each j no_part within in

@@ -1,7 +1,6 @@
 -- A step of a sweep: what its last call, the pass over all ranges, asks.
-use Rattle.std.proofs.Common.{ℕ, ◌+◌, ◌*◌, ◌-◌, ◌^◌, ◌≤◌, ◌<◌, ◌≡◌, ◌≢◌, inl, inr, Bool, true, false, cond, leb, ltb, eqb, not, ◌&&◌, List, [], ◌++◌, length, get_or, filter, refl, ap, sym, subst, ◌∙◌, arith}
+use Rattle.std.proofs.Common.{ℕ, ◌+◌, ◌-◌, ◌^◌, ◌≤◌, ◌<◌, ◌≡◌, inl, inr, Bool, true, false, cond, leb, ltb, eqb, ◌&&◌, List, [], length, get_or, refl, ap, sym, subst, ◌∙◌, arith}
 use Rattle.std.specs.Prelude.{count_by}
-use Rattle.std.specs.List.{flat_map}
 use Rattle.std.proofs.lemmas.Bool.{cases_lt, cases_eq, cases_Bool, true≢false}
 use Rattle.std.proofs.lemmas.List.{get_or_default, get_or_past, length-set}
 use Rattle.std.proofs.lemmas.List.Sums.{count_by-le-length}
@@ -10,26 +9,24 @@ use Rattle.kc_graph.specs.Shape.{GraphShape, IsGraph, Pair, has_edge, neighbours
 use Rattle.kc_graph.proofs.lemmas.Neighbours.{neighbour_below}
 use Rattle.kc_levels.specs.declared.profile.Profile.{Profile}
 use Rattle.kc_levels.specs.Thresholds.{top_level}
-use Rattle.kc_adj.specs.Degrees.{degrees}
 use Rattle.kc_insert.specs.private.Crossing.{Crossing, is_above, left_at}
 use Rattle.kc_insert.specs.private.Parts.{CanRise, Part}
 use Rattle.kc_insert.specs.private.Ranges.{no_part}
 use Rattle.kc_insert.specs.private.Rising.{rises, seen}
 use Rattle.kc_insert.specs.private.Sharing.{CanRiseAll, rise_told}
 use Rattle.kc_insert.specs.private.Telling.{range_of, Tell, times}
-use Rattle.kc_insert.specs.private.Watched.{count_at, IsHeld, Watch}
-use Rattle.kc_insert.proofs.Adding.{times_none, times_some}
+use Rattle.kc_insert.specs.private.Watched.{count_at, IsHeld}
+use Rattle.kc_insert.proofs.Adding.{times_none}
 use Rattle.kc_insert.proofs.Bounds.{degree_few, degrees_few}
 use Rattle.kc_insert.proofs.Inside.{inside_ends}
 use Rattle.kc_insert.proofs.Joined.{distinct_part, joined_of, pairs_of}
-use Rattle.kc_insert.proofs.RoundBefore.{count4, home, inside, left, met, near_v, new_at, next_parts, old_at, old_count, told, went_parts}
-use Rattle.kc_insert.proofs.RoundLifted.{before_step}
-use Rattle.kc_insert.proofs.RoundParts.{at_place, begun_in, count_in, first4, HasLifted, held_back4, held4, long2, long4, meetings4, Passage, place_of, queue4, sized4, stay_in, step_at, steps4}
-use Rattle.kc_insert.proofs.RoundRising.{AreKeeping, begun_fresh, begun_here, left_here, move_of, IsMove, goes, begins, stays, own_count, rises3, seen_same, sized3, stay_few, vertex_in}
-use Rattle.kc_insert.proofs.RoundTold.{left_none, left_told, met_on, more_told, near, second_step, stored_rising, stored_still, told_next, told_none}
+use Rattle.kc_insert.proofs.RoundBefore.{count4, left, next_parts, old_count, told, went_parts}
+use Rattle.kc_insert.proofs.RoundParts.{at_place, begun_in, count_in, HasLifted, held_back4, held4, long2, long4, meetings4, Passage, queue4, stay_in, steps4}
+use Rattle.kc_insert.proofs.RoundRising.{AreKeeping, begun_fresh, begun_here, left_here, move_of, goes, begins, stays, own_count, rises3, seen_same, sized3, stay_few, vertex_in}
+use Rattle.kc_insert.proofs.RoundTold.{left_none, left_told, met_on, more_told, second_step, stored_rising, stored_still, told_next, told_none}
 use Rattle.kc_insert.proofs.Seen.{length-seen}
 use Rattle.kc_insert.proofs.Summing.{few_distinct}
-use Rattle.kc_insert.proofs.Tests.{and_first, and_second, count_none, eq_true, or_left, or_none, or_right, true_lt}
+use Rattle.kc_insert.proofs.Tests.{and_second, count_none, or_left, or_none, or_right, true_lt}
 
 module _ (p : Profile) (g : GraphShape) (x : List ℕ) (r : Passage) (k : AreKeeping p g x r.bits r.most r.levels r.s0 r.p0 r.told0) (h : HasLifted g r) (graph : IsGraph g) (small : r.s0.level < 65534) (few : g.vertices ≤ 2 ^ 24) (room : r.s0.level < top_level p g.vertices) (tops : r.levels ≡ top_level p g.vertices + 1) where
   abbrev step2 : Crossing

@@ -1,30 +1,21 @@
 -- A step of a sweep: which vertices wait afterwards.
-use Rattle.std.proofs.Common.{ℕ, ◌+◌, ◌<◌, ◌≡◌, ◌≢◌, inl, inr, true, eqb, List, [], ◌++◌, length, get_or, ap, sym, ◌∙◌, arith}
-use Rattle.std.specs.List.{flat_map}
-use Rattle.std.proofs.lemmas.Bool.{cases_Bool, true≢false}
+use Rattle.std.proofs.Common.{ℕ, ◌+◌, ◌<◌, ◌≡◌, ◌≢◌, inl, inr, List, [], length, get_or, ap, sym, ◌∙◌, arith}
 use Rattle.std.proofs.lemmas.List.{get_or-set_other}
 use Rattle.kc_graph.specs.Numbers.{has_number}
-use Rattle.kc_graph.specs.Shape.{GraphShape, Pair, IsGraph, neighbours_of, has_edge}
-use Rattle.kc_graph.proofs.lemmas.Neighbours.{neighbour_below}
+use Rattle.kc_graph.specs.Shape.{GraphShape, IsGraph}
 use Rattle.kc_levels.specs.declared.profile.Profile.{Profile}
-use Rattle.kc_insert.specs.private.Crossing.{met_by, next_near}
 use Rattle.kc_insert.specs.private.LevelStep.{WaitOn}
 use Rattle.kc_insert.specs.private.Parts.{Part}
-use Rattle.kc_insert.specs.private.Rising.{rises, seen}
 use Rattle.kc_insert.specs.private.Sharing.{rise_told}
 use Rattle.kc_insert.specs.private.Telling.{range_of}
-use Rattle.kc_insert.proofs.Buckets.{has_number-filter}
-use Rattle.kc_insert.proofs.Inside.{inside_both, inside_ends, inside_rows}
-use Rattle.kc_insert.proofs.Joined.{joined_in, joined_of, pairs_of}
+use Rattle.kc_insert.proofs.Joined.{joined_in, joined_of}
 use Rattle.kc_insert.proofs.RoundBefore.{inside, held}
 use Rattle.kc_insert.proofs.RoundCounts.{mid_same}
 use Rattle.kc_insert.proofs.RoundLifted.{after_step, before_step}
-use Rattle.kc_insert.proofs.RoundParts.{at_place, begun_in, HasPassed, held_mid, long4, long5, meetings4, met_at, mid, Passage, queue_mid}
-use Rattle.kc_insert.proofs.RoundRising.{AreKeeping, begun_here, left_here, move_of, goes, begins, stays, rises3, seen_same}
+use Rattle.kc_insert.proofs.RoundParts.{at_place, HasPassed, held_mid, long5, met_at, mid, Passage, queue_mid}
+use Rattle.kc_insert.proofs.RoundRising.{AreKeeping, begun_here, left_here, move_of, goes, begins, stays}
 use Rattle.kc_insert.proofs.RoundTold.{second_step, told_next}
 use Rattle.kc_insert.proofs.Shared.{in_range_has}
-use Rattle.kc_insert.proofs.Stepping.{off_level}
-use Rattle.kc_insert.proofs.Tests.{and_first, and_second, or_left, or_right, true_eq}
 
 module _ (p : Profile) (g : GraphShape) (x : List ℕ) (r : Passage) (k : AreKeeping p g x r.bits r.most r.levels r.s0 r.p0 r.told0) (h : HasPassed g r) (graph : IsGraph g) (small : r.s0.level < 65534) where
   queue_same : (j i : ℕ) (at : j < length r.p0) → i ≢ r.s0.level → get_or (mid g r h j at).queue i [] ≡ get_or (at_place r.p0 j).queue i []
