@@ -16,6 +16,7 @@ mod Followed
 mod Following
 mod Halting
 mod Hearing
+mod Idle
 mod Inside
 mod Joined
 mod Kept
