@@ -1,17 +1,17 @@
 -- All ranges look anew at the vertices that rise, with another limit.
 use Rattle.std.proofs.Common.{ℕ, ◌-◌, ◌≤◌, ◌<◌, ◌≡◌, ◌⊎◌, inl, inr, Bool, true, false, ◌&&◌, List, [], ◌∷◌, ◌++◌, length, get_or, filter, refl, ap, sym, subst, ◌∙◌, arith}
 use Rattle.std.specs.List.{flat_map}
-use Rattle.std.proofs.lemmas.Bool.{cases_lt, cases_Bool, true≢false}
+use Rattle.std.proofs.lemmas.Bool.{cases_lt, true≢false}
 use Rattle.std.proofs.lemmas.List.{get_or_default, get_or_past}
 use Rattle.std.proofs.lemmas.List.Elements.{filter-append}
 
 use Rattle.kc_graph.specs.Numbers.{has_number}
-use Rattle.kc_graph.specs.Shape.{GraphShape, Pair, has_edge}
+use Rattle.kc_graph.specs.Shape.{GraphShape, has_edge}
 use Rattle.kc_levels.specs.declared.profile.Profile.{Profile}
 use Rattle.kc_insert.specs.declared.rising.RisingLevels.{RisingLevels}
 use Rattle.kc_insert.specs.private.LevelStep.{AreInOrder, HasLimit}
 use Rattle.kc_insert.specs.private.Parts.{Part}
-use Rattle.kc_insert.specs.private.Ranges.{all_began, AreKept, CanLookAnew, count_of, Cut, IsCut, looked_anew, LookedAnew, LooksAnew, no_part, part_at}
+use Rattle.kc_insert.specs.private.Ranges.{AreKept, CanLookAnew, count_of, Cut, IsCut, LookedAnew, LooksAnew, no_part, part_at}
 use Rattle.kc_insert.specs.private.Rising.{rises, seen}
 use Rattle.kc_insert.specs.private.Sweeping.{IsSame, sweeping_of}
 use Rattle.kc_insert.specs.private.Telling.{range_of, Tell}
@@ -19,7 +19,7 @@ use Rattle.kc_insert.specs.private.Watched.{count_at, is_few, IsHeld, Watch}
 use Rattle.kc_insert.proofs.Buckets.{has_number-filter}
 use Rattle.kc_insert.proofs.Joined.{joined_same}
 use Rattle.kc_insert.proofs.Kept.{kept_at}
-use Rattle.kc_insert.proofs.Members.{filter_all, filter_both, filter_agree}
+use Rattle.kc_insert.proofs.Members.{filter_all}
 use Rattle.kc_insert.proofs.Tests.{and_both, and_first, le_true}
 
 filter_joined : (test : ℕ → Bool) (f : Part → List ℕ) (ps : List Part) → filter test (flat_map f ps) ≡ flat_map (λ (q : Part). filter test (f q)) ps

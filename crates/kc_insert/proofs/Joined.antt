@@ -220,3 +220,12 @@ copies_part e f (p ∷ ps) (suc j) at = omega (arith, copies-append e (f p) (fla
 
 pub apart_part : (f : Part → List Pair) (ps : List Part) (j : ℕ) → j < length ps → AreApart (flat_map f ps) → AreApart (f (get_or ps j no_part))
 apart_part f ps j at apart = copies_apart (f (get_or ps j no_part)) (λ e. omega (arith, copies_part e f ps j at, apart_copies e (flat_map f ps) apart))
+
+-- distinct numbers of all lists are distinct in each
+pub times_part_of : (v : ℕ) (f : Part → List ℕ) (ps : List Part) (j : ℕ) → j < length ps → times v (f (get_or ps j no_part)) ≤ times v (flat_map f ps)
+times_part_of v f [] j at = absurd (omega (arith, at))
+times_part_of v f (p ∷ ps) zero at = omega (arith, times-append v (f p) (flat_map f ps))
+times_part_of v f (p ∷ ps) (suc j) at = omega (arith, times-append v (f p) (flat_map f ps), times_part_of v f ps j (omega (arith, at)))
+
+pub distinct_part : (f : Part → List ℕ) (ps : List Part) (j : ℕ) → j < length ps → AreDistinct (flat_map f ps) → AreDistinct (f (get_or ps j no_part))
+distinct_part f ps j at once = times_distinct (f (get_or ps j no_part)) (λ v. omega (arith, times_part_of v f ps j at, distinct_times v (flat_map f ps) once))

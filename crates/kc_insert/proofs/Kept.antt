@@ -1,28 +1,25 @@
 -- How ranges keep the vertices that rise, while the sweep goes to another level or looks anew.
-use Rattle.std.proofs.Common.{ℕ, ◌≤◌, ◌<◌, ◌≡◌, ◌⊎◌, inl, inr, Bool, true, false, ◌&&◌, List, [], ◌++◌, length, get_or, filter, refl, ap, sym, subst, ◌∙◌, arith}
+use Rattle.std.proofs.Common.{ℕ, ◌≤◌, ◌<◌, ◌≡◌, inl, inr, true, List, [], length, filter, refl, ap, sym, ◌∙◌, arith}
 use Rattle.std.specs.Prelude.{All}
-use Rattle.std.specs.List.{flat_map}
 use Rattle.std.proofs.lemmas.Bool.{cases_lt, cases_Bool, true≢false}
 use Rattle.std.proofs.lemmas.List.{get_or_past}
-use Rattle.std.proofs.lemmas.List.Elements.{filter-append}
 use Rattle.kc_graph.specs.Numbers.{has_number}
-use Rattle.kc_graph.specs.Shape.{GraphShape, Pair, IsGraph, has_edge}
+use Rattle.kc_graph.specs.Shape.{GraphShape, IsGraph}
 use Rattle.kc_levels.specs.declared.profile.Profile.{Profile}
-use Rattle.kc_levels.specs.Thresholds.{high, group_of, top_level}
+use Rattle.kc_levels.specs.Thresholds.{high, group_of}
 use Rattle.kc_insert.specs.declared.rising.RisingLevels.{RisingLevels}
-use Rattle.kc_insert.specs.private.LevelStep.{AreAtRest, AreInOrder, HasLimit}
+use Rattle.kc_insert.specs.private.LevelStep.{AreInOrder, HasLimit}
 use Rattle.kc_insert.specs.private.Parts.{Part}
-use Rattle.kc_insert.specs.private.Ranges.{all_began, AreKept, CanLookAnew, count_of, Cut, IsCut, IsIn, looked_anew, LookedAnew, LooksAnew, meets, no_part, part_at, part_of, waits}
+use Rattle.kc_insert.specs.private.Ranges.{all_began, AreKept, count_of, Cut, meets, no_part, waits}
 use Rattle.kc_insert.specs.private.Rising.{all_at, rises, seen}
 use Rattle.kc_insert.specs.private.Sweeping.{IsFree, IsPaid, IsSame, IsSweeping, sweeping_of, together}
 use Rattle.kc_insert.specs.private.Telling.{range_of}
-use Rattle.kc_insert.specs.private.Watched.{count_at, is_few, IsHeld, Watch}
 use Rattle.kc_insert.proofs.Buckets.{has_number-filter}
-use Rattle.kc_insert.proofs.Joined.{joined_of, joined_same}
-use Rattle.kc_insert.proofs.Members.{filter_agree, filter_both}
+use Rattle.kc_insert.proofs.Joined.{joined_of}
+use Rattle.kc_insert.proofs.Members.{filter_agree}
 use Rattle.kc_insert.proofs.SweepSame.{same_paid, same_sweeping}
 use Rattle.kc_insert.proofs.Sweeps.{sweeping_on}
-use Rattle.kc_insert.proofs.Tests.{and_both, and_first, and_left, and_off, and_second, le_true}
+use Rattle.kc_insert.proofs.Tests.{and_left, and_off}
 use Rattle.kc_insert.proofs.Together.{paid_together, sweeping_together}
 
 -- a range that keeps a vertex is there

@@ -3,6 +3,7 @@ mod Adding
 mod Anew
 mod Beginners
 mod Beginning
+mod Bounds
 mod Buckets
 mod Coming
 mod Copying
@@ -30,14 +31,18 @@ mod MetRows
 mod Nearest
 mod Pairs
 mod Parting
+mod Phases
 mod Queueing
 mod Round
+mod RoundAsks
 mod RoundBefore
+mod RoundCalls
 mod RoundCounts
 mod RoundKept
 mod RoundLifted
 mod RoundMeets
 mod RoundParts
+mod RoundRiseAsks
 mod RoundRising
 mod RoundTold
 mod RoundWaits

@@ -18,8 +18,7 @@ use Rattle.kc_insert.proofs.MetRows.{rows_among, rows_apart, rows_on}
 use Rattle.kc_insert.proofs.RoundLifted.{after_step, before_step, listed3}
 use Rattle.kc_insert.proofs.RoundParts.{at_place, begun_in, HasPassed, long4, long5, meetings4, meetings5, mid, Passage, rose_at}
 use Rattle.kc_insert.proofs.RoundRising.{AreKeeping, begun_fresh, begun_here, left_here, move_of, goes, begins, stays, rises3, seen_same}
-use Rattle.kc_insert.proofs.RoundTold.{second_step, stored_still}
-use Rattle.kc_insert.proofs.RoundWaits.{above_stood}
+use Rattle.kc_insert.proofs.RoundTold.{above_stood, second_step, stored_still}
 use Rattle.kc_insert.proofs.Stepping.{stood_above}
 use Rattle.kc_insert.proofs.Tests.{or_either, or_left, or_none, or_right}
 
@@ -83,7 +82,7 @@ module _ (p : Profile) (g : GraphShape) (x : List ℕ) (r : Passage) (k : AreKee
   new_on i v w low there =
       let it = rows_on g r.s3.stored r.s0.level i (begun_in r.p4) v w there in
       let below = neighbour_below g.vertices v w g.edges graph it.1 in
-      (it.0, record { near = it.1; level = above_stood p g x r k h graph small w i below it.2 low it.3; below = omega (arith, (begun_here p g x r k h.before v it.0).1, it.2) })
+      (it.0, record { near = it.1; level = above_stood p g x r k h.before graph small w i below it.2 low it.3; below = omega (arith, (begun_here p g x r k h.before v it.0).1, it.2) })
 
   pub meeting : MeetOn g x (before_step r) (after_step r)
   meeting = record {

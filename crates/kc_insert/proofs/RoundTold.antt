@@ -1,12 +1,12 @@
 -- A step of a sweep: what is told of a vertex, as counts over its neighbours.
-use Rattle.std.proofs.Common.{ℕ, ◌+◌, ◌<◌, ◌≡◌, ◌≢◌, inl, inr, true, false, cond, leb, ltb, eqb, ◌&&◌, List, [], get_or, ap, sym, ◌∙◌, arith, subst}
+use Rattle.std.proofs.Common.{ℕ, ◌+◌, ◌<◌, ◌≡◌, ◌≢◌, inl, inr, true, false, cond, leb, ltb, eqb, ◌&&◌, List, [], ◌++◌, length, get_or, ap, sym, ◌∙◌, arith, subst}
 use Rattle.std.specs.Prelude.{count_by}
 use Rattle.std.specs.List.{flat_map}
 use Rattle.std.proofs.lemmas.Bool.{cases_lt, cases_Bool, true≢false}
 use Rattle.std.proofs.lemmas.Bool.Decides.{nat_tests}
 use Rattle.kc_graph.specs.Numbers.{has_number}
 use Rattle.kc_graph.specs.Shape.{GraphShape, Pair, IsGraph, neighbours_of, has_edge}
-use Rattle.kc_graph.proofs.lemmas.Neighbours.{neighbours_both, neighbours_rise}
+use Rattle.kc_graph.proofs.lemmas.Neighbours.{neighbour_below, neighbours_both, neighbours_rise}
 use Rattle.kc_levels.specs.declared.profile.Profile.{Profile}
 use Rattle.kc_insert.specs.declared.rising.RisingLevels.{RisingLevels}
 use Rattle.kc_insert.specs.private.Crossing.{Crossing, left_at, met_by, next_near, rising_near}
@@ -17,14 +17,16 @@ use Rattle.kc_insert.specs.private.Sharing.{rise_told}
 use Rattle.kc_insert.specs.private.Telling.{range_of, times}
 use Rattle.kc_insert.proofs.Adding.{times_rows}
 use Rattle.kc_insert.proofs.Flips.{count_agree}
-use Rattle.kc_insert.proofs.Joined.{apart_part, joined_ends, joined_rows, joined_same, pairs_in, pairs_of, times_joined}
+use Rattle.kc_insert.proofs.Buckets.{has_number-filter}
+use Rattle.kc_insert.proofs.Inside.{inside_both, inside_ends, inside_rows}
+use Rattle.kc_insert.proofs.Joined.{apart_part, joined_ends, joined_in, joined_rows, joined_same, pairs_in, pairs_of, times_joined}
 use Rattle.kc_insert.proofs.Pairs.{times_firsts, times_seconds}
 use Rattle.kc_insert.proofs.RoundLifted.{before_step}
 use Rattle.kc_insert.proofs.RoundParts.{at_place, begun_in, HasLifted, long4, meetings4, Passage, place_of, stay_in, step_at}
 use Rattle.kc_insert.proofs.RoundRising.{AreKeeping, move_of, goes, begins, stays, own_count, rises3, seen_begun, seen_on, seen_same, sized3, vertex_in}
 use Rattle.kc_insert.proofs.Seen.{stored_at}
-use Rattle.kc_insert.proofs.Stepping.{stood_above}
-use Rattle.kc_insert.proofs.Tests.{count_none, eq_false, firsts_none, le_true, le_false, lt_true, lt_false, or_left, or_right, or_none}
+use Rattle.kc_insert.proofs.Stepping.{off_level, stood_above}
+use Rattle.kc_insert.proofs.Tests.{and_first, and_second, count_none, eq_false, firsts_none, le_false, le_true, lt_false, lt_true, or_left, or_none, or_right, true_eq}
 
 -- what stands in the list for a vertex that rises
 rising_stored : (s : RisingLevels) (v : ℕ) → rises s v ≡ true → get_or s.stored v 0 ≡ 65535
@@ -147,3 +149,42 @@ module _ (p : Profile) (g : GraphShape) (x : List ℕ) (r : Passage) (k : AreKee
 
       no_near : cond (eqb (get_or r.s3.stored v 0) (r.s0.level + 1)) (count_by (λ u. has_number u (begun_in r.p4)) (near v)) 0 ≡ 0
       no_near = ap (λ b. cond b (count_by (λ u. has_number u (begun_in r.p4)) (near v)) 0) (eq_false (get_or r.s3.stored v 0) (r.s0.level + 1) not_there)
+
+  -- a vertex that doesn't rise and is above the level stands where it stood
+  pub above_stood : (w j : ℕ) → w < g.vertices → r.s0.level < j → j < 65535 → get_or r.s3.stored w 0 ≡ j → get_or x w 0 ≡ j
+  above_stood w j at above low on = elim (cases_Bool (rises r.s3 w)) [
+    | inl up ↦ absurd (omega (arith, stored_rising w up, on, low))
+    | inr none ↦ elim (move_of p g x r k h w) [
+      | goes up gone ↦ absurd (true≢false (sym (rises3 p g x r k h w ∙ or_left (rises r.s1 w) (has_number w (begun_in r.p4)) up) ∙ none))
+      | begins off new ↦ absurd (true≢false (sym (rises3 p g x r k h w ∙ or_right (rises r.s1 w) (has_number w (begun_in r.p4)) new) ∙ none))
+      | stays off gone ↦
+          let here : get_or (seen r.s0) w 0 ≡ j = sym (seen_same p g x r k h w off gone) ∙ sym (stored_still w at none) ∙ on in
+          sym (k.sweeping.placed.stood w (omega (arith, here, above)) (off_level p g x (before_step r) k.sweeping w (λ e. absurd (omega (arith, e, here, above))))) ∙ here
+    ]
+  ]
+
+  abbrev pub IsNext : ℕ → Type 0
+  IsNext w = (w < g.vertices) × (get_or x w 0 ≡ r.s0.level + 1)
+
+  -- each vertex that is told of others stood on the next level
+  pub told_next : (w : ℕ) → has_number w (rise_told second_step r.p4) ≡ true → IsNext w
+  told_next w there =
+      let in_ = joined_in (λ (q : Part). met_by second_step (get_or q.meetings (r.s0.level + 1) []) ++ flat_map (next_near second_step) q.begun) r.p4 w there in
+      inside_both IsNext (met_by second_step (get_or (at_place r.p4 in_.0).meetings (r.s0.level + 1) [])) (flat_map (next_near second_step) (at_place r.p4 in_.0).begun)
+          (inside_ends IsNext (λ (e : Pair). e.1) (λ (e : Pair). rises r.s3 e.0) (get_or (at_place r.p4 in_.0).meetings (r.s0.level + 1) []) (λ v u edge. met in_.0 in_.1 v u edge))
+          (inside_rows IsNext (next_near second_step) (at_place r.p4 in_.0).begun (λ v u new near_u. begun v u near_u))
+          w in_.2
+    where
+      met : (j : ℕ) → j < length r.p4 → (v u : ℕ) → has_edge (v, u) (get_or (at_place r.p4 j).meetings (r.s0.level + 1) []) ≡ true → IsNext u
+      met j at v u edge =
+          let within : j < length r.p0 = omega (arith, at, long4 g r h) in
+          let was : has_edge (v, u) (get_or (at_place r.p0 j).meetings (r.s0.level + 1) []) ≡ true = ap (λ (m : List (List Pair)). has_edge (v, u) (get_or m (r.s0.level + 1) [])) (sym (meetings4 g r h j within)) ∙ edge in
+          let it = (k.sweeping.awaited.met (r.s0.level + 1) v u (omega arith) (pairs_of (λ (q : Part). get_or q.meetings (r.s0.level + 1) []) r.p0 (v, u) j within was)).1 in
+          (neighbour_below g.vertices v u g.edges graph it.near, it.level)
+
+      begun : (v u : ℕ) → has_number u (next_near second_step v) ≡ true → IsNext u
+      begun v u near_u =
+          let both = sym (has_number-filter u (λ w. eqb (get_or r.s3.stored w 0) (r.s0.level + 1)) (neighbours_of v g.edges)) ∙ near_u in
+          let below = neighbour_below g.vertices v u g.edges graph (and_first (has_number u (neighbours_of v g.edges)) (eqb (get_or r.s3.stored u 0) (r.s0.level + 1)) both) in
+          let on = true_eq (get_or r.s3.stored u 0) (r.s0.level + 1) (and_second (has_number u (neighbours_of v g.edges)) (eqb (get_or r.s3.stored u 0) (r.s0.level + 1)) both) in
+          (below, above_stood u (r.s0.level + 1) below (omega arith) (omega (arith, small)) on)
