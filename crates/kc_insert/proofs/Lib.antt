@@ -33,6 +33,7 @@ mod Pairs
 mod Parting
 mod Phases
 mod Queueing
+mod Ready
 mod Round
 mod RoundAsks
 mod RoundBefore
