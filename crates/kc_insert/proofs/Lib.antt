@@ -10,6 +10,7 @@ mod Copying
 mod Dealing
 mod Direct
 mod Efforts
+mod Fees
 mod Filled
 mod Flat
 mod Flips
