@@ -10,16 +10,18 @@ use Rattle.kc_levels.specs.Thresholds.{high, group_of, top_level}
 use Rattle.kc_adj.specs.Degrees.{degrees}
 use Rattle.kc_insert.specs.declared.rising.RisingLevels.{RisingLevels}
 use Rattle.kc_insert.specs.private.Crossing.{IsCrossing}
-use Rattle.kc_insert.specs.private.LevelStep.{AreInOrder, HasLimit}
+use Rattle.kc_insert.specs.private.LevelStep.{AreInOrder, HasLimit, IsLevelStep}
 use Rattle.kc_insert.specs.private.Parts.{Part}
 use Rattle.kc_insert.specs.private.Ranges.{AllLetStay, AreToldAll, CanLetStay, CanLiftOff, count_of, Cut, IsIn, LiftedOff, no_part, TookWaiting, waits}
 use Rattle.kc_insert.specs.private.Rising.{all_at, rises, seen}
 use Rattle.kc_insert.specs.private.Round.{is_over}
 use Rattle.kc_insert.specs.private.Sharing.{AllParted, AllRisen, CanPartAll, CanRiseAll}
-use Rattle.kc_insert.specs.private.Sweeping.{IsPaid, IsSweeping, sweeping_of}
+use Rattle.kc_insert.specs.private.Sweeping.{IsPaid, IsSame, IsSweeping, sweeping_of}
 use Rattle.kc_insert.proofs.Bounds.{degrees_few}
 use Rattle.kc_insert.proofs.Round.{paid_next, sweeping_next}
 use Rattle.kc_insert.proofs.RoundAsks.{ask_lift, ask_movers, ask_part, ask_stay, ask_take}
+use Rattle.kc_insert.proofs.RoundCounts.{level_step}
+use Rattle.kc_insert.proofs.RoundLifted.{after_step}
 use Rattle.kc_insert.proofs.RoundKept.{counted_same, cut_on, kept_on, limit_on, rest_on, steps_are}
 use Rattle.kc_insert.proofs.RoundParts.{begun_in, count_in, HasLifted, HasPassed, long4, meetings4, Passage, stay_in, step_at}
 use Rattle.kc_insert.proofs.RoundRiseAsks.{ask_rise}
@@ -178,6 +180,22 @@ module _ (p : Profile) (g : GraphShape) (x : List ℕ) (s0 : RisingLevels) (r0 :
 
               pub next_level : s3.level ≡ s0.level + 1
               next_level = level3 p g x (passage above more r5) keeping (has_lifted above more r5)
+
+              -- each vertex on the level that counts many goes to the next, and each vertex counts its neighbours there or above
+              pub next_step : IsLevelStep g (seen s0) (seen s3) (count_of r0) (count_of r6) s0.level most
+              next_step = subst (λ b. IsLevelStep g (seen s0) (seen s3) (count_of r0) (count_of (record { bits = b; parts = r6.parts; told = r6.told })) s0.level most) (sym bits6) (record {
+                sized = step.sized;
+                goes = step.goes;
+                stays = step.stays;
+                others = step.others;
+                counted = λ v at. same.count v ∙ step.counted v at;
+              })
+                where
+                  step : IsLevelStep g (seen s0) (seen s3) (count_of r0) (count_in r0.bits r5.parts) s0.level most
+                  step = level_step p g x (passage above more r5) keeping has_passed graph small
+
+                  same : IsSame (after_step (passage above more r5)) (sweeping_of s3 (record { bits = r0.bits; parts = r6.parts; told = r6.told }))
+                  same = counted_same p g x (passage above more r5) keeping has_passed graph small tops_ tops r6.parts r6.told taken.0 (λ j at. taken.1 j no_part at) tells
 
               next_order0 : AreInOrder p g s3 (record { bits = r0.bits; parts = r6.parts; told = r6.told })
               next_order0 = record {
