@@ -24,6 +24,7 @@ mod Joined
 mod Kept
 mod Leaving
 mod Lifting
+mod Linked
 mod Looking
 mod Making
 mod Meeting

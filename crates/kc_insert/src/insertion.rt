@@ -66,7 +66,8 @@ fn sweep_phase<R: Threads + Sync, G: Gate + Sync, L: Ledger>(
         added,
     )?;
     raise_queued(rounds, alloc, th, adj.graph(), sweep, steps)?;
-    take_moves(rounds, alloc, adj, sweep, steps)
+    let moves = take_moves(rounds, alloc, adj, sweep, steps)?;
+    Ok(moves)
 }
 
 /// Puts the edges in and raises the levels to the raised list (`IsRaised`): the least levels that are at least the old ones, within the
