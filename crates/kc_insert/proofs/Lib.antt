@@ -10,6 +10,7 @@ mod Copying
 mod Dealing
 mod Direct
 mod Efforts
+mod Fees
 mod Filled
 mod Flat
 mod Flips
@@ -17,11 +18,13 @@ mod Followed
 mod Following
 mod Halting
 mod Hearing
+mod Idle
 mod Inside
 mod Joined
 mod Kept
 mod Leaving
 mod Lifting
+mod Linked
 mod Looking
 mod Making
 mod Meeting
@@ -32,6 +35,7 @@ mod Pairs
 mod Parting
 mod Phases
 mod Queueing
+mod Ready
 mod Round
 mod RoundAsks
 mod RoundBefore

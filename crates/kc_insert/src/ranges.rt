@@ -1,9 +1,9 @@
 //! All ranges of a graph, and the passes over them: by threads where there is much to do.
 
-ghost use Rattle.std.specs.Prelude.{◌≡◌, ◌+◌, ◌-◌, ◌*◌, ◌++◌, ◌∷◌, ◌<◌, ◌≤◌, ◌^◌, ℕ, [], false, true, All, IfOk, OnOk, length, slice_index_or, slice_set, sum_by};
+ghost use Rattle.std.specs.Prelude.{◌≡◌, ◌+◌, ◌-◌, ◌*◌, ◌++◌, ◌∷◌, ◌<◌, ◌≤◌, ◌^◌, ℕ, [], false, true, All, IfOk, OnOk, length, replicate, slice_index_or, slice_set, sum_by};
 ghost use Rattle.std.specs.List.{flat_map};
 ghost use Rattle.kc_graph.specs.Numbers.{has_number};
-ghost use Rattle.kc_insert.specs.private.Ranges.{all_began, all_begun, all_stay, AllLetStay, AreNew, AreToldAll, CanLetStay, CanLiftOff, CanLookAnew, count_of, IsIn, LiftedOff, LookedAnew, LooksAnew, meets, part_of, TookWaiting, waits};
+ghost use Rattle.kc_insert.specs.private.Ranges.{all_began, all_begun, all_risen, all_stay, AllLetStay, AreNew, AreToldAll, CanLetStay, CanLiftOff, CanLookAnew, count_of, Forgot, IsIn, LiftedOff, LookedAnew, LooksAnew, meets, part_of, TookWaiting, waits};
 ghost use Rattle.kc_insert.specs.private.Rising.{seen};
 ghost use Rattle.kc_insert.specs.private.Sharing.{AllParted, AllRisen, CanPartAll, CanRiseAll};
 ghost use Rattle.kc_insert.specs.private.Telling.{range_of};
@@ -52,6 +52,16 @@ fn steps_of(items: &mut [Range]) -> usize
         range.steps = 0;
     }
     steps
+}
+
+// Each range forgets the phase.
+fn forget_each(alloc: Global, items: &mut [Range])
+    ensures { (j : ℕ) (d : _) → j < length items.old → slice_index_or items.new j d ≡ record (slice_index_or items.old j d) { began = []; risen = []; queue = replicate (length (slice_index_or items.old j d).queue) []; meetings = replicate (length (slice_index_or items.old j d).meetings) [] } }
+{
+    for i in 0..items.len() {
+        let range = &mut items[i];
+        range.forget(alloc);
+    }
 }
 
 // Appends the second list. It becomes the first if that is empty. Fails only if memory runs out.
@@ -319,6 +329,25 @@ impl Ranges {
         ensures same { (self.new.bits ≡ self.old.bits) × (self.new.told ≡ self.old.told) }
     {
         look_each(levels, most, &mut self.items)
+    }
+
+    /// All that rose, range by range. Fails only if memory runs out.
+    pub fn risen(&self, alloc: Global) -> Result<Vec<u32>, AllocError>
+        ensures { IfOk result (λ r. r.items ≡ all_risen self.now) }
+    {
+        let items = self.items.as_slice();
+        let mut all = Vec::new(alloc);
+        for range in items {
+            all.extend_from_slice(&range.risen)?;
+        }
+        Ok(all)
+    }
+
+    /// Forgets the phase.
+    pub fn forget(&mut self, alloc: Global)
+        ensures { Forgot self.old self.new }
+    {
+        forget_each(alloc, &mut self.items);
     }
 
     /// Whether what is told of `count` vertices is dealt to the ranges, and heard by each of them.

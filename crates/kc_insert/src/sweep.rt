@@ -88,6 +88,17 @@ fn settle_each(levels: &mut RisingLevels, items: &[Range])
     }
 }
 
+// The rising vertices, all of which are kept, stay where they are.
+fn settle_kept(levels: &mut RisingLevels, ranges: &Ranges)
+    requires small { levels.old.level < 65535 }
+    requires inside { (j v : ℕ) (d : _) → j < length ranges.now.parts → has_number v (slice_index_or ranges.now.parts j d).began ≡ true → v < length (seen levels.old) }
+    requires began { (v : ℕ) → rises levels.old v ≡ true → has_number v (all_began ranges.now) ≡ true }
+    ensures { levels.new.stored ≡ seen levels.old }
+{
+    let items = ranges.items.as_slice();
+    settle_each(levels, items);
+}
+
 impl Sweep {
     /// The furthest level below the top up to which the vertices that came to the level of the sweep may rise together: on the levels
     /// on the way no vertex waits or is to be met. That level itself if there is none beyond it.
@@ -148,6 +159,6 @@ impl Sweep {
         ensures levels { self.new.levels.stored ≡ seen self.old.levels }
         ensures ranges { self.new.ranges ≡ self.old.ranges }
     {
-        settle_each(&mut self.levels, self.ranges.items.as_slice());
+        settle_kept(&mut self.levels, &self.ranges);
     }
 }

@@ -1,10 +1,15 @@
 //! The workspace that insertion phases share, one after another.
 
-ghost use Rattle.std.specs.Prelude.{◌≡◌, ◌<◌, All, IfOk, length};
+ghost use Rattle.std.specs.Prelude.{◌≡◌, ◌+◌, ◌<◌, ◌≤◌, ◌^◌, ℕ, [], All, IfOk, OnOk, length, replicate, slice_index_or};
+ghost use Rattle.kc_graph.specs.Numbers.{has_number};
 ghost use Rattle.kc_graph.specs.Shape.{without_edges};
 ghost use Rattle.kc_levels.specs.declared.profile.Profile.{Profile};
-ghost use Rattle.kc_levels.specs.Moved.{moves_between};
+ghost use Rattle.kc_levels.specs.Following.{AreDistinct};
+ghost use Rattle.kc_levels.specs.LevelList.{IsBelow};
+ghost use Rattle.kc_levels.specs.Moved.{is_moved, moves_between};
+ghost use Rattle.kc_adj.specs.Degrees.{degrees};
 ghost use Rattle.kc_adj.specs.LeveledGraph.{LeveledGraph};
+ghost use Rattle.kc_insert.specs.private.Ranges.{all_risen, Forgot, IsIn};
 ghost use Rattle.kc_insert.specs.Working.{IsReady};
 
 use crate::filing::{copy_ends, copy_rows};
@@ -12,9 +17,8 @@ use crate::layout::Layout;
 use crate::ranges::Ranges;
 use crate::rising::RisingLevels;
 use crate::sweep::Sweep;
-use crate::sweeping::raise_queued;
 use kc_adj::{LevelAdj, Steps};
-use kc_graph::{Edge, Graph};
+use kc_graph::Edge;
 use kc_levels::{Moves, Thresholds, moves_of};
 use kc_rounds::{FirstRound, Gate, Rounds};
 use std::alloc::{AllocError, Global};
@@ -34,12 +38,11 @@ pub struct InsertionWork {
 }
 
 impl Model for InsertionWork {
-    ghost use Rattle.std.specs.Prelude.{[]};
     ghost use Rattle.kc_insert.specs.Working.{Working};
 
     ghost Value = { Working };
 
-    ghost view = { λ w. record { placed = w.sweep.levels.stored; levels = w.sweep.levels.stored; counts = []; rising = []; risen = []; queue = []; meetings = [] } };
+    ghost view = { λ w. record { levels = w.sweep.levels.stored; ranges = w.sweep.ranges } };
 }
 
 impl InsertionWork {
@@ -63,6 +66,7 @@ impl InsertionWork {
         requires scale { th.now.vertices ≡ adj.now.graph.vertices }
         ensures { IfOk result (λ work. IsReady th.now.profile adj.now work) }
     {
+        let _n = adj.graph().vertices();
         Ok(InsertionWork {
             sweep: Sweep {
                 levels: RisingLevels {
@@ -80,58 +84,51 @@ impl InsertionWork {
     ///
     /// Costs two looks an edge, and one for each moved vertex and each of its neighbours. Takes no memory.
     pub fn follow(&mut self, adj: &LevelAdj, removed: &[Edge], moves: &Moves)
-        requires placed { length self.old.placed ≡ adj.now.graph.vertices }
         requires levels { length self.old.levels ≡ adj.now.graph.vertices }
-        requires counts { length self.old.counts ≡ adj.now.graph.vertices }
+        requires vertices { (v : ℕ) → v < adj.now.graph.vertices → IsIn self.old.ranges v }
         requires edges { All (λ e. e.1 < adj.now.graph.vertices) removed.now }
         requires moves { All (λ m. m.vertex < adj.now.graph.vertices) moves.now }
         ensures { (p : Profile) (a : LeveledGraph) → IsReady p a self.old → length a.levels ≡ a.graph.vertices → adj.now.graph ≡ without_edges a.graph removed.now → moves.now ≡ moves_between a.graph.vertices a.levels adj.now.levels → IsReady p adj.now self.new }
     {
+        let _levels = adj.levels();
         let fresh = adj.own_counts();
         self.sweep.levels.stored.follow(moves);
         copy_ends(&mut self.sweep.ranges, fresh, removed);
         copy_rows(&mut self.sweep.ranges, fresh, adj.graph(), moves.as_slice());
     }
+}
 
-    /// Raises the levels of the sweep to the raised list, where every vertex that breaks the upper invariant waits on its level
-    /// (`raise_queued`). Fails only if memory runs out.
-    pub(crate) fn raise<R: Threads + Sync, G: Gate + Sync, L: Ledger>(
-        &mut self,
-        rounds: &Rounds<R, G>,
-        alloc: Global,
-        th: &Thresholds,
-        graph: &Graph,
-        steps: &mut Steps<L>,
-    ) -> Result<(), AllocError> {
-        raise_queued(rounds, alloc, th, graph, &mut self.sweep, steps)
-    }
-
-    /// Gives the moves of the vertices that rose in a phase, ascending, and puts each of them on its new level in the graph. Afterwards
-    /// nothing is left of the phase. Fails only if memory runs out.
-    pub(crate) fn take_moves<R: Threads + Sync, G: Gate + Sync, L: Ledger>(
-        &mut self,
-        rounds: &Rounds<R, G>,
-        alloc: Global,
-        adj: &mut LevelAdj,
-        steps: &mut Steps<L>,
-    ) -> Result<Moves, AllocError> {
-        let new = &self.sweep.levels.stored;
-        let mut risen = Vec::new(alloc);
-        for range in &self.sweep.ranges.items {
-            risen.extend_from_slice(&range.risen)?;
-        }
-        let moves = moves_of(alloc, adj.levels(), new, &mut risen)?;
-        adj.par_lift_all(
-            rounds.runtime(),
-            alloc,
-            rounds.workers(),
-            &risen,
-            new,
-            steps,
-        )?;
-        for range in &mut self.sweep.ranges.items {
-            range.forget(alloc);
-        }
-        Ok(moves)
-    }
+/// Gives the moves of the vertices that rose in a phase, ascending, and puts each of them on its new level in the graph. Afterwards the
+/// ranges have forgotten the phase. Fails only if memory runs out.
+pub fn take_moves<R: Threads + Sync, G: Gate + Sync, L: Ledger>(
+    rounds: &Rounds<R, G>,
+    alloc: Global,
+    adj: &mut LevelAdj,
+    sweep: &mut Sweep,
+    steps: &mut Steps<L>,
+) -> Result<Moves, AllocError>
+    requires sized { length sweep.old.levels.stored ≡ adj.old.graph.vertices }
+    requires above { IsBelow adj.old.graph.vertices adj.old.levels sweep.old.levels.stored }
+    requires risen { (v : ℕ) → has_number v (all_risen sweep.old.ranges) ≡ is_moved adj.old.levels sweep.old.levels.stored v }
+    requires once { AreDistinct (all_risen sweep.old.ranges) }
+    ensures moves { IfOk result (λ moves. moves ≡ moves_between adj.old.graph.vertices adj.old.levels sweep.old.levels.stored) }
+    ensures lifted { OnOk result (adj.new ≡ record adj.old { levels = sweep.old.levels.stored }) }
+    ensures levels { OnOk result (sweep.new.levels ≡ sweep.old.levels) }
+    ensures forgot { OnOk result (Forgot sweep.old.ranges sweep.new.ranges) }
+    ensures cost { OnOk result (steps.new ≡ steps.old + (degrees adj.old.graph (all_risen sweep.old.ranges) + length (all_risen sweep.old.ranges))) }
+{
+    let _levels = adj.levels();
+    let new = &sweep.levels.stored;
+    let mut risen = sweep.ranges.risen(alloc)?;
+    let moves = moves_of(alloc, adj.levels(), new, &mut risen)?;
+    adj.par_lift_all(
+        rounds.runtime(),
+        alloc,
+        rounds.workers(),
+        &risen,
+        new,
+        steps,
+    )?;
+    sweep.ranges.forget(alloc);
+    Ok(moves)
 }

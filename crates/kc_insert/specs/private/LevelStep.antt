@@ -8,7 +8,7 @@ use Rattle.kc_levels.specs.Thresholds.{top_level}
 use Rattle.kc_insert.specs.declared.rising.RisingLevels.{RisingLevels}
 use Rattle.kc_insert.specs.private.Meetings.{AreApart, IsMeeting}
 use Rattle.kc_insert.specs.private.Ranges.{all_began, all_risen, AreKept, Cut, IsCut, meets, part_at}
-use Rattle.kc_insert.specs.private.Sweeping.{AreCounted, Sweeping}
+use Rattle.kc_insert.specs.private.Sweeping.{AreCounted, IsPaid, IsSweeping, Sweeping, sweeping_of}
 use Rattle.kc_insert.specs.private.Watched.{IsHeld}
 
 -- from the levels y to z, where vertices count c before and d after: each vertex on the level l that counts more than `most` goes to
@@ -72,6 +72,18 @@ pub record AreInOrder (p : Profile) (g : GraphShape) (s : RisingLevels) (r : Cut
   pub shape : IsCut g.vertices (top_level p g.vertices + 1) r
   pub kept : AreKept s r
   pub rest : AreAtRest r
+
+-- a sweep on its way over the graph, with the levels that it began with
+pub record IsUnderWay (p : Profile) (g : GraphShape) (s : RisingLevels) (r : Cut) : Type 0 where
+  pub start : List ℕ
+  pub order : AreInOrder p g s r
+  pub sweeping : IsSweeping p g start (sweeping_of s r)
+
+-- a sweep that began with the levels x when `first` steps were counted, now that `now` are
+pub record IsRunning (p : Profile) (g : GraphShape) (x : List ℕ) (first now : ℕ) (s : RisingLevels) (r : Cut) : Type 0 where
+  pub order : AreInOrder p g s r
+  pub sweeping : IsSweeping p g x (sweeping_of s r)
+  pub paid : IsPaid g x (sweeping_of s r) first now
 
 -- between phases no vertex rises, waits or is to be met, and the watch lists have vertices of their own ranges alone
 pub record AreQuiet (p : Profile) (g : GraphShape) (r : Cut) : Type 0 where

@@ -166,3 +166,10 @@ pub record AreNew (bits : ℕ) (counts : List ℕ) (levels : ℕ) (new : Cut) : 
 pub record AreToldAll (n : ℕ) (told : List Tell) : Type 0 where
   pub long : length told ≡ n
   pub lists : (j : ℕ) (d : Tell) → j < n → length (get_or told j d).lists ≡ n
+
+-- what `Ranges::forget` leaves: nothing of the phase
+pub record Forgot (old new : Cut) : Type 0 where
+  pub bits : new.bits ≡ old.bits
+  pub told : new.told ≡ old.told
+  pub sized : length new.parts ≡ length old.parts
+  pub each : (j : ℕ) (d : Part) → j < length old.parts → get_or new.parts j d ≡ record (get_or old.parts j d) { began = []; risen = []; queue = replicate (length (get_or old.parts j d).queue) []; meetings = replicate (length (get_or old.parts j d).meetings) [] }

@@ -1,0 +1,9 @@
+use Rattle.std.proofs.Common.{ℕ, List, ◌≡◌, get_or, ap, subst, ◌∙◌}
+use Rattle.kc_insert.specs.private.Parts.{Part}
+use Rattle.kc_insert.proofs.SettleAll.{AreSettled, settled_range}
+use Rattle.kc_insert.proofs.sweep.settle_each.Goals as goal
+
+pub loop-range-preserved : goal.loop-range-preserved
+loop-range-preserved c =
+    let listed = c.as_slice.ensures.value ∙ ap (λ (p : Part). p.began) (c.range.view_is ∙ c.range-item.is) in
+    settled_range c.args.levels.now c.loop-range.levels c.settle_listed.new.levels c.args.items.now c.loop-range.range-index c.range-item.result c.loop-range-test.true c.loop-range.invariant (subst (λ (vs : List ℕ). AreSettled c.loop-range.levels c.settle_listed.new.levels vs) listed (record { level = c.settle_listed.ensures.level; levels = c.settle_listed.ensures.seen; rest = c.settle_listed.ensures.rises }))
