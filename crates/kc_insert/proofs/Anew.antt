@@ -9,7 +9,7 @@ use Rattle.kc_graph.specs.Numbers.{has_number}
 use Rattle.kc_graph.specs.Shape.{GraphShape, has_edge}
 use Rattle.kc_levels.specs.declared.profile.Profile.{Profile}
 use Rattle.kc_insert.specs.declared.rising.RisingLevels.{RisingLevels}
-use Rattle.kc_insert.specs.private.LevelStep.{AreInOrder, HasLimit}
+use Rattle.kc_insert.specs.private.LevelStep.{AreInOrder, HasLimit, IsRunning, IsUnderWay}
 use Rattle.kc_insert.specs.private.Parts.{Part}
 use Rattle.kc_insert.specs.private.Ranges.{AreKept, CanLookAnew, count_of, Cut, IsCut, LookedAnew, LooksAnew, no_part, part_at}
 use Rattle.kc_insert.specs.private.Rising.{rises, seen}
@@ -20,6 +20,7 @@ use Rattle.kc_insert.proofs.Buckets.{has_number-filter}
 use Rattle.kc_insert.proofs.Joined.{joined_same}
 use Rattle.kc_insert.proofs.Kept.{kept_at}
 use Rattle.kc_insert.proofs.Members.{filter_all}
+use Rattle.kc_insert.proofs.SweepSame.{same_paid, same_sweeping}
 use Rattle.kc_insert.proofs.Tests.{and_both, and_first, le_true}
 
 filter_joined : (test : ℕ → Bool) (f : Part → List ℕ) (ps : List Part) → filter test (flat_map f ps) ≡ flat_map (λ (q : Part). filter test (f q)) ps
@@ -176,4 +177,20 @@ module _ (p : Profile) (g : GraphShape) (s : RisingLevels) (most : ℕ) (r t : C
       begun = λ j at. anew_same s most (part_at r j) (part_at t j) (looks_at j (within j at)) (λ (q : Part). q.begun) (λ w us vs. refl) ∙ order.rest.begun j (within j at);
       steps = λ j at. anew_same s most (part_at r j) (part_at t j) (looks_at j (within j at)) (λ (q : Part). q.steps) (λ w us vs. refl) ∙ order.rest.steps j (within j at);
     };
+  }
+
+-- a sweep on its way stays on its way
+module _ (p : Profile) (g : GraphShape) (s : RisingLevels) (most : ℕ) (r t : Cut) (looked : LookedAnew s most r.parts t.parts) (bits : t.bits ≡ r.bits) (told : t.told ≡ r.told) where
+  pub looked_way : IsUnderWay p g s r → IsUnderWay p g s t
+  looked_way way = record {
+    start = way.start;
+    order = looked_order p g s most r t way.order looked bits told;
+    sweeping = same_sweeping p g way.start (sweeping_of s r) (sweeping_of s t) (looked_same p g s most r t way.order looked bits told) way.sweeping;
+  }
+
+  pub looked_running : (x : List ℕ) (first now : ℕ) → IsRunning p g x first now s r → IsRunning p g x first now s t
+  looked_running x first now run = record {
+    order = looked_order p g s most r t run.order looked bits told;
+    sweeping = same_sweeping p g x (sweeping_of s r) (sweeping_of s t) (looked_same p g s most r t run.order looked bits told) run.sweeping;
+    paid = same_paid g x (sweeping_of s r) (sweeping_of s t) first now (looked_same p g s most r t run.order looked bits told) run.paid;
   }

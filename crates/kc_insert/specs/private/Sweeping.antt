@@ -70,11 +70,6 @@ pub record IsSweeping (p : Profile) (g : GraphShape) (x : List ℕ) (s : Sweepin
   pub rise : AreRising g x s
   pub awaited : AreAwaited p g x s
 
--- the same, with the levels that it began with
-pub record IsUnderWay (p : Profile) (g : GraphShape) (s : Sweeping) : Type 0 where
-  pub start : List ℕ
-  pub sweeping : IsSweeping p g start s
-
 -- of the steps that may be counted, enough are left: those of a pass over the neighbours of each vertex that rises, for when it stays,
 -- and of another pass and one more for each that rose, for when it is lifted in the graph
 abbrev pub IsPaid : GraphShape → List ℕ → Sweeping → ℕ → ℕ → Type 0
