@@ -10,6 +10,7 @@ mod Copying
 mod Dealing
 mod Direct
 mod Efforts
+mod Ending
 mod Fees
 mod Filled
 mod Flat

@@ -57,3 +57,10 @@ module _ (a b c : RisingLevels) (ps : List Part) (i : ℕ) (d : Part) (at : i < 
 
 pub settled_ranges : (a b : RisingLevels) (ps : List Part) (i : ℕ) → length ps ≤ i → AreSettled a b (flat_map (λ (p : Part). p.began) (take i ps)) → AreSettled a b (flat_map (λ (p : Part). p.began) ps)
 settled_ranges a b ps i end s = rw (take_all i ps end) at s
+
+-- a vertex that still rises rose before
+pub settled_was : (a b : RisingLevels) (vs : List ℕ) → AreSettled a b vs → (v : ℕ) → rises b v ≡ true → rises a v ≡ true
+settled_was a b vs s v up = first (rises a v) (not (has_number v vs)) (sym (s.rest v) ∙ up)
+  where
+    first : (p q : Bool) → p && q ≡ true → p ≡ true
+    first p q e = grind (arith, nat_tests, e)

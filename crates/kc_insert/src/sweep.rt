@@ -62,7 +62,7 @@ fn lesser(a: u16, b: u16) -> u16
 
 // Those of the vertices that rise stay where they are.
 fn settle_listed(levels: &mut RisingLevels, vertices: &[u32])
-    requires small { levels.old.level < 65535 }
+    requires small { (v : ℕ) → rises levels.old v ≡ true → levels.old.level < 65535 }
     requires inside { (v : ℕ) → has_number v vertices.now ≡ true → v < length (seen levels.old) }
     ensures level { levels.new.level ≡ levels.old.level }
     ensures seen { seen levels.new ≡ seen levels.old }
@@ -77,7 +77,7 @@ fn settle_listed(levels: &mut RisingLevels, vertices: &[u32])
 
 // All vertices that began and are kept stay where they are if they rise.
 fn settle_each(levels: &mut RisingLevels, items: &[Range])
-    requires small { levels.old.level < 65535 }
+    requires small { (v : ℕ) → rises levels.old v ≡ true → levels.old.level < 65535 }
     requires inside { (j v : ℕ) (d : _) → j < length items.now → has_number v (slice_index_or items.now j d).began ≡ true → v < length (seen levels.old) }
     ensures level { levels.new.level ≡ levels.old.level }
     ensures seen { seen levels.new ≡ seen levels.old }
@@ -90,7 +90,7 @@ fn settle_each(levels: &mut RisingLevels, items: &[Range])
 
 // The rising vertices, all of which are kept, stay where they are.
 fn settle_kept(levels: &mut RisingLevels, ranges: &Ranges)
-    requires small { levels.old.level < 65535 }
+    requires small { (v : ℕ) → rises levels.old v ≡ true → levels.old.level < 65535 }
     requires inside { (j v : ℕ) (d : _) → j < length ranges.now.parts → has_number v (slice_index_or ranges.now.parts j d).began ≡ true → v < length (seen levels.old) }
     requires began { (v : ℕ) → rises levels.old v ≡ true → has_number v (all_began ranges.now) ≡ true }
     ensures { levels.new.stored ≡ seen levels.old }
@@ -153,7 +153,7 @@ impl Sweep {
 
     /// The rising vertices stay where they are.
     pub fn settle_all(&mut self)
-        requires small { self.old.levels.level < 65535 }
+        requires small { (v : ℕ) → rises self.old.levels v ≡ true → self.old.levels.level < 65535 }
         requires inside { (j v : ℕ) (d : _) → j < length self.old.ranges.parts → has_number v (slice_index_or self.old.ranges.parts j d).began ≡ true → v < length (seen self.old.levels) }
         requires began { (v : ℕ) → rises self.old.levels v ≡ true → has_number v (all_began self.old.ranges) ≡ true }
         ensures levels { self.new.levels.stored ≡ seen self.old.levels }

@@ -1,7 +1,10 @@
-use Rattle.std.proofs.Common.{ℕ, List, ◌≡◌, get_or, ap, subst, ◌∙◌}
+use Rattle.std.proofs.Common.{ℕ, List, ◌≡◌, get_or, ap, subst, ◌∙◌, arith}
 use Rattle.kc_insert.specs.private.Parts.{Part}
-use Rattle.kc_insert.proofs.SettleAll.{AreSettled, settled_range}
+use Rattle.kc_insert.proofs.SettleAll.{AreSettled, settled_range, settled_was}
 use Rattle.kc_insert.proofs.sweep.settle_each.Goals as goal
+
+pub settle_listed-requires-clause-small : goal.settle_listed-requires-clause-small
+settle_listed-requires-clause-small c = λ v up. omega (arith, c.loop-range.invariant.level, c.requires.small v (settled_was c.args.levels.now c.loop-range.levels _ c.loop-range.invariant v up))
 
 pub loop-range-preserved : goal.loop-range-preserved
 loop-range-preserved c =
