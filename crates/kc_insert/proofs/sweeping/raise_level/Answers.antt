@@ -12,7 +12,7 @@ use Rattle.kc_insert.specs.private.Rising.{seen}
 use Rattle.kc_insert.specs.private.Round.{is_over}
 use Rattle.kc_insert.specs.private.Sharing.{AllParted, AllRisen, CanPartAll, CanRiseAll}
 use Rattle.kc_insert.specs.private.Sweeping.{IsPaid, sweeping_of}
-use Rattle.kc_insert.proofs.RoundCalls.{call_lift, call_meetings, call_movers, call_part, call_rise, call_rise_step, call_stay, call_steps, next_level, next_order, next_paid, next_step, next_sweeping}
+use Rattle.kc_insert.proofs.RoundCalls.{call_lift, call_meetings, call_movers, call_part, call_rise, call_rise_step, call_stay, call_steps, next_order, next_paid, next_step, next_sweeping}
 use Rattle.kc_insert.proofs.RoundParts.{step_at}
 use Rattle.kc_insert.proofs.sweeping.raise_level.Goals as goal
 
