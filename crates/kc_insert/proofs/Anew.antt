@@ -4,7 +4,6 @@ use Rattle.std.specs.List.{flat_map}
 use Rattle.std.proofs.lemmas.Bool.{cases_lt, true≢false}
 use Rattle.std.proofs.lemmas.List.{get_or_default, get_or_past}
 use Rattle.std.proofs.lemmas.List.Elements.{filter-append}
-
 use Rattle.kc_graph.specs.Numbers.{has_number}
 use Rattle.kc_graph.specs.Shape.{GraphShape, has_edge}
 use Rattle.kc_levels.specs.declared.profile.Profile.{Profile}
@@ -129,8 +128,8 @@ module _ (p : Profile) (g : GraphShape) (s : RisingLevels) (most : ℕ) (r t : C
     count = count_same;
     lists = (
       filter_joined (rises s) (λ (q : Part). q.began) t.parts
-      ∙ same_list (λ (q : Part). filter (rises s) q.began) (λ j at. anew_rising s most (part_at r j) (part_at t j) (looks_at j at))
-      ∙ sym (filter_joined (rises s) (λ (q : Part). q.began) r.parts),
+          ∙ same_list (λ (q : Part). filter (rises s) q.began) (λ j at. anew_rising s most (part_at r j) (part_at t j) (looks_at j at))
+          ∙ sym (filter_joined (rises s) (λ (q : Part). q.began) r.parts),
       same_list (λ (q : Part). q.risen) (λ j at. anew_same s most (part_at r j) (part_at t j) (looks_at j at) (λ (q : Part). q.risen) (λ w us vs. refl)),
     );
     waits = λ k. same_list (λ (q : Part). get_or q.queue k []) (λ j at. anew_same s most (part_at r j) (part_at t j) (looks_at j at) (λ (q : Part). get_or q.queue k []) (λ w us vs. refl));

@@ -1,6 +1,6 @@
 -- A step of a sweep: what its calls ask, up to the vertices that begin.
 use Rattle.std.proofs.Common.{ℕ, ◌+◌, ◌^◌, ◌≤◌, ◌<◌, ◌≡◌, inl, inr, Bool, true, false, cond, leb, not, List, [], length, get_or, filter, refl, ap, sym, subst, ◌∙◌, arith}
-use Rattle.std.specs.Prelude.{All, count_by}
+use Rattle.std.specs.Prelude.{count_by}
 use Rattle.std.specs.List.{flat_map}
 use Rattle.std.proofs.lemmas.Bool.{cases_Bool, true≢false}
 use Rattle.std.proofs.lemmas.List.{get_or_default}
@@ -34,13 +34,6 @@ use Rattle.kc_insert.proofs.Tests.{and_first, and_left, and_off, le_true}
 use Rattle.kc_insert.proofs.Watching.{watched_same}
 
 module _ (p : Profile) (g : GraphShape) (x : List ℕ) (bits most levels : ℕ) (s0 : RisingLevels) (p0 : List Part) (t0 : List Tell) (k : AreKeeping p g x bits most levels s0 p0 t0) where
-  -- there is a list for each level of each range
-  pub ask_take : s0.level < levels → All (λ (q : Part). s0.level < length q.queue) p0
-  ask_take room j d at = subst (λ (q : Part). s0.level < length q.queue) (sym (get_or_default p0 j d no_part at)) (omega (arith, room, k.shape.queues j at))
-
-  pub ask_meetings : (l : ℕ) → l < levels → All (λ (q : Part). l < length q.meetings) p0
-  ask_meetings l room j d at = subst (λ (q : Part). l < length q.meetings) (sym (get_or_default p0 j d no_part at)) (omega (arith, room, k.shape.meetings j at))
-
   -- the vertices that wait are vertices
   pub ask_movers : (p1 : List Part) (t1 : List Tell) → TookWaiting s0.level p0 p1 → (v : ℕ) → has_number v (waits_in s0.level p0) ≡ true → IsIn (cut_of bits p1 t1) v
   ask_movers p1 t1 took v there =

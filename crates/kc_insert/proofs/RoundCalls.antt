@@ -19,13 +19,13 @@ use Rattle.kc_insert.specs.private.Sharing.{AllParted, AllRisen, CanPartAll, Can
 use Rattle.kc_insert.specs.private.Sweeping.{IsPaid, IsSame, IsSweeping, sweeping_of}
 use Rattle.kc_insert.proofs.Bounds.{degrees_few}
 use Rattle.kc_insert.proofs.Round.{paid_next, sweeping_next}
-use Rattle.kc_insert.proofs.RoundAsks.{ask_lift, ask_movers, ask_part, ask_stay, ask_take}
+use Rattle.kc_insert.proofs.RoundAsks.{ask_lift, ask_movers, ask_part, ask_stay}
 use Rattle.kc_insert.proofs.RoundCounts.{level_step}
 use Rattle.kc_insert.proofs.RoundLifted.{after_step}
-use Rattle.kc_insert.proofs.RoundKept.{counted_same, cut_on, kept_on, limit_on, rest_on, steps_are}
+use Rattle.kc_insert.proofs.RoundKept.{counted_same, cut_on, kept_on, rest_on, steps_are}
 use Rattle.kc_insert.proofs.RoundParts.{begun_in, count_in, HasLifted, HasPassed, long4, meetings4, Passage, stay_in, step_at}
 use Rattle.kc_insert.proofs.RoundRiseAsks.{ask_rise}
-use Rattle.kc_insert.proofs.RoundRising.{AreKeeping, begun_here, level3, sized3, stay_few}
+use Rattle.kc_insert.proofs.RoundRising.{AreKeeping, begun_here, sized3, stay_few}
 use Rattle.kc_insert.proofs.Summing.{few_distinct}
 use Rattle.kc_insert.proofs.SweepSame.{same_paid, same_sweeping}
 
@@ -38,9 +38,6 @@ module _ (p : Profile) (g : GraphShape) (x : List ℕ) (s0 : RisingLevels) (r0 :
 
   vertices : length (seen s0) ≡ g.vertices
   vertices = i.placed.raising.sized
-
-  pub call_take : All (λ (q : Part). s0.level < length q.queue) r0.parts
-  call_take = ask_take p g x r0.bits most (top_level p g.vertices + 1) s0 r0.parts r0.told keeping (omega (arith, room))
 
   module _ (r1 : Cut) (took : TookWaiting s0.level r0.parts r1.parts) (same1 : (r1.bits ≡ r0.bits) × (r1.told ≡ r0.told)) where
     pub call_movers : (v : ℕ) → has_number v (waits r0 s0.level) ≡ true → IsIn r1 v
@@ -58,9 +55,6 @@ module _ (p : Profile) (g : GraphShape) (x : List ℕ) (s0 : RisingLevels) (r0 :
 
       movers0 : starting ≡ filter (is_over (count_in r0.bits r1.parts) most) (waits r0 s0.level)
       movers0 = subst (λ b. starting ≡ filter (is_over (count_in b r1.parts) most) (waits r0 s0.level)) same1.0 movers
-
-      pub call_part_step : (bits : ℕ) (dealt : Bool) → IsCrossing (step_at g s1 bits s0.level dealt)
-      call_part_step bits dealt = record { graph = graph; sized = ap (λ (y : List ℕ). length y) stopped.levels ∙ vertices; small = small }
 
       pub call_part : (dealt : Bool) → CanPartAll (step_at g s1 r2.bits s0.level dealt) r2.parts r2.told
       call_part dealt = subst (λ b. CanPartAll (step_at g s1 b s0.level dealt) r2.parts r2.told) (sym bits2) (ask_part p g x r0.bits most (top_level p g.vertices + 1) s0 r0.parts r0.told keeping r1.parts r2.parts s1 took stopped r2.told dealt graph few (ap (λ ts. length ts) told2 ∙ order.shape.told.0) (λ j e at. ap (λ ts. length (get_or ts j e).lists) told2 ∙ order.shape.told.1 j e at))
@@ -178,9 +172,6 @@ module _ (p : Profile) (g : GraphShape) (x : List ℕ) (s0 : RisingLevels) (r0 :
                 λ j d at. ap (λ ts. length (get_or ts j d).lists) same6.1 ∙ told5.lists j d (omega (arith, at, long5_)) ∙ sym long5_,
               )
 
-              pub next_level : s3.level ≡ s0.level + 1
-              next_level = level3 p g x (passage above more r5) keeping (has_lifted above more r5)
-
               -- each vertex on the level that counts many goes to the next, and each vertex counts its neighbours there or above
               pub next_step : IsLevelStep g (seen s0) (seen s3) (count_of r0) (count_of r6) s0.level most
               next_step = subst (λ b. IsLevelStep g (seen s0) (seen s3) (count_of r0) (count_of (record { bits = b; parts = r6.parts; told = r6.told })) s0.level most) (sym bits6) (record {
@@ -206,9 +197,6 @@ module _ (p : Profile) (g : GraphShape) (x : List ℕ) (s0 : RisingLevels) (r0 :
 
               pub next_order : AreInOrder p g s3 r6
               next_order = subst (λ b. AreInOrder p g s3 (record { bits = b; parts = r6.parts; told = r6.told })) (sym bits6) next_order0
-
-              pub next_limit : HasLimit most r6
-              next_limit = limit_on p g x (passage above more r5) keeping has_passed graph small tops_ tops r6.parts r6.told taken.0 (λ j at. taken.1 j no_part at) tells
 
               pub next_sweeping : IsSweeping p g x (sweeping_of s3 r6)
               next_sweeping = subst (λ b. IsSweeping p g x (sweeping_of s3 (record { bits = b; parts = r6.parts; told = r6.told }))) (sym bits6) (same_sweeping p g x _ _ (counted_same p g x (passage above more r5) keeping has_passed graph small tops_ tops r6.parts r6.told taken.0 (λ j at. taken.1 j no_part at) tells) (sweeping_next p g x (passage above more r5) keeping has_passed graph small tops_ tops room above_is))

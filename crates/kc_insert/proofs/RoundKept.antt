@@ -11,7 +11,7 @@ use Rattle.kc_levels.specs.declared.profile.Profile.{Profile}
 use Rattle.kc_levels.specs.Thresholds.{top_level}
 use Rattle.kc_adj.specs.Degrees.{degrees}
 use Rattle.kc_insert.specs.private.Crossing.{meetings_of}
-use Rattle.kc_insert.specs.private.LevelStep.{AreAtRest, HasLimit}
+use Rattle.kc_insert.specs.private.LevelStep.{AreAtRest}
 use Rattle.kc_insert.specs.private.Parts.{Part}
 use Rattle.kc_insert.specs.private.Ranges.{AreKept, IsCut, no_part}
 use Rattle.kc_insert.specs.private.Rising.{rises}
@@ -214,9 +214,6 @@ module _ (p : Profile) (g : GraphShape) (x : List ℕ) (r : Passage) (k : AreKee
             ]
           ]);
     }
-
-    pub limit_on : HasLimit r.most (cut_of r.bits p6 told6)
-    limit_on j at = let within : j < length r.p0 = omega (arith, at, long60) in ap (λ (w : Watch). w.most) (watch6 j within) ∙ most5 g r h j within ∙ k.limit j within
 
     pub rest_on : AreAtRest (cut_of r.bits p6 told6)
     rest_on = record {

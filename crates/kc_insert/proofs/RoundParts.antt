@@ -163,9 +163,6 @@ module _ (g : GraphShape) (r : Passage) (h : HasLifted g r) where
     pub risen4 : (at_place r.p4 j).risen ≡ (at_place r.p0 j).risen
     risen4 = ap (λ (q : Part). q.risen) lifted_at ∙ ap (λ (q : Part). q.risen) parted_at ∙ ap (λ (q : Part). q.risen) stopped_at ∙ ap (λ (q : Part). q.risen) took_at
 
-    pub begun3 : (at_place r.p3 j).begun ≡ (at_place r.p0 j).begun
-    begun3 = ap (λ (q : Part). q.begun) parted_at ∙ ap (λ (q : Part). q.begun) stopped_at ∙ ap (λ (q : Part). q.begun) took_at
-
     pub steps4 : (at_place r.p4 j).steps ≡ (at_place r.p0 j).steps + degrees g (at_place r.p2 j).stay
     steps4 = ap (λ (q : Part). q.steps) lifted_at ∙ ap (λ (q : Part). q.steps) parted_at ∙ ap (λ n. n + degrees g (at_place r.p2 j).stay) (ap (λ (q : Part). q.steps) stopped_at ∙ ap (λ (q : Part). q.steps) took_at)
 

@@ -82,15 +82,17 @@ module _ (p : Profile) (g : GraphShape) (x : List ℕ) (r : Passage) (k : AreKee
   over_left : (v : ℕ) → rises r.s1 v ≡ true → (rises r.s0 v ≡ true) × (r.most < count_in r.bits r.p0 v)
   over_left v on =
       let was : rises r.s0 v ≡ true = and_first (rises r.s0 v) (not (has_number v (stay_in r.p2))) (sym (h.stopped.rises_on v) ∙ on) in
-      let at : range_of r.bits v < length r.p0 = (began_at p g x r.bits r.most r.levels r.s0 r.p0 r.told0 k v was).0 in
-      (was, elim (cases_lt r.most (count_in r.bits r.p0 v)) [
-        | inl over ↦ over
-        | inr few ↦
-            let same = watch1 g r h (range_of r.bits v) at in
-            let listed_ = k.kept.few v was (omega (arith, few, k.limit (range_of r.bits v) at)) in
-            let over = h.stopped.over (range_of r.bits v) v no_part (omega (arith, at, h.took.sized)) (ap (λ (w : Watch). has_number v w.doubtful) same ∙ listed_) on in
-            omega (arith, over, ap (λ (w : Watch). w.most) same, ap (λ (w : Watch). count_at w v) same, k.limit (range_of r.bits v) at)
-      ])
+      let at : range_of r.bits v < length r.p0 = (began_at p g x r.bits r.most r.levels r.s0 r.p0 r.told0 k v was).0 in (
+        was,
+        elim (cases_lt r.most (count_in r.bits r.p0 v)) [
+          | inl over ↦ over
+          | inr few ↦
+              let same = watch1 g r h (range_of r.bits v) at in
+              let listed_ = k.kept.few v was (omega (arith, few, k.limit (range_of r.bits v) at)) in
+              let over = h.stopped.over (range_of r.bits v) v no_part (omega (arith, at, h.took.sized)) (ap (λ (w : Watch). has_number v w.doubtful) same ∙ listed_) on in
+              omega (arith, over, ap (λ (w : Watch). w.most) same, ap (λ (w : Watch). count_at w v) same, k.limit (range_of r.bits v) at)
+        ],
+      )
 
   -- a vertex that stays counts few
   pub stay_few : (v : ℕ) → has_number v (stay_in r.p2) ≡ true → (rises r.s0 v ≡ true) × (count_in r.bits r.p0 v ≤ r.most) × (v < g.vertices)

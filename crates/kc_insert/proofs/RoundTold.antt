@@ -171,9 +171,9 @@ module _ (p : Profile) (g : GraphShape) (x : List ℕ) (r : Passage) (k : AreKee
   told_next w there =
       let in_ = joined_in (λ (q : Part). met_by second_step (get_or q.meetings (r.s0.level + 1) []) ++ flat_map (next_near second_step) q.begun) r.p4 w there in
       inside_both IsNext (met_by second_step (get_or (at_place r.p4 in_.0).meetings (r.s0.level + 1) [])) (flat_map (next_near second_step) (at_place r.p4 in_.0).begun)
-          (inside_ends IsNext (λ (e : Pair). e.1) (λ (e : Pair). rises r.s3 e.0) (get_or (at_place r.p4 in_.0).meetings (r.s0.level + 1) []) (λ v u edge. met in_.0 in_.1 v u edge))
-          (inside_rows IsNext (next_near second_step) (at_place r.p4 in_.0).begun (λ v u new near_u. begun v u near_u))
-          w in_.2
+      (inside_ends IsNext (λ (e : Pair). e.1) (λ (e : Pair). rises r.s3 e.0) (get_or (at_place r.p4 in_.0).meetings (r.s0.level + 1) []) (λ v u edge. met in_.0 in_.1 v u edge))
+      (inside_rows IsNext (next_near second_step) (at_place r.p4 in_.0).begun (λ v u new near_u. begun v u near_u))
+      w in_.2
     where
       met : (j : ℕ) → j < length r.p4 → (v u : ℕ) → has_edge (v, u) (get_or (at_place r.p4 j).meetings (r.s0.level + 1) []) ≡ true → IsNext u
       met j at v u edge =

@@ -59,11 +59,13 @@ module _ (p : Profile) (g : GraphShape) (x : List ℕ) (s : Sweeping) (i : IsSwe
       let inside : v < g.vertices = elim (cases_lt v g.vertices) [
         | inl h ↦ h
         | inr past ↦ absurd (ne (get_or_past x v 0 (omega (arith, past, i.placed.start)) ∙ sym (get_or_past s.levels v 0 (omega (arith, past, i.placed.raising.sized)))))
-      ] in
-      (inside, elim (cases_lt (get_or x v 0) s.level) [
-        | inl lt ↦ lt
-        | inr ge ↦ absurd (ne (sym (stood_above v ge).1))
-      ])
+      ] in (
+        inside,
+        elim (cases_lt (get_or x v 0) s.level) [
+          | inl lt ↦ lt
+          | inr ge ↦ absurd (ne (sym (stood_above v ge).1))
+        ],
+      )
     where
       differ : (a b : ℕ) → not (eqb a b) ≡ true → a ≢ b
       differ a b e = grind (arith, nat_tests, e)

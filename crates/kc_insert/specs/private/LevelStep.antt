@@ -11,8 +11,8 @@ use Rattle.kc_insert.specs.private.Ranges.{all_began, all_risen, AreKept, Cut, I
 use Rattle.kc_insert.specs.private.Sweeping.{AreCounted, IsPaid, IsSweeping, Sweeping, sweeping_of}
 use Rattle.kc_insert.specs.private.Watched.{IsHeld}
 
--- from the levels y to z, where vertices count c before and d after: each vertex on the level l that counts more than `most` goes to
--- the next level, and no other vertex moves
+-- The step from the levels y to z. Each vertex on the level l that counts more than `most` goes to the next level, and
+-- no other vertex moves. The counts are c before and d afterwards.
 pub record IsLevelStep (g : GraphShape) (y z : List ℕ) (c d : ℕ → ℕ) (l most : ℕ) : Type 0 where
   pub sized : length z ≡ length y
   pub goes : (v : ℕ) → v < g.vertices → get_or y v 0 ≡ l → most < c v → get_or z v 0 ≡ l + 1
@@ -20,7 +20,7 @@ pub record IsLevelStep (g : GraphShape) (y z : List ℕ) (c d : ℕ → ℕ) (l 
   pub others : (v : ℕ) → get_or y v 0 ≢ l → get_or z v 0 ≡ get_or y v 0
   pub counted : AreCounted g z d
 
--- the vertices that rise after the step are all that go to the next level; each that rises rose
+-- the vertices that rise afterwards are all that go to the next level
 pub record AreLifted (g : GraphShape) (s t : Sweeping) (most : ℕ) : Type 0 where
   pub rise : (v : ℕ) → has_number v t.rising ≡ true → (v < g.vertices) × (get_or s.levels v 0 ≡ s.level) × (most < s.count v)
   pub all : (v : ℕ) → v < g.vertices → get_or s.levels v 0 ≡ s.level → most < s.count v → has_number v t.rising ≡ true
@@ -28,14 +28,14 @@ pub record AreLifted (g : GraphShape) (s t : Sweeping) (most : ℕ) : Type 0 whe
   pub risen : (v : ℕ) → has_number v t.risen ≡ (has_number v s.risen || has_number v t.rising)
   pub once : AreDistinct t.risen
 
--- a vertex that waits on another level waits still; on the next level, where vertices stood by x, each waits that came to count more
--- than `above`, and no other vertices wait besides
+-- Vertices that wait on other levels wait still. On the next level each vertex waits whose count rose above `above`.
+-- All others that wait there stood there by x.
 pub record WaitOn (g : GraphShape) (x : List ℕ) (s t : Sweeping) (above : ℕ) : Type 0 where
   pub still : (k v : ℕ) → k ≢ s.level → has_number v (s.waits k) ≡ true → has_number v (t.waits k) ≡ true
   pub only : (k v : ℕ) → s.level < k → has_number v (t.waits k) ≡ true → (has_number v (s.waits k) ≡ true) ⊎ ((v < g.vertices) × (get_or x v 0 ≡ k))
   pub noted : (v : ℕ) → v < g.vertices → get_or x v 0 ≡ s.level + 1 → above < t.count v → (above < s.count v) ⊎ (has_number v (t.waits (s.level + 1)) ≡ true)
 
--- the meetings above the level are as before, and besides those of the vertices that begin to rise from it
+-- above the level are the meetings that were there, and those of the vertices that begin to rise from it
 pub record MeetOn (g : GraphShape) (x : List ℕ) (s t : Sweeping) : Type 0 where
   pub still : (k v w : ℕ) → s.level < k → has_edge (v, w) (s.meets k) ≡ true → has_edge (v, w) (t.meets k) ≡ true
   pub only : (k v w : ℕ) → s.level < k → has_edge (v, w) (t.meets k) ≡ true → (has_edge (v, w) (s.meets k) ≡ true) ⊎ ((has_number v t.rising ≡ true) × IsMeeting g x k v w)
@@ -61,13 +61,13 @@ pub record ArePassed (s t : Sweeping) (stay begun : List ℕ) : Type 0 where
 abbrev pub HasLimit : ℕ → Cut → Type 0
 HasLimit most r = (j : ℕ) → j < length r.parts → (part_at r j).watch.most ≡ most
 
--- between steps each meeting is kept by the range of the vertex that rises, and no vertices or steps of a step are left
+-- Between steps the range of a rising vertex keeps its meetings. No vertices that begin and no steps are left.
 pub record AreAtRest (r : Cut) : Type 0 where
   pub own : (j k v w : ℕ) → j < length r.parts → has_edge (v, w) (get_or (part_at r j).meetings k []) ≡ true → IsHeld (part_at r j).watch v
   pub begun : (j : ℕ) → j < length r.parts → (part_at r j).begun ≡ []
   pub steps : (j : ℕ) → j < length r.parts → (part_at r j).steps ≡ 0
 
--- between steps the ranges of a graph have their vertices and a list for each level, and keep what rises
+-- between steps the ranges have the vertices of the graph, a list for each level, and the vertices that rise
 pub record AreInOrder (p : Profile) (g : GraphShape) (s : RisingLevels) (r : Cut) : Type 0 where
   pub shape : IsCut g.vertices (top_level p g.vertices + 1) r
   pub kept : AreKept s r

@@ -1,7 +1,7 @@
 -- How far a sweep has come, level by level.
 --
--- A sweep that began with the levels x is at one level, on which all rising vertices are. Below it no vertex breaks the upper
--- invariant. The vertices that rise came to the level in the sweep; all others on it or above stand where they stood in x.
+-- A sweep that began with the levels x is at one level, on which all rising vertices are. Below it no vertex breaks the
+-- upper invariant. On it and above, each vertex that doesn't rise stands where it stood in x.
 use Rattle.std.specs.Prelude.{ℕ, ◌+◌, ◌≤◌, ◌<◌, ◌≡◌, ◌⊎◌, true, false, List, [], length, get_or, filter}
 use Rattle.kc_graph.specs.Numbers.{has_number}
 use Rattle.kc_graph.specs.Shape.{GraphShape, Pair, has_edge}
@@ -17,8 +17,9 @@ use Rattle.kc_insert.specs.private.Meetings.{AreApart, IsMeeting}
 use Rattle.kc_insert.specs.private.Ranges.{Cut, all_began, all_risen, count_of, meets, waits}
 use Rattle.kc_insert.specs.private.Rising.{all_at, rises, seen}
 
--- a sweep on its way, seen as sets: the level that it is at; the levels by now; what each vertex counts; the vertices that rise, and
--- all that rose; the vertices that wait on a level, and the meetings there
+-- A sweep on its way: the level that it is at, the levels by now, and the count of each vertex. `rising` has the
+-- vertices that rise, and `risen` all that rose. `waits` gives the vertices that wait on a level, and `meets` the
+-- meetings there.
 pub record Sweeping : Type 0 where
   pub level : ℕ
   pub levels : List ℕ
@@ -40,22 +41,22 @@ AreCounted g y count = (v : ℕ) → v < g.vertices → count v ≡ at_least g y
 abbrev pub IsAwaited : Sweeping → ℕ → Type 0
 IsAwaited s v = (has_number v s.rising ≡ true) ⊎ ((s.level ≤ get_or s.levels v 0) × (has_number v (s.waits (get_or s.levels v 0)) ≡ true))
 
--- the levels are on their way from x to each list that is raisable from it, and no vertex moved to the level of the sweep or above but
--- those that rise
+-- The levels lie between x and each list that is raisable from it. On the level of the sweep or above, only rising
+-- vertices have moved.
 pub record IsPlaced (p : Profile) (g : GraphShape) (x : List ℕ) (s : Sweeping) : Type 0 where
   pub start : length x ≡ g.vertices
   pub raising : IsRaising p g x s.levels
   pub stood : (v : ℕ) → s.level ≤ get_or s.levels v 0 → has_number v s.rising ≡ false → get_or s.levels v 0 ≡ get_or x v 0
 
--- the vertices that rise came to the level of the sweep; those that rose are those that moved
+-- the vertices that rise are on the level of the sweep, and stood below; the vertices that rose are those that moved
 pub record AreRising (g : GraphShape) (x : List ℕ) (s : Sweeping) : Type 0 where
   pub came : (v : ℕ) → has_number v s.rising ≡ true → (v < g.vertices) × (get_or s.levels v 0 ≡ s.level) × (get_or x v 0 < s.level)
   pub distinct : AreDistinct s.rising
   pub moved : (v : ℕ) → has_number v s.risen ≡ is_moved x s.levels v
   pub once : AreDistinct s.risen
 
--- from the level of the sweep on, each vertex waits where it stood, and the meetings are those of the vertices that rose, each once;
--- a vertex that neither rises nor waits meets the upper invariant
+-- From the level of the sweep on, vertices wait where they stood, and the meetings are those of the vertices that rose,
+-- each once. A vertex that neither rises nor waits meets the upper invariant.
 pub record AreAwaited (p : Profile) (g : GraphShape) (x : List ℕ) (s : Sweeping) : Type 0 where
   pub counted : AreCounted g s.levels s.count
   pub waiting : (k v : ℕ) → s.level ≤ k → has_number v (s.waits k) ≡ true → (v < g.vertices) × (get_or x v 0 ≡ k)
@@ -70,8 +71,8 @@ pub record IsSweeping (p : Profile) (g : GraphShape) (x : List ℕ) (s : Sweepin
   pub rise : AreRising g x s
   pub awaited : AreAwaited p g x s
 
--- of the steps that may be counted, enough are left: those of a pass over the neighbours of each vertex that rises, for when it stays,
--- and of another pass and one more for each that rose, for when it is lifted in the graph
+-- Enough steps are left for the passes to come: one over the neighbours of each rising vertex, for when it stays. Each
+-- vertex that rose costs another pass and one step more, for when it is lifted in the graph.
 abbrev pub IsPaid : GraphShape → List ℕ → Sweeping → ℕ → ℕ → Type 0
 IsPaid g x s first now = now + (degrees g s.rising + (degrees g s.risen + length s.risen)) ≤ first + effort g x s.levels g.vertices
 
@@ -89,12 +90,12 @@ pub record IsFirst (p : Profile) (g : GraphShape) (x : List ℕ) (s : Sweeping) 
   pub queued : IsQueued p g x s.waits
   pub none : (s.rising ≡ []) × (s.risen ≡ []) × ((k : ℕ) → s.meets k ≡ [])
 
--- on the levels from l on before k no vertex waits, and on those and on k none is to be met
+-- no vertex waits on the levels from l to k - 1, and none is to be met on those and on k
 pub record IsFree (l k : ℕ) (waits : ℕ → List ℕ) (meets : ℕ → List Pair) : Type 0 where
   pub none_waits : (j : ℕ) → l ≤ j → j < k → waits j ≡ []
   pub none_meets : (j : ℕ) → l ≤ j → j ≤ k → meets j ≡ []
 
--- the sweep with the vertices that came to its level on the level k, which it is at
+-- the sweep at the level k, with all rising vertices
 abbrev pub together : Sweeping → ℕ → Sweeping
 together s k = record s { level = k; levels = all_at s.levels s.rising k }
 
