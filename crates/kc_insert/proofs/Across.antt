@@ -8,7 +8,8 @@ use Rattle.std.proofs.lemmas.Grind.{flat_map-append}
 use Rattle.kc_graph.specs.Numbers.{has_number}
 use Rattle.kc_graph.proofs.lemmas.Numbers.{has_number-append}
 use Rattle.kc_levels.specs.Following.{AreDistinct}
-use Rattle.kc_insert.specs.private.Telling.{in_range, range_of, times}
+use Rattle.kc_insert.specs.private.Telling.{in_range, times}
+use Rattle.kc_insert.specs.Ranges.{range_of}
 use Rattle.kc_insert.proofs.Adding.{times-append, times_none, times_some, times_there}
 use Rattle.kc_insert.proofs.Inside.{inside_both}
 

@@ -9,12 +9,11 @@ use Rattle.kc_graph.specs.Shape.{GraphShape, has_edge}
 use Rattle.kc_levels.specs.declared.profile.Profile.{Profile}
 use Rattle.kc_insert.specs.declared.rising.RisingLevels.{RisingLevels}
 use Rattle.kc_insert.specs.private.LevelStep.{AreInOrder, HasLimit, IsRunning, IsUnderWay}
-use Rattle.kc_insert.specs.private.Parts.{Part}
-use Rattle.kc_insert.specs.private.Ranges.{AreKept, CanLookAnew, count_of, Cut, IsCut, LookedAnew, LooksAnew, no_part, part_at}
+use Rattle.kc_insert.specs.Ranges.{Cut, IsCut, IsHeld, no_part, Part, part_at, range_of, Tell, Watch}
+use Rattle.kc_insert.specs.private.Ranges.{AreKept, CanLookAnew, count_of, LookedAnew, LooksAnew}
 use Rattle.kc_insert.specs.private.Rising.{rises, seen}
 use Rattle.kc_insert.specs.private.Sweeping.{IsSame, sweeping_of}
-use Rattle.kc_insert.specs.private.Telling.{range_of, Tell}
-use Rattle.kc_insert.specs.private.Watched.{count_at, is_few, IsHeld, Watch}
+use Rattle.kc_insert.specs.private.Watched.{count_at, is_few}
 use Rattle.kc_insert.proofs.Buckets.{has_number-filter}
 use Rattle.kc_insert.proofs.Joined.{joined_same}
 use Rattle.kc_insert.proofs.Kept.{kept_at}

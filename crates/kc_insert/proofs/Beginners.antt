@@ -10,10 +10,10 @@ use Rattle.kc_graph.specs.Numbers.{has_number}
 use Rattle.kc_graph.proofs.lemmas.Numbers.{has_number_at, has_number-push}
 use Rattle.kc_levels.specs.Following.{AreDistinct}
 use Rattle.kc_insert.specs.declared.rising.RisingLevels.{RisingLevels}
-use Rattle.kc_insert.specs.private.Parts.{Part}
-use Rattle.kc_insert.specs.private.Ranges.{CanLiftOff, LiftedOff, no_part}
+use Rattle.kc_insert.specs.Ranges.{no_part, Part, range_of}
+use Rattle.kc_insert.specs.private.Ranges.{CanLiftOff, LiftedOff}
 use Rattle.kc_insert.specs.private.Rising.{all_at, rises, seen}
-use Rattle.kc_insert.specs.private.Telling.{in_range, range_of, times}
+use Rattle.kc_insert.specs.private.Telling.{in_range, times}
 use Rattle.kc_insert.proofs.Across.{distinct_times, flat_has, IsOfOne, length_set, of_one, times_distinct}
 use Rattle.kc_insert.proofs.Adding.{times-append, times-filter, times_none, times_some, times_there}
 use Rattle.kc_insert.proofs.Direct.{any_default}

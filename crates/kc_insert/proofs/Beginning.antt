@@ -12,8 +12,9 @@ use Rattle.kc_graph.specs.Numbers.{has_number}
 use Rattle.kc_graph.specs.Shape.{Pair, neighbours_of}
 use Rattle.kc_graph.proofs.lemmas.Numbers.{has_number-push}
 use Rattle.kc_insert.specs.private.Crossing.{Crossing, above_near, is_above, next_near, count_above, with_levels, meetings_on, meetings_of, HaveMeetings, HaveBegun}
-use Rattle.kc_insert.specs.private.Telling.{Tell, times}
-use Rattle.kc_insert.specs.private.Watched.{Watch, count_at, IsHeld, StayWatched}
+use Rattle.kc_insert.specs.private.Telling.{times}
+use Rattle.kc_insert.specs.Ranges.{IsHeld, Tell, Watch}
+use Rattle.kc_insert.specs.private.Watched.{count_at, StayWatched}
 use Rattle.kc_insert.proofs.Adding.{times_there, times_some, times_part}
 use Rattle.kc_insert.proofs.Buckets.{pushed_is, has_last}
 use Rattle.kc_insert.proofs.Looking.{passes_at, length-with_levels, vertex_at, level_at}

@@ -7,11 +7,11 @@ use Rattle.std.proofs.lemmas.List.Sums.{count_by-le-length}
 use Rattle.kc_graph.specs.Numbers.{has_number}
 use Rattle.kc_graph.specs.Shape.{neighbours_of}
 use Rattle.kc_insert.specs.private.Crossing.{Crossing, count_above, met_by, next_near}
-use Rattle.kc_insert.specs.private.Parts.{CanRise, HasRisen, HaveMet, Part}
-use Rattle.kc_insert.specs.private.Ranges.{no_part}
+use Rattle.kc_insert.specs.private.Parts.{CanRise, HasRisen, HaveMet}
+use Rattle.kc_insert.specs.Ranges.{IsHeld, no_part, Part, range_of, Tell, Watch}
 use Rattle.kc_insert.specs.private.Sharing.{AllRisen, AreFew, AreTold, CanMeet, CanRiseAll, HearMore, rise_told, RisesAndHears, told_all}
-use Rattle.kc_insert.specs.private.Telling.{Tell, in_range, range_of, times}
-use Rattle.kc_insert.specs.private.Watched.{Watch, count_at, IsHeld, StayWatched}
+use Rattle.kc_insert.specs.private.Telling.{in_range, times}
+use Rattle.kc_insert.specs.private.Watched.{count_at, StayWatched}
 use Rattle.kc_insert.proofs.Beginning.{held_still}
 
 -- what all told is what each tells

@@ -9,10 +9,9 @@ use Rattle.kc_graph.proofs.lemmas.Numbers.{has_number_nowhere}
 use Rattle.kc_levels.specs.private.Following.{IsCopied}
 use Rattle.kc_levels.proofs.lemmas.Writes.{copied_all, copied_first, copied_next, copied_then}
 use Rattle.kc_insert.specs.private.Filed.{AreCopied}
-use Rattle.kc_insert.specs.private.Parts.{Part}
-use Rattle.kc_insert.specs.private.Ranges.{count_of, counts_of, Cut, IsCut, IsIn, IsSameCut, no_part, part_of}
-use Rattle.kc_insert.specs.private.Telling.{range_of}
-use Rattle.kc_insert.specs.private.Watched.{count_at, IsHeld, Watch}
+use Rattle.kc_insert.specs.Ranges.{counts_of, Cut, IsCut, IsHeld, IsIn, no_part, Part, part_of, range_of, Watch}
+use Rattle.kc_insert.specs.private.Ranges.{count_of, IsSameCut}
+use Rattle.kc_insert.specs.private.Watched.{count_at}
 use Rattle.kc_insert.proofs.Direct.{any_default}
 use Rattle.kc_insert.proofs.Filled.{cut_same, same_cut, same_on}
 use Rattle.kc_insert.proofs.Flat.{count_is, length_counts}

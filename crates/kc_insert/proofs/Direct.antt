@@ -6,10 +6,11 @@ use Rattle.std.proofs.lemmas.List.{length-set, get_or-set_same, get_or-set_other
 use Rattle.std.proofs.lemmas.List.Elements.{filter_more}
 use Rattle.kc_graph.specs.Numbers.{has_number}
 use Rattle.kc_graph.proofs.lemmas.Numbers.{has_number_at}
-use Rattle.kc_insert.specs.private.Parts.{HasHeardLess, HaveMet, Part}
+use Rattle.kc_insert.specs.private.Parts.{HasHeardLess, HaveMet}
+use Rattle.kc_insert.specs.Ranges.{IsHeld, Part, range_of, Watch}
 use Rattle.kc_insert.specs.private.Sharing.{CanLessen, CanMeet, HearLess, HearMore}
-use Rattle.kc_insert.specs.private.Telling.{in_range, range_of, times}
-use Rattle.kc_insert.specs.private.Watched.{Watch, count_at, IsHeld, StayWatched}
+use Rattle.kc_insert.specs.private.Telling.{in_range, times}
+use Rattle.kc_insert.specs.private.Watched.{count_at, StayWatched}
 use Rattle.kc_insert.proofs.Adding.{times-append, times-filter, times_more, times_part}
 use Rattle.kc_insert.proofs.Meeting.{met_none, met_on, met_one}
 use Rattle.kc_insert.proofs.Watching.{watched_same, watched_on, count_here, count_other}

@@ -8,8 +8,8 @@ use Rattle.kc_levels.specs.declared.profile.Profile.{Profile}
 use Rattle.kc_levels.specs.Thresholds.{high, group_of, top_level}
 use Rattle.kc_insert.specs.declared.rising.RisingLevels.{RisingLevels}
 use Rattle.kc_insert.specs.private.LevelStep.{AreInOrder, HasLimit, IsRunning, IsUnderWay}
-use Rattle.kc_insert.specs.private.Parts.{Part}
-use Rattle.kc_insert.specs.private.Ranges.{Cut, LookedAnew, no_part, part_at}
+use Rattle.kc_insert.specs.Ranges.{Cut, no_part, Part, part_at}
+use Rattle.kc_insert.specs.private.Ranges.{LookedAnew}
 use Rattle.kc_insert.specs.private.Rising.{rises, seen}
 use Rattle.kc_insert.specs.private.Sweeping.{sweeping_of}
 use Rattle.kc_insert.proofs.Anew.{looked_limit, looked_order, looked_same}

@@ -10,10 +10,9 @@ use Rattle.kc_levels.specs.Thresholds.{high, group_of, top_level}
 use Rattle.kc_levels.specs.private.Following.{IsCopied}
 use Rattle.kc_levels.proofs.lemmas.Writes.{copied_all, copied_first, copied_next, copied_then}
 use Rattle.kc_insert.specs.private.Filed.{CanFile, CanFollow, HasFiled, HasFollowed, HaveCounted, HaveFiled, IsFiling}
-use Rattle.kc_insert.specs.private.Parts.{Part}
-use Rattle.kc_insert.specs.private.Ranges.{count_of, counts_of, Cut, IsCut, IsSameCut, no_part, part_of, waits}
-use Rattle.kc_insert.specs.private.Telling.{range_of, Tell}
-use Rattle.kc_insert.specs.private.Watched.{count_at, IsHeld, Watch}
+use Rattle.kc_insert.specs.Ranges.{counts_of, Cut, IsCut, IsHeld, no_part, Part, part_of, range_of, Tell, waits, Watch}
+use Rattle.kc_insert.specs.private.Ranges.{count_of, IsSameCut}
+use Rattle.kc_insert.specs.private.Watched.{count_at}
 use Rattle.kc_insert.proofs.Across.{flat_has, of_one}
 use Rattle.kc_insert.proofs.Buckets.{has_last, now_there, placed, pushed_is, still_there}
 use Rattle.kc_insert.proofs.Direct.{any_default}

@@ -7,7 +7,8 @@ use Rattle.kc_graph.specs.Numbers.{has_number}
 use Rattle.kc_levels.specs.declared.profile.Profile.{Profile}
 use Rattle.kc_levels.specs.Thresholds.{high, group_of}
 use Rattle.kc_insert.specs.private.Filed.{HasFollowed, HaveFiled}
-use Rattle.kc_insert.specs.private.Watched.{Watch, count_at, IsHeld}
+use Rattle.kc_insert.specs.private.Watched.{count_at}
+use Rattle.kc_insert.specs.Ranges.{IsHeld, Watch}
 use Rattle.kc_insert.proofs.Buckets.{placed, pushed_is, has_last, still_there, now_there}
 use Rattle.kc_insert.proofs.Watching.{count_here, count_other, count_sized}
 

@@ -8,10 +8,11 @@ use Rattle.kc_graph.specs.Numbers.{has_number}
 use Rattle.kc_graph.proofs.lemmas.Numbers.{has_number-append}
 use Rattle.kc_levels.specs.Following.{AreDistinct}
 use Rattle.kc_insert.specs.declared.rising.RisingLevels.{RisingLevels}
-use Rattle.kc_insert.specs.private.Parts.{LetStay, Part}
+use Rattle.kc_insert.specs.private.Parts.{LetStay}
+use Rattle.kc_insert.specs.Ranges.{IsHeld, Part}
 use Rattle.kc_insert.specs.private.Ranges.{AllLetStay, CanLetStay}
 use Rattle.kc_insert.specs.private.Rising.{rises, seen}
-use Rattle.kc_insert.specs.private.Watched.{count_at, IsHeld}
+use Rattle.kc_insert.specs.private.Watched.{count_at}
 use Rattle.kc_insert.proofs.Across.{distinct_both, flat_last, flat_next}
 use Rattle.kc_insert.proofs.Direct.{any_default}
 use Rattle.kc_insert.proofs.Summing.{few_distinct}

@@ -9,9 +9,10 @@ use Rattle.std.proofs.lemmas.List.Concat.{flat_map-cons}
 use Rattle.std.proofs.Math.Seq.{take-suc}
 use Rattle.kc_graph.specs.Numbers.{has_number}
 use Rattle.kc_graph.proofs.lemmas.Numbers.{has_number-append}
-use Rattle.kc_insert.specs.private.Telling.{Tell, heard_by, times}
-use Rattle.kc_insert.specs.private.Watched.{Watch, count_at, IsHeld, StayWatched}
-use Rattle.kc_insert.specs.private.Parts.{Part, HaveMet}
+use Rattle.kc_insert.specs.private.Telling.{heard_by, times}
+use Rattle.kc_insert.specs.Ranges.{IsHeld, Part, Tell, Watch}
+use Rattle.kc_insert.specs.private.Watched.{count_at, StayWatched}
+use Rattle.kc_insert.specs.private.Parts.{HaveMet}
 use Rattle.kc_insert.proofs.Adding.{times-append, times_there, times_some}
 use Rattle.kc_insert.proofs.Meeting.{met_on}
 use Rattle.kc_insert.proofs.Watching.{watched_same, watched_on}

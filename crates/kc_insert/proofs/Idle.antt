@@ -3,9 +3,9 @@ use Rattle.std.proofs.Common.{ℕ, ◌+◌, ◌≡◌, List, [], ◌∷◌, leng
 use Rattle.std.specs.List.{flat_map}
 use Rattle.kc_adj.specs.Degrees.{degrees}
 use Rattle.kc_insert.specs.private.Crossing.{Crossing, rising_near}
-use Rattle.kc_insert.specs.private.Parts.{Part}
+use Rattle.kc_insert.specs.Ranges.{Part, Tell}
 use Rattle.kc_insert.specs.private.Sharing.{AllParted, CanPartAll}
-use Rattle.kc_insert.specs.private.Telling.{Tell, times}
+use Rattle.kc_insert.specs.private.Telling.{times}
 use Rattle.kc_insert.proofs.Nearest.{flat_nothing}
 use Rattle.kc_insert.proofs.Watching.{watched_same}
 

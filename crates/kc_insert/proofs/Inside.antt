@@ -10,7 +10,7 @@ use Rattle.kc_graph.specs.Numbers.{has_number}
 use Rattle.kc_graph.specs.Shape.{GraphShape, Pair, IsGraph, has_edge, neighbours_of}
 use Rattle.kc_graph.proofs.lemmas.Numbers.{has_number_at, has_number-append}
 use Rattle.kc_graph.proofs.lemmas.Neighbours.{neighbour_below}
-use Rattle.kc_insert.specs.private.Telling.{Tell, range_of}
+use Rattle.kc_insert.specs.Ranges.{range_of, Tell}
 use Rattle.kc_insert.proofs.Buckets.{has_number-filter}
 
 either : (a b : Bool) → a || b ≡ true → a ≡ false → b ≡ true

@@ -11,8 +11,7 @@ use Rattle.kc_graph.specs.Shape.{Pair, has_edge, same_edge}
 use Rattle.kc_graph.proofs.lemmas.Numbers.{has_number-append}
 use Rattle.kc_levels.specs.Following.{AreDistinct}
 use Rattle.kc_insert.specs.private.Meetings.{AreApart}
-use Rattle.kc_insert.specs.private.Parts.{Part}
-use Rattle.kc_insert.specs.private.Ranges.{no_part}
+use Rattle.kc_insert.specs.Ranges.{no_part, Part}
 use Rattle.kc_insert.specs.private.Telling.{times}
 use Rattle.kc_insert.proofs.Adding.{times-append, times_none, times_there}
 

@@ -9,11 +9,10 @@ use Rattle.kc_levels.specs.declared.profile.Profile.{Profile}
 use Rattle.kc_levels.specs.Thresholds.{high, group_of}
 use Rattle.kc_insert.specs.declared.rising.RisingLevels.{RisingLevels}
 use Rattle.kc_insert.specs.private.LevelStep.{AreInOrder, HasLimit}
-use Rattle.kc_insert.specs.private.Parts.{Part}
-use Rattle.kc_insert.specs.private.Ranges.{all_began, AreKept, count_of, Cut, meets, no_part, waits}
+use Rattle.kc_insert.specs.Ranges.{all_began, Cut, meets, no_part, Part, range_of, waits}
+use Rattle.kc_insert.specs.private.Ranges.{AreKept, count_of}
 use Rattle.kc_insert.specs.private.Rising.{all_at, rises, seen}
 use Rattle.kc_insert.specs.private.Sweeping.{IsFree, IsPaid, IsSame, IsSweeping, sweeping_of, together}
-use Rattle.kc_insert.specs.private.Telling.{range_of}
 use Rattle.kc_insert.proofs.Buckets.{has_number-filter}
 use Rattle.kc_insert.proofs.Joined.{joined_of}
 use Rattle.kc_insert.proofs.Members.{filter_agree}

@@ -9,7 +9,8 @@ use Rattle.kc_graph.specs.Shape.{Pair, has_edge}
 use Rattle.kc_insert.specs.private.Crossing.{Crossing, left_at}
 use Rattle.kc_insert.specs.private.Rising.{rises, seen}
 use Rattle.kc_insert.specs.private.Telling.{times}
-use Rattle.kc_insert.specs.private.Watched.{Watch, count_at, IsHeld, StayWatched}
+use Rattle.kc_insert.specs.private.Watched.{count_at, StayWatched}
+use Rattle.kc_insert.specs.Ranges.{IsHeld, Watch}
 use Rattle.kc_insert.proofs.Adding.{times-append}
 use Rattle.kc_insert.proofs.Watching.{watched_same, watched_on, count_here, count_other}
 

@@ -7,7 +7,6 @@ mod Bounds
 mod Buckets
 mod Coming
 mod Copying
-mod Dealing
 mod Direct
 mod Efforts
 mod Ending

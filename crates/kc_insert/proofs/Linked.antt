@@ -8,9 +8,9 @@ use Rattle.kc_levels.specs.LevelList.{MeetsUpper}
 use Rattle.kc_adj.specs.LeveledGraph.{LeveledGraph, IsCounted}
 use Rattle.kc_insert.specs.declared.rising.RisingLevels.{RisingLevels}
 use Rattle.kc_insert.specs.private.Filed.{HaveCounted, IsFiling}
-use Rattle.kc_insert.specs.private.LevelStep.{AreQuiet}
+use Rattle.kc_insert.specs.Ranges.{AreQuiet, counts_of, Cut, waits}
 use Rattle.kc_insert.specs.private.Phase.{working_of}
-use Rattle.kc_insert.specs.private.Ranges.{count_of, counts_of, Cut, waits}
+use Rattle.kc_insert.specs.private.Ranges.{count_of}
 use Rattle.kc_insert.specs.private.Sweeping.{AreCounted, IsQueued}
 use Rattle.kc_insert.specs.Working.{IsReady}
 use Rattle.kc_insert.proofs.Followed.{counted_added}

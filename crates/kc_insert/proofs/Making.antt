@@ -4,10 +4,9 @@ use Rattle.std.proofs.lemmas.Bool.{cases_eq}
 use Rattle.std.proofs.lemmas.List.{length-append, length-replicate, length-take-le, length-drop, get_or-take, get_or-drop}
 use Rattle.std.proofs.Math.ListN.{get_or-append}
 use Rattle.std.proofs.Math.Seq.{get_or-append_seam}
-use Rattle.kc_insert.specs.private.Parts.{Part}
-use Rattle.kc_insert.specs.private.Ranges.{AreNew, Cut, IsCut, new_part, no_part}
-use Rattle.kc_insert.specs.private.Telling.{range_of, Tell}
-use Rattle.kc_insert.specs.private.Watched.{count_at, IsHeld}
+use Rattle.kc_insert.specs.Ranges.{Cut, IsCut, IsHeld, no_part, Part, range_of, Tell}
+use Rattle.kc_insert.specs.private.Ranges.{AreNew, new_part}
+use Rattle.kc_insert.specs.private.Watched.{count_at}
 use Rattle.kc_insert.proofs.Direct.{any_default}
 
 -- the range at a place, of the vertices with these counts

@@ -6,8 +6,9 @@ use Rattle.std.proofs.lemmas.List.{length-set, get_or-set_same, get_or-set_other
 use Rattle.kc_graph.specs.Numbers.{has_number}
 use Rattle.kc_graph.proofs.lemmas.Numbers.{has_number_at, has_number-append}
 use Rattle.kc_insert.specs.private.Telling.{times}
-use Rattle.kc_insert.specs.private.Watched.{Watch, count_at, IsHeld}
-use Rattle.kc_insert.specs.private.Parts.{Part, HaveMet}
+use Rattle.kc_insert.specs.private.Watched.{count_at}
+use Rattle.kc_insert.specs.Ranges.{IsHeld, Part, Watch}
+use Rattle.kc_insert.specs.private.Parts.{HaveMet}
 use Rattle.std.proofs.Math.Seq.{take-suc}
 use Rattle.kc_insert.proofs.Adding.{times-append, times_more, times_part}
 use Rattle.kc_insert.proofs.Buckets.{placed, pushed_is, still_there, now_there}

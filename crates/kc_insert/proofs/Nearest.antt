@@ -3,8 +3,7 @@ use Rattle.std.proofs.Common.{ℕ, suc, zero, ◌+◌, ◌≤◌, ◌<◌, ◌�
 use Rattle.std.specs.Prelude.{All}
 use Rattle.std.specs.List.{flat_map}
 use Rattle.std.proofs.lemmas.Bool.{cases_eq, cases_lt}
-use Rattle.kc_insert.specs.private.Parts.{Part}
-use Rattle.kc_insert.specs.private.Ranges.{no_part}
+use Rattle.kc_insert.specs.Ranges.{no_part, Part}
 
 module _ {X : Type 0} (of : Part → List (List X)) where
   -- of the ranges the first i were looked at: from the level `from` on none of them has anything before `next`

@@ -5,11 +5,11 @@ use Rattle.std.specs.List.{flat_map}
 use Rattle.kc_graph.specs.Numbers.{has_number}
 use Rattle.kc_adj.specs.Degrees.{degrees}
 use Rattle.kc_insert.specs.private.Crossing.{Crossing, rising_near}
-use Rattle.kc_insert.specs.private.Parts.{CanPart, HasHeardLess, HasParted, Part}
-use Rattle.kc_insert.specs.private.Ranges.{no_part}
+use Rattle.kc_insert.specs.private.Parts.{CanPart, HasHeardLess, HasParted}
+use Rattle.kc_insert.specs.Ranges.{IsHeld, no_part, Part, range_of, Tell, Watch}
 use Rattle.kc_insert.specs.private.Sharing.{AllParted, AreTold, CanLessen, CanPartAll, HearLess, told_all}
-use Rattle.kc_insert.specs.private.Telling.{Tell, in_range, range_of, times}
-use Rattle.kc_insert.specs.private.Watched.{Watch, count_at, IsHeld, StayWatched}
+use Rattle.kc_insert.specs.private.Telling.{in_range, times}
+use Rattle.kc_insert.specs.private.Watched.{count_at, StayWatched}
 use Rattle.kc_insert.proofs.Shared.{in_range_times}
 use Rattle.kc_insert.proofs.Summing.{all_told}
 

@@ -13,13 +13,12 @@ use Rattle.kc_adj.specs.Degrees.{degrees}
 use Rattle.kc_adj.proofs.lemmas.Lists.{empty_list}
 use Rattle.kc_insert.specs.Effort.{effort}
 use Rattle.kc_insert.specs.declared.rising.RisingLevels.{RisingLevels}
-use Rattle.kc_insert.specs.private.LevelStep.{AreInOrder, AreQuiet}
-use Rattle.kc_insert.specs.private.Parts.{Part}
-use Rattle.kc_insert.specs.private.Ranges.{all_began, all_risen, count_of, Cut, meets, no_part, part_at, waits}
+use Rattle.kc_insert.specs.private.LevelStep.{AreInOrder}
+use Rattle.kc_insert.specs.Ranges.{all_began, all_risen, AreQuiet, Cut, IsHeld, meets, no_part, Part, part_at, range_of, Tell, waits, Watch}
+use Rattle.kc_insert.specs.private.Ranges.{count_of}
 use Rattle.kc_insert.specs.private.Rising.{all_at, rises, seen}
 use Rattle.kc_insert.specs.private.Sweeping.{AreCounted, IsPaid, IsQueued, IsSame, IsSweeping, sweeping_of}
-use Rattle.kc_insert.specs.private.Telling.{range_of, Tell}
-use Rattle.kc_insert.specs.private.Watched.{count_at, IsHeld, Watch}
+use Rattle.kc_insert.specs.private.Watched.{count_at}
 use Rattle.kc_insert.proofs.Joined.{joined_of, pairs_of}
 use Rattle.kc_insert.proofs.Kept.{kept_at, kept_listed}
 use Rattle.kc_insert.proofs.Staying.{nobody_rises}

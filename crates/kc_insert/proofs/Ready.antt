@@ -15,11 +15,10 @@ use Rattle.kc_adj.specs.LeveledGraph.{LeveledGraph, IsCounted}
 use Rattle.kc_adj.proofs.lemmas.Lists.{empty_list}
 use Rattle.kc_insert.specs.declared.rising.RisingLevels.{RisingLevels}
 use Rattle.kc_insert.specs.private.Filed.{AreCopied}
-use Rattle.kc_insert.specs.private.LevelStep.{AreInOrder, AreQuiet}
-use Rattle.kc_insert.specs.private.Parts.{Part}
-use Rattle.kc_insert.specs.private.Ranges.{all_began, all_risen, AreNew, count_of, counts_of, Cut, Forgot, IsCut, IsSameCut, meets, no_part, part_at, waits}
+use Rattle.kc_insert.specs.private.LevelStep.{AreInOrder}
+use Rattle.kc_insert.specs.Ranges.{all_began, all_risen, AreQuiet, counts_of, Cut, IsCut, IsHeld, meets, no_part, Part, part_at, waits, Watch}
+use Rattle.kc_insert.specs.private.Ranges.{AreNew, count_of, Forgot, IsSameCut}
 use Rattle.kc_insert.specs.private.Sweeping.{AreCounted}
-use Rattle.kc_insert.specs.private.Watched.{IsHeld, Watch}
 use Rattle.kc_insert.specs.Working.{Working, IsReady}
 use Rattle.kc_insert.proofs.Filled.{cut_same}
 use Rattle.kc_insert.proofs.Flat.{count_is, length_counts}

@@ -5,7 +5,7 @@ use Rattle.kc_graph.specs.Shape.{GraphShape, IsGraph}
 use Rattle.kc_levels.specs.declared.profile.Profile.{Profile}
 use Rattle.kc_levels.specs.Thresholds.{high, group_of, top_level}
 use Rattle.kc_insert.specs.private.LevelStep.{HasStepped}
-use Rattle.kc_insert.specs.private.Parts.{Part}
+use Rattle.kc_insert.specs.Ranges.{Part}
 use Rattle.kc_insert.specs.private.Sweeping.{IsPaid, IsSweeping}
 use Rattle.kc_insert.proofs.RoundCounts.{level_step}
 use Rattle.kc_insert.proofs.RoundKept.{steps_are}

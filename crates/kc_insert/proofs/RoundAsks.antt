@@ -12,14 +12,15 @@ use Rattle.kc_levels.proofs.lemmas.AtLeast.{count_by-mono}
 use Rattle.kc_adj.specs.Degrees.{degrees}
 use Rattle.kc_insert.specs.declared.rising.RisingLevels.{RisingLevels}
 use Rattle.kc_insert.specs.private.Crossing.{rising_near}
-use Rattle.kc_insert.specs.private.Parts.{CanPart, Part}
-use Rattle.kc_insert.specs.private.Ranges.{AllLetStay, CanLetStay, CanLiftOff, IsIn, no_part, TookWaiting}
+use Rattle.kc_insert.specs.private.Parts.{CanPart}
+use Rattle.kc_insert.specs.Ranges.{IsHeld, IsIn, no_part, Part, range_of, Tell, Watch}
+use Rattle.kc_insert.specs.private.Ranges.{AllLetStay, CanLetStay, CanLiftOff, TookWaiting}
 use Rattle.kc_insert.specs.private.Rising.{all_at, rises, seen}
 use Rattle.kc_insert.specs.private.Round.{is_over}
 use Rattle.kc_insert.specs.private.Sharing.{AllParted, CanPartAll}
 use Rattle.kc_insert.specs.private.Sweeping.{sweeping_of}
-use Rattle.kc_insert.specs.private.Telling.{range_of, Tell, times}
-use Rattle.kc_insert.specs.private.Watched.{count_at, IsHeld, Watch}
+use Rattle.kc_insert.specs.private.Telling.{times}
+use Rattle.kc_insert.specs.private.Watched.{count_at}
 use Rattle.kc_insert.proofs.Adding.{times_rows}
 use Rattle.kc_insert.proofs.Buckets.{has_number-filter}
 use Rattle.kc_insert.proofs.Inside.{inside_rows, near_inside}

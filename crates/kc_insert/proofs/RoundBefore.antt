@@ -8,12 +8,11 @@ use Rattle.kc_graph.proofs.lemmas.Neighbours.{neighbours_both}
 use Rattle.kc_levels.specs.declared.profile.Profile.{Profile}
 use Rattle.kc_levels.specs.LevelList.{at_least}
 use Rattle.kc_insert.specs.private.Crossing.{left_at}
-use Rattle.kc_insert.specs.private.Parts.{Part}
-use Rattle.kc_insert.specs.private.Ranges.{no_part}
+use Rattle.kc_insert.specs.Ranges.{IsHeld, no_part, Part, range_of, Watch}
 use Rattle.kc_insert.specs.private.Rising.{rises, seen}
 use Rattle.kc_insert.specs.private.Sharing.{rise_told}
-use Rattle.kc_insert.specs.private.Telling.{range_of, times}
-use Rattle.kc_insert.specs.private.Watched.{count_at, IsHeld, Watch}
+use Rattle.kc_insert.specs.private.Telling.{times}
+use Rattle.kc_insert.specs.private.Watched.{count_at}
 use Rattle.kc_insert.proofs.Flips.{count_agree}
 use Rattle.kc_insert.proofs.Joined.{joined_in, joined_of}
 use Rattle.kc_insert.proofs.RoundLifted.{before_step}

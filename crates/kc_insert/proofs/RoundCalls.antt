@@ -11,8 +11,8 @@ use Rattle.kc_adj.specs.Degrees.{degrees}
 use Rattle.kc_insert.specs.declared.rising.RisingLevels.{RisingLevels}
 use Rattle.kc_insert.specs.private.Crossing.{IsCrossing}
 use Rattle.kc_insert.specs.private.LevelStep.{AreInOrder, HasLimit, IsLevelStep}
-use Rattle.kc_insert.specs.private.Parts.{Part}
-use Rattle.kc_insert.specs.private.Ranges.{AllLetStay, AreToldAll, CanLetStay, CanLiftOff, count_of, Cut, IsIn, LiftedOff, no_part, TookWaiting, waits}
+use Rattle.kc_insert.specs.Ranges.{Cut, IsIn, no_part, Part, waits}
+use Rattle.kc_insert.specs.private.Ranges.{AllLetStay, AreToldAll, CanLetStay, CanLiftOff, count_of, LiftedOff, TookWaiting}
 use Rattle.kc_insert.specs.private.Rising.{all_at, rises, seen}
 use Rattle.kc_insert.specs.private.Round.{is_over}
 use Rattle.kc_insert.specs.private.Sharing.{AllParted, AllRisen, CanPartAll, CanRiseAll}

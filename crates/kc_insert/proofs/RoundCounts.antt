@@ -11,7 +11,7 @@ use Rattle.kc_insert.specs.private.LevelStep.{IsLevelStep}
 use Rattle.kc_insert.specs.private.Rising.{rises, seen}
 use Rattle.kc_insert.specs.private.Sharing.{rise_told}
 use Rattle.kc_insert.specs.private.Sweeping.{AreCounted}
-use Rattle.kc_insert.specs.private.Telling.{range_of}
+use Rattle.kc_insert.specs.Ranges.{range_of}
 use Rattle.kc_insert.specs.private.Watched.{count_at}
 use Rattle.kc_insert.proofs.Flips.{count_agree}
 use Rattle.kc_insert.proofs.RoundBefore.{begun_home, count4, held, inside, left, next_parts, old_count, same_parts, told, went_parts}

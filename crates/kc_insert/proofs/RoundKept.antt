@@ -12,12 +12,11 @@ use Rattle.kc_levels.specs.Thresholds.{top_level}
 use Rattle.kc_adj.specs.Degrees.{degrees}
 use Rattle.kc_insert.specs.private.Crossing.{meetings_of}
 use Rattle.kc_insert.specs.private.LevelStep.{AreAtRest}
-use Rattle.kc_insert.specs.private.Parts.{Part}
-use Rattle.kc_insert.specs.private.Ranges.{AreKept, IsCut, no_part}
+use Rattle.kc_insert.specs.Ranges.{IsCut, IsHeld, no_part, Part, range_of, Tell, Watch}
+use Rattle.kc_insert.specs.private.Ranges.{AreKept}
 use Rattle.kc_insert.specs.private.Rising.{rises}
 use Rattle.kc_insert.specs.private.Sweeping.{IsSame, sweeping_of}
-use Rattle.kc_insert.specs.private.Telling.{range_of, Tell}
-use Rattle.kc_insert.specs.private.Watched.{count_at, IsHeld, Watch}
+use Rattle.kc_insert.specs.private.Watched.{count_at}
 use Rattle.kc_insert.proofs.Efforts.{degrees-append}
 use Rattle.kc_insert.proofs.Joined.{has_edge-append, joined_of, joined_same}
 use Rattle.kc_insert.proofs.MetRows.{rows_on}

@@ -11,7 +11,7 @@ use Rattle.kc_levels.specs.Thresholds.{top_level}
 use Rattle.kc_insert.specs.private.Crossing.{meetings_of}
 use Rattle.kc_insert.specs.private.LevelStep.{MeetOn}
 use Rattle.kc_insert.specs.private.Meetings.{IsMeeting}
-use Rattle.kc_insert.specs.private.Parts.{Part}
+use Rattle.kc_insert.specs.Ranges.{Part}
 use Rattle.kc_insert.specs.private.Rising.{rises, seen}
 use Rattle.kc_insert.proofs.Joined.{apart_copies, copies, copies_apart, copies_joined, copies_none, joined_rows, joined_same, pairs_in, pairs_joined}
 use Rattle.kc_insert.proofs.MetRows.{rows_among, rows_apart, rows_on}

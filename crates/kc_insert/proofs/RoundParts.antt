@@ -6,13 +6,14 @@ use Rattle.kc_graph.specs.Shape.{GraphShape}
 use Rattle.kc_adj.specs.Degrees.{degrees}
 use Rattle.kc_insert.specs.declared.rising.RisingLevels.{RisingLevels}
 use Rattle.kc_insert.specs.private.Crossing.{Crossing}
-use Rattle.kc_insert.specs.private.Parts.{HasRisen, HaveMet, Part}
-use Rattle.kc_insert.specs.private.Ranges.{AllLetStay, LiftedOff, TookWaiting, no_part}
+use Rattle.kc_insert.specs.private.Parts.{HasRisen, HaveMet}
+use Rattle.kc_insert.specs.Ranges.{IsHeld, no_part, Part, range_of, Tell, Watch}
+use Rattle.kc_insert.specs.private.Ranges.{AllLetStay, LiftedOff, TookWaiting}
 use Rattle.kc_insert.specs.private.Rising.{all_at, rises, seen}
 use Rattle.kc_insert.specs.private.Round.{is_over}
 use Rattle.kc_insert.specs.private.Sharing.{AllParted, AllRisen, rise_told, RisesAndHears}
-use Rattle.kc_insert.specs.private.Telling.{in_range, range_of, Tell}
-use Rattle.kc_insert.specs.private.Watched.{count_at, IsHeld, StayWatched, Watch}
+use Rattle.kc_insert.specs.private.Telling.{in_range}
+use Rattle.kc_insert.specs.private.Watched.{count_at, StayWatched}
 
 -- the range at a place
 abbrev pub at_place : List Part → ℕ → Part

@@ -10,12 +10,12 @@ use Rattle.kc_graph.proofs.lemmas.Neighbours.{neighbour_below}
 use Rattle.kc_levels.specs.declared.profile.Profile.{Profile}
 use Rattle.kc_levels.specs.Thresholds.{top_level}
 use Rattle.kc_insert.specs.private.Crossing.{Crossing, is_above, left_at}
-use Rattle.kc_insert.specs.private.Parts.{CanRise, Part}
-use Rattle.kc_insert.specs.private.Ranges.{no_part}
+use Rattle.kc_insert.specs.private.Parts.{CanRise}
+use Rattle.kc_insert.specs.Ranges.{IsHeld, no_part, Part, range_of, Tell}
 use Rattle.kc_insert.specs.private.Rising.{rises, seen}
 use Rattle.kc_insert.specs.private.Sharing.{CanRiseAll, rise_told}
-use Rattle.kc_insert.specs.private.Telling.{range_of, Tell, times}
-use Rattle.kc_insert.specs.private.Watched.{count_at, IsHeld}
+use Rattle.kc_insert.specs.private.Telling.{times}
+use Rattle.kc_insert.specs.private.Watched.{count_at}
 use Rattle.kc_insert.proofs.Adding.{times_none}
 use Rattle.kc_insert.proofs.Bounds.{degree_few, degrees_few}
 use Rattle.kc_insert.proofs.Inside.{inside_ends}

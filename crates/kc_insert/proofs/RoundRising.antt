@@ -9,13 +9,12 @@ use Rattle.kc_levels.specs.declared.profile.Profile.{Profile}
 use Rattle.kc_levels.specs.Thresholds.{high, group_of}
 use Rattle.kc_insert.specs.declared.rising.RisingLevels.{RisingLevels}
 use Rattle.kc_insert.specs.private.LevelStep.{AreAtRest, HasLimit}
-use Rattle.kc_insert.specs.private.Parts.{Part}
-use Rattle.kc_insert.specs.private.Ranges.{AreKept, Cut, IsCut, no_part}
+use Rattle.kc_insert.specs.Ranges.{Cut, IsCut, IsHeld, no_part, Part, range_of, Tell, Watch}
+use Rattle.kc_insert.specs.private.Ranges.{AreKept}
 use Rattle.kc_insert.specs.private.Rising.{all_at, rises, seen}
 use Rattle.kc_insert.specs.private.Round.{is_over}
 use Rattle.kc_insert.specs.private.Sweeping.{IsSweeping, sweeping_of}
-use Rattle.kc_insert.specs.private.Telling.{range_of, Tell}
-use Rattle.kc_insert.specs.private.Watched.{count_at, IsHeld, Watch}
+use Rattle.kc_insert.specs.private.Watched.{count_at}
 use Rattle.kc_insert.proofs.Buckets.{has_number-filter}
 use Rattle.kc_insert.proofs.Joined.{joined_in, joined_of}
 use Rattle.kc_insert.proofs.Lifting.{length-all_at, all_at_here, all_at_other}

@@ -11,10 +11,10 @@ use Rattle.kc_levels.specs.declared.profile.Profile.{Profile}
 use Rattle.kc_insert.specs.declared.rising.RisingLevels.{RisingLevels}
 use Rattle.kc_insert.specs.private.Crossing.{Crossing, left_at, met_by, next_near, rising_near}
 use Rattle.kc_insert.specs.private.Meetings.{AreApart}
-use Rattle.kc_insert.specs.private.Parts.{Part}
+use Rattle.kc_insert.specs.Ranges.{Part, range_of}
 use Rattle.kc_insert.specs.private.Rising.{rises, seen}
 use Rattle.kc_insert.specs.private.Sharing.{rise_told}
-use Rattle.kc_insert.specs.private.Telling.{range_of, times}
+use Rattle.kc_insert.specs.private.Telling.{times}
 use Rattle.kc_insert.proofs.Adding.{times_rows}
 use Rattle.kc_insert.proofs.Flips.{count_agree}
 use Rattle.kc_insert.proofs.Buckets.{has_number-filter}

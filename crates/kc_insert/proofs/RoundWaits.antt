@@ -5,9 +5,8 @@ use Rattle.kc_graph.specs.Numbers.{has_number}
 use Rattle.kc_graph.specs.Shape.{GraphShape, IsGraph}
 use Rattle.kc_levels.specs.declared.profile.Profile.{Profile}
 use Rattle.kc_insert.specs.private.LevelStep.{WaitOn}
-use Rattle.kc_insert.specs.private.Parts.{Part}
+use Rattle.kc_insert.specs.Ranges.{Part, range_of}
 use Rattle.kc_insert.specs.private.Sharing.{rise_told}
-use Rattle.kc_insert.specs.private.Telling.{range_of}
 use Rattle.kc_insert.proofs.Joined.{joined_in, joined_of}
 use Rattle.kc_insert.proofs.RoundBefore.{inside, held}
 use Rattle.kc_insert.proofs.RoundCounts.{mid_same}

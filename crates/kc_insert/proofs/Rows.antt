@@ -5,7 +5,7 @@ use Rattle.std.proofs.lemmas.List.{take_more, take_all, append-nil, append_assoc
 use Rattle.std.proofs.lemmas.Grind.{flat_map-append}
 use Rattle.kc_graph.specs.Shape.{GraphShape, neighbours_of}
 use Rattle.kc_adj.specs.Degrees.{degrees}
-use Rattle.kc_insert.specs.private.Telling.{Tell}
+use Rattle.kc_insert.specs.Ranges.{Tell}
 
 degrees-append : (g : GraphShape) (xs ys : List ℕ) → degrees g (xs ++ ys) ≡ degrees g xs + degrees g ys
 degrees-append g [] ys = omega arith

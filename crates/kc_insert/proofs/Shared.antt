@@ -8,10 +8,11 @@ use Rattle.std.proofs.lemmas.List.{take_more, take_all, take-append-drop, append
 use Rattle.std.proofs.lemmas.List.Elements.{filter-append}
 use Rattle.std.proofs.lemmas.Grind.{flat_map-append}
 use Rattle.kc_graph.specs.Numbers.{has_number}
-use Rattle.kc_insert.specs.private.Parts.{CanHearLess, CanHearMore, HasHeardLess, HaveMet, Part}
+use Rattle.kc_insert.specs.private.Parts.{CanHearLess, CanHearMore, HasHeardLess, HaveMet}
+use Rattle.kc_insert.specs.Ranges.{IsHeld, Part, range_of, Tell, Watch}
 use Rattle.kc_insert.specs.private.Sharing.{AreFew, AreTold, CanLessen, CanMeet, HearLess, HearMore, told_all}
-use Rattle.kc_insert.specs.private.Telling.{Tell, heard_by, in_range, range_of, times}
-use Rattle.kc_insert.specs.private.Watched.{Watch, count_at, IsHeld, StayWatched}
+use Rattle.kc_insert.specs.private.Telling.{heard_by, in_range, times}
+use Rattle.kc_insert.specs.private.Watched.{count_at, StayWatched}
 use Rattle.kc_insert.proofs.Adding.{times-append, times-filter, times_some, times_there}
 use Rattle.kc_insert.proofs.Buckets.{has_number-filter}
 use Rattle.kc_insert.proofs.Direct.{heard_none}

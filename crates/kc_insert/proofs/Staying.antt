@@ -11,7 +11,8 @@ use Rattle.kc_levels.specs.Following.{AreDistinct}
 use Rattle.kc_insert.specs.declared.rising.RisingLevels.{RisingLevels}
 use Rattle.kc_insert.specs.private.Rising.{rises, seen}
 use Rattle.kc_insert.specs.private.Parts.{LetStay}
-use Rattle.kc_insert.specs.private.Watched.{Watch, count_at}
+use Rattle.kc_insert.specs.private.Watched.{count_at}
+use Rattle.kc_insert.specs.Ranges.{Watch}
 use Rattle.kc_insert.proofs.Buckets.{pushed_is}
 use Rattle.kc_insert.proofs.Lifting.{distinct-push}
 use Rattle.kc_insert.proofs.Seen.{length-seen, stored_at}

@@ -7,7 +7,8 @@ use Rattle.std.proofs.lemmas.Bool.Decides.{nat_tests}
 use Rattle.std.proofs.lemmas.Grind.{flat_map-append}
 use Rattle.kc_graph.specs.Numbers.{has_number}
 use Rattle.kc_levels.specs.Following.{AreDistinct}
-use Rattle.kc_insert.specs.private.Telling.{Tell, heard_by, in_range, range_of, times}
+use Rattle.kc_insert.specs.private.Telling.{heard_by, in_range, times}
+use Rattle.kc_insert.specs.Ranges.{range_of, Tell}
 use Rattle.kc_insert.proofs.Adding.{times-append, times-filter}
 use Rattle.kc_insert.proofs.Buckets.{has_number-filter}
 

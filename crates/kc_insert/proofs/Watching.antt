@@ -7,7 +7,8 @@ use Rattle.std.proofs.lemmas.List.Elements.{filter_more}
 use Rattle.kc_graph.specs.Numbers.{has_number}
 use Rattle.kc_graph.proofs.lemmas.Numbers.{has_number-push, has_number_at}
 use Rattle.kc_insert.specs.private.Telling.{times}
-use Rattle.kc_insert.specs.private.Watched.{Watch, count_at, IsHeld, is_few, StayWatched}
+use Rattle.kc_insert.specs.private.Watched.{count_at, is_few, StayWatched}
+use Rattle.kc_insert.specs.Ranges.{IsHeld, Watch}
 use Rattle.kc_insert.proofs.Adding.{times_more, times_part}
 use Rattle.kc_insert.proofs.Buckets.{pushed_is, has_last}
 

@@ -3,8 +3,7 @@ use Rattle.std.specs.Prelude.{ℕ, ◌+◌, ◌≡◌, [], List}
 use Rattle.kc_levels.specs.declared.profile.Profile.{Profile}
 use Rattle.kc_levels.specs.Thresholds.{top_level}
 use Rattle.kc_adj.specs.LeveledGraph.{LeveledGraph, IsCounted}
-use Rattle.kc_insert.specs.private.LevelStep.{AreQuiet}
-use Rattle.kc_insert.specs.private.Ranges.{counts_of, Cut, waits}
+use Rattle.kc_insert.specs.Ranges.{AreQuiet, counts_of, Cut, waits}
 
 -- what contracts see of an `InsertionWork`: the levels, and the ranges of the vertices
 pub record Working : Type 0 where

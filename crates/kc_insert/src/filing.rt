@@ -6,8 +6,7 @@ ghost use Rattle.kc_graph.specs.Shape.{neighbours_of};
 ghost use Rattle.kc_levels.specs.LevelList.{IsCapped};
 ghost use Rattle.kc_levels.specs.Thresholds.{top_level};
 ghost use Rattle.kc_insert.specs.private.Filed.{AreCopied, CanFile, CanFollow, HasFiled, HasFollowed, HaveCounted, HaveFiled};
-ghost use Rattle.kc_insert.specs.private.Ranges.{IsIn};
-ghost use Rattle.kc_insert.specs.private.Watched.{IsHeld};
+ghost use Rattle.kc_insert.specs.Ranges.{IsHeld, IsIn};
 
 use crate::range::Range;
 use crate::ranges::Ranges;

@@ -31,7 +31,7 @@ pub struct Layout {
 }
 
 impl Layout {
-    ghost use Rattle.kc_insert.specs.private.Telling.{range_of};
+    ghost use Rattle.kc_insert.specs.Ranges.{range_of};
 
     /// Ranges of 2 ^ `bits` vertices, 0 to 24.
     pub fn new(bits: u32, least_shared: usize) -> Self

@@ -8,8 +8,9 @@ ghost use Rattle.kc_adj.specs.Degrees.{degrees};
 ghost use Rattle.kc_insert.specs.private.Crossing.{above_near, count_above, HaveBegun, HaveMeetings, is_above, left_at, met_by, next_near, rising_near, with_levels};
 ghost use Rattle.kc_insert.specs.private.Parts.{CanPart, CanRise, HasParted, HasRisen, HaveRisen};
 ghost use Rattle.kc_insert.specs.private.Rising.{rises, seen};
-ghost use Rattle.kc_insert.specs.private.Telling.{AreDealtAnew, range_of, times};
-ghost use Rattle.kc_insert.specs.private.Watched.{count_at, IsHeld, StayWatched};
+ghost use Rattle.kc_insert.specs.private.Telling.{AreDealtAnew, times};
+ghost use Rattle.kc_insert.specs.Ranges.{IsHeld, range_of};
+ghost use Rattle.kc_insert.specs.private.Watched.{count_at, StayWatched};
 
 use crate::layout::Layout;
 use crate::meetings::Meeting;

@@ -5,7 +5,8 @@ ghost use Rattle.kc_graph.specs.Numbers.{has_number};
 ghost use Rattle.kc_insert.specs.private.Parts.{CanHearLess, CanHearMore, HasHeardLess, HaveMet, LetStay};
 ghost use Rattle.kc_insert.specs.private.Rising.{rises, seen};
 ghost use Rattle.kc_insert.specs.private.Telling.{heard_by, times};
-ghost use Rattle.kc_insert.specs.private.Watched.{count_at, is_few, IsHeld, StayWatched};
+ghost use Rattle.kc_insert.specs.private.Watched.{count_at, is_few, StayWatched};
+ghost use Rattle.kc_insert.specs.Ranges.{IsHeld};
 
 use crate::meetings::Meeting;
 use crate::rising::RisingLevels;
@@ -44,7 +45,7 @@ pub struct Range {
 }
 
 impl Model for Range {
-    ghost use Rattle.kc_insert.specs.private.Parts.{Part};
+    ghost use Rattle.kc_insert.specs.Ranges.{Part};
 
     ghost Value = { Part };
 

@@ -3,11 +3,10 @@
 ghost use Rattle.std.specs.Prelude.{◌≡◌, ◌+◌, ◌-◌, ◌*◌, ◌++◌, ◌∷◌, ◌<◌, ◌≤◌, ◌^◌, ℕ, [], false, true, All, IfOk, OnOk, length, replicate, slice_index_or, slice_set, sum_by};
 ghost use Rattle.std.specs.List.{flat_map};
 ghost use Rattle.kc_graph.specs.Numbers.{has_number};
-ghost use Rattle.kc_insert.specs.private.Ranges.{all_began, all_begun, all_risen, all_stay, AllLetStay, AreNew, AreToldAll, CanLetStay, CanLiftOff, CanLookAnew, count_of, Forgot, IsIn, LiftedOff, LookedAnew, LooksAnew, meets, part_of, TookWaiting, waits};
+ghost use Rattle.kc_insert.specs.private.Ranges.{all_begun, all_stay, AllLetStay, AreNew, AreToldAll, CanLetStay, CanLiftOff, CanLookAnew, count_of, Forgot, LiftedOff, LookedAnew, LooksAnew, TookWaiting};
+ghost use Rattle.kc_insert.specs.Ranges.{all_began, all_risen, IsHeld, IsIn, meets, part_of, range_of, waits};
 ghost use Rattle.kc_insert.specs.private.Rising.{seen};
 ghost use Rattle.kc_insert.specs.private.Sharing.{AllParted, AllRisen, CanPartAll, CanRiseAll};
-ghost use Rattle.kc_insert.specs.private.Telling.{range_of};
-ghost use Rattle.kc_insert.specs.private.Watched.{IsHeld};
 
 use crate::layout::Layout;
 use crate::passes::Step;
@@ -32,7 +31,7 @@ pub struct Ranges {
 }
 
 impl Model for Ranges {
-    ghost use Rattle.kc_insert.specs.private.Ranges.{Cut};
+    ghost use Rattle.kc_insert.specs.Ranges.{Cut};
 
     ghost Value = { Cut };
 

@@ -7,7 +7,8 @@ ghost use Rattle.kc_graph.specs.Shape.{GraphShape};
 ghost use Rattle.kc_levels.specs.declared.profile.Profile.{Profile};
 ghost use Rattle.kc_levels.specs.Thresholds.{group_of, high, top_level};
 ghost use Rattle.kc_insert.specs.private.LevelStep.{AreInOrder};
-ghost use Rattle.kc_insert.specs.private.Ranges.{all_began, CanLookAnew, LookedAnew, meets, waits};
+ghost use Rattle.kc_insert.specs.private.Ranges.{CanLookAnew, LookedAnew};
+ghost use Rattle.kc_insert.specs.Ranges.{all_began, meets, waits};
 ghost use Rattle.kc_insert.specs.private.Rising.{rises, seen};
 ghost use Rattle.kc_insert.specs.private.Sweeping.{IsFree, IsPaid, IsSweeping, sweeping_of};
 
@@ -39,7 +40,8 @@ pub struct Over<'a> {
 }
 
 impl RoundTest for Over<'_> {
-    ghost use Rattle.kc_insert.specs.private.Ranges.{count_of, IsIn};
+    ghost use Rattle.kc_insert.specs.private.Ranges.{count_of};
+    ghost use Rattle.kc_insert.specs.Ranges.{IsIn};
     ghost use Rattle.kc_insert.specs.private.Round.{is_over};
 
     ghost keeps = { λ test v. is_over (count_of test.ranges.now) test.most v };

@@ -1,7 +1,8 @@
 //! What a pass over one range has to tell of the vertices of others.
 
 ghost use Rattle.std.specs.Prelude.{◌≡◌, ◌++◌, ◌∷◌, ◌<◌, [], All, IfOk, OnOk, length, replicate, slice_index_or};
-ghost use Rattle.kc_insert.specs.private.Telling.{AreDealt, range_of};
+ghost use Rattle.kc_insert.specs.private.Telling.{AreDealt};
+ghost use Rattle.kc_insert.specs.Ranges.{range_of};
 
 use crate::layout::Layout;
 use std::alloc::{AllocError, Global};
@@ -32,7 +33,7 @@ pub struct Told {
 }
 
 impl Model for Told {
-    ghost use Rattle.kc_insert.specs.private.Telling.{Tell};
+    ghost use Rattle.kc_insert.specs.Ranges.{Tell};
 
     ghost Value = { Tell };
 

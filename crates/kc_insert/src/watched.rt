@@ -3,7 +3,8 @@
 ghost use Rattle.std.specs.Prelude.{◌≡◌, ◌+◌, ◌-◌, ◌<◌, ◌≤◌, ◌^◌, ℕ, true, OnOk, IfOk, [], filter, length, slice_set};
 ghost use Rattle.kc_graph.specs.Numbers.{has_number};
 ghost use Rattle.kc_insert.specs.private.Telling.{times};
-ghost use Rattle.kc_insert.specs.private.Watched.{count_at, IsHeld, is_few, StayWatched};
+ghost use Rattle.kc_insert.specs.private.Watched.{count_at, is_few, StayWatched};
+ghost use Rattle.kc_insert.specs.Ranges.{IsHeld};
 
 use std::alloc::{AllocError, Global};
 use std::marker::Model;
@@ -24,7 +25,7 @@ pub struct WatchedCounts {
 
 impl Model for WatchedCounts {
     ghost use Rattle.std.specs.Prelude.{◌+◌, ◌^◌, ◌≤◌, length};
-    ghost use Rattle.kc_insert.specs.private.Watched.{Watch};
+    ghost use Rattle.kc_insert.specs.Ranges.{Watch};
 
     ghost Value = { Watch };
 

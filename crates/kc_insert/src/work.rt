@@ -9,7 +9,8 @@ ghost use Rattle.kc_levels.specs.LevelList.{IsBelow};
 ghost use Rattle.kc_levels.specs.Moved.{is_moved, moves_between};
 ghost use Rattle.kc_adj.specs.Degrees.{degrees};
 ghost use Rattle.kc_adj.specs.LeveledGraph.{LeveledGraph};
-ghost use Rattle.kc_insert.specs.private.Ranges.{all_risen, Forgot, IsIn};
+ghost use Rattle.kc_insert.specs.private.Ranges.{Forgot};
+ghost use Rattle.kc_insert.specs.Ranges.{all_risen, IsIn};
 ghost use Rattle.kc_insert.specs.Working.{IsReady};
 
 use crate::filing::{copy_ends, copy_rows};

@@ -5,7 +5,8 @@ use Rattle.kc_graph.specs.Numbers.{has_number}
 use Rattle.kc_graph.specs.Shape.{GraphShape, Pair, IsGraph, neighbours_of}
 use Rattle.kc_insert.specs.declared.rising.RisingLevels.{RisingLevels}
 use Rattle.kc_insert.specs.private.Rising.{rises, seen}
-use Rattle.kc_insert.specs.private.Watched.{Watch, count_at, StayWatched}
+use Rattle.kc_insert.specs.private.Watched.{count_at, StayWatched}
+use Rattle.kc_insert.specs.Ranges.{Watch}
 
 -- what contracts see of a `Step`
 pub record Crossing : Type 0 where

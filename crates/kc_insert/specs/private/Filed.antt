@@ -5,9 +5,9 @@ use Rattle.kc_levels.specs.declared.profile.Profile.{Profile}
 use Rattle.kc_levels.specs.Thresholds.{high, group_of, top_level}
 use Rattle.kc_levels.specs.LevelList.{IsCapped}
 use Rattle.kc_levels.specs.private.Following.{IsCopied}
-use Rattle.kc_insert.specs.private.Parts.{Part}
-use Rattle.kc_insert.specs.private.Ranges.{counts_of, Cut, IsCut, IsSameCut, waits}
-use Rattle.kc_insert.specs.private.Watched.{Watch, count_at, IsHeld}
+use Rattle.kc_insert.specs.Ranges.{counts_of, Cut, IsCut, IsHeld, Part, waits, Watch}
+use Rattle.kc_insert.specs.private.Ranges.{IsSameCut}
+use Rattle.kc_insert.specs.private.Watched.{count_at}
 
 -- v counts `own` from now on, and waits on its level by y if it counted otherwise before and its group allows fewer
 pub record HasFollowed (p : Profile) (n : ℕ) (y : List ℕ) (v own : ℕ) (old new : Watch) (first queue : List (List ℕ)) : Type 0 where

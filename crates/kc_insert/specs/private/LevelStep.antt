@@ -7,9 +7,9 @@ use Rattle.kc_levels.specs.Following.{AreDistinct}
 use Rattle.kc_levels.specs.Thresholds.{top_level}
 use Rattle.kc_insert.specs.declared.rising.RisingLevels.{RisingLevels}
 use Rattle.kc_insert.specs.private.Meetings.{AreApart, IsMeeting}
-use Rattle.kc_insert.specs.private.Ranges.{all_began, all_risen, AreKept, Cut, IsCut, meets, part_at}
+use Rattle.kc_insert.specs.private.Ranges.{AreKept}
+use Rattle.kc_insert.specs.Ranges.{Cut, IsCut, IsHeld, part_at}
 use Rattle.kc_insert.specs.private.Sweeping.{AreCounted, IsPaid, IsSweeping, Sweeping, sweeping_of}
-use Rattle.kc_insert.specs.private.Watched.{IsHeld}
 
 -- The step from the levels y to z. Each vertex on the level l that counts more than `most` goes to the next level, and
 -- no other vertex moves. The counts are c before and d afterwards.
@@ -84,11 +84,3 @@ pub record IsRunning (p : Profile) (g : GraphShape) (x : List ℕ) (first now : 
   pub order : AreInOrder p g s r
   pub sweeping : IsSweeping p g x (sweeping_of s r)
   pub paid : IsPaid g x (sweeping_of s r) first now
-
--- between phases no vertex rises, waits or is to be met, and the watch lists have vertices of their own ranges alone
-pub record AreQuiet (p : Profile) (g : GraphShape) (r : Cut) : Type 0 where
-  pub shape : IsCut g.vertices (top_level p g.vertices + 1) r
-  pub none : (all_began r ≡ []) × (all_risen r ≡ []) × ((k : ℕ) → meets r k ≡ [])
-  pub begun : (j : ℕ) → j < length r.parts → (part_at r j).begun ≡ []
-  pub steps : (j : ℕ) → j < length r.parts → (part_at r j).steps ≡ 0
-  pub inside : (j v : ℕ) → j < length r.parts → has_number v (part_at r j).watch.doubtful ≡ true → IsHeld (part_at r j).watch v

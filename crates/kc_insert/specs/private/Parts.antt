@@ -8,21 +8,9 @@ use Rattle.kc_adj.specs.Degrees.{degrees}
 use Rattle.kc_insert.specs.declared.rising.RisingLevels.{RisingLevels}
 use Rattle.kc_insert.specs.private.Crossing.{Crossing, count_above, HaveMeetings, is_above, left_at, met_by, next_near, rising_near}
 use Rattle.kc_insert.specs.private.Rising.{rises}
-use Rattle.kc_insert.specs.private.Telling.{AreDealtAnew, heard_by, range_of, Tell, times}
-use Rattle.kc_insert.specs.private.Watched.{Watch, count_at, IsHeld, StayWatched}
-
--- what contracts see of a `Range`
-pub record Part : Type 0 where
-  pub watch : Watch
-  pub queue : List (List ℕ)
-  pub meetings : List (List Pair)
-  pub began : List ℕ
-  pub risen : List ℕ
-  pub stay : List ℕ
-  pub begun : List ℕ
-  pub tell : Tell
-  pub steps : ℕ
-  pub is_short : Bool
+use Rattle.kc_insert.specs.private.Telling.{AreDealtAnew, heard_by, times}
+use Rattle.kc_insert.specs.Ranges.{IsHeld, Part, range_of, Tell, Watch}
+use Rattle.kc_insert.specs.private.Watched.{count_at, StayWatched}
 
 -- the vertices in the list, each once, rise no more, since their counts are within the limit; all others of the watch list that still
 -- rise count more

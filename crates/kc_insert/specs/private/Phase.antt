@@ -1,6 +1,6 @@
 -- A phase over levels and ranges.
 use Rattle.kc_insert.specs.declared.rising.RisingLevels.{RisingLevels}
-use Rattle.kc_insert.specs.private.Ranges.{Cut}
+use Rattle.kc_insert.specs.Ranges.{Cut}
 use Rattle.kc_insert.specs.Working.{Working}
 
 -- what contracts see of an `InsertionWork` with these levels and ranges

@@ -5,9 +5,10 @@ use Rattle.kc_graph.specs.Numbers.{has_number}
 use Rattle.kc_graph.specs.Shape.{neighbours_of}
 use Rattle.kc_adj.specs.Degrees.{degrees}
 use Rattle.kc_insert.specs.private.Crossing.{Crossing, met_by, next_near, rising_near}
-use Rattle.kc_insert.specs.private.Parts.{CanPart, CanRise, HasHeardLess, HasRisen, HaveMet, Part}
-use Rattle.kc_insert.specs.private.Telling.{in_range, range_of, Tell, times}
-use Rattle.kc_insert.specs.private.Watched.{count_at, IsHeld, StayWatched}
+use Rattle.kc_insert.specs.private.Parts.{CanPart, CanRise, HasHeardLess, HasRisen, HaveMet}
+use Rattle.kc_insert.specs.Ranges.{IsHeld, Part, range_of, Tell}
+use Rattle.kc_insert.specs.private.Telling.{in_range, times}
+use Rattle.kc_insert.specs.private.Watched.{count_at, StayWatched}
 
 -- all that is told
 abbrev pub told_all : List Tell → List ℕ

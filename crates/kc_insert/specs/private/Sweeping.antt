@@ -14,7 +14,8 @@ use Rattle.kc_adj.specs.Degrees.{degrees}
 use Rattle.kc_insert.specs.Effort.{effort}
 use Rattle.kc_insert.specs.declared.rising.RisingLevels.{RisingLevels}
 use Rattle.kc_insert.specs.private.Meetings.{AreApart, IsMeeting}
-use Rattle.kc_insert.specs.private.Ranges.{Cut, all_began, all_risen, count_of, meets, waits}
+use Rattle.kc_insert.specs.private.Ranges.{count_of}
+use Rattle.kc_insert.specs.Ranges.{all_began, all_risen, Cut, meets, waits}
 use Rattle.kc_insert.specs.private.Rising.{all_at, rises, seen}
 
 -- A sweep on its way: the level that it is at, the levels by now, and the count of each vertex. `rising` has the

@@ -1,15 +1,7 @@
 -- What ranges tell of vertices, and how it is cut.
 use Rattle.std.specs.Prelude.{ℕ, ◌+◌, ◌/◌, ◌^◌, ◌≡◌, ◌<◌, ◌==◌, ◌++◌, ◌∷◌, cond, List, [], length, get_or, filter}
 use Rattle.std.specs.List.{flat_map}
-
--- what contracts see of a `Told`: all that is told, in order, and the same cut by ranges
-pub record Tell : Type 0 where
-  pub all : List ℕ
-  pub lists : List (List ℕ)
-
--- the range of v, of ranges of 2 ^ bits vertices
-abbrev pub range_of : ℕ → ℕ → ℕ
-range_of bits v = v / 2 ^ bits
+use Rattle.kc_insert.specs.Ranges.{range_of, Tell}
 
 -- those of the list that are in the range
 abbrev pub in_range : ℕ → ℕ → List ℕ → List ℕ

@@ -1,13 +1,7 @@
 -- Counts of a range, with a watch list of the vertices whose count came to the limit.
 use Rattle.std.specs.Prelude.{ℕ, ◌+◌, ◌-◌, ◌≤◌, ◌<◌, ◌≡◌, ◌⊎◌, nat_le, Bool, true, List, length, get_or}
 use Rattle.kc_graph.specs.Numbers.{has_number}
-
--- what contracts see of a `WatchedCounts`
-pub record Watch : Type 0 where
-  pub first : ℕ
-  pub counts : List ℕ
-  pub most : ℕ
-  pub doubtful : List ℕ
+use Rattle.kc_insert.specs.Ranges.{IsHeld, Watch}
 
 -- how many neighbours v counts
 abbrev pub count_at : Watch → ℕ → ℕ
@@ -16,11 +10,6 @@ count_at w v = get_or w.counts (v - w.first) 0
 -- v counts at most `most`
 abbrev pub is_few : Watch → ℕ → ℕ → Bool
 is_few w most v = nat_le (count_at w v) most
-
--- v is one of the vertices
-pub record IsHeld (w : Watch) (v : ℕ) : Type 0 where
-  pub from : w.first ≤ v
-  pub below : v < w.first + length w.counts
 
 -- the vertices and the limit are as before, and the watch list has all that it had, and each vertex whose count came to the limit
 pub record StayWatched (old new : Watch) : Type 0 where

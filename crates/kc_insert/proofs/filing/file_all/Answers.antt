@@ -1,8 +1,7 @@
 use Rattle.std.proofs.Common.{ℕ, List, ◌≡◌, ◌<◌, ◌≢◌, get_or, length, refl, ap, sym, subst, ◌∙◌, arith}
 use Rattle.kc_insert.specs.private.Filed.{CanFile, CanFollow, HasFiled}
 use Rattle.std.proofs.lemmas.List.{with_items_is}
-use Rattle.kc_insert.specs.private.Parts.{Part}
-use Rattle.kc_insert.specs.private.Ranges.{Cut}
+use Rattle.kc_insert.specs.Ranges.{Cut, Part}
 use Rattle.kc_insert.proofs.Filled.{all_filed, can_follow}
 use Rattle.kc_insert.proofs.filing.file_all.Goals as goal
 

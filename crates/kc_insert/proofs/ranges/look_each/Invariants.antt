@@ -1,5 +1,5 @@
 use Rattle.std.proofs.Common.{ℕ, ◌≡◌, ◌<◌, ◌≤◌, get_or}
-use Rattle.kc_insert.specs.private.Parts.{Part}
+use Rattle.kc_insert.specs.Ranges.{Part}
 use Rattle.kc_insert.specs.private.Ranges.{LooksAnew}
 use Rattle.kc_insert.proofs.ranges.look_each.Given as goal
 

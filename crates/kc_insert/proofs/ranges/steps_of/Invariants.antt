@@ -1,6 +1,6 @@
 use Rattle.std.proofs.Common.{ℕ, ◌≡◌, ◌<◌, ◌≤◌, get_or, take}
 use Rattle.std.specs.Prelude.{sum_by}
-use Rattle.kc_insert.specs.private.Parts.{Part}
+use Rattle.kc_insert.specs.Ranges.{Part}
 use Rattle.kc_insert.proofs.ranges.steps_of.Given as goal
 
 abbrev pub invariant-loop-i : goal.invariant-loop-i

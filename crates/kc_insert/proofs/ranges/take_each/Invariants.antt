@@ -1,6 +1,6 @@
 use Rattle.std.proofs.Common.{ℕ, ◌≡◌, ◌<◌, ◌≤◌, [], get_or, set, take}
 use Rattle.std.specs.List.{flat_map}
-use Rattle.kc_insert.specs.private.Parts.{Part}
+use Rattle.kc_insert.specs.Ranges.{Part}
 use Rattle.kc_insert.proofs.ranges.take_each.Given as goal
 
 abbrev pub invariant-loop-i : goal.invariant-loop-i

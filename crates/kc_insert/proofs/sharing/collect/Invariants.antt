@@ -1,6 +1,5 @@
 use Rattle.std.proofs.Common.{ℕ, ◌≡◌, ◌<◌, ◌≤◌, get_or, length}
-use Rattle.kc_insert.specs.private.Parts.{Part}
-use Rattle.kc_insert.specs.private.Telling.{Tell}
+use Rattle.kc_insert.specs.Ranges.{Part, Tell}
 use Rattle.kc_insert.proofs.sharing.collect.Given as goal
 
 abbrev pub invariant-loop-i : goal.invariant-loop-i

@@ -1,8 +1,7 @@
 use Rattle.std.proofs.Common.{ℕ, ◌≡◌, ◌+◌, ◌-◌, get_or, length, take, refl, ap, ◌∙◌, arith}
 use Rattle.kc_graph.proofs.lemmas.Numbers.{has_number_at}
-use Rattle.kc_insert.specs.private.Parts.{Part}
-use Rattle.kc_insert.specs.private.Ranges.{no_part}
-use Rattle.kc_insert.specs.private.Telling.{range_of, times}
+use Rattle.kc_insert.specs.Ranges.{no_part, Part, range_of}
+use Rattle.kc_insert.specs.private.Telling.{times}
 use Rattle.kc_insert.proofs.Direct.{heard_held, heard_one, heard_some, hear_next, in_times}
 use Rattle.kc_insert.proofs.Shared.{hear_first}
 use Rattle.kc_insert.proofs.sharing.hear_less_all.Goals as goal

@@ -1,5 +1,6 @@
 use Rattle.std.proofs.Common.{sym, subst}
-use Rattle.kc_insert.specs.private.Parts.{CanHearLess, Part}
+use Rattle.kc_insert.specs.private.Parts.{CanHearLess}
+use Rattle.kc_insert.specs.Ranges.{Part}
 use Rattle.kc_insert.proofs.sharing.hear_less_each.Goals as goal
 
 pub for_each_mut-requires-clause-accepts : goal.for_each_mut-requires-clause-accepts

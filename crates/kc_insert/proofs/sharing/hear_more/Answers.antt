@@ -3,7 +3,8 @@ use Rattle.std.proofs.lemmas.List.{take_all}
 use Rattle.kc_insert.specs.private.Crossing.{Crossing}
 use Rattle.kc_insert.specs.private.Parts.{CanHearMore, HaveMet}
 use Rattle.kc_insert.specs.private.Sharing.{AreTold, CanMeet, HearMore, told_all}
-use Rattle.kc_insert.specs.private.Telling.{Tell, heard_by}
+use Rattle.kc_insert.specs.private.Telling.{heard_by}
+use Rattle.kc_insert.specs.Ranges.{Tell}
 use Rattle.kc_insert.proofs.Shared.{can_meet, meet_first, met_dealt, next_met, next_room, next_small, next_there}
 use Rattle.kc_insert.proofs.sharing.hear_more.Goals as goal
 

@@ -1,5 +1,5 @@
 use Rattle.std.proofs.Common.{ℕ, List, ◌≡◌, get_or, ap, subst, ◌∙◌, arith}
-use Rattle.kc_insert.specs.private.Parts.{Part}
+use Rattle.kc_insert.specs.Ranges.{Part}
 use Rattle.kc_insert.proofs.SettleAll.{AreSettled, settled_range, settled_was}
 use Rattle.kc_insert.proofs.sweep.settle_each.Goals as goal
 

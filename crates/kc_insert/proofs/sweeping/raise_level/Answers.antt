@@ -7,7 +7,8 @@ use Rattle.kc_graph.proofs.lemmas.Numbers.{has_number_at}
 use Rattle.kc_levels.specs.declared.profile.Profile.{Profile}
 use Rattle.kc_levels.specs.Thresholds.{group_of, high, top_level}
 use Rattle.kc_insert.specs.private.LevelStep.{HasLimit, IsLevelStep, IsRunning}
-use Rattle.kc_insert.specs.private.Ranges.{count_of, Cut, waits}
+use Rattle.kc_insert.specs.private.Ranges.{count_of}
+use Rattle.kc_insert.specs.Ranges.{Cut, waits}
 use Rattle.kc_insert.specs.private.Rising.{seen}
 use Rattle.kc_insert.specs.private.Round.{is_over}
 use Rattle.kc_insert.specs.private.Sharing.{AllParted, AllRisen, CanPartAll, CanRiseAll}

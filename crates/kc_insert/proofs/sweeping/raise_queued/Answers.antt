@@ -6,7 +6,7 @@ use Rattle.kc_levels.specs.Thresholds.{top_level}
 use Rattle.kc_adj.specs.Degrees.{degrees}
 use Rattle.kc_insert.specs.Effort.{effort}
 use Rattle.kc_insert.specs.private.LevelStep.{AreInOrder}
-use Rattle.kc_insert.specs.private.Ranges.{all_risen, Cut}
+use Rattle.kc_insert.specs.Ranges.{all_risen, Cut}
 use Rattle.kc_insert.proofs.Ending.{queues_long, queues_same, settled_order, some_range}
 use Rattle.kc_insert.proofs.Phases.{ends_began, ends_inside, ends_paid, ends_raised, ends_small, none_rises, starts_order, starts_paid, starts_sweeping}
 use Rattle.kc_insert.proofs.sweeping.raise_queued.Goals as goal

@@ -4,8 +4,7 @@ use Rattle.kc_levels.specs.Thresholds.{group_of, high, top_level}
 use Rattle.kc_insert.specs.declared.rising.RisingLevels.{RisingLevels}
 use Rattle.kc_insert.specs.declared.sweep.Sweep.{Sweep}
 use Rattle.kc_insert.specs.private.LevelStep.{AreInOrder, HasLimit, IsRunning, IsUnderWay}
-use Rattle.kc_insert.specs.private.Parts.{Part}
-use Rattle.kc_insert.specs.private.Ranges.{no_part}
+use Rattle.kc_insert.specs.Ranges.{no_part, Part}
 use Rattle.kc_insert.proofs.Anew.{can_look, looked_limit, looked_order, looked_running, looked_way}
 use Rattle.kc_insert.proofs.sweeping.rise_on.Goals as goal
 

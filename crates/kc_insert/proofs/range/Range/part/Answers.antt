@@ -3,7 +3,7 @@ use Rattle.std.specs.List.{flat_map}
 use Rattle.kc_graph.specs.Numbers.{has_number}
 use Rattle.kc_insert.specs.private.Rising.{rises}
 use Rattle.kc_insert.specs.private.Crossing.{rising_near}
-use Rattle.kc_insert.specs.private.Telling.{Tell}
+use Rattle.kc_insert.specs.Ranges.{Tell}
 use Rattle.kc_insert.proofs.Inside.{dealt_all, inside_rows, near_inside}
 use Rattle.kc_insert.proofs.range.Range.part.Goals as goal
 

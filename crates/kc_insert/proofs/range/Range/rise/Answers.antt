@@ -3,9 +3,8 @@ use Rattle.std.specs.List.{flat_map}
 use Rattle.std.proofs.lemmas.List.{get_or-set_other, length-replicate}
 use Rattle.kc_graph.specs.Shape.{Pair, has_edge}
 use Rattle.kc_insert.specs.private.Crossing.{Crossing, met_by, next_near}
-use Rattle.kc_insert.specs.private.Parts.{Part}
+use Rattle.kc_insert.specs.Ranges.{Part, Tell}
 use Rattle.kc_insert.specs.private.Rising.{rises}
-use Rattle.kc_insert.specs.private.Telling.{Tell}
 use Rattle.kc_insert.proofs.Inside.{dealt_all, inside_both, inside_ends, inside_rows, near_inside}
 use Rattle.kc_insert.proofs.range.Range.rise.Goals.{then-step+in_ok-deal, else-step}
 use Rattle.kc_insert.proofs.range.Range.rise.Goals as goal

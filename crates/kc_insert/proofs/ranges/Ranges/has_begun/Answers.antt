@@ -1,7 +1,6 @@
 use Rattle.std.proofs.Common.{◌≡◌, length, ap, sym, ◌∙◌, arith}
 use Rattle.std.specs.List.{flat_map}
-use Rattle.kc_insert.specs.private.Parts.{Part}
-use Rattle.kc_insert.specs.private.Ranges.{all_began, Cut}
+use Rattle.kc_insert.specs.Ranges.{all_began, Cut, Part}
 use Rattle.kc_insert.proofs.Nearest.{flat_none}
 use Rattle.kc_insert.proofs.ranges.Ranges.has_begun.Goals as goal
 

@@ -1,6 +1,5 @@
 use Rattle.std.proofs.Common.{ℕ, List, ◌*◌, ◌^◌, ◌≡◌, ◌<◌, ◌≤◌, ◌++◌, ◌∷◌, [], get_or, length, take, drop, refl, ap, sym, subst, ◌∙◌, arith}
-use Rattle.kc_insert.specs.private.Parts.{Part}
-use Rattle.kc_insert.specs.private.Telling.{Tell}
+use Rattle.kc_insert.specs.Ranges.{Part, Tell}
 use Rattle.kc_insert.proofs.Making.{IsMaking, made, making_last, making_next}
 use Rattle.kc_insert.proofs.ranges.Ranges.new.Goals as goal
 

@@ -2,8 +2,7 @@ use Rattle.std.proofs.Common.{ℕ, List, [], ◌≡◌, ◌<◌, get_or, length,
 use Rattle.std.specs.Prelude.{All}
 use Rattle.std.specs.List.{flat_map}
 use Rattle.kc_graph.specs.Shape.{Pair}
-use Rattle.kc_insert.specs.private.Parts.{Part}
-use Rattle.kc_insert.specs.private.Ranges.{waits, Cut}
+use Rattle.kc_insert.specs.Ranges.{Cut, Part, waits}
 use Rattle.kc_insert.proofs.Direct.{any_default}
 use Rattle.kc_insert.proofs.Nearest.{flat_none, flat_nothing, nearest_first, nearest_kept, nearest_lower}
 use Rattle.kc_insert.proofs.ranges.Ranges.next_waiting.Goals.{then-level-next, else-level-next}

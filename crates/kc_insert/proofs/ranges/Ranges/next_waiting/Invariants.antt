@@ -1,4 +1,4 @@
-use Rattle.kc_insert.specs.private.Parts.{Part}
+use Rattle.kc_insert.specs.Ranges.{Part}
 use Rattle.kc_insert.proofs.Nearest.{IsNearest}
 use Rattle.kc_insert.proofs.ranges.Ranges.next_waiting.Given as goal
 

@@ -1,6 +1,6 @@
 use Rattle.std.proofs.Common.{ℕ, ◌≡◌, take}
 use Rattle.std.specs.List.{flat_map}
-use Rattle.kc_insert.specs.private.Parts.{Part}
+use Rattle.kc_insert.specs.Ranges.{Part}
 use Rattle.kc_insert.proofs.ranges.Ranges.risen.Given as goal
 
 abbrev pub invariant-loop-range : goal.invariant-loop-range
