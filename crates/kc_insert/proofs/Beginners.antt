@@ -127,25 +127,31 @@ times_dealt bits v xs o f ps each = elim (cases_lt (range_of bits v) o) [
 
     nothing : (q : ℕ) (qs : List Part) → ((j : ℕ) (d : Part) → j < length qs → f (get_or qs j d) ≡ in_range bits (q + j) xs) → range_of bits v < q → times v (flat_map f qs) ≡ 0
     nothing q [] own below = refl
-    nothing q (p ∷ qs) own below = omega (arith,
+    nothing q (p ∷ qs) own below = omega (
+      arith,
       times-append v (f p) (flat_map f qs),
       ap (times v) (own 0 p (omega arith)),
       none (q + 0) (λ e. absurd (omega (arith, e, below))),
-      nothing (q + 1) qs (λ j d h. own (suc j) d (omega (arith, h)) ∙ ap (λ k. in_range bits k xs) (shift q j)) (omega (arith, below)))
+      nothing (q + 1) qs (λ j d h. own (suc j) d (omega (arith, h)) ∙ ap (λ k. in_range bits k xs) (shift q j)) (omega (arith, below)),
+    )
 
     at_most : (q : ℕ) (qs : List Part) → ((j : ℕ) (d : Part) → j < length qs → f (get_or qs j d) ≡ in_range bits (q + j) xs) → q ≤ range_of bits v → times v (flat_map f qs) ≤ times v xs
     at_most q [] own above = omega arith
     at_most q (p ∷ qs) own above = elim (cases_eq (range_of bits v) q) [
-      | inl e ↦ omega (arith,
-          times-append v (f p) (flat_map f qs),
-          ap (times v) (own 0 p (omega arith) ∙ ap (λ k. in_range bits k xs) (here q e)),
-          in_range_times bits v xs,
-          nothing (q + 1) qs (λ j d h. own (suc j) d (omega (arith, h)) ∙ ap (λ k. in_range bits k xs) (shift q j)) (omega (arith, e)))
-      | inr ne ↦ omega (arith,
-          times-append v (f p) (flat_map f qs),
-          ap (times v) (own 0 p (omega arith)),
-          none (q + 0) (λ e. absurd (omega (arith, e, ne))),
-          at_most (q + 1) qs (λ j d h. own (suc j) d (omega (arith, h)) ∙ ap (λ k. in_range bits k xs) (shift q j)) (omega (arith, above, ne)))
+      | inl e ↦ omega (
+        arith,
+        times-append v (f p) (flat_map f qs),
+        ap (times v) (own 0 p (omega arith) ∙ ap (λ k. in_range bits k xs) (here q e)),
+        in_range_times bits v xs,
+        nothing (q + 1) qs (λ j d h. own (suc j) d (omega (arith, h)) ∙ ap (λ k. in_range bits k xs) (shift q j)) (omega (arith, e)),
+      )
+      | inr ne ↦ omega (
+        arith,
+        times-append v (f p) (flat_map f qs),
+        ap (times v) (own 0 p (omega arith)),
+        none (q + 0) (λ e. absurd (omega (arith, e, ne))),
+        at_most (q + 1) qs (λ j d h. own (suc j) d (omega (arith, h)) ∙ ap (λ k. in_range bits k xs) (shift q j)) (omega (arith, above, ne)),
+      )
     ]
 
 pub starting_last : (level : ℕ) (before now : RisingLevels) (vertices : List ℕ) (bits i count : ℕ) (old new : List Part) → length vertices ≤ i → CanLiftOff level before vertices bits old → IsStarting level before now vertices bits i count old new → LiftedOff level before now vertices bits old new

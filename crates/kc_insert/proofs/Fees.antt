@@ -13,6 +13,8 @@ rising_once k (v ∷ vs) r = (has_number_below (suc v) v vs r.1 (omega arith), r
 
 -- a pass over the neighbours of each vertex and one step more depend on the vertices, and not on their order
 pub same_fees : (g : GraphShape) (vs us : List ℕ) → AreDistinct vs → AreDistinct us → ((v : ℕ) → has_number v vs ≡ has_number v us) → degrees g vs + length vs ≡ degrees g us + length us
-same_fees g vs us once too same = omega (arith,
+same_fees g vs us once too same = omega (
+  arith,
   sym (weigh_degrees g vs) ∙ weigh_same (λ v. length (neighbours_of v g.edges)) vs us once too same ∙ weigh_degrees g us,
-  sym (weigh_length vs) ∙ weigh_same (λ v. 1) vs us once too same ∙ weigh_length us)
+  sym (weigh_length vs) ∙ weigh_same (λ v. 1) vs us once too same ∙ weigh_length us,
+)

@@ -93,10 +93,10 @@ module _ (before now next : RisingLevels) (i count : ℕ) (old new : List Part) 
     rises_on = λ v. t.rises_on v ∙ joined (rises before v) (rises now v) (has_number v (stays_in i new)) (has_number v p.stay) (has_number v (stays_in (i + 1) (set new i p))) (s.rises_on v) (ap (has_number v) more ∙ has_number-append v (stays_in i new) p.stay);
     stays = λ j v d h in_it. elim (cases_eq j i) [
       | inl e ↦ rw (e, get_or-set_same new i p d long) (λ there. (
-          and_first _ _ (sym (s.rises_on v) ∙ (t.stays v there).0),
-          subst (λ (q : Part). count_at q.watch v ≤ q.watch.most) (was d) (t.stays v there).1,
-          (own d v there).1,
-        ))
+        and_first _ _ (sym (s.rises_on v) ∙ (t.stays v there).0),
+        subst (λ (q : Part). count_at q.watch v ≤ q.watch.most) (was d) (t.stays v there).1,
+        (own d v there).1,
+      ))
       | inr ne ↦ rw (get_or-set_other new i j p d ne) (s.stays j v d (omega (arith, h, ne)) in_it)
     ];
     below = λ v there. elim (cases_Bool (has_number v (stays_in i new))) [

@@ -42,10 +42,14 @@ module _ (a b : RisingLevels) (vs : List ℕ) (i : ℕ) (at : i < length vs) (s 
       one p q u v e = grind (arith, nat_tests, e)
 
   pub settled_none : rises b (get_or vs i 0) ≡ false → AreSettled a b (take (i + 1) vs)
-  settled_none off = rw more (settled_on a b b (take i vs) (get_or vs i 0 ∷ []) s (record { level = refl; levels = refl; rest = λ u. elim (cases_eq u (get_or vs i 0)) [
-    | inl e ↦ ap (rises b) e ∙ off ∙ grind (arith, nat_tests, ap (rises b) e ∙ off, e)
-    | inr ne ↦ grind (arith, nat_tests, ne)
-  ] }))
+  settled_none off = rw more (settled_on a b b (take i vs) (get_or vs i 0 ∷ []) s (record {
+    level = refl;
+    levels = refl;
+    rest = λ u. elim (cases_eq u (get_or vs i 0)) [
+      | inl e ↦ ap (rises b) e ∙ off ∙ grind (arith, nat_tests, ap (rises b) e ∙ off, e)
+      | inr ne ↦ grind (arith, nat_tests, ne)
+    ];
+  }))
 
 pub settled_last : (a b : RisingLevels) (vs : List ℕ) (i : ℕ) → length vs ≤ i → AreSettled a b (take i vs) → AreSettled a b vs
 settled_last a b vs i end s = rw (take_all i vs end) at s

@@ -5,7 +5,7 @@ ghost use Rattle.kc_graph.specs.Numbers.{has_number};
 ghost use Rattle.kc_graph.specs.Shape.{neighbours_of};
 ghost use Rattle.kc_levels.specs.LevelList.{IsCapped};
 ghost use Rattle.kc_levels.specs.Thresholds.{top_level};
-ghost use Rattle.kc_insert.specs.private.Filed.{AreCopied, CanFile, CanFollow, HasFiled, HasFollowed, HaveCounted, HaveFiled};
+ghost use Rattle.kc_insert.specs.private.Filed.{AreCopied, AreFiled, HasFollowedAll, HasFollowedOne, HaveFollowed, MayFile, MayFollow};
 ghost use Rattle.kc_insert.specs.Ranges.{IsHeld, IsIn};
 
 use crate::range::Range;
@@ -17,33 +17,52 @@ use kc_graph::{Edge, Graph};
 use kc_levels::{Levels, Move, Thresholds};
 use kc_rounds::{Gate, Rounds};
 use std::alloc::AllocError;
+use std::marker::Model;
 use std::thread;
 use std::thread::Threads;
 
 // The number of edges for each of which all vertices are looked at rather than the ends of the edges.
 const LEAST_SHARE: usize = 4;
 
-// v counts `own` from now on, and waits on its level if it counted otherwise before and its group allows fewer. Fails only if memory
-// runs out.
+/// What ranges follow when a phase begins. Contracts see it as a `Following`.
+#[derive(Drop)]
+pub struct Fresh<'a> {
+    /// The thresholds of the graph.
+    pub th: &'a Thresholds,
+    /// The level of each vertex.
+    pub levels: &'a Levels,
+    /// How many neighbours each vertex counts in the graph.
+    pub counts: &'a [u32],
+}
+
+impl<'a> Model for Fresh<'a> {
+    ghost use Rattle.kc_insert.specs.private.Filed.{Following};
+
+    ghost Value = { Following };
+
+    ghost view = { λ f. record { profile = f.th.now.profile; vertices = f.th.now.vertices; levels = f.levels.now; counts = f.counts.now } };
+}
+
+// v counts afresh, and waits on its level if it counted otherwise before and its group allows fewer. Fails only if memory runs out.
 fn follow_count(
-    th: &Thresholds,
-    levels: &Levels,
+    fresh: &Fresh<'_>,
     v: u32,
-    own: u32,
     watched: &mut WatchedCounts,
     queue: &mut LevelLists<u32>,
 ) -> Result<(), AllocError>
     requires vertex { IsHeld watched.old v }
-    requires inside { v < length levels.now }
-    requires capped { slice_index levels.now v ≤ top_level th.now.profile th.now.vertices }
-    requires room { slice_index levels.now v < length queue.old }
-    ensures { OnOk result (HasFollowed th.now.profile th.now.vertices levels.now v own watched.old watched.new queue.old queue.new) }
+    requires inside { (v < length fresh.now.levels) × (v < length fresh.now.counts) }
+    requires capped { slice_index fresh.now.levels v ≤ top_level fresh.now.profile fresh.now.vertices }
+    requires room { slice_index fresh.now.levels v < length queue.old }
+    ensures { OnOk result (HasFollowedOne fresh.now v watched.old watched.new queue.old queue.new) }
 {
+    let th = fresh.th;
+    let own = fresh.counts[v as usize];
     if watched.count(v) == own {
         return Ok(());
     }
     watched.set(v, own);
-    let level = levels.get(v);
+    let level = fresh.levels.get(v);
     if own > th.high(th.group(level)) {
         queue.file(level, v)?;
     }
@@ -53,120 +72,94 @@ fn follow_count(
 // Each vertex of the range counts afresh, and waits on its level if it counted otherwise before and its group allows fewer. Fails only
 // if memory runs out.
 fn follow_counts(
-    th: &Thresholds,
-    levels: &Levels,
-    fresh: &[u32],
+    fresh: &Fresh<'_>,
     watched: &mut WatchedCounts,
     queue: &mut LevelLists<u32>,
 ) -> Result<(), AllocError>
-    requires inside { (v : ℕ) → IsHeld watched.old v → v < length fresh.now }
-    requires few { length fresh.now ≤ 2 ^ 24 }
-    requires levels { (length levels.now ≡ length fresh.now) × (th.now.vertices ≡ length fresh.now) × IsCapped th.now.profile th.now.vertices levels.now }
-    requires room { top_level th.now.profile th.now.vertices < length queue.old }
-    ensures { OnOk result (HaveFiled th.now.profile th.now.vertices levels.now fresh.now (length watched.old.counts) watched.old watched.new queue.old queue.new) }
+    requires inside { (v : ℕ) → IsHeld watched.old v → v < length fresh.now.counts }
+    requires few { length fresh.now.counts ≤ 2 ^ 24 }
+    requires levels { (length fresh.now.levels ≡ length fresh.now.counts) × (fresh.now.vertices ≡ length fresh.now.counts) × IsCapped fresh.now.profile fresh.now.vertices fresh.now.levels }
+    requires room { top_level fresh.now.profile fresh.now.vertices < length queue.old }
+    ensures { OnOk result (HaveFollowed fresh.now (length watched.old.counts) watched.old watched.new queue.old queue.new) }
 {
     let first = watched.first();
     let count = watched.counts().len();
     for i in 0..count {
         let v = first + i as u32;
-        follow_count(th, levels, v, fresh[v as usize], watched, queue)?;
+        follow_count(fresh, v, watched, queue)?;
     }
     Ok(())
 }
 
 // As `follow_count` says, for a vertex of one of the ranges.
-fn file_end(
-    th: &Thresholds,
-    levels: &Levels,
-    fresh: &[u32],
-    ranges: &mut Ranges,
-    v: u32,
-) -> Result<(), AllocError>
-    requires vertex { v < length fresh.now }
-    requires can { CanFile th.now.profile th.now.vertices levels.now fresh.now ranges.old }
-    ensures { OnOk result (HaveCounted th.now.profile th.now.vertices levels.now fresh.now (λ u. u ≢ v) ranges.old ranges.new) }
+fn file_end(fresh: &Fresh<'_>, ranges: &mut Ranges, v: u32) -> Result<(), AllocError>
+    requires vertex { v < length fresh.now.counts }
+    requires can { MayFile fresh.now ranges.old }
+    ensures { OnOk result (AreFiled fresh.now (λ u. u ≢ v) ranges.old ranges.new) }
 {
     let range = &mut ranges.items[ranges.layout.range_of(v)];
-    follow_count(
-        th,
-        levels,
-        v,
-        fresh[v as usize],
-        &mut range.watched,
-        &mut range.queue,
-    )?;
+    follow_count(fresh, v, &mut range.watched, &mut range.queue)?;
     Ok(())
 }
 
 // As `file_end` says, for the lesser end of each edge.
 fn file_lesser_ends(
-    th: &Thresholds,
-    levels: &Levels,
-    fresh: &[u32],
+    fresh: &Fresh<'_>,
     ranges: &mut Ranges,
     edges: &[Edge],
 ) -> Result<(), AllocError>
-    requires inside { All (λ e. e.1 < length fresh.now) edges.now }
-    requires can { CanFile th.now.profile th.now.vertices levels.now fresh.now ranges.old }
-    ensures { OnOk result (HaveCounted th.now.profile th.now.vertices levels.now fresh.now (λ v. All (λ e. v ≢ e.0) edges.now) ranges.old ranges.new) }
+    requires inside { All (λ e. e.1 < length fresh.now.counts) edges.now }
+    requires can { MayFile fresh.now ranges.old }
+    ensures { OnOk result (AreFiled fresh.now (λ v. All (λ e. v ≢ e.0) edges.now) ranges.old ranges.new) }
 {
     for e in edges {
-        file_end(th, levels, fresh, ranges, e.a)?;
+        file_end(fresh, ranges, e.a)?;
     }
     Ok(())
 }
 
 // As `file_end` says, for the greater end of each edge.
 fn file_greater_ends(
-    th: &Thresholds,
-    levels: &Levels,
-    fresh: &[u32],
+    fresh: &Fresh<'_>,
     ranges: &mut Ranges,
     edges: &[Edge],
 ) -> Result<(), AllocError>
-    requires inside { All (λ e. e.1 < length fresh.now) edges.now }
-    requires can { CanFile th.now.profile th.now.vertices levels.now fresh.now ranges.old }
-    ensures { OnOk result (HaveCounted th.now.profile th.now.vertices levels.now fresh.now (λ v. All (λ e. v ≢ e.1) edges.now) ranges.old ranges.new) }
+    requires inside { All (λ e. e.1 < length fresh.now.counts) edges.now }
+    requires can { MayFile fresh.now ranges.old }
+    ensures { OnOk result (AreFiled fresh.now (λ v. All (λ e. v ≢ e.1) edges.now) ranges.old ranges.new) }
 {
     for e in edges {
-        file_end(th, levels, fresh, ranges, e.b)?;
+        file_end(fresh, ranges, e.b)?;
     }
     Ok(())
 }
 
 impl Range {
     // As `follow_counts` says. If memory runs out the range is marked.
-    fn try_follow(&mut self, th: &Thresholds, levels: &Levels, fresh: &[u32])
-        requires { CanFollow th.now.profile th.now.vertices levels.now fresh.now self.old }
-        ensures { self.new.is_short ≡ false → HasFiled th.now.profile th.now.vertices levels.now fresh.now self.old self.new }
+    fn try_follow(&mut self, fresh: &Fresh<'_>)
+        requires { MayFollow fresh.now self.old }
+        ensures { self.new.is_short ≡ false → HasFollowedAll fresh.now self.old self.new }
     {
-        if follow_counts(th, levels, fresh, &mut self.watched, &mut self.queue).is_err() {
+        if follow_counts(fresh, &mut self.watched, &mut self.queue).is_err() {
             self.is_short = true;
         }
     }
 }
 
 // In each range all vertices count afresh, as `Range::try_follow` says.
-fn follow_each<R: Threads + Sync>(
-    rt: &R,
-    threads: usize,
-    th: &Thresholds,
-    levels: &Levels,
-    fresh: &[u32],
-    items: &mut [Range],
-)
+fn follow_each<R: Threads + Sync>(rt: &R, threads: usize, fresh: &Fresh<'_>, items: &mut [Range])
     requires threads { 0 < threads }
-    requires ready { (i : ℕ) (d : _) → i < length items.old → CanFollow th.now.profile th.now.vertices levels.now fresh.now (slice_index_or items.old i d) }
-    ensures { (i : ℕ) (d : _) → i < length items.old → (slice_index_or items.new i d).is_short ≡ false → HasFiled th.now.profile th.now.vertices levels.now fresh.now (slice_index_or items.old i d) (slice_index_or items.new i d) }
+    requires ready { (i : ℕ) (d : _) → i < length items.old → MayFollow fresh.now (slice_index_or items.old i d) }
+    ensures { (i : ℕ) (d : _) → i < length items.old → (slice_index_or items.new i d).is_short ≡ false → HasFollowedAll fresh.now (slice_index_or items.old i d) (slice_index_or items.new i d) }
 {
     thread::for_each_mut(
         rt,
         items,
         threads,
         &|_: usize, range: &mut Range|
-            requires { CanFollow th.now.profile th.now.vertices levels.now fresh.now range.old }
-            ensures { range.new.is_short ≡ false → HasFiled th.entry.now.profile th.entry.now.vertices levels.entry.now fresh.entry.now range.old range.new }
-        { range.try_follow(th, levels, fresh) },
+            requires { MayFollow fresh.now range.old }
+            ensures { range.new.is_short ≡ false → HasFollowedAll fresh.entry.now range.old range.new }
+        { range.try_follow(fresh) },
     );
 }
 
@@ -174,16 +167,14 @@ fn follow_each<R: Threads + Sync>(
 fn follow_all<R: Threads + Sync>(
     rt: &R,
     threads: usize,
-    th: &Thresholds,
-    levels: &Levels,
-    fresh: &[u32],
+    fresh: &Fresh<'_>,
     items: &mut [Range],
 ) -> Result<(), AllocError>
     requires threads { 0 < threads }
-    requires ready { (i : ℕ) (d : _) → i < length items.old → CanFollow th.now.profile th.now.vertices levels.now fresh.now (slice_index_or items.old i d) }
-    ensures { OnOk result ((length items.new ≡ length items.old) × ((i : ℕ) (d : _) → i < length items.old → HasFiled th.now.profile th.now.vertices levels.now fresh.now (slice_index_or items.old i d) (slice_index_or items.new i d))) }
+    requires ready { (i : ℕ) (d : _) → i < length items.old → MayFollow fresh.now (slice_index_or items.old i d) }
+    ensures { OnOk result ((length items.new ≡ length items.old) × ((i : ℕ) (d : _) → i < length items.old → HasFollowedAll fresh.now (slice_index_or items.old i d) (slice_index_or items.new i d))) }
 {
-    follow_each(rt, threads, th, levels, fresh, items);
+    follow_each(rt, threads, fresh, items);
     check(items)?;
     Ok(())
 }
@@ -193,16 +184,14 @@ fn follow_all<R: Threads + Sync>(
 fn file_all<R: Threads + Sync>(
     rt: &R,
     threads: usize,
-    th: &Thresholds,
-    levels: &Levels,
-    fresh: &[u32],
+    fresh: &Fresh<'_>,
     ranges: &mut Ranges,
 ) -> Result<(), AllocError>
     requires threads { 0 < threads }
-    requires can { CanFile th.now.profile th.now.vertices levels.now fresh.now ranges.old }
-    ensures { OnOk result (HaveCounted th.now.profile th.now.vertices levels.now fresh.now (λ v. v ≢ v) ranges.old ranges.new) }
+    requires can { MayFile fresh.now ranges.old }
+    ensures { OnOk result (AreFiled fresh.now (λ v. v ≢ v) ranges.old ranges.new) }
 {
-    follow_all(rt, threads, th, levels, fresh, &mut ranges.items)?;
+    follow_all(rt, threads, fresh, &mut ranges.items)?;
     Ok(())
 }
 
@@ -210,19 +199,17 @@ fn file_all<R: Threads + Sync>(
 /// and more than its group allows. Fails only if memory runs out.
 pub fn file_ends<R: Threads + Sync, G: Gate + Sync>(
     rounds: &Rounds<R, G>,
-    th: &Thresholds,
-    levels: &Levels,
-    fresh: &[u32],
+    fresh: &Fresh<'_>,
     ranges: &mut Ranges,
     edges: &[Edge],
 ) -> Result<(), AllocError>
-    requires inside { All (λ e. e.1 < length fresh.now) edges.now }
-    requires can { CanFile th.now.profile th.now.vertices levels.now fresh.now ranges.old }
-    ensures { OnOk result (HaveCounted th.now.profile th.now.vertices levels.now fresh.now (λ v. All (λ e. (v ≢ e.0) × (v ≢ e.1)) edges.now) ranges.old ranges.new) }
+    requires inside { All (λ e. e.1 < length fresh.now.counts) edges.now }
+    requires can { MayFile fresh.now ranges.old }
+    ensures { OnOk result (AreFiled fresh.now (λ v. All (λ e. (v ≢ e.0) × (v ≢ e.1)) edges.now) ranges.old ranges.new) }
 {
-    if edges.len() < fresh.len() / LEAST_SHARE {
-        file_lesser_ends(th, levels, fresh, ranges, edges)?;
-        file_greater_ends(th, levels, fresh, ranges, edges)?;
+    if edges.len() < fresh.counts.len() / LEAST_SHARE {
+        file_lesser_ends(fresh, ranges, edges)?;
+        file_greater_ends(fresh, ranges, edges)?;
         return Ok(());
     }
     let threads = if ranges.items.len() > 1 {
@@ -230,7 +217,7 @@ pub fn file_ends<R: Threads + Sync, G: Gate + Sync>(
     } else {
         1
     };
-    file_all(rounds.runtime(), threads, th, levels, fresh, ranges)?;
+    file_all(rounds.runtime(), threads, fresh, ranges)?;
     Ok(())
 }
 

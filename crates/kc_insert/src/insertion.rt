@@ -9,7 +9,7 @@ ghost use Rattle.kc_insert.specs.Effort.{effort};
 ghost use Rattle.kc_insert.specs.private.Phase.{working_of};
 ghost use Rattle.kc_insert.specs.Working.{IsReady};
 
-use crate::filing::file_ends;
+use crate::filing::{Fresh, file_ends};
 use crate::linking::link_edges;
 use crate::sweep::Sweep;
 use crate::sweeping::raise_queued;
@@ -57,14 +57,12 @@ fn sweep_phase<R: Threads + Sync, G: Gate + Sync, L: Ledger>(
     let _levels = adj.levels();
     let _top = th.top();
     link_edges(rounds, alloc, adj, added, steps)?;
-    file_ends(
-        rounds,
+    let fresh = Fresh {
         th,
-        adj.levels(),
-        adj.own_counts(),
-        &mut sweep.ranges,
-        added,
-    )?;
+        levels: adj.levels(),
+        counts: adj.own_counts(),
+    };
+    file_ends(rounds, &fresh, &mut sweep.ranges, added)?;
     raise_queued(rounds, alloc, th, adj.graph(), sweep, steps)?;
     let moves = take_moves(rounds, alloc, adj, sweep, steps)?;
     Ok(moves)

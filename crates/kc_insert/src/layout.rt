@@ -24,7 +24,7 @@ const LEAST_SHARED: usize = 1_024;
 #[derive(Clone, Copy, Debug, PartialEq, Eq)]
 pub struct Layout {
     /// The number of vertices of a range as a power of two, 0 to 24.
-    pub bits: u32,
+    pub(crate) bits: u32,
     // The fewest vertices, to begin or to stay, for which threads share a pass.
     least_shared: usize,
     ghost small: { bits ≤ 24 },
@@ -56,7 +56,7 @@ impl Layout {
     }
 
     /// The number of ranges of n vertices.
-    pub fn ranges(self, n: u32) -> usize
+    pub(crate) fn ranges(self, n: u32) -> usize
         ensures inside { (v : ℕ) → v < n → range_of self.bits v < result }
         ensures each { (j : ℕ) → j < result → j * 2 ^ self.bits < n }
     {
@@ -68,14 +68,14 @@ impl Layout {
     }
 
     /// The range of v.
-    pub fn range_of(self, v: u32) -> usize
+    pub(crate) fn range_of(self, v: u32) -> usize
         ensures { result ≡ range_of self.bits v }
     {
         (v >> self.bits) as usize
     }
 
     /// The first vertex of a range.
-    pub fn first_of(self, range: usize) -> u32
+    pub(crate) fn first_of(self, range: usize) -> u32
         requires { range * 2 ^ self.bits < 2 ^ 32 }
         ensures { result ≡ range * 2 ^ self.bits }
     {
@@ -83,7 +83,7 @@ impl Layout {
     }
 
     /// The end of a range of n vertices: the vertex after its last one.
-    pub fn end_of(self, range: usize, n: u32) -> u32
+    pub(crate) fn end_of(self, range: usize, n: u32) -> u32
         requires some { range * 2 ^ self.bits < n }
         requires few { n ≤ 2 ^ 24 }
         ensures within { result ≤ n }
@@ -96,7 +96,7 @@ impl Layout {
     }
 
     /// Whether threads share a pass over so many vertices.
-    pub fn is_shared(self, count: usize) -> bool {
+    pub(crate) fn is_shared(self, count: usize) -> bool {
         count >= self.least_shared
     }
 }

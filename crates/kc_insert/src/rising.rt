@@ -7,7 +7,7 @@ ghost use Rattle.kc_insert.specs.private.Rising.{all_at, rises, seen};
 use kc_levels::Levels;
 
 /// What stands in the list for the level of a rising vertex. A level is always less.
-pub const RISING: u16 = 65_535;
+pub(crate) const RISING: u16 = 65_535;
 
 /// The levels during a sweep, and which vertices rise: contracts speak of `seen` and `rises`.
 #[derive(Drop)]

@@ -61,3 +61,29 @@ pub record AreCopied (fresh : List ℕ) (spared : ℕ → Type 0) (old new : Cut
   pub same : IsSameCut old new
   pub queues : (j : ℕ) (d : Part) → j < length old.parts → (get_or new.parts j d).queue ≡ (get_or old.parts j d).queue
   pub copied : (levels : ℕ) → IsCut (length fresh) levels old → IsCopied fresh (counts_of old) (counts_of new) spared
+
+-- what contracts see of a `Fresh`: the scale, the levels, and the counts in the graph
+pub record Following : Type 0 where
+  pub profile : Profile
+  pub vertices : ℕ
+  pub levels : List ℕ
+  pub counts : List ℕ
+
+-- the same for a `Following`
+abbrev pub MayFile : Following → Cut → Type 0
+MayFile f old = CanFile f.profile f.vertices f.levels f.counts old
+
+abbrev pub AreFiled : Following → (ℕ → Type 0) → Cut → Cut → Type 0
+AreFiled f spared old new = HaveCounted f.profile f.vertices f.levels f.counts spared old new
+
+abbrev pub MayFollow : Following → Part → Type 0
+MayFollow f old = CanFollow f.profile f.vertices f.levels f.counts old
+
+abbrev pub HasFollowedAll : Following → Part → Part → Type 0
+HasFollowedAll f old new = HasFiled f.profile f.vertices f.levels f.counts old new
+
+abbrev pub HasFollowedOne : Following → ℕ → Watch → Watch → List (List ℕ) → List (List ℕ) → Type 0
+HasFollowedOne f v old new first queue = HasFollowed f.profile f.vertices f.levels v (get_or f.counts v 0) old new first queue
+
+abbrev pub HaveFollowed : Following → ℕ → Watch → Watch → List (List ℕ) → List (List ℕ) → Type 0
+HaveFollowed f i old new first queue = HaveFiled f.profile f.vertices f.levels f.counts i old new first queue

@@ -25,7 +25,7 @@ returns c =
     let d = c.index_mut-range.result.now in
     let here = c.range.view_is ∙ c.index_mut-range.ensures.value ∙ ap (λ k. get_or c.ranges-2.inside.items.items k c.index_mut-range.result.now) c.range_of.ensures ∙ ap (λ (r : Cut). get_or r.parts (range_of r.bits c.args.v) c.index_mut-range.result.now) c.ranges-2.view_is in
     let b : Part = record { watch = c.follow_count.new.watched; queue = c.follow_count.new.queue; meetings = c.range.inside.meetings; began = c.range.inside.began.items; risen = c.range.inside.risen.items; stay = c.range.inside.stay.items; begun = c.range.inside.begun.items; tell = c.range.inside.told; steps = c.range.inside.steps; is_short = c.range.inside.is_short } in
-    end_filed c.args.th.now.profile c.args.th.now.vertices c.args.levels.now c.args.fresh.now c.args.v c.args.ranges.now _ b c.follow_count.new.watched c.follow_count.new.queue d c.requires.can c.requires.vertex
+    end_filed c.args.fresh.now.profile c.args.fresh.now.vertices c.args.fresh.now.levels c.args.fresh.now.counts c.args.v c.args.ranges.now _ b c.follow_count.new.watched c.follow_count.new.queue d c.requires.can c.requires.vertex
     (ap (λ (r : Cut). record r { parts = set r.parts c.range_of.result b }) c.ranges-2.view_is ∙ ap (λ k. record c.args.ranges.now { parts = set c.args.ranges.now.parts k b }) (c.range_of.ensures ∙ ap (λ (r : Cut). range_of r.bits c.args.v) c.ranges-2.view_is))
     (ap (λ (p : Part). record p { watch = c.follow_count.new.watched; queue = c.follow_count.new.queue }) here)
-    (subst (λ (p : Part). HasFollowed c.args.th.now.profile c.args.th.now.vertices c.args.levels.now c.args.v (get_or c.args.fresh.now c.args.v 0) p.watch c.follow_count.new.watched p.queue c.follow_count.new.queue) here c.in_ok-follow_count.ensures)
+    (subst (λ (p : Part). HasFollowed c.args.fresh.now.profile c.args.fresh.now.vertices c.args.fresh.now.levels c.args.v (get_or c.args.fresh.now.counts c.args.v 0) p.watch c.follow_count.new.watched p.queue c.follow_count.new.queue) here c.in_ok-follow_count.ensures)

@@ -5,4 +5,4 @@ use Rattle.kc_insert.specs.private.Filed.{HaveCounted}
 use Rattle.kc_insert.proofs.filing.file_greater_ends.Given as goal
 
 abbrev pub invariant-loop-e : goal.invariant-loop-e
-invariant-loop-e l = HaveCounted l.th.profile l.th.vertices l.levels l.fresh (λ v. All (λ (e : Pair). v ≢ e.1) (take l.e-index l.edges)) l.initial.ranges l.ranges
+invariant-loop-e l = HaveCounted l.fresh.profile l.fresh.vertices l.fresh.levels l.fresh.counts (λ v. All (λ (e : Pair). v ≢ e.1) (take l.e-index l.edges)) l.initial.ranges l.ranges
