@@ -1,17 +1,15 @@
 -- The lists of all ranges, one after another.
-use Rattle.std.proofs.Common.{ℕ, suc, zero, ◌+◌, ◌≤◌, ◌<◌, ◌≡◌, inl, inr, Bool, true, false, cond, eqb, ltb, ◌&&◌, ◌||◌, List, [], ◌∷◌, ◌++◌, length, get_or, set, take, refl, ap, sym, ◌∙◌, arith}
+use Rattle.std.proofs.Common.{ℕ, suc, zero, ◌+◌, ◌≤◌, ◌<◌, ◌≡◌, inl, inr, Bool, true, false, cond, eqb, ◌||◌, List, [], ◌∷◌, ◌++◌, length, get_or, set, take, ap, sym, ◌∙◌, arith}
 use Rattle.std.specs.List.{flat_map}
-use Rattle.std.proofs.lemmas.Bool.{cases_Bool, cases_eq, cases_lt, true≢false}
+use Rattle.std.proofs.lemmas.Bool.{cases_Bool, cases_eq, true≢false}
 use Rattle.std.proofs.lemmas.Bool.Decides.{nat_tests}
 use Rattle.std.proofs.lemmas.List.{append-nil, length-append, take_all, take_more_set}
 use Rattle.std.proofs.lemmas.Grind.{flat_map-append}
 use Rattle.kc_graph.specs.Numbers.{has_number}
 use Rattle.kc_graph.proofs.lemmas.Numbers.{has_number-append}
 use Rattle.kc_levels.specs.Following.{AreDistinct}
-use Rattle.kc_insert.specs.private.Telling.{in_range, times}
-use Rattle.kc_insert.specs.Ranges.{range_of}
-use Rattle.kc_insert.proofs.Adding.{times-append, times_none, times_some, times_there}
-use Rattle.kc_insert.proofs.Inside.{inside_both}
+use Rattle.kc_insert.specs.private.Telling.{times}
+use Rattle.kc_insert.proofs.Adding.{times_none, times_there}
 
 -- a loop that writes one range after another
 pub flat_next : {P X : Type 0} (f : P → List X) (ps : List P) (i : ℕ) (p : P) → i < length ps → flat_map f (take (i + 1) (set ps i p)) ≡ flat_map f (take i ps) ++ f p

@@ -1,5 +1,5 @@
 -- Vertices that begin to rise, one after another, each in its range.
-use Rattle.std.proofs.Common.{ℕ, suc, zero, ◌+◌, ◌≤◌, ◌<◌, ◌≡◌, ◌≢◌, inl, inr, Bool, true, false, cond, eqb, ◌&&◌, ◌||◌, List, [], ◌∷◌, ◌++◌, length, get_or, set, filter, refl, ap, sym, subst, ◌∙◌, arith}
+use Rattle.std.proofs.Common.{ℕ, suc, ◌+◌, ◌≤◌, ◌<◌, ◌≡◌, ◌≢◌, inl, inr, Bool, true, false, cond, eqb, ◌||◌, List, [], ◌∷◌, ◌++◌, length, get_or, set, refl, ap, sym, subst, ◌∙◌, arith}
 use Rattle.std.specs.List.{flat_map}
 use Rattle.std.proofs.lemmas.Bool.{cases_Bool, cases_eq, cases_lt, true≢false}
 use Rattle.std.proofs.lemmas.Bool.Decides.{nat_tests}
@@ -8,14 +8,13 @@ use Rattle.std.proofs.lemmas.List.Elements.{filter-append}
 use Rattle.std.proofs.lemmas.Grind.{same_number_lists}
 use Rattle.kc_graph.specs.Numbers.{has_number}
 use Rattle.kc_graph.proofs.lemmas.Numbers.{has_number_at, has_number-push}
-use Rattle.kc_levels.specs.Following.{AreDistinct}
 use Rattle.kc_insert.specs.declared.rising.RisingLevels.{RisingLevels}
 use Rattle.kc_insert.specs.Ranges.{no_part, Part, range_of}
 use Rattle.kc_insert.specs.private.Ranges.{CanLiftOff, LiftedOff}
 use Rattle.kc_insert.specs.private.Rising.{all_at, rises, seen}
 use Rattle.kc_insert.specs.private.Telling.{in_range, times}
-use Rattle.kc_insert.proofs.Across.{distinct_times, flat_has, IsOfOne, length_set, of_one, times_distinct}
-use Rattle.kc_insert.proofs.Adding.{times-append, times-filter, times_none, times_some, times_there}
+use Rattle.kc_insert.proofs.Across.{distinct_times, flat_has, length_set, of_one, times_distinct}
+use Rattle.kc_insert.proofs.Adding.{times-append, times-filter, times_some, times_there}
 use Rattle.kc_insert.proofs.Direct.{any_default}
 use Rattle.kc_insert.proofs.Lifting.{all_at_here, all_at_other, IsLiftingOff, length-all_at, lifting_comes, lifting_first, lifting_inside, lifting_same, lifting_stays}
 use Rattle.kc_insert.proofs.Shared.{in_range_has, in_range_times}

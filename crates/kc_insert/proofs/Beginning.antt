@@ -1,20 +1,19 @@
 -- What vertices that begin to rise are to meet, whom they tell it, and what they count.
-use Rattle.std.proofs.Common.{ℕ, suc, ◌+◌, ◌-◌, ◌*◌, ◌/◌, ◌≤◌, ◌<◌, ◌≡◌, ◌≢◌, inl, inr, Bool, true, false, cond, leb, ltb, eqb, ◌||◌, ◌&&◌, List, [], ◌∷◌, ◌++◌, length, get_or, set, take, drop, add-one, refl, ap, sym, ◌∙◌, arith, append_assoc}
+use Rattle.std.proofs.Common.{ℕ, suc, ◌+◌, ◌-◌, ◌*◌, ◌/◌, ◌≤◌, ◌<◌, ◌≡◌, ◌≢◌, inl, inr, Bool, true, false, cond, ltb, eqb, ◌&&◌, List, [], ◌∷◌, ◌++◌, length, get_or, set, take, drop, add-one, refl, ap, sym, ◌∙◌, arith, append_assoc}
 use Rattle.std.specs.Prelude.{count_by, filter}
 use Rattle.std.specs.List.{flat_map}
 use Rattle.std.proofs.Math.Seq.{drop-cons}
 use Rattle.std.proofs.lemmas.Bool.{cases_eq, cases_Bool, true≢false}
 use Rattle.std.proofs.lemmas.Bool.Decides.{nat_tests}
-use Rattle.std.proofs.lemmas.List.{length-set, get_or-set_same, get_or-set_other, append-nil, drop_all, take_more, take_all}
+use Rattle.std.proofs.lemmas.List.{length-set, get_or-set_same, get_or-set_other, append-nil, drop_all, take_all}
 use Rattle.std.proofs.lemmas.List.Elements.{filter_more}
 use Rattle.std.proofs.lemmas.Grind.{flat_map-append}
 use Rattle.kc_graph.specs.Numbers.{has_number}
 use Rattle.kc_graph.specs.Shape.{Pair, neighbours_of}
 use Rattle.kc_graph.proofs.lemmas.Numbers.{has_number-push}
 use Rattle.kc_insert.specs.private.Crossing.{Crossing, above_near, is_above, next_near, count_above, with_levels, meetings_on, meetings_of, HaveMeetings, HaveBegun}
-use Rattle.kc_insert.specs.private.Telling.{times}
 use Rattle.kc_insert.specs.Ranges.{IsHeld, Tell, Watch}
-use Rattle.kc_insert.specs.private.Watched.{count_at, StayWatched}
+use Rattle.kc_insert.specs.private.Watched.{StayWatched}
 use Rattle.kc_insert.proofs.Adding.{times_there, times_some, times_part}
 use Rattle.kc_insert.proofs.Buckets.{pushed_is, has_last}
 use Rattle.kc_insert.proofs.Looking.{passes_at, length-with_levels, vertex_at, level_at}

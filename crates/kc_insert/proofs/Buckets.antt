@@ -1,12 +1,11 @@
 -- What stands in the buckets after a vertex came into one, or left it.
-use Rattle.std.proofs.Common.{ℕ, replicate, ◌≤◌, ◌<◌, ◌≡◌, ◌≢◌, ◌⊎◌, inl, inr, Bool, true, false, ◌&&◌, List, [], ◌∷◌, ◌++◌, length, get_or, set, refl, ap, sym, ◌∙◌, arith}
+use Rattle.std.proofs.Common.{ℕ, ◌<◌, ◌≡◌, ◌≢◌, ◌⊎◌, inl, inr, Bool, true, ◌&&◌, List, [], ◌∷◌, ◌++◌, length, get_or, set, refl, ap, sym, ◌∙◌, arith}
 use Rattle.std.specs.Prelude.{filter}
-use Rattle.std.proofs.lemmas.Bool.{cases_eq, cases_Bool, true≢false}
+use Rattle.std.proofs.lemmas.Bool.{cases_eq, cases_Bool}
 use Rattle.std.proofs.lemmas.Bool.Decides.{nat_tests}
 use Rattle.std.proofs.lemmas.List.{get_or-set_same, get_or-set_other}
 use Rattle.kc_graph.specs.Numbers.{has_number}
 use Rattle.kc_graph.proofs.lemmas.Numbers.{has_number-append, has_number-push}
-use Rattle.kc_adj.proofs.lemmas.Lists.{empty_list}
 
 -- what holds of a new bucket at its level, and of the old bucket at each other level, holds at every level
 pub placed : (queue : List (List ℕ)) (a k : ℕ) (new : List ℕ) → a < length queue → (P : List ℕ → Type 0) → (k ≡ a → P new) → (k ≢ a → P (get_or queue k [])) → P (get_or (set queue a new) k [])

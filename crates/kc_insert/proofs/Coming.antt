@@ -1,17 +1,16 @@
 -- All ranges tell of the vertices that rise, and hear of them.
-use Rattle.std.proofs.Common.{ℕ, suc, ◌+◌, ◌≤◌, ◌<◌, ◌≡◌, inl, inr, Bool, true, false, List, [], ◌∷◌, ◌++◌, length, get_or, refl, ap, sym, subst, ◌∙◌, arith}
-use Rattle.std.specs.Prelude.{All, count_by}
+use Rattle.std.proofs.Common.{ℕ, suc, ◌+◌, ◌≤◌, ◌<◌, ◌≡◌, inl, inr, List, [], ◌∷◌, ◌++◌, length, get_or, refl, ap, sym, subst, ◌∙◌, arith}
 use Rattle.std.specs.List.{flat_map}
 use Rattle.std.proofs.lemmas.Bool.{cases_Bool, cases_lt}
 use Rattle.std.proofs.lemmas.List.Sums.{count_by-le-length}
 use Rattle.kc_graph.specs.Numbers.{has_number}
 use Rattle.kc_graph.specs.Shape.{neighbours_of}
 use Rattle.kc_insert.specs.private.Crossing.{Crossing, count_above, met_by, next_near}
-use Rattle.kc_insert.specs.private.Parts.{CanRise, HasRisen, HaveMet}
+use Rattle.kc_insert.specs.private.Parts.{HasRisen, HaveMet}
 use Rattle.kc_insert.specs.Ranges.{IsHeld, no_part, Part, range_of, Tell, Watch}
-use Rattle.kc_insert.specs.private.Sharing.{AllRisen, AreFew, AreTold, CanMeet, CanRiseAll, HearMore, rise_told, RisesAndHears, told_all}
+use Rattle.kc_insert.specs.private.Sharing.{AllRisen, AreFew, AreTold, CanMeet, CanRiseAll, HearMore, rise_told, told_all}
 use Rattle.kc_insert.specs.private.Telling.{in_range, times}
-use Rattle.kc_insert.specs.private.Watched.{count_at, StayWatched}
+use Rattle.kc_insert.specs.private.Watched.{count_at}
 use Rattle.kc_insert.proofs.Beginning.{held_still}
 
 -- what all told is what each tells

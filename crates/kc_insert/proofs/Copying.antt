@@ -1,15 +1,14 @@
 -- Counts of ranges that are copied from a list, at some vertices.
-use Rattle.std.proofs.Common.{ℕ, ◌+◌, ◌-◌, ◌≤◌, ◌<◌, ◌≡◌, ◌≢◌, ◌⊎◌, inl, inr, false, List, [], length, get_or, set, take, refl, ap, sym, subst, ◌∙◌, arith}
+use Rattle.std.proofs.Common.{ℕ, ◌+◌, ◌-◌, ◌≤◌, ◌<◌, ◌≡◌, ◌≢◌, inl, inr, false, List, length, get_or, set, take, refl, ap, sym, subst, ◌∙◌, arith}
 use Rattle.std.specs.List.{All}
 use Rattle.std.proofs.lemmas.Bool.{cases_eq, cases_lt}
 use Rattle.std.proofs.lemmas.List.{get_or-set_same, get_or-set_other, get_or_past, length-set, take_more, take_all}
 use Rattle.std.proofs.lemmas.List.Elements.{All-push}
 use Rattle.kc_graph.specs.Numbers.{has_number}
 use Rattle.kc_graph.proofs.lemmas.Numbers.{has_number_nowhere}
-use Rattle.kc_levels.specs.private.Following.{IsCopied}
-use Rattle.kc_levels.proofs.lemmas.Writes.{copied_all, copied_first, copied_next, copied_then}
+use Rattle.kc_levels.proofs.lemmas.Writes.{copied_first, copied_then}
 use Rattle.kc_insert.specs.private.Filed.{AreCopied}
-use Rattle.kc_insert.specs.Ranges.{counts_of, Cut, IsCut, IsHeld, IsIn, no_part, Part, part_of, range_of, Watch}
+use Rattle.kc_insert.specs.Ranges.{counts_of, Cut, IsHeld, IsIn, no_part, Part, part_of, range_of}
 use Rattle.kc_insert.specs.private.Ranges.{count_of, IsSameCut}
 use Rattle.kc_insert.specs.private.Watched.{count_at}
 use Rattle.kc_insert.proofs.Direct.{any_default}

@@ -1,18 +1,16 @@
 -- Vertices of all ranges hear, one after another.
-use Rattle.std.proofs.Common.{ℕ, suc, zero, ◌+◌, ◌-◌, ◌≤◌, ◌<◌, ◌≡◌, ◌≢◌, inl, inr, Bool, true, false, cond, eqb, List, [], ◌∷◌, ◌++◌, length, get_or, set, take, filter, refl, ap, sym, subst, ◌∙◌, arith, append-nil}
+use Rattle.std.proofs.Common.{ℕ, suc, zero, ◌+◌, ◌-◌, ◌≤◌, ◌<◌, ◌≡◌, ◌≢◌, inl, inr, true, false, cond, eqb, List, [], ◌∷◌, ◌++◌, length, get_or, set, take, refl, ap, ◌∙◌, arith, append-nil}
 use Rattle.std.proofs.lemmas.Bool.{cases_eq}
 use Rattle.std.proofs.lemmas.Bool.Decides.{nat_tests}
 use Rattle.std.proofs.lemmas.List.{length-set, get_or-set_same, get_or-set_other}
 use Rattle.std.proofs.lemmas.List.Elements.{filter_more}
-use Rattle.kc_graph.specs.Numbers.{has_number}
-use Rattle.kc_graph.proofs.lemmas.Numbers.{has_number_at}
 use Rattle.kc_insert.specs.private.Parts.{HasHeardLess, HaveMet}
 use Rattle.kc_insert.specs.Ranges.{IsHeld, Part, range_of, Watch}
-use Rattle.kc_insert.specs.private.Sharing.{CanLessen, CanMeet, HearLess, HearMore}
+use Rattle.kc_insert.specs.private.Sharing.{HearLess, HearMore}
 use Rattle.kc_insert.specs.private.Telling.{in_range, times}
 use Rattle.kc_insert.specs.private.Watched.{count_at, StayWatched}
 use Rattle.kc_insert.proofs.Adding.{times-append, times-filter, times_more, times_part}
-use Rattle.kc_insert.proofs.Meeting.{met_none, met_on, met_one}
+use Rattle.kc_insert.proofs.Meeting.{met_on}
 use Rattle.kc_insert.proofs.Watching.{watched_same, watched_on, count_here, count_other}
 
 pub any_default : {A : Type 0} (xs : List A) (k : ℕ) (d e : A) → k < length xs → get_or xs k d ≡ get_or xs k e

@@ -1,16 +1,16 @@
 -- A sweep on its way from one call to the next, and at its end.
-use Rattle.std.proofs.Common.{ℕ, ◌+◌, ◌≤◌, ◌<◌, ◌≡◌, true, false, List, length, get_or, sym, ap, subst, ◌∙◌, arith}
+use Rattle.std.proofs.Common.{ℕ, ◌+◌, ◌≤◌, ◌<◌, ◌≡◌, false, List, length, sym, subst, ◌∙◌, arith}
 use Rattle.std.specs.Prelude.{All}
 use Rattle.std.proofs.lemmas.Bool.{true≢false}
 use Rattle.std.proofs.lemmas.List.{get_or_default}
-use Rattle.kc_graph.specs.Shape.{GraphShape, IsGraph}
+use Rattle.kc_graph.specs.Shape.{GraphShape}
 use Rattle.kc_levels.specs.declared.profile.Profile.{Profile}
-use Rattle.kc_levels.specs.Thresholds.{high, group_of, top_level}
+use Rattle.kc_levels.specs.Thresholds.{top_level}
 use Rattle.kc_insert.specs.declared.rising.RisingLevels.{RisingLevels}
 use Rattle.kc_insert.specs.private.LevelStep.{AreInOrder, HasLimit, IsRunning, IsUnderWay}
-use Rattle.kc_insert.specs.Ranges.{Cut, no_part, Part, part_at}
+use Rattle.kc_insert.specs.Ranges.{Cut, no_part, Part}
 use Rattle.kc_insert.specs.private.Ranges.{LookedAnew}
-use Rattle.kc_insert.specs.private.Rising.{rises, seen}
+use Rattle.kc_insert.specs.private.Rising.{rises}
 use Rattle.kc_insert.specs.private.Sweeping.{sweeping_of}
 use Rattle.kc_insert.proofs.Anew.{looked_limit, looked_order, looked_same}
 use Rattle.kc_insert.proofs.SweepSame.{same_paid, same_sweeping}

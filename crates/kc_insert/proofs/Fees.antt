@@ -1,5 +1,5 @@
 -- What is counted when the vertices that rose are lifted in the graph.
-use Rattle.std.proofs.Common.{ℕ, suc, ◌+◌, ◌≡◌, List, [], ◌∷◌, length, refl, ap, sym, ◌∙◌, arith}
+use Rattle.std.proofs.Common.{ℕ, suc, ◌+◌, ◌≡◌, List, [], ◌∷◌, length, sym, ◌∙◌, arith}
 use Rattle.kc_graph.specs.Numbers.{has_number, RisesFrom}
 use Rattle.kc_graph.specs.Shape.{GraphShape, neighbours_of}
 use Rattle.kc_graph.proofs.lemmas.Numbers.{has_number_below}

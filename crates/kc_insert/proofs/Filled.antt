@@ -1,7 +1,7 @@
 -- What filing leaves, of one range and of all.
 use Rattle.std.proofs.Common.{ℕ, ◌+◌, ◌-◌, ◌≤◌, ◌<◌, ◌≡◌, ◌≢◌, ◌⊎◌, inl, inr, Bool, true, false, cond, ltb, eqb, not, ◌&&◌, List, [], ◌∷◌, ◌++◌, length, get_or, set, take, refl, ap, sym, subst, ◌∙◌, arith}
-use Rattle.std.specs.List.{All, flat_map}
-use Rattle.std.proofs.lemmas.Bool.{cases_Bool, cases_eq, cases_lt, true≢false}
+use Rattle.std.specs.List.{All}
+use Rattle.std.proofs.lemmas.Bool.{cases_Bool, cases_eq, cases_lt}
 use Rattle.std.proofs.lemmas.Bool.Decides.{nat_tests}
 use Rattle.std.proofs.lemmas.List.{get_or-set_same, get_or-set_other, get_or_past, length-set}
 use Rattle.kc_graph.specs.Numbers.{has_number}
@@ -9,9 +9,9 @@ use Rattle.kc_levels.specs.declared.profile.Profile.{Profile}
 use Rattle.kc_levels.specs.Thresholds.{high, group_of, top_level}
 use Rattle.kc_levels.specs.private.Following.{IsCopied}
 use Rattle.kc_levels.proofs.lemmas.Writes.{copied_all, copied_first, copied_next, copied_then}
-use Rattle.kc_insert.specs.private.Filed.{CanFile, CanFollow, HasFiled, HasFollowed, HaveCounted, HaveFiled, IsFiling}
+use Rattle.kc_insert.specs.private.Filed.{CanFile, CanFollow, HasFiled, HasFollowed, HaveCounted, IsFiling}
 use Rattle.kc_insert.specs.Ranges.{counts_of, Cut, IsCut, IsHeld, no_part, Part, part_of, range_of, Tell, waits, Watch}
-use Rattle.kc_insert.specs.private.Ranges.{count_of, IsSameCut}
+use Rattle.kc_insert.specs.private.Ranges.{IsSameCut}
 use Rattle.kc_insert.specs.private.Watched.{count_at}
 use Rattle.kc_insert.proofs.Across.{flat_has, of_one}
 use Rattle.kc_insert.proofs.Buckets.{has_last, now_there, placed, pushed_is, still_there}

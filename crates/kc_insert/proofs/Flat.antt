@@ -7,9 +7,8 @@ use Rattle.std.proofs.lemmas.List.{length-append, take_more, take_all, append-ni
 use Rattle.std.proofs.lemmas.List.Concat.{get_or-flat_map}
 use Rattle.std.proofs.lemmas.Grind.{flat_map-append}
 use Rattle.std.proofs.Math.Nat.{div-mul-le_self, lt-div-mul-add, suc-mul}
-use Rattle.kc_insert.specs.Ranges.{counts_of, Cut, IsCut, IsHeld, IsIn, no_part, Part, part_at, part_of, range_of, Watch}
+use Rattle.kc_insert.specs.Ranges.{counts_of, Cut, IsCut, IsHeld, no_part, Part, part_at, part_of, range_of}
 use Rattle.kc_insert.specs.private.Ranges.{count_of}
-use Rattle.kc_insert.specs.private.Watched.{count_at}
 
 module _ (n levels : ℕ) (r : Cut) (s : IsCut n levels r) where
   abbrev wide : ℕ

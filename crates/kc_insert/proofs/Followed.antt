@@ -1,21 +1,19 @@
 -- Counts that follow those of the graph where edges came in or left and vertices moved.
-use Rattle.std.proofs.Common.{ℕ, ◌+◌, ◌-◌, ◌≤◌, ◌<◌, ◌≡◌, ◌≢◌, inl, inr, true, false, List, [], ◌∷◌, length, get_or, set, take, leb, refl, ap, sym, ◌∙◌, arith, subst}
+use Rattle.std.proofs.Common.{ℕ, ◌-◌, ◌<◌, ◌≡◌, ◌≢◌, inl, inr, true, false, List, [], ◌∷◌, length, get_or, leb, refl, ap, sym, ◌∙◌, arith, subst}
 use Rattle.std.specs.Prelude.{count_by}
-use Rattle.std.specs.Bool.{⊤}
 use Rattle.std.specs.List.{All}
 use Rattle.std.proofs.lemmas.Bool.{cases_lt, true≢false}
-use Rattle.std.proofs.lemmas.List.{get_or_past, take_more, take_all}
-use Rattle.std.proofs.lemmas.List.Elements.{All-tail, All-push}
+use Rattle.std.proofs.lemmas.List.{get_or_past}
+use Rattle.std.proofs.lemmas.List.Elements.{All-tail}
 use Rattle.kc_graph.specs.Numbers.{has_number}
 use Rattle.kc_graph.specs.Shape.{GraphShape, Pair, neighbours_of, with_edge, without_edge, with_edges, without_edges}
-use Rattle.kc_graph.proofs.lemmas.Numbers.{has_number_nowhere}
 use Rattle.kc_graph.proofs.lemmas.Neighbours.{neighbours_both, neighbours_of_insert_other, neighbours_of_remove_other}
 use Rattle.kc_graph.proofs.lemmas.Changes.{vertices-without_edges}
 use Rattle.kc_levels.specs.declared.moves.Move.{Move}
 use Rattle.kc_levels.specs.LevelList.{at_least}
 use Rattle.kc_levels.specs.Moved.{moves_between}
 use Rattle.kc_levels.specs.private.Following.{IsCopied}
-use Rattle.kc_levels.proofs.lemmas.Writes.{copied_first, copied_one, copied_then, copied_next}
+use Rattle.kc_levels.proofs.lemmas.Writes.{copied_then}
 use Rattle.kc_levels.proofs.lemmas.Moves.{still_here}
 use Rattle.kc_adj.specs.LeveledGraph.{IsCounted}
 use Rattle.kc_insert.proofs.Flips.{count_agree}

@@ -1,6 +1,6 @@
 -- The vertices of a range count afresh, one after another, and wait if they count more than their groups allow.
 use Rattle.std.proofs.Common.{ℕ, ◌+◌, ◌-◌, ◌≤◌, ◌<◌, ◌≡◌, ◌≢◌, ◌⊎◌, inl, inr, Bool, true, false, cond, ltb, eqb, not, ◌&&◌, List, [], ◌∷◌, ◌++◌, length, get_or, set, refl, ap, sym, ◌∙◌, arith}
-use Rattle.std.proofs.lemmas.Bool.{cases_eq, cases_Bool, true≢false}
+use Rattle.std.proofs.lemmas.Bool.{cases_eq, cases_Bool}
 use Rattle.std.proofs.lemmas.Bool.Decides.{nat_tests}
 use Rattle.std.proofs.lemmas.List.{length-set, set-get_or}
 use Rattle.kc_graph.specs.Numbers.{has_number}
@@ -10,7 +10,7 @@ use Rattle.kc_insert.specs.private.Filed.{HasFollowed, HaveFiled}
 use Rattle.kc_insert.specs.private.Watched.{count_at}
 use Rattle.kc_insert.specs.Ranges.{IsHeld, Watch}
 use Rattle.kc_insert.proofs.Buckets.{placed, pushed_is, has_last, still_there, now_there}
-use Rattle.kc_insert.proofs.Watching.{count_here, count_other, count_sized}
+use Rattle.kc_insert.proofs.Watching.{count_here, count_other}
 
 -- one vertex follows its fresh count: the three ways of the code
 module _ (p : Profile) (n : ℕ) (y : List ℕ) (v own : ℕ) (old : Watch) (first : List (List ℕ)) where

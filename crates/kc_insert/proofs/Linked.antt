@@ -1,5 +1,5 @@
 -- Edges came in, and their ends are filed: what the sweep begins with.
-use Rattle.std.proofs.Common.{ℕ, ◌≡◌, ◌≢◌, ◌<◌, List, length, get_or, ap, sym, subst, ◌∙◌}
+use Rattle.std.proofs.Common.{ℕ, ◌≡◌, ◌≢◌, ◌<◌, List, ap, sym, subst, ◌∙◌}
 use Rattle.std.specs.List.{All}
 use Rattle.kc_graph.specs.Shape.{GraphShape, Pair, with_edges}
 use Rattle.kc_graph.proofs.lemmas.Changes.{vertices-with_edges}

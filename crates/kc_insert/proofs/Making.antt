@@ -1,13 +1,12 @@
 -- New ranges, one after another.
-use Rattle.std.proofs.Common.{ℕ, ◌+◌, ◌-◌, ◌*◌, ◌^◌, ◌≤◌, ◌<◌, ◌≡◌, inl, inr, List, [], ◌∷◌, ◌++◌, length, get_or, take, drop, replicate, refl, ap, sym, subst, ◌∙◌, arith}
+use Rattle.std.proofs.Common.{ℕ, ◌+◌, ◌-◌, ◌≤◌, ◌<◌, ◌≡◌, inl, inr, List, [], ◌∷◌, ◌++◌, length, get_or, take, drop, replicate, refl, ap, sym, subst, ◌∙◌, arith}
 use Rattle.std.proofs.lemmas.Bool.{cases_eq}
 use Rattle.std.proofs.lemmas.List.{length-append, length-replicate, length-take-le, length-drop, get_or-take, get_or-drop}
 use Rattle.std.proofs.Math.ListN.{get_or-append}
 use Rattle.std.proofs.Math.Seq.{get_or-append_seam}
-use Rattle.kc_insert.specs.Ranges.{Cut, IsCut, IsHeld, no_part, Part, range_of, Tell}
+use Rattle.kc_insert.specs.Ranges.{IsHeld, no_part, Part, range_of, Tell}
 use Rattle.kc_insert.specs.private.Ranges.{AreNew, new_part}
 use Rattle.kc_insert.specs.private.Watched.{count_at}
-use Rattle.kc_insert.proofs.Direct.{any_default}
 
 -- the range at a place, of the vertices with these counts
 pub record IsMade (bits : ℕ) (counts : List ℕ) (levels ranges j : ℕ) (p : Part) : Type 0 where

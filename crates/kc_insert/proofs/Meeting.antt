@@ -1,13 +1,13 @@
 -- Vertices of a list count one more each, one after another.
-use Rattle.std.proofs.Common.{ℕ, ◌+◌, ◌-◌, ◌≤◌, ◌<◌, ◌≡◌, ◌≢◌, ◌⊎◌, inl, inr, Bool, true, false, cond, eqb, List, [], ◌∷◌, ◌++◌, length, get_or, set, take, add-one, refl, ap, sym, ◌∙◌, arith}
-use Rattle.std.proofs.lemmas.Bool.{cases_eq, cases_Bool, true≢false}
+use Rattle.std.proofs.Common.{ℕ, ◌+◌, ◌-◌, ◌≤◌, ◌<◌, ◌≡◌, ◌≢◌, ◌⊎◌, inl, inr, true, false, cond, eqb, List, [], ◌∷◌, ◌++◌, length, get_or, set, take, add-one, refl, ap, sym, ◌∙◌, arith}
+use Rattle.std.proofs.lemmas.Bool.{cases_eq, cases_Bool}
 use Rattle.std.proofs.lemmas.Bool.Decides.{nat_tests}
-use Rattle.std.proofs.lemmas.List.{length-set, get_or-set_same, get_or-set_other}
+use Rattle.std.proofs.lemmas.List.{length-set}
 use Rattle.kc_graph.specs.Numbers.{has_number}
 use Rattle.kc_graph.proofs.lemmas.Numbers.{has_number_at, has_number-append}
 use Rattle.kc_insert.specs.private.Telling.{times}
 use Rattle.kc_insert.specs.private.Watched.{count_at}
-use Rattle.kc_insert.specs.Ranges.{IsHeld, Part, Watch}
+use Rattle.kc_insert.specs.Ranges.{IsHeld, Part}
 use Rattle.kc_insert.specs.private.Parts.{HaveMet}
 use Rattle.std.proofs.Math.Seq.{take-suc}
 use Rattle.kc_insert.proofs.Adding.{times-append, times_more, times_part}

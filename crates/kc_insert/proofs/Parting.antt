@@ -1,11 +1,10 @@
 -- All ranges tell of the vertices that stay, and hear of them.
-use Rattle.std.proofs.Common.{ℕ, suc, ◌+◌, ◌≤◌, ◌<◌, ◌≡◌, inl, inr, Bool, true, false, List, [], ◌∷◌, ◌++◌, length, get_or, refl, ap, sym, subst, ◌∙◌, arith}
-use Rattle.std.specs.Prelude.{All}
+use Rattle.std.proofs.Common.{ℕ, ◌+◌, ◌<◌, ◌≡◌, List, [], length, get_or, ap, sym, subst, ◌∙◌, arith}
 use Rattle.std.specs.List.{flat_map}
 use Rattle.kc_graph.specs.Numbers.{has_number}
 use Rattle.kc_adj.specs.Degrees.{degrees}
 use Rattle.kc_insert.specs.private.Crossing.{Crossing, rising_near}
-use Rattle.kc_insert.specs.private.Parts.{CanPart, HasHeardLess, HasParted}
+use Rattle.kc_insert.specs.private.Parts.{HasParted}
 use Rattle.kc_insert.specs.Ranges.{IsHeld, no_part, Part, range_of, Tell, Watch}
 use Rattle.kc_insert.specs.private.Sharing.{AllParted, AreTold, CanLessen, CanPartAll, HearLess, told_all}
 use Rattle.kc_insert.specs.private.Telling.{in_range, times}

@@ -1,5 +1,5 @@
 -- When what phases work with is ready for a graph.
-use Rattle.std.proofs.Common.{ℕ, ◌+◌, ◌-◌, ◌<◌, ◌≡◌, ◌≢◌, Bool, true, false, List, [], length, get_or, replicate, refl, ap, sym, subst, ◌∙◌, arith}
+use Rattle.std.proofs.Common.{ℕ, ◌+◌, ◌<◌, ◌≡◌, ◌≢◌, Bool, true, false, List, [], length, get_or, refl, ap, sym, subst, ◌∙◌, arith}
 use Rattle.std.specs.List.{All, flat_map}
 use Rattle.std.proofs.lemmas.Bool.{true≢false}
 use Rattle.std.proofs.lemmas.Grind.{same_number_lists}
@@ -16,7 +16,7 @@ use Rattle.kc_adj.proofs.lemmas.Lists.{empty_list}
 use Rattle.kc_insert.specs.declared.rising.RisingLevels.{RisingLevels}
 use Rattle.kc_insert.specs.private.Filed.{AreCopied}
 use Rattle.kc_insert.specs.private.LevelStep.{AreInOrder}
-use Rattle.kc_insert.specs.Ranges.{all_began, all_risen, AreQuiet, counts_of, Cut, IsCut, IsHeld, meets, no_part, Part, part_at, waits, Watch}
+use Rattle.kc_insert.specs.Ranges.{AreQuiet, counts_of, Cut, IsCut, no_part, Part, part_at, waits}
 use Rattle.kc_insert.specs.private.Ranges.{AreNew, count_of, Forgot, IsSameCut}
 use Rattle.kc_insert.specs.private.Sweeping.{AreCounted}
 use Rattle.kc_insert.specs.Working.{Working, IsReady}

@@ -1,7 +1,6 @@
 -- What insertion phases work with.
-use Rattle.std.specs.Prelude.{ℕ, ◌+◌, ◌≡◌, [], List}
+use Rattle.std.specs.Prelude.{ℕ, ◌≡◌, [], List}
 use Rattle.kc_levels.specs.declared.profile.Profile.{Profile}
-use Rattle.kc_levels.specs.Thresholds.{top_level}
 use Rattle.kc_adj.specs.LeveledGraph.{LeveledGraph, IsCounted}
 use Rattle.kc_insert.specs.Ranges.{AreQuiet, counts_of, Cut, waits}
 

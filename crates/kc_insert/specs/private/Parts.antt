@@ -1,8 +1,8 @@
 -- The state of a sweep, cut into ranges of vertices.
-use Rattle.std.specs.Prelude.{All, ℕ, ◌+◌, ◌^◌, ◌≤◌, ◌<◌, ◌≡◌, ◌&&◌, ◌⊎◌, ◌++◌, not, true, false, Bool, List, [], count_by, length, get_or, set}
+use Rattle.std.specs.Prelude.{All, ℕ, ◌+◌, ◌^◌, ◌≤◌, ◌<◌, ◌≡◌, ◌&&◌, ◌⊎◌, ◌++◌, not, true, false, List, [], count_by, length, get_or, set}
 use Rattle.std.specs.List.{flat_map}
 use Rattle.kc_graph.specs.Numbers.{has_number}
-use Rattle.kc_graph.specs.Shape.{Pair, has_edge, neighbours_of}
+use Rattle.kc_graph.specs.Shape.{has_edge, neighbours_of}
 use Rattle.kc_levels.specs.Following.{AreDistinct}
 use Rattle.kc_adj.specs.Degrees.{degrees}
 use Rattle.kc_insert.specs.declared.rising.RisingLevels.{RisingLevels}

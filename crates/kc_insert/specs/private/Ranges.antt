@@ -1,13 +1,12 @@
 -- All ranges of a graph, seen as one: what each vertex counts, and the lists of all ranges one after another.
-use Rattle.std.specs.Prelude.{ℕ, ◌+◌, ◌*◌, ◌^◌, ◌≤◌, ◌<◌, ◌≡◌, ◌⊎◌, ◌++◌, ◌&&◌, ◌||◌, not, true, false, Bool, List, [], filter, length, get_or, replicate, set}
+use Rattle.std.specs.Prelude.{ℕ, ◌+◌, ◌^◌, ◌≤◌, ◌<◌, ◌≡◌, ◌⊎◌, ◌&&◌, ◌||◌, not, true, false, List, [], filter, length, get_or, replicate, set}
 use Rattle.std.specs.List.{flat_map}
 use Rattle.kc_graph.specs.Numbers.{has_number}
-use Rattle.kc_graph.specs.Shape.{Pair}
 use Rattle.kc_levels.specs.Following.{AreDistinct}
 use Rattle.kc_insert.specs.declared.rising.RisingLevels.{RisingLevels}
 use Rattle.kc_insert.specs.Ranges.{Cut, IsCut, IsHeld, Part, part_at, part_of, range_of, Tell}
 use Rattle.kc_insert.specs.private.Rising.{all_at, rises, seen}
-use Rattle.kc_insert.specs.private.Watched.{count_at, is_few, StayWatched}
+use Rattle.kc_insert.specs.private.Watched.{count_at, is_few}
 
 -- how many neighbours v counts
 abbrev pub count_of : Cut → ℕ → ℕ

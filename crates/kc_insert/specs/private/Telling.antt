@@ -1,5 +1,5 @@
 -- What ranges tell of vertices, and how it is cut.
-use Rattle.std.specs.Prelude.{ℕ, ◌+◌, ◌/◌, ◌^◌, ◌≡◌, ◌<◌, ◌==◌, ◌++◌, ◌∷◌, cond, List, [], length, get_or, filter}
+use Rattle.std.specs.Prelude.{ℕ, ◌+◌, ◌≡◌, ◌<◌, ◌==◌, ◌++◌, ◌∷◌, cond, List, [], length, get_or, filter}
 use Rattle.std.specs.List.{flat_map}
 use Rattle.kc_insert.specs.Ranges.{range_of, Tell}
 

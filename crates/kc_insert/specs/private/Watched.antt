@@ -1,5 +1,5 @@
 -- Counts of a range, with a watch list of the vertices whose count came to the limit.
-use Rattle.std.specs.Prelude.{ℕ, ◌+◌, ◌-◌, ◌≤◌, ◌<◌, ◌≡◌, ◌⊎◌, nat_le, Bool, true, List, length, get_or}
+use Rattle.std.specs.Prelude.{ℕ, ◌-◌, ◌≤◌, ◌≡◌, ◌⊎◌, nat_le, Bool, true, length, get_or}
 use Rattle.kc_graph.specs.Numbers.{has_number}
 use Rattle.kc_insert.specs.Ranges.{IsHeld, Watch}
 

@@ -1,4 +1,4 @@
-use Rattle.std.proofs.Common.{ℕ, ◌<◌, ◌≢◌, length, get_or, refl, sym, subst, arith, ◌∙◌}
+use Rattle.std.proofs.Common.{◌<◌, ◌≢◌, length, get_or, refl, sym, subst, arith, ◌∙◌}
 use Rattle.kc_graph.specs.Shape.{Pair}
 use Rattle.kc_insert.proofs.Copying.{copied_more, copied_on, copied_one_vertex, copied_whole, in_same}
 use Rattle.kc_insert.proofs.filing.copy_ends.Goals as goal

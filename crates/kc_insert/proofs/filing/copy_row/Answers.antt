@@ -1,4 +1,4 @@
-use Rattle.std.proofs.Common.{ℕ, List, ◌≡◌, ◌<◌, ◌≢◌, false, length, get_or, take, refl, sym, subst, arith, ◌∙◌}
+use Rattle.std.proofs.Common.{ℕ, List, ◌≡◌, ◌<◌, ◌≢◌, false, length, get_or, refl, subst, arith}
 use Rattle.kc_graph.specs.Numbers.{has_number}
 use Rattle.kc_insert.specs.private.Filed.{AreCopied}
 use Rattle.kc_insert.proofs.Copying.{copied_none, copied_on, copied_one_vertex, copied_row, copied_row_next, in_same}

@@ -1,4 +1,4 @@
-use Rattle.std.proofs.Common.{ℕ, ◌≡◌, ◌<◌, ◌≢◌, false, length, refl, arith}
+use Rattle.std.proofs.Common.{◌≡◌, ◌≢◌, false, refl, arith}
 use Rattle.kc_graph.specs.Numbers.{has_number}
 use Rattle.kc_graph.specs.Shape.{neighbours_of}
 use Rattle.kc_levels.specs.declared.moves.Move.{Move}

@@ -1,4 +1,4 @@
-use Rattle.std.proofs.Common.{ℕ, List, ◌≡◌, ◌<◌, ◌≢◌, get_or, length, refl, ap, sym, subst, ◌∙◌, arith}
+use Rattle.std.proofs.Common.{List, get_or, length, ap, sym, subst, ◌∙◌, arith}
 use Rattle.kc_insert.specs.private.Filed.{CanFile, CanFollow, HasFiled}
 use Rattle.std.proofs.lemmas.List.{with_items_is}
 use Rattle.kc_insert.specs.Ranges.{Cut, Part}

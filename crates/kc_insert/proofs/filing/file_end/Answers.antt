@@ -1,6 +1,6 @@
-use Rattle.std.proofs.Common.{ℕ, List, ◌≡◌, ◌<◌, ◌≢◌, get_or, length, set, refl, ap, sym, subst, ◌∙◌, arith}
+use Rattle.std.proofs.Common.{get_or, length, set, ap, sym, subst, ◌∙◌, arith}
 use Rattle.kc_insert.specs.private.Filed.{HasFollowed}
-use Rattle.kc_insert.specs.Ranges.{Cut, IsHeld, IsIn, no_part, Part, part_of, range_of}
+use Rattle.kc_insert.specs.Ranges.{Cut, IsHeld, no_part, Part, range_of}
 use Rattle.kc_insert.proofs.Direct.{any_default}
 use Rattle.kc_insert.proofs.Filled.{end_filed}
 use Rattle.kc_insert.proofs.filing.file_end.Goals as goal

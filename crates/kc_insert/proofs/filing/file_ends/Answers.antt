@@ -1,7 +1,7 @@
-use Rattle.std.proofs.Common.{ℕ, ◌≢◌, refl}
+use Rattle.std.proofs.Common.{◌≢◌, refl}
 use Rattle.std.specs.List.{All}
 use Rattle.kc_graph.specs.Shape.{Pair}
-use Rattle.kc_insert.proofs.Filled.{can_file_on, counted_both, counted_wider}
+use Rattle.kc_insert.proofs.Filled.{can_file_on, counted_wider}
 use Rattle.kc_insert.proofs.filing.file_ends.Goals as goal
 
 pub file_greater_ends-requires-clause-can : goal.file_greater_ends-requires-clause-can

@@ -1,4 +1,4 @@
-use Rattle.std.proofs.Common.{◌≡◌, ◌+◌, ◌<◌, length, ap, arith}
+use Rattle.std.proofs.Common.{◌+◌, ◌<◌, length, ap, arith}
 use Rattle.kc_insert.proofs.Following.{filed_first, filed_next}
 use Rattle.kc_insert.proofs.filing.follow_counts.Goals as goal
 

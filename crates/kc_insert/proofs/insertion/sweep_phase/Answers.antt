@@ -1,5 +1,4 @@
-use Rattle.std.proofs.Common.{◌≡◌, ◌+◌, ℕ, List, refl, ap, sym, ◌∙◌, subst, arith}
-use Rattle.kc_graph.specs.Shape.{GraphShape}
+use Rattle.std.proofs.Common.{◌≡◌, ap, ◌∙◌, arith}
 use Rattle.kc_graph.proofs.lemmas.Changes.{vertices-with_edges, inside_from_ascending}
 use Rattle.kc_adj.specs.LeveledGraph.{LeveledGraph}
 use Rattle.kc_insert.proofs.Linked.{linked_counted, linked_quiet, linked_queued}

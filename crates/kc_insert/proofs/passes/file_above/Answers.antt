@@ -1,4 +1,4 @@
-use Rattle.std.proofs.Common.{◌≡◌, ◌<◌, ◌≤◌, ◌+◌, ◌++◌, ◌∷◌, [], get_or, length, ap, sym, ◌∙◌, arith}
+use Rattle.std.proofs.Common.{◌≡◌, ◌+◌, ◌++◌, ◌∷◌, [], length, ap, sym, ◌∙◌, arith}
 use Rattle.kc_insert.specs.private.Crossing.{Crossing, above_near}
 use Rattle.kc_insert.proofs.Beginning.{beginning_first, beginning_next, beginning_over, begun_filed, begun_telling, is_found}
 use Rattle.kc_insert.proofs.Looking.{length-with_levels}

@@ -1,4 +1,4 @@
-use Rattle.std.proofs.Common.{◌≡◌, ◌+◌, ◌*◌, ◌≤◌, ◌++◌, filter, get_or, length, take, refl, ap, sym, ◌∙◌, arith}
+use Rattle.std.proofs.Common.{◌≡◌, ◌++◌, filter, get_or, length, take, refl, ap, ◌∙◌, arith}
 use Rattle.kc_graph.specs.Shape.{GraphShape, neighbours_of}
 use Rattle.kc_graph.proofs.lemmas.Numbers.{has_number_at}
 use Rattle.kc_graph.proofs.lemmas.Neighbours.{neighbour_below}

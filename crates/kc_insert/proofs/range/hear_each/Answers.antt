@@ -2,7 +2,6 @@ use Rattle.std.proofs.Common.{◌≡◌, [], get_or, sym, ap, ◌∙◌, arith}
 use Rattle.kc_graph.specs.Numbers.{has_number}
 use Rattle.kc_insert.specs.private.Telling.{times}
 use Rattle.kc_insert.specs.Ranges.{Tell}
-use Rattle.kc_insert.specs.private.Watched.{count_at}
 use Rattle.kc_insert.proofs.Hearing.{here, heard_first, less_held, less_enough, less_next, less_last}
 use Rattle.kc_insert.proofs.range.hear_each.Goals as goal
 

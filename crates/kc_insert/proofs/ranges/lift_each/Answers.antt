@@ -1,4 +1,4 @@
-use Rattle.std.proofs.Common.{ℕ, List, [], ◌∷◌, ◌++◌, ◌≡◌, ◌<◌, get_or, length, ap, sym, ◌∙◌, arith}
+use Rattle.std.proofs.Common.{ℕ, List, [], ◌∷◌, ◌++◌, get_or, ap, sym, ◌∙◌, arith}
 use Rattle.kc_insert.specs.Ranges.{Part, range_of}
 use Rattle.kc_insert.proofs.Beginners.{starting_begins, starting_first, starting_inside, starting_last, starting_passes, starting_place}
 use Rattle.kc_insert.proofs.ranges.lift_each.Goals.{then-get-level+in_ok-push, else-get-level}

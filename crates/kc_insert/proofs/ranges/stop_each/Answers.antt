@@ -1,4 +1,4 @@
-use Rattle.std.proofs.Common.{ℕ, ◌≡◌, ◌<◌, ◌+◌, ◌≤◌, get_or, length, ap, sym, ◌∙◌, arith}
+use Rattle.std.proofs.Common.{◌≡◌, length, ap, arith}
 use Rattle.kc_insert.specs.Ranges.{Part}
 use Rattle.kc_insert.proofs.Halting.{halting_few, halting_next}
 use Rattle.kc_insert.proofs.ranges.stop_each.Goals as goal

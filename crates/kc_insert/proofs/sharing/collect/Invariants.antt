@@ -1,4 +1,4 @@
-use Rattle.std.proofs.Common.{ℕ, ◌≡◌, ◌<◌, ◌≤◌, get_or, length}
+use Rattle.std.proofs.Common.{ℕ, ◌≡◌, ◌<◌, ◌≤◌, get_or}
 use Rattle.kc_insert.specs.Ranges.{Part, Tell}
 use Rattle.kc_insert.proofs.sharing.collect.Given as goal
 

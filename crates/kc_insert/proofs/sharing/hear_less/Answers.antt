@@ -1,6 +1,5 @@
-use Rattle.std.proofs.Common.{ℕ, List, ◌≡◌, true, get_or, length, take, ap, sym, subst, ◌∙◌, arith}
-use Rattle.std.proofs.lemmas.List.{take_all}
-use Rattle.kc_insert.specs.private.Sharing.{AreTold, CanLessen, HearLess, told_all}
+use Rattle.std.proofs.Common.{ℕ, List, ◌≡◌, get_or, length, ap, sym, subst, ◌∙◌, arith}
+use Rattle.kc_insert.specs.private.Sharing.{AreTold, CanLessen, HearLess}
 use Rattle.kc_insert.specs.Ranges.{Tell}
 use Rattle.kc_insert.proofs.Shared.{can_hear, hear_first, heard_dealt, next_enough, next_heard, next_held}
 use Rattle.kc_insert.proofs.sharing.hear_less.Goals as goal

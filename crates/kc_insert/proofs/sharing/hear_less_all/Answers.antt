@@ -1,4 +1,4 @@
-use Rattle.std.proofs.Common.{ℕ, ◌≡◌, ◌+◌, ◌-◌, get_or, length, take, refl, ap, ◌∙◌, arith}
+use Rattle.std.proofs.Common.{◌≡◌, get_or, refl, ap, ◌∙◌, arith}
 use Rattle.kc_graph.proofs.lemmas.Numbers.{has_number_at}
 use Rattle.kc_insert.specs.Ranges.{no_part, Part, range_of}
 use Rattle.kc_insert.specs.private.Telling.{times}

@@ -1,8 +1,7 @@
-use Rattle.std.proofs.Common.{ℕ, List, ◌≡◌, ◌+◌, true, Bool, get_or, length, take, ap, sym, subst, ◌∙◌, arith}
-use Rattle.std.proofs.lemmas.List.{take_all}
+use Rattle.std.proofs.Common.{ℕ, List, ◌≡◌, ◌+◌, get_or, length, ap, sym, subst, ◌∙◌, arith}
 use Rattle.kc_insert.specs.private.Crossing.{Crossing}
 use Rattle.kc_insert.specs.private.Parts.{CanHearMore, HaveMet}
-use Rattle.kc_insert.specs.private.Sharing.{AreTold, CanMeet, HearMore, told_all}
+use Rattle.kc_insert.specs.private.Sharing.{AreTold, CanMeet, HearMore}
 use Rattle.kc_insert.specs.private.Telling.{heard_by}
 use Rattle.kc_insert.specs.Ranges.{Tell}
 use Rattle.kc_insert.proofs.Shared.{can_meet, meet_first, met_dealt, next_met, next_room, next_small, next_there}

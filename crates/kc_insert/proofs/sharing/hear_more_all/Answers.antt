@@ -1,6 +1,6 @@
-use Rattle.std.proofs.Common.{ℕ, ◌≡◌, ◌+◌, ◌-◌, get_or, length, take, refl, ap, ◌∙◌, arith}
+use Rattle.std.proofs.Common.{get_or, refl, arith}
 use Rattle.kc_graph.proofs.lemmas.Numbers.{has_number_at}
-use Rattle.kc_insert.specs.Ranges.{no_part, Part, range_of}
+use Rattle.kc_insert.specs.Ranges.{no_part, range_of}
 use Rattle.kc_insert.specs.private.Telling.{times}
 use Rattle.kc_insert.proofs.Direct.{in_times, meet_next, met_less, met_still}
 use Rattle.kc_insert.proofs.Meeting.{met_one}

@@ -1,4 +1,4 @@
-use Rattle.std.proofs.Common.{ℕ, ◌≡◌, ◌<◌, get_or, length, ap, subst, ◌∙◌, sym, arith}
+use Rattle.std.proofs.Common.{length, ap, subst, ◌∙◌, sym, arith}
 use Rattle.kc_insert.specs.private.Crossing.{Crossing}
 use Rattle.kc_insert.specs.private.Sharing.{AreTold, CanLessen, HearLess, told_all}
 use Rattle.kc_insert.proofs.Parting.{all_parted, are_told, can_lessen}

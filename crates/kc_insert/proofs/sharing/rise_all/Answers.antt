@@ -1,4 +1,4 @@
-use Rattle.std.proofs.Common.{ℕ, ◌≡◌, ◌<◌, get_or, length, ap, subst, ◌∙◌, sym, arith}
+use Rattle.std.proofs.Common.{◌∙◌, sym, arith}
 use Rattle.kc_insert.proofs.Coming.{all_risen, are_few, are_told, can_meet}
 use Rattle.kc_insert.proofs.sharing.rise_all.Goals as goal
 

@@ -1,4 +1,4 @@
-use Rattle.std.proofs.Common.{ℕ, List, ◌≡◌, get_or, ap, subst, ◌∙◌, arith}
+use Rattle.std.proofs.Common.{ℕ, List, ap, subst, ◌∙◌, arith}
 use Rattle.kc_insert.specs.Ranges.{Part}
 use Rattle.kc_insert.proofs.SettleAll.{AreSettled, settled_range, settled_was}
 use Rattle.kc_insert.proofs.sweep.settle_each.Goals as goal

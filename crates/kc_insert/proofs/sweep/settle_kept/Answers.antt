@@ -1,8 +1,8 @@
-use Rattle.std.proofs.Common.{ℕ, inl, inr, Bool, true, false, not, ◌&&◌, List, ◌≡◌, ap, sym, ◌∙◌, arith}
+use Rattle.std.proofs.Common.{Bool, true, false, not, ◌&&◌, List, ◌≡◌, ap, ◌∙◌, arith}
 use Rattle.std.specs.List.{flat_map}
 use Rattle.std.proofs.lemmas.Bool.Decides.{nat_tests}
 use Rattle.kc_graph.specs.Numbers.{has_number}
-use Rattle.kc_insert.specs.Ranges.{all_began, Cut, Part}
+use Rattle.kc_insert.specs.Ranges.{Cut, Part}
 use Rattle.kc_insert.specs.private.Rising.{rises}
 use Rattle.kc_insert.proofs.Staying.{nobody_rises}
 use Rattle.kc_insert.proofs.sweep.settle_kept.Goals as goal

@@ -1,4 +1,4 @@
-use Rattle.std.proofs.Common.{ℕ, ◌≡◌, ◌<◌, get_or, length, refl, sym, ◌∙◌, arith}
+use Rattle.std.proofs.Common.{get_or, refl, sym, ◌∙◌, arith}
 use Rattle.kc_graph.proofs.lemmas.Numbers.{has_number_at}
 use Rattle.kc_insert.proofs.SettleAll.{settled_none, settled_one, settled_was}
 use Rattle.kc_insert.proofs.sweep.settle_listed.Goals.{then-rises, else-rises}

@@ -1,12 +1,12 @@
 -- The step of a sweep: what its calls ask, and what they leave.
-use Rattle.std.proofs.Common.{ℕ, ◌+◌, ◌<◌, ◌≡◌, true, List, length, get_or, filter, refl, ap, sym, subst, ◌∙◌, arith}
+use Rattle.std.proofs.Common.{ℕ, ◌+◌, ◌<◌, ◌≡◌, true, List, get_or, filter, refl, ap, sym, subst, ◌∙◌, arith}
 use Rattle.std.proofs.lemmas.List.{get_or_default}
 use Rattle.kc_graph.specs.Numbers.{has_number}
 use Rattle.kc_graph.specs.Shape.{GraphShape}
 use Rattle.kc_graph.proofs.lemmas.Numbers.{has_number_at}
 use Rattle.kc_levels.specs.declared.profile.Profile.{Profile}
 use Rattle.kc_levels.specs.Thresholds.{group_of, high, top_level}
-use Rattle.kc_insert.specs.private.LevelStep.{HasLimit, IsLevelStep, IsRunning}
+use Rattle.kc_insert.specs.private.LevelStep.{HasLimit, IsLevelStep}
 use Rattle.kc_insert.specs.private.Ranges.{count_of}
 use Rattle.kc_insert.specs.Ranges.{Cut, waits}
 use Rattle.kc_insert.specs.private.Rising.{seen}

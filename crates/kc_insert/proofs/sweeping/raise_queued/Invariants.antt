@@ -1,4 +1,4 @@
-use Rattle.std.proofs.Common.{◌≡◌, ◌+◌, ◌-◌, ◌≤◌}
+use Rattle.std.proofs.Common.{◌+◌, ◌-◌, ◌≤◌}
 use Rattle.kc_levels.specs.Thresholds.{top_level}
 use Rattle.kc_insert.specs.private.LevelStep.{IsRunning}
 use Rattle.kc_insert.proofs.sweeping.raise_queued.Given as goal

@@ -1,5 +1,4 @@
-use Rattle.std.proofs.Common.{ℕ, List, ◌≡◌, ◌+◌, length, ap, sym, ◌∙◌, subst}
-use Rattle.kc_graph.specs.Numbers.{has_number}
+use Rattle.std.proofs.Common.{ℕ, List, ◌+◌, length, ap, sym, ◌∙◌, subst}
 use Rattle.kc_levels.specs.Following.{AreDistinct}
 use Rattle.kc_adj.specs.Degrees.{degrees}
 use Rattle.kc_insert.proofs.Fees.{rising_once, same_fees}

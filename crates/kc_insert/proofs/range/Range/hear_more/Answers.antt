@@ -1,9 +1,8 @@
-use Rattle.std.proofs.Common.{ℕ, List, ◌≡◌, ◌+◌, ◌≤◌, [], get_or, ap, sym, subst, ◌∙◌, arith}
+use Rattle.std.proofs.Common.{ℕ, List, ◌≡◌, [], get_or, ap, sym, subst, ◌∙◌, arith}
 use Rattle.kc_graph.specs.Numbers.{has_number}
 use Rattle.kc_insert.specs.private.Parts.{HaveMet}
 use Rattle.kc_insert.specs.private.Telling.{times}
 use Rattle.kc_insert.specs.Ranges.{Tell}
-use Rattle.kc_insert.specs.private.Watched.{count_at}
 use Rattle.kc_insert.proofs.Hearing.{here, more_held, more_small, more_next}
 use Rattle.kc_insert.proofs.range.Range.hear_more.Goals as goal
 

@@ -1,6 +1,5 @@
-use Rattle.std.proofs.Common.{◌≡◌, ◌<◌, ◌++◌, ℕ, length, arith, ap, ◌∙◌}
+use Rattle.std.proofs.Common.{◌<◌, ◌++◌, length, arith, ap, ◌∙◌}
 use Rattle.std.specs.List.{flat_map}
-use Rattle.kc_graph.specs.Numbers.{has_number}
 use Rattle.kc_insert.specs.private.Rising.{rises}
 use Rattle.kc_insert.specs.private.Crossing.{rising_near}
 use Rattle.kc_insert.specs.Ranges.{Tell}

@@ -1,8 +1,8 @@
-use Rattle.std.proofs.Common.{ℕ, ◌≡◌, ◌≢◌, ◌<◌, ◌+◌, ◌++◌, [], true, List, get_or, length, set, ap, sym, ◌∙◌, arith}
+use Rattle.std.proofs.Common.{ℕ, ◌≡◌, ◌≢◌, ◌<◌, ◌+◌, ◌++◌, [], List, get_or, length, ap, sym, ◌∙◌, arith}
 use Rattle.std.specs.List.{flat_map}
 use Rattle.std.proofs.lemmas.List.{get_or-set_other, length-replicate}
 use Rattle.kc_graph.specs.Shape.{Pair, has_edge}
-use Rattle.kc_insert.specs.private.Crossing.{Crossing, met_by, next_near}
+use Rattle.kc_insert.specs.private.Crossing.{met_by, next_near}
 use Rattle.kc_insert.specs.Ranges.{Part, Tell}
 use Rattle.kc_insert.specs.private.Rising.{rises}
 use Rattle.kc_insert.proofs.Inside.{dealt_all, inside_both, inside_ends, inside_rows, near_inside}

@@ -1,4 +1,4 @@
-use Rattle.std.proofs.Common.{◌≡◌, length, ap, sym, ◌∙◌, arith}
+use Rattle.std.proofs.Common.{ap, sym, ◌∙◌, arith}
 use Rattle.std.specs.List.{flat_map}
 use Rattle.kc_insert.specs.Ranges.{all_began, Cut, Part}
 use Rattle.kc_insert.proofs.Nearest.{flat_none}

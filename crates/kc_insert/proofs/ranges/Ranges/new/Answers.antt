@@ -1,6 +1,5 @@
-use Rattle.std.proofs.Common.{ℕ, List, ◌*◌, ◌^◌, ◌≡◌, ◌<◌, ◌≤◌, ◌++◌, ◌∷◌, [], get_or, length, take, drop, refl, ap, sym, subst, ◌∙◌, arith}
-use Rattle.kc_insert.specs.Ranges.{Part, Tell}
-use Rattle.kc_insert.proofs.Making.{IsMaking, made, making_last, making_next}
+use Rattle.std.proofs.Common.{◌*◌, ◌^◌, ◌≡◌, refl, arith}
+use Rattle.kc_insert.proofs.Making.{made, making_last, making_next}
 use Rattle.kc_insert.proofs.ranges.Ranges.new.Goals as goal
 
 pub loop-i-preserved : goal.loop-i-preserved

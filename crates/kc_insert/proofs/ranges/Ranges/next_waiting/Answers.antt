@@ -1,7 +1,6 @@
 use Rattle.std.proofs.Common.{ℕ, List, [], ◌≡◌, ◌<◌, get_or, length, ap, sym, subst, ◌∙◌, arith}
 use Rattle.std.specs.Prelude.{All}
 use Rattle.std.specs.List.{flat_map}
-use Rattle.kc_graph.specs.Shape.{Pair}
 use Rattle.kc_insert.specs.Ranges.{Cut, Part, waits}
 use Rattle.kc_insert.proofs.Direct.{any_default}
 use Rattle.kc_insert.proofs.Nearest.{flat_none, flat_nothing, nearest_first, nearest_kept, nearest_lower}

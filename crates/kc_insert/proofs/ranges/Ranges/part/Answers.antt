@@ -1,4 +1,4 @@
-use Rattle.std.proofs.Common.{◌≡◌, length, sym, ◌∙◌}
+use Rattle.std.proofs.Common.{sym, ◌∙◌}
 use Rattle.kc_insert.proofs.Idle.{parted_none}
 use Rattle.kc_insert.proofs.ranges.Ranges.part.Goals as goal
 

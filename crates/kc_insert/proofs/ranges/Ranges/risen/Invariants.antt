@@ -1,4 +1,4 @@
-use Rattle.std.proofs.Common.{ℕ, ◌≡◌, take}
+use Rattle.std.proofs.Common.{◌≡◌, take}
 use Rattle.std.specs.List.{flat_map}
 use Rattle.kc_insert.specs.Ranges.{Part}
 use Rattle.kc_insert.proofs.ranges.Ranges.risen.Given as goal

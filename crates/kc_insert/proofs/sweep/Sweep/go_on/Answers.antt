@@ -1,4 +1,4 @@
-use Rattle.std.proofs.Common.{ℕ, ◌≡◌, ap, sym, ◌∙◌, arith}
+use Rattle.std.proofs.Common.{ap, sym, ◌∙◌, arith}
 use Rattle.kc_insert.specs.private.Rising.{all_at, seen}
 use Rattle.kc_insert.proofs.Kept.{went_on, went_on_paid}
 use Rattle.kc_insert.proofs.sweep.Sweep.go_on.Goals as goal

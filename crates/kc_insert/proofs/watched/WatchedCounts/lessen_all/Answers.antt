@@ -1,5 +1,5 @@
 use Rattle.std.proofs.Common.{arith}
-use Rattle.kc_insert.proofs.Watching.{less_first, less_held, less_some, less_on}
+use Rattle.kc_insert.proofs.Watching.{less_held, less_some, less_on}
 use Rattle.kc_insert.proofs.watched.WatchedCounts.lessen_all.Goals as goal
 
 pub lessen-requires-clause-vertex : goal.lessen-requires-clause-vertex

@@ -1,4 +1,4 @@
-use Rattle.std.proofs.Common.{refl, sym, subst}
+use Rattle.std.proofs.Common.{sym, subst}
 use Rattle.kc_insert.specs.Working.{IsReady}
 use Rattle.kc_insert.proofs.Ready.{ready_followed}
 use Rattle.kc_insert.proofs.work.InsertionWork.follow.Goals as goal

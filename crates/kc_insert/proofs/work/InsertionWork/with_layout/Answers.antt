@@ -1,4 +1,4 @@
-use Rattle.std.proofs.Common.{ℕ, ◌≡◌, ◌+◌, ap, ◌∙◌, arith}
+use Rattle.std.proofs.Common.{◌+◌, ap, ◌∙◌}
 use Rattle.kc_levels.specs.Thresholds.{top_level}
 use Rattle.kc_insert.proofs.Ready.{ready_made}
 use Rattle.kc_insert.proofs.work.InsertionWork.with_layout.Goals as goal
