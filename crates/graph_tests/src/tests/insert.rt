@@ -269,7 +269,13 @@ fn ranges_rise_as_by_recounting(rt: HostRuntime) {
                 let mut adj = empty(&rt, rt.alloc(), n);
                 let batches = batches.parts();
                 come_in_cut(
-                    &rt, rt.alloc(), &OpenGate, workers, layout, &mut adj, &batches,
+                    &rt,
+                    rt.alloc(),
+                    &OpenGate,
+                    workers,
+                    layout,
+                    &mut adj,
+                    &batches,
                 );
             }
         }
