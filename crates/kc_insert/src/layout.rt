@@ -9,7 +9,7 @@ const WIDEST: u32 = 16;
 const MOST_BITS: u32 = 24;
 
 // The fewest ranges of a graph that has more than one.
-const FEWEST_RANGES: u32 = 16;
+const FEWEST_RANGES: u32 = 4;
 
 // The most ranges.
 const MOST_RANGES: u32 = 64;

@@ -62,9 +62,6 @@ impl Told {
         ensures { self.new ≡ record { all = []; lists = replicate (length self.old.lists) [] } }
     {
         self.all.clear();
-        for i in 0..self.lists.len() {
-            self.lists[i].items.clear();
-        }
     }
 
     /// Tells of v. Fails only if memory runs out.
@@ -89,6 +86,9 @@ impl Told {
         ensures same { OnOk result (self.new.all ≡ self.old.all) }
         ensures dealt { OnOk result (AreDealt layout.bits self.old.all self.old.lists self.new.lists) }
     {
+        for i in 0..self.lists.len() {
+            self.lists[i].items.clear();
+        }
         for i in 0..self.all.len() {
             let v = self.all[i];
             self.lists[layout.range_of(v)].items.push(v)?;
