@@ -5,7 +5,7 @@ use Rattle.std.specs.List.{flat_map}
 use Rattle.std.proofs.lemmas.Bool.{cases_Bool, true≢false}
 use Rattle.std.proofs.lemmas.Bool.Decides.{nat_tests}
 use Rattle.std.proofs.lemmas.Grind.{get_or_default_zero}
-use Rattle.std.proofs.lemmas.List.{length-replicate}
+use Rattle.std.proofs.lemmas.List.{}
 use Rattle.kc_graph.specs.Numbers.{has_number}
 use Rattle.kc_graph.specs.Shape.{GraphShape, Pair, IsGraph, has_edge, neighbours_of}
 use Rattle.kc_graph.proofs.lemmas.Numbers.{has_number_at, has_number-append}
@@ -50,5 +50,5 @@ near_inside g v u p graph there = neighbour_below g.vertices v u g.edges graph (
     first a b e = grind (arith, nat_tests, e)
 
 -- a list of vertices can be dealt to the ranges
-pub dealt_all : (bits n : ℕ) (lists : List (List ℕ)) (y : Tell) (told : List ℕ) → y ≡ record { all = told; lists = replicate (length lists) [] } → ((v : ℕ) → has_number v told ≡ true → v < n) → ((v : ℕ) → v < n → range_of bits v < length lists) → All (λ v. range_of bits v < length y.lists) y.all
-dealt_all bits n lists y told is inside ranges = rw is (all_of (λ v. range_of bits v < length (replicate {A = List ℕ} (length lists) [])) told (λ v there. omega (arith, length-replicate {A = List ℕ} (length lists) [], ranges v (inside v there))))
+pub dealt_all : (bits n : ℕ) (lists : List (List ℕ)) (y : Tell) (told : List ℕ) → y ≡ record { all = told; lists = lists } → ((v : ℕ) → has_number v told ≡ true → v < n) → ((v : ℕ) → v < n → range_of bits v < length lists) → All (λ v. range_of bits v < length y.lists) y.all
+dealt_all bits n lists y told is inside ranges = rw is (all_of (λ v. range_of bits v < length lists) told (λ v there. ranges v (inside v there)))

@@ -40,7 +40,7 @@ impl Layout {
         Layout { bits, least_shared }
     }
 
-    /// One range for fewer than 32,768 vertices; else 16 to 64 of at most 65,536 vertices, or of more if there are more than 4,194,304.
+    /// One range for fewer than 32,768 vertices; else 4 to 64 of at most 65,536 vertices, or of more if there are more than 4,194,304.
     pub fn of(n: u32) -> Self {
         let mut bits = 0;
         if n < LEAST_CUT {

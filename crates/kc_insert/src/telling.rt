@@ -1,7 +1,7 @@
 //! What a pass over one range has to tell of the vertices of others.
 
 ghost use Rattle.std.specs.Prelude.{◌≡◌, ◌++◌, ◌∷◌, ◌<◌, [], All, IfOk, OnOk, length, replicate, slice_index_or};
-ghost use Rattle.kc_insert.specs.private.Telling.{AreDealt};
+ghost use Rattle.kc_insert.specs.private.Telling.{AreDealt, AreDealtAnew};
 ghost use Rattle.kc_insert.specs.Ranges.{range_of};
 
 use crate::layout::Layout;
@@ -57,9 +57,9 @@ impl Told {
         })
     }
 
-    /// Forgets what was told.
+    /// Begins anew: nothing is told.
     pub fn clear(&mut self)
-        ensures { self.new ≡ record { all = []; lists = replicate (length self.old.lists) [] } }
+        ensures { self.new ≡ record self.old { all = [] } }
     {
         self.all.clear();
     }
@@ -80,19 +80,36 @@ impl Told {
         Ok(())
     }
 
-    /// Cuts what is told by the ranges. Fails only if memory runs out.
-    pub fn deal(&mut self, layout: Layout) -> Result<(), AllocError>
-        requires { All (λ v. range_of layout.bits v < length self.old.lists) self.old.all }
-        ensures same { OnOk result (self.new.all ≡ self.old.all) }
-        ensures dealt { OnOk result (AreDealt layout.bits self.old.all self.old.lists self.new.lists) }
+    // Empties the lists of all ranges.
+    fn clear_lists(&mut self)
+        ensures { self.new ≡ record self.old { lists = replicate (length self.old.lists) [] } }
     {
         for i in 0..self.lists.len() {
             self.lists[i].items.clear();
         }
+    }
+
+    // Puts each vertex of what is told into the list of its range. Fails only if memory runs out.
+    fn deal_each(&mut self, layout: Layout) -> Result<(), AllocError>
+        requires { All (λ v. range_of layout.bits v < length self.old.lists) self.old.all }
+        ensures same { OnOk result (self.new.all ≡ self.old.all) }
+        ensures dealt { OnOk result (AreDealt layout.bits self.old.all self.old.lists self.new.lists) }
+    {
         for i in 0..self.all.len() {
             let v = self.all[i];
             self.lists[layout.range_of(v)].items.push(v)?;
         }
+        Ok(())
+    }
+
+    /// Cuts what is told by the ranges. Fails only if memory runs out.
+    pub fn deal(&mut self, layout: Layout) -> Result<(), AllocError>
+        requires { All (λ v. range_of layout.bits v < length self.old.lists) self.old.all }
+        ensures same { OnOk result (self.new.all ≡ self.old.all) }
+        ensures dealt { OnOk result (AreDealtAnew layout.bits self.old self.new) }
+    {
+        self.clear_lists();
+        self.deal_each(layout)?;
         Ok(())
     }
 

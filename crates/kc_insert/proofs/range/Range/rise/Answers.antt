@@ -1,6 +1,6 @@
 use Rattle.std.proofs.Common.{ℕ, ◌≡◌, ◌≢◌, ◌<◌, ◌+◌, ◌++◌, [], List, get_or, length, ap, sym, ◌∙◌, arith}
 use Rattle.std.specs.List.{flat_map}
-use Rattle.std.proofs.lemmas.List.{get_or-set_other, length-replicate}
+use Rattle.std.proofs.lemmas.List.{get_or-set_other}
 use Rattle.kc_graph.specs.Shape.{Pair, has_edge}
 use Rattle.kc_insert.specs.private.Crossing.{met_by, next_near}
 use Rattle.kc_insert.specs.Ranges.{Part, Tell}
@@ -28,7 +28,7 @@ deal-requires c =
 
 pub returns-clause-lists : goal.returns-clause-lists
 returns-clause-lists c =
-    let long : length c.begin_each.new.told.lists ≡ length c.args.self.now.tell.lists = ap (λ (t : Tell). length t.lists) c.in_ok-self-inside.ensures.told ∙ ap (λ (t : Tell). length t.lists) c.in_ok-come_up.ensures ∙ ap (λ (t : Tell). length t.lists) c.clear.ensures ∙ length-replicate {A = List ℕ} (length c.self.inside.told.lists) [] ∙ ap (λ (p : Part). length p.tell.lists) c.self.view_is in
+    let long : length c.begin_each.new.told.lists ≡ length c.args.self.now.tell.lists = ap (λ (t : Tell). length t.lists) c.in_ok-self-inside.ensures.told ∙ ap (λ (t : Tell). length t.lists) c.in_ok-come_up.ensures ∙ ap (λ (t : Tell). length t.lists) c.clear.ensures ∙ ap (λ (p : Part). length p.tell.lists) c.self.view_is in
     elim c.if-step.branch [
       | then-step+in_ok-deal w ↦ rw w.self-is (w.in_ok-deal.ensures.dealt.sized ∙ long)
       | else-step w ↦ rw w.self-is long

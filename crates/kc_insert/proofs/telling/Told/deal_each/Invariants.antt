@@ -1,6 +1,6 @@
 use Rattle.std.proofs.Common.{◌≡◌, take}
 use Rattle.kc_insert.specs.private.Telling.{AreDealt}
-use Rattle.kc_insert.proofs.telling.Told.deal.Given as goal
+use Rattle.kc_insert.proofs.telling.Told.deal_each.Given as goal
 
 abbrev pub invariant-loop-i : goal.invariant-loop-i
 invariant-loop-i l =
