@@ -23,14 +23,14 @@ import tempfile
 
 from edits import CRATES, REFUSED, TOP, Unfit, edited, edits_in, read
 
-KIT = os.path.dirname(os.path.dirname(os.path.realpath(shutil.which("rt") or "/opt/rattle/bin/rt")))
+if (RT := shutil.which("rt")) is None:
+    sys.exit("refused.py: no rt on the path: CONTRIBUTING.md says what the gate needs")
+KIT = os.path.dirname(os.path.dirname(os.path.realpath(RT)))
 
 
 def only(edit):
     """Returns the paths of the functions on which an edit is tried."""
-    if not (found := re.findall(r"^only: (\S+)$", edit, re.MULTILINE)):
-        raise Unfit("no line `only: PATH`")
-    return found
+    return re.findall(r"^only: (\S+)$", edit, re.MULTILINE)
 
 
 def libraries():
@@ -77,19 +77,22 @@ def tried(crate, edits, said):
         for part in "src", "specs", "proofs":
             if os.path.isdir(os.path.join(home, part)):
                 shutil.copytree(os.path.join(home, part), os.path.join(folder, part))
-        status, asked, proved, told = check(folder, said, sorted({path for _, path in edits for path in only(read(path))}))
+        texts = {name: read(path) for name, path in edits}
+        if bare := [name for name in texts if not only(texts[name])]:
+            return [f"{crate}/{name}: no line `only: PATH`" for name in bare]
+        status, asked, proved, told = check(folder, said, sorted({path for edit in texts.values() for path in only(edit)}))
         if status != 0 or asked == 0 or proved != asked:
             return [f"{crate}: not proved with nothing changed, the check ended with {status}\n{told[-2000:]}"]
-        for name, path in edits:
+        for name, edit in texts.items():
             try:
-                files = edited(read(path), lambda file: read(os.path.join(home, file)))
+                files = edited(edit, lambda file: read(os.path.join(home, file)))
             except (Unfit, OSError) as error:
                 wrong.append(f"{crate}/{name}: {error}")
                 continue
             for file, text in files.items():
                 with open(os.path.join(folder, file), "w", encoding="utf-8") as out:
                     out.write(text)
-            status, asked, proved, told = check(folder, said, only(read(path)))
+            status, asked, proved, told = check(folder, said, only(edit))
             if status != 1 or proved >= asked:
                 wrong.append(f"{crate}/{name}: NOT REFUSED, the check ended with {status}\n{told[-2000:]}")
             for file in files:
@@ -101,7 +104,7 @@ def main():
     used, edits = libraries(), {}
     for crate, name, path in edits_in(REFUSED):
         if not sys.argv[1:] or crate in sys.argv[1:] or f"{crate}/{name}" in sys.argv[1:]:
-            edits.setdefault(crate, []).append((name, only(read(path)) and path))
+            edits.setdefault(crate, []).append((name, path))
     with concurrent.futures.ThreadPoolExecutor(len(os.sched_getaffinity(0))) as pool:
         wrong = sum(pool.map(lambda crate: tried(crate, edits[crate], words(crate, used)), edits), [])
     print("".join(f"{it}\n" for it in wrong) + f"{sum(map(len, edits.values()))} wrong bodies, {len(wrong)} not refused")

@@ -5,7 +5,8 @@ by hand.
     hostile/edits.py [CRATE | CRATE/NAME ..] [--lot N] [--seed S] [--list]
 
 The gate tries the few edits of crates/CRATE/must-fail and checks/refused. This tries the others: all, those of a crate,
-or those that are named. hostile/edits/TABLE.md says what refuses each. --lot tries N of these, drawn with the seed S (1).
+or those that are named. hostile/edits/TABLE.md says what refuses each. --lot tries N of these, drawn with the seed S
+(1).
 
 Copies the crates to a temporary folder, puts the chosen edits into must-fail/ there, and runs `rt must-fail` for these
 crates. Prints a line for each edit and a count; ends with 1 if an edit isn't refused or doesn't fit the sources any
