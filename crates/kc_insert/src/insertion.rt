@@ -82,10 +82,10 @@ fn sweep_phase<R: Threads + Sync, G: Gate + Sync, L: Ledger>(
 /// (`effort`). A rising vertex costs at most three passes over its neighbours: where it begins, where it stays, and where it is put on
 /// its new level in `adj` after the sweep.
 ///
-/// One sweep goes through the levels, from the lowest up, and stops at each where a vertex waits, is met or may stay. Ranges of vertices
-/// are swept by as many threads as `rounds` has workers if at least 1,024 vertices begin, or stay, on a level; else by the caller. The
-/// first list of candidates in the life of `work` that isn't empty is cut into as many pieces as there are workers, and the gate is told
-/// each of them. No answer depends on the workers nor on the gate.
+/// One sweep goes through the levels, from the lowest up, and stops at each where a vertex waits, is met or may stay. If at least 4,096
+/// vertices begin, or stay, on a level, threads sweep the ranges of vertices: one for each 2,048 of them, and at most as many as
+/// `rounds` has workers. Else the caller does. The first list of candidates in the life of `work` that isn't empty is cut into as many
+/// pieces as there are workers, and the gate is told each of them. No answer depends on the workers nor on the gate.
 ///
 /// Takes memory for the vertices that wait or rose, for their moves, 8 bytes for each neighbour that stood above a rising vertex, and on
 /// one level at a time 8 bytes for each neighbour that hears of a vertex. While 8,192 edges or more are linked it takes 24 bytes for each.

@@ -17,8 +17,9 @@ const MOST_RANGES: u32 = 64;
 // The fewest vertices that are cut.
 const LEAST_CUT: u32 = 32_768;
 
-// The fewest vertices, to begin or to stay, for which threads are made.
-const LEAST_SHARED: usize = 1_024;
+// The fewest vertices, to begin or to stay, for which threads are made. To make four takes as long as to go through the rows of
+// some thousand vertices.
+const LEAST_SHARED: usize = 4_096;
 
 /// How the vertices are cut into ranges of 2 ^ `bits` that follow each other, and when threads share a pass over the ranges.
 #[derive(Clone, Copy, Debug, PartialEq, Eq)]
@@ -98,5 +99,17 @@ impl Layout {
     /// Whether threads share a pass over so many vertices.
     pub(crate) fn is_shared(self, count: usize) -> bool {
         count >= self.least_shared
+    }
+
+    /// The number of threads that share a pass over so many vertices: one for each half of the fewest for which threads are made, and
+    /// at most `workers`.
+    pub(crate) fn threads(self, count: usize, workers: usize) -> usize
+        ensures { 0 < result }
+    {
+        if self.is_shared(count) {
+            (count / (self.least_shared / 2 + 1)).min(workers).max(1)
+        } else {
+            1
+        }
     }
 }

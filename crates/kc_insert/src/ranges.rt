@@ -354,21 +354,6 @@ impl Ranges {
         self.items.len() > 1 && self.layout.is_shared(count)
     }
 
-    // The number of threads that share a pass over `count` vertices.
-    fn threads<R: Threads + Sync, G: Gate + Sync>(
-        &self,
-        rounds: &Rounds<R, G>,
-        count: usize,
-    ) -> usize
-        ensures { 0 < result }
-    {
-        if self.layout.is_shared(count) {
-            rounds.workers() as usize
-        } else {
-            1
-        }
-    }
-
     /// The vertices that stay on the level, `count` in all, are counted no more by those that rise on. Fails only if memory runs out.
     pub fn part<R: Threads + Sync, G: Gate + Sync>(
         &mut self,
@@ -385,7 +370,7 @@ impl Ranges {
         if count == 0 {
             return Ok(());
         }
-        let threads = self.threads(rounds, count);
+        let threads = self.layout.threads(count, rounds.workers() as usize);
         part_all(
             rounds.runtime(),
             threads,
@@ -411,7 +396,7 @@ impl Ranges {
         ensures told { OnOk result (AreToldAll (length self.old.parts) self.new.told) }
         ensures same { self.new.bits ≡ self.old.bits }
     {
-        let threads = self.threads(rounds, count);
+        let threads = self.layout.threads(count, rounds.workers() as usize);
         rise_all(
             rounds.runtime(),
             alloc,
