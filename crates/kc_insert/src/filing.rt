@@ -43,7 +43,8 @@ impl<'a> Model for Fresh<'a> {
     ghost view = { λ f. record { profile = f.th.now.profile; vertices = f.th.now.vertices; levels = f.levels.now; counts = f.counts.now } };
 }
 
-// v counts afresh, and waits on its level if it counted otherwise before and its group allows fewer. Fails only if memory runs out.
+// v counts afresh, and waits on its level if it counted otherwise before and its group allows fewer. Fails only if
+// memory runs out.
 fn follow_count(
     fresh: &Fresh<'_>,
     v: u32,
@@ -69,8 +70,8 @@ fn follow_count(
     Ok(())
 }
 
-// Each vertex of the range counts afresh, and waits on its level if it counted otherwise before and its group allows fewer. Fails only
-// if memory runs out.
+// Each vertex of the range counts afresh, and waits on its level if it counted otherwise before and its group allows
+// fewer. Fails only if memory runs out.
 fn follow_counts(
     fresh: &Fresh<'_>,
     watched: &mut WatchedCounts,
@@ -179,8 +180,8 @@ fn follow_all<R: Threads + Sync>(
     Ok(())
 }
 
-// All vertices count afresh, and each waits that counts otherwise than before and more than its group allows. Fails only if memory
-// runs out.
+// All vertices count afresh, and each waits that counts otherwise than before and more than its group allows. Fails
+// only if memory runs out.
 fn file_all<R: Threads + Sync>(
     rt: &R,
     threads: usize,
@@ -195,8 +196,8 @@ fn file_all<R: Threads + Sync>(
     Ok(())
 }
 
-/// Copies the fresh counts of the ends of the edges, and files each end once, by its level, whose count is another one than before
-/// and more than its group allows. Fails only if memory runs out.
+/// Copies the fresh counts of the ends of the edges. An end whose count changed, and is more than its group allows, is
+/// filed once, by its level. Fails only if memory runs out.
 pub fn file_ends<R: Threads + Sync, G: Gate + Sync>(
     rounds: &Rounds<R, G>,
     fresh: &Fresh<'_>,

@@ -29,7 +29,7 @@ pub struct Tally {
     pub moves: u32,
 }
 
-// A whole phase, as `insert_phase` says, over a sweep that has the levels of the graph and their counts, in which no vertex rises, waits
+// A whole phase, as `insert_phase` says. The sweep has the levels of the graph and their counts; no vertex rises, waits
 // or is to be met.
 fn sweep_phase<R: Threads + Sync, G: Gate + Sync, L: Ledger>(
     rounds: &Rounds<R, G>,
@@ -68,27 +68,29 @@ fn sweep_phase<R: Threads + Sync, G: Gate + Sync, L: Ledger>(
     Ok(moves)
 }
 
-/// Puts the edges in and raises the levels to the raised list (`IsRaised`): the least levels that are at least the old ones, within the
-/// top, and meet the upper invariant in the new graph. Returns the moves (`moves_between`): each vertex that rose with its old and its
-/// new level, ascending by vertex.
+/// Puts the edges in and raises the levels to the raised list (`IsRaised`). These are the least levels that are at
+/// least the old ones, within the top, and meet the upper invariant in the new graph. Returns the moves
+/// (`moves_between`): each vertex that rose with its old and its new level, ascending by vertex.
 ///
-/// The thresholds are for the number of vertices of the graph, and no level is above their top. `work` is ready for the graph
-/// (`IsReady`), and is ready for the new one afterwards. `added` is ascending, and none of its edges is in the graph, which
-/// then has at most `MAX_EDGES`. The upper invariant holds before the call.
+/// The thresholds are for the number of vertices of the graph, and no level is above their top. `work` is ready for the
+/// graph (`IsReady`), and is ready for the new one afterwards. `added` is ascending, and none of its edges is in the
+/// graph, which then has at most `MAX_EDGES`. The upper invariant holds before the call.
 ///
 /// Fails only if memory runs out; graph, levels and `work` are then unspecified.
 ///
-/// Counts at most 4 steps for each edge, and for each level that a vertex rises three for each of its neighbours and one more
-/// (`effort`). A rising vertex costs at most three passes over its neighbours: where it begins, where it stays, and where it is put on
-/// its new level in `adj` after the sweep.
+/// Counts at most 4 steps for each edge. For each level that a vertex rises it counts three for each neighbour of the
+/// vertex, and one more (`effort`). A rising vertex costs at most three passes over its neighbours. These are where it
+/// begins, where it stays, and where it comes to its new level in `adj` after the sweep.
 ///
-/// One sweep goes through the levels, from the lowest up, and stops at each where a vertex waits, is met or may stay. If at least 4,096
-/// vertices begin, or stay, on a level, threads sweep the ranges of vertices: one for each 2,048 of them, and at most as many as
-/// `rounds` has workers. Else the caller does. The first list of candidates in the life of `work` that isn't empty is cut into as many
-/// pieces as there are workers, and the gate is told each of them. No answer depends on the workers nor on the gate.
+/// One sweep goes through the levels, from the lowest up, and stops at each where a vertex waits, is met or may stay.
+/// If at least 4,096 vertices begin, or stay, on a level, threads sweep the ranges of vertices. There is one for each
+/// 2,048 of these vertices, and at most one for each worker of `rounds`. Else the caller sweeps them. The first list of
+/// candidates in the life of `work` that isn't empty is cut into as many pieces as there are workers. The gate hears of
+/// each piece. No answer depends on the workers nor on the gate.
 ///
-/// Takes memory for the vertices that wait or rose, for their moves, 8 bytes for each neighbour that stood above a rising vertex, and on
-/// one level at a time 8 bytes for each neighbour that hears of a vertex. While 8,192 edges or more are linked it takes 24 bytes for each.
+/// Takes memory for the vertices that wait or rose and for their moves. Besides it takes 8 bytes for each neighbour
+/// that stood above a rising vertex, and on one level at a time 8 for each neighbour that hears of a vertex. While
+/// 8,192 edges or more are linked it takes 24 bytes for each.
 pub fn insert_phase<R: Threads + Sync, G: Gate + Sync, L: Ledger>(
     rounds: &Rounds<R, G>,
     alloc: Global,
@@ -116,7 +118,8 @@ pub fn insert_phase<R: Threads + Sync, G: Gate + Sync, L: Ledger>(
     Ok(moves)
 }
 
-/// One phase with a workspace of its own (`insert_phase`), which costs a pass over all vertices and one over all levels besides.
+/// One phase with a workspace of its own (`insert_phase`), which costs a pass over all vertices and one over all levels
+/// besides.
 ///
 /// `workers` is 1 to 64. Fails only if memory runs out; graph and levels are then unspecified.
 pub fn insert_rounds<R: Threads + Sync, G: Gate + Sync, L: Ledger>(

@@ -17,11 +17,12 @@ const MOST_RANGES: u32 = 64;
 // The fewest vertices that are cut.
 const LEAST_CUT: u32 = 32_768;
 
-// The fewest vertices, to begin or to stay, for which threads are made. To make four takes as long as to go through the rows of
-// some thousand vertices.
+// The fewest vertices, to begin or to stay, for which threads are made. To make four takes as long as to go through the
+// rows of some thousand vertices.
 const LEAST_SHARED: usize = 4_096;
 
-/// How the vertices are cut into ranges of 2 ^ `bits` that follow each other, and when threads share a pass over the ranges.
+/// How the vertices are cut into ranges of 2 ^ `bits` that follow each other, and when threads share a pass over the
+/// ranges.
 #[derive(Clone, Copy, Debug, PartialEq, Eq)]
 pub struct Layout {
     /// The number of vertices of a range as a power of two, 0 to 24.
@@ -41,7 +42,8 @@ impl Layout {
         Layout { bits, least_shared }
     }
 
-    /// One range for fewer than 32,768 vertices; else 4 to 64 of at most 65,536 vertices, or of more if there are more than 4,194,304.
+    /// One range for fewer than 32,768 vertices; else 4 to 64 of at most 65,536 vertices, or of more if there are more
+    /// than 4,194,304.
     pub fn of(n: u32) -> Self {
         let mut bits = 0;
         if n < LEAST_CUT {
@@ -96,13 +98,13 @@ impl Layout {
         if next < n { next } else { n }
     }
 
-    /// Whether threads share a pass over so many vertices.
+    /// Whether threads share a pass over `count` vertices.
     pub(crate) fn is_shared(self, count: usize) -> bool {
         count >= self.least_shared
     }
 
-    /// The number of threads that share a pass over so many vertices: one for each half of the fewest for which threads are made, and
-    /// at most `workers`.
+    /// The number of threads that share a pass over `count` vertices, at most `workers`: one for each half of
+    /// `least_shared`.
     pub(crate) fn threads(self, count: usize, workers: usize) -> usize
         ensures { 0 < result }
     {

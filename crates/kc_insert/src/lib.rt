@@ -1,6 +1,8 @@
-//! Insertion phases: edges come into a level adjacency, and the levels rise to the least ones that meet the upper invariant.
+//! Insertion phases: edges come into a level adjacency, and the levels rise to the least ones that meet the upper
+//! invariant.
 //!
-//! [`insert_phase`] is a whole phase, with an [`InsertionWork`] that is kept between phases; [`insert_rounds`] makes one of its own.
+//! [`insert_phase`] is a whole phase, with an [`InsertionWork`] that is kept between phases; [`insert_rounds`] makes
+//! one of its own.
 #![tactic(auto)]
 
 mod filing;

@@ -31,7 +31,8 @@ fn link_each<L: Ledger>(
     Ok(())
 }
 
-/// Links the edges, which ascend, and many of them by the workers of `rounds`. Levels stay. Counts 3 steps for each edge.
+/// Links the edges, which ascend, and many of them by the workers of `rounds`. Levels stay. Counts 3 steps for each
+/// edge.
 ///
 /// Fails only if memory runs out; the graph is then unspecified.
 pub fn link_edges<R: Threads + Sync, G: Gate + Sync, L: Ledger>(

@@ -1,4 +1,5 @@
-//! The two passes of a step over the rows of a range: of the vertices that stay on the level, and of those that begin to rise from it.
+//! The two passes of a step over the rows of a range. One is over vertices that stay on the level, the other over
+//! vertices that begin to rise from it.
 
 ghost use Rattle.std.specs.Prelude.{◌≡◌, ◌+◌, ◌*◌, ◌++◌, ◌∷◌, ◌<◌, ◌≤◌, ◌^◌, ◌⊎◌, ℕ, [], false, true, IfOk, OnOk, cond, count_by, filter, length, slice_index, slice_index_or, slice_set, take};
 ghost use Rattle.std.specs.List.{flat_map};
@@ -34,7 +35,7 @@ pub struct Step<'a> {
     pub layout: Layout,
     /// The level that the step is from.
     pub level: u16,
-    /// Whether what is told is dealt to the ranges.
+    /// Whether the lists are dealt by range.
     pub is_dealt: bool,
 }
 
@@ -50,7 +51,8 @@ impl<'a> Model for Step<'a> {
     ghost invariant = { λ s. IsCrossing (record { graph = s.graph.now; levels = s.levels.now; bits = s.layout.bits; level = s.level; is_dealt = s.is_dealt }) };
 }
 
-// Puts w and x at `end`; returns `end + 2` if `holds`, else `end`. There is no branch, since a processor couldn't predict it.
+// Puts w and x at `end`; returns `end + 2` if `holds`, else `end`. There is no branch, since a processor couldn't
+// predict it.
 fn put_both_where(items: &mut Vec<u32>, end: usize, w: u32, x: u32, holds: bool) -> usize
     requires { end + 1 < length items.old.items }
     ensures written { items.new.items ≡ slice_set (slice_set items.old.items end w) (end + 1) x }
@@ -80,8 +82,8 @@ fn rising_of(step: &Step<'_>, row: &[u32], found: &mut Vec<u32>) -> Result<usize
     Ok(end)
 }
 
-// The neighbours in the row that stand above the level and don't rise, each with its level, at the front of `found`. Returns where
-// they end, and how many neighbours are above the level or rise.
+// The neighbours in the row that stand above the level and don't rise, each with its level, at the front of `found`.
+// Returns where they end, and how many neighbours are above the level or rise.
 fn above_of(step: &Step<'_>, row: &[u32], found: &mut Vec<u32>) -> Result<(usize, u32), AllocError>
     requires inside { (w : ℕ) → has_number w row.now ≡ true → w < step.now.graph.vertices }
     requires small { length row.now < 2 ^ 24 }
@@ -110,8 +112,8 @@ fn above_of(step: &Step<'_>, row: &[u32], found: &mut Vec<u32>) -> Result<(usize
     Ok((end, above))
 }
 
-// Each vertex that stays tells it to its neighbours that rise on. Returns how many neighbours there are. Fails only if memory runs
-// out.
+// Each vertex that stays tells it to its neighbours that rise on. Returns how many neighbours there are. Fails only if
+// memory runs out.
 fn tell_parting(
     step: &Step<'_>,
     stay: &[u32],
@@ -135,7 +137,8 @@ fn tell_parting(
     Ok(steps)
 }
 
-// For each meeting on the level: if the riser goes on and the other stays, the riser counts one less. Fails only if memory runs out.
+// For each meeting on the level: if the riser goes on and the other stays, the riser counts one less. Fails only if
+// memory runs out.
 fn leave_behind(
     step: &Step<'_>,
     met: &[Meeting],
@@ -170,8 +173,8 @@ fn come_up(step: &Step<'_>, meetings: &[Meeting], told: &mut Told) -> Result<(),
     Ok(())
 }
 
-// v begins to rise: it tells it to its neighbours on the next level, and is to meet all that stand above the level and don't rise, which
-// are in `above`, each with its level. Fails only if memory runs out.
+// v begins to rise, and tells it to its neighbours on the next level. It is to meet all neighbours that stand above the
+// level and don't rise. These are in `above`, each with its level. Fails only if memory runs out.
 fn file_above(
     step: &Step<'_>,
     v: u32,
@@ -197,8 +200,9 @@ fn file_above(
     Ok(())
 }
 
-// Each vertex of the list begins to rise: it tells it to its neighbours on the next level, is to meet all that stand above the level and
-// don't rise, and counts afresh. Returns how many neighbours there are. Fails only if memory runs out.
+// Each vertex of the list begins to rise, and tells it to its neighbours on the next level. It is to meet all
+// neighbours that stand above the level and don't rise, and counts afresh. Returns how many neighbours there are. Fails
+// only if memory runs out.
 fn begin_each(
     step: &Step<'_>,
     begun: &[u32],
@@ -255,8 +259,8 @@ impl Range {
         }
     }
 
-    /// Vertices that go on count the neighbours that stay no more, and vertices that begin count afresh. All of them tell it to the
-    /// neighbours that stood on the next level. Fails only if memory runs out.
+    /// Vertices that go on count the neighbours that stay no more, and vertices that begin count afresh. All of them
+    /// tell it to the neighbours that stood on the next level. Fails only if memory runs out.
     pub fn rise(&mut self, alloc: Global, step: &Step<'_>) -> Result<(), AllocError>
         requires { CanRise step.now self.old }
         ensures part { OnOk result (self.new ≡ record self.old { watch = self.new.watch; meetings = self.new.meetings; began = self.old.began ++ self.old.begun; risen = self.old.risen ++ self.old.begun; begun = []; tell = self.new.tell; steps = self.old.steps + degrees step.now.graph self.old.begun }) }

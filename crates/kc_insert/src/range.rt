@@ -17,7 +17,7 @@ use std::alloc::{AllocError, Global};
 use std::marker::Model;
 use std::mem;
 
-/// What a sweep has come to at the vertices of a range. Contracts see it as a `Part`.
+/// How far a sweep is at the vertices of a range. Contracts see it as a `Part`.
 #[derive(Drop)]
 pub struct Range {
     /// What each vertex counts.
@@ -52,8 +52,8 @@ impl Model for Range {
     ghost view = { λ r. record { watch = r.watched; queue = r.queue; meetings = r.meetings; began = r.began.items; risen = r.risen.items; stay = r.stay.items; begun = r.begun.items; tell = r.told; steps = r.steps; is_short = r.is_short } };
 }
 
-// Rising vertices on the watch list whose count is within the limit stop: `stay` has these alone afterwards. Fails only if memory runs
-// out.
+// Rising vertices on the watch list whose count is within the limit stop: `stay` has these alone afterwards. Fails only
+// if memory runs out.
 fn stop(
     watched: &WatchedCounts,
     levels: &mut RisingLevels,
@@ -76,7 +76,7 @@ fn stop(
     Ok(())
 }
 
-// Each vertex that was told to the range counts one less for each time. Fails only if memory runs out.
+// Each vertex that the ranges told to this one counts one less for each time. Fails only if memory runs out.
 fn hear_each(watched: &mut WatchedCounts, told: &[Told], own: usize) -> Result<(), AllocError>
     requires lists { All (λ t. own < length t.lists) told.now }
     requires held { (v : ℕ) → has_number v (heard_by own told.now) ≡ true → IsHeld watched.old v }
@@ -145,8 +145,8 @@ impl Range {
         })
     }
 
-    /// Rising vertices on the watch list whose count is within the limit stop on the level of the sweep: `stay` has these alone
-    /// afterwards, and the watch list is empty. Fails only if memory runs out.
+    /// Stops the rising vertices on the watch list whose count is within the limit, on the level of the sweep. `stay`
+    /// has these alone afterwards, and the watch list is empty. Fails only if memory runs out.
     pub fn let_stay(&mut self, levels: &mut RisingLevels) -> Result<(), AllocError>
         requires small { levels.old.level < 65535 }
         requires inside { (v : ℕ) → has_number v self.old.watch.doubtful ≡ true → (v < length (seen levels.old)) × IsHeld self.old.watch v }
@@ -159,8 +159,8 @@ impl Range {
         Ok(())
     }
 
-    /// From now on the limit is `most`: looks anew at all that rise, and forgets those that began and stay since. Fails only if memory
-    /// runs out.
+    /// From now on the limit is `most`: looks anew at all that rise, and forgets those that began and stay since. Fails
+    /// only if memory runs out.
     pub fn look_anew(&mut self, levels: &RisingLevels, most: u32) -> Result<(), AllocError>
         requires { (v : ℕ) → has_number v self.old.began ≡ true → (v < length (seen levels.now)) × IsHeld self.old.watch v }
         ensures { let rising = filter (rises levels.now) self.old.began in OnOk result (self.new ≡ record self.old { watch = record self.old.watch { most = most; doubtful = filter (is_few self.old.watch most) rising }; began = rising; stay = self.new.stay }) }
@@ -186,8 +186,8 @@ impl Range {
         Ok(())
     }
 
-    /// Each vertex of the list, all on the level, counts one more for each time that it is there, and waits on the level if it then
-    /// counts more than `most`. Fails only if memory runs out.
+    /// Each vertex of the list, all on the level, counts one more for each time that it is there. It waits on the level
+    /// if it then counts more than `most`. Fails only if memory runs out.
     pub fn meet_all(&mut self, level: u16, most: u32, vertices: &[u32]) -> Result<(), AllocError>
         requires held { (v : ℕ) → has_number v vertices.now ≡ true → IsHeld self.old.watch v }
         requires small { (v : ℕ) → count_at self.old.watch v + times v vertices.now ≤ 2 ^ 31 }
@@ -200,7 +200,7 @@ impl Range {
         Ok(())
     }
 
-    /// Each vertex that was told to this range counts one less for each time. Fails only if memory runs out.
+    /// Each vertex that the ranges told to this one counts one less for each time. Fails only if memory runs out.
     pub fn hear_less(&mut self, told: &[Told], own: usize) -> Result<(), AllocError>
         requires { CanHearLess told.now own self.old }
         ensures { OnOk result (HasHeardLess (heard_by own told.now) self.old self.new) }
@@ -218,8 +218,8 @@ impl Range {
         }
     }
 
-    /// Each vertex that was told to this range, all on the level, counts one more for each time, and waits there if it then counts more
-    /// than `most`. Fails only if memory runs out.
+    /// Each vertex that the ranges told to this one, all on the level, counts one more for each time. It waits there if
+    /// it then counts more than `most`. Fails only if memory runs out.
     pub fn hear_more(
         &mut self,
         told: &[Told],

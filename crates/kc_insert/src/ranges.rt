@@ -90,7 +90,8 @@ fn take_each(alloc: Global, level: u16, items: &mut [Range]) -> Result<Vec<u32>,
     Ok(all)
 }
 
-// In each range rising vertices on the watch list whose count is within the limit stop. Returns how many. Fails only if memory runs out.
+// In each range rising vertices on the watch list whose count is within the limit stop. Returns how many. Fails only if
+// memory runs out.
 fn stop_each(levels: &mut RisingLevels, items: &mut [Range]) -> Result<usize, AllocError>
     requires { CanLetStay levels.old items.old }
     ensures stop { OnOk result (AllLetStay levels.old levels.new items.old items.new) }
@@ -284,7 +285,8 @@ impl Ranges {
         take_each(alloc, level, &mut self.items)
     }
 
-    /// Rising vertices on a watch list whose count is within the limit stop here. Returns how many. Fails only if memory runs out.
+    /// Rising vertices on a watch list whose count is within the limit stop here. Returns how many. Fails only if
+    /// memory runs out.
     pub fn let_stay(&mut self, levels: &mut RisingLevels) -> Result<usize, AllocError>
         requires { CanLetStay levels.old self.old.parts }
         ensures stay { OnOk result (AllLetStay levels.old levels.new self.old.parts self.new.parts) }
@@ -294,7 +296,8 @@ impl Ranges {
         stop_each(levels, &mut self.items)
     }
 
-    /// The vertices, all of which were on the level before, begin to rise. Returns how many there are. Fails only if memory runs out.
+    /// The vertices, all of which were on the level before, begin to rise. Returns how many there are. Fails only if
+    /// memory runs out.
     pub fn lift_off(
         &mut self,
         levels: &mut RisingLevels,
@@ -321,7 +324,8 @@ impl Ranges {
         count
     }
 
-    /// From now on the limit is `most`: each range that had another looks anew at all that rise. Fails only if memory runs out.
+    /// From now on the limit is `most`: each range that had another looks anew at all that rise. Fails only if memory
+    /// runs out.
     pub fn look_anew(&mut self, levels: &RisingLevels, most: u32) -> Result<(), AllocError>
         requires { CanLookAnew levels.now self.old.parts }
         ensures looked { OnOk result (LookedAnew levels.now most self.old.parts self.new.parts) }
@@ -349,12 +353,13 @@ impl Ranges {
         forget_each(alloc, &mut self.items);
     }
 
-    /// Whether what is told of `count` vertices is dealt to the ranges, and heard by each of them.
+    /// Whether the lists of a pass over `count` vertices are dealt by range, and each range hears its own.
     pub fn is_dealt(&self, count: usize) -> bool {
         self.items.len() > 1 && self.layout.is_shared(count)
     }
 
-    /// The vertices that stay on the level, `count` in all, are counted no more by those that rise on. Fails only if memory runs out.
+    /// The vertices that stay on the level, `count` in all, are counted no more by those that rise on. Fails only if
+    /// memory runs out.
     pub fn part<R: Threads + Sync, G: Gate + Sync>(
         &mut self,
         rounds: &Rounds<R, G>,
@@ -381,8 +386,8 @@ impl Ranges {
         Ok(())
     }
 
-    /// The vertices that begin, and those that came up, `count` in all, meet the neighbours that stood on the next level. Fails only if
-    /// memory runs out.
+    /// The vertices that begin, and those that came up, `count` in all, meet the neighbours that stood on the next
+    /// level. Fails only if memory runs out.
     pub fn rise<R: Threads + Sync, G: Gate + Sync>(
         &mut self,
         rounds: &Rounds<R, G>,

@@ -65,7 +65,7 @@ pub fn rise_each<R: Threads + Sync>(
     );
 }
 
-/// Each range hears what it was told: its vertices count one less.
+/// Each range hears its lists: the vertices on them count one less.
 pub fn hear_less_each<R: Threads + Sync>(rt: &R, threads: usize, told: &[Told], items: &mut [Range])
     requires threads { 0 < threads }
     requires ready { (i : ℕ) (d : _) → i < length items.old → CanHearLess told.now i (slice_index_or items.old i d) }
@@ -82,8 +82,8 @@ pub fn hear_less_each<R: Threads + Sync>(rt: &R, threads: usize, told: &[Told], 
     );
 }
 
-/// Each range hears what it was told: its vertices, all on the level, count one more, and wait there if they then count more than
-/// `most`.
+/// Each range hears its lists: the vertices on them, all on the level, count one more. They wait there if they then
+/// count more than `most`.
 pub fn hear_more_each<R: Threads + Sync>(
     rt: &R,
     threads: usize,
@@ -131,8 +131,8 @@ pub fn hear_less_all(layout: Layout, told: &[u32], items: &mut [Range]) -> Resul
     Ok(())
 }
 
-/// Each vertex of the list, all on the level, counts one more for each time that it is there, and waits on the level if it then counts
-/// more than `most`. Fails only if memory runs out.
+/// Each vertex of the list, all on the level, counts one more for each time that it is there. It waits on the level if
+/// it then counts more than `most`. Fails only if memory runs out.
 pub fn hear_more_all(
     layout: Layout,
     level: u16,
@@ -150,8 +150,8 @@ pub fn hear_more_all(
     Ok(())
 }
 
-/// The vertices that were told count one less for each time: each range hears for itself if what is told is dealt, else one list after
-/// another is heard. Fails only if memory runs out.
+/// The vertices on the lists count one less for each time. If the lists are dealt, each range hears its own; else the
+/// caller hears one list after another. Fails only if memory runs out.
 pub fn hear_less<R: Threads + Sync>(
     rt: &R,
     threads: usize,
@@ -176,8 +176,8 @@ pub fn hear_less<R: Threads + Sync>(
     Ok(())
 }
 
-/// The vertices that were told, all on the level, count one more for each time, and wait on the level if they then count more than
-/// `most`; as `hear_less` does it. Fails only if memory runs out.
+/// The vertices on the lists, all on the level, count one more for each time. They wait on the level if they then count
+/// more than `most`. The lists are heard as in `hear_less`. Fails only if memory runs out.
 pub fn hear_more<R: Threads + Sync>(
     rt: &R,
     threads: usize,

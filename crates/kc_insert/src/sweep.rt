@@ -24,7 +24,7 @@ use std::alloc::AllocError;
 pub struct Sweep {
     /// The level that it is at, the levels by now, and which vertices rise.
     pub levels: RisingLevels,
-    /// What it has come to at each vertex.
+    /// How far it is at each vertex.
     pub ranges: Ranges,
     /// Whether no round with candidates has been yet.
     pub first: FirstRound,
@@ -62,7 +62,7 @@ fn lesser(a: u16, b: u16) -> u16
     if a < b { a } else { b }
 }
 
-// Those of the vertices that rise stay where they are.
+// The vertices of the list that rise stay where they are.
 fn settle_listed(levels: &mut RisingLevels, vertices: &[u32])
     requires small { (v : ℕ) → rises levels.old v ≡ true → levels.old.level < 65535 }
     requires inside { (v : ℕ) → has_number v vertices.now ≡ true → v < length (seen levels.old) }
@@ -102,8 +102,8 @@ fn settle_kept(levels: &mut RisingLevels, ranges: &Ranges)
 }
 
 impl Sweep {
-    /// The furthest level below the top up to which the vertices that came to the level of the sweep may rise together: on the levels
-    /// on the way no vertex waits or is to be met. That level itself if there is none beyond it.
+    /// The furthest level below the top up to which the vertices on the level of the sweep may rise together. On the
+    /// levels on the way no vertex waits or is to be met. Returns the sweep's own level if there is none beyond it.
     pub fn free_level(&self, th: &Thresholds) -> u16
         requires room { self.now.levels.level < top_level th.now.profile th.now.vertices }
         requires waiting { All (λ p. self.now.levels.level ≤ length p.queue) self.now.ranges.parts }
@@ -123,8 +123,8 @@ impl Sweep {
         )
     }
 
-    /// If another number of neighbours is few on the level of the sweep than by now, looks anew at all that rise. Fails only if memory
-    /// runs out.
+    /// If another number of neighbours is few on the level of the sweep than by now, looks anew at all that rise. Fails
+    /// only if memory runs out.
     pub fn look_anew(&mut self, th: &Thresholds) -> Result<(), AllocError>
         requires room { self.old.levels.level < top_level th.now.profile th.now.vertices }
         requires can { CanLookAnew self.old.levels self.old.ranges.parts }

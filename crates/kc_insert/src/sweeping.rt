@@ -1,5 +1,5 @@
-//! One sweep over the levels, from the lowest up. At each level, every vertex with more neighbours at or above it than its group
-//! allows rises.
+//! One sweep over the levels, from the lowest up. At each level, every vertex with more neighbours at or above it than
+//! its group allows rises.
 
 ghost use Rattle.std.specs.Prelude.{◌≡◌, ◌+◌, ◌<◌, ◌≤◌, ℕ, false, List, All, IfOk, OnOk, filter, length};
 ghost use Rattle.std.specs.Bool.{OnTrue};
@@ -52,11 +52,11 @@ fn end_of_group(th: &Thresholds, level: u16, limit: u16) -> u16
     last + 1
 }
 
-// If no watch list has a vertex, and none waits or is met on the way, goes on to the furthest level to which all rise at once.
-// Returns whether there is one.
+// If no watch list has a vertex, and none waits or is met on the way, goes on to the furthest level for all. Returns
+// whether there is one.
 //
-// Rising vertices count each other on each of the levels, and all other neighbours that they count are above. So no count changes, and
-// in a group each of them goes on where all went on before.
+// Rising vertices count each other on each of the levels, and all other neighbours that they count are above. So no
+// count changes, and in a group each of them goes on where all went on before.
 fn rise_together(th: &Thresholds, sweep: &mut Sweep) -> bool
     requires room { sweep.old.levels.level < top_level th.now.profile th.now.vertices }
     requires waiting { All (λ p. sweep.old.levels.level ≤ length p.queue) sweep.old.ranges.parts }
@@ -143,8 +143,8 @@ fn raise_level<R: Threads + Sync, G: Gate + Sync, L: Ledger>(
     Ok(())
 }
 
-// Goes on from the level of the sweep: to the furthest to which all that rise do so at once, or by a round to the next. Fails only if
-// memory runs out.
+// Goes on from the level of the sweep. If all risers may rise at once, they go to the furthest level; else a round goes
+// to the next. Fails only if memory runs out.
 fn rise_on<R: Threads + Sync, G: Gate + Sync, L: Ledger>(
     rounds: &Rounds<R, G>,
     alloc: Global,
@@ -169,9 +169,11 @@ fn rise_on<R: Threads + Sync, G: Gate + Sync, L: Ledger>(
     Ok(())
 }
 
-/// Raises the levels of the sweep to the raised list, where every vertex that breaks the upper invariant waits on its level.
+/// Raises the levels of the sweep to the raised list, where every vertex that breaks the upper invariant waits on its
+/// level.
 ///
-/// Goes through the levels once, from the lowest up. Fails only if memory runs out; levels and ranges are then unspecified.
+/// Goes through the levels once, from the lowest up. Fails only if memory runs out; levels and ranges are then
+/// unspecified.
 pub fn raise_queued<R: Threads + Sync, G: Gate + Sync, L: Ledger>(
     rounds: &Rounds<R, G>,
     alloc: Global,

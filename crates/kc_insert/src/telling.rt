@@ -8,10 +8,10 @@ use crate::layout::Layout;
 use std::alloc::{AllocError, Global};
 use std::marker::Model;
 
-/// The vertices of one range of which something is told, each as often as it is told.
+/// The vertices of one range on a list, each as often as a pass told it.
 #[derive(Drop)]
 struct ToldList {
-    // In the order in which they were told.
+    // In the order of the pass.
     items: Vec<u32>,
 }
 
@@ -23,12 +23,13 @@ impl Model for ToldList {
     ghost view = { λ l. l.items.items };
 }
 
-/// What a range tells: the vertices of which it tells something, and the same cut by their ranges. Contracts see it as a `Tell`.
+/// What a range tells: the vertices of which it tells something, and the same cut by their ranges. Contracts see it as
+/// a `Tell`.
 #[derive(Drop)]
 pub struct Told {
-    // All of them, in the order in which they were told.
+    // All of them, in the order of the pass.
     all: Vec<u32>,
-    // Those of each range, after `deal`.
+    // The vertices of each range, after `deal`.
     lists: Vec<ToldList>,
 }
 
@@ -41,7 +42,7 @@ impl Model for Told {
 }
 
 impl Told {
-    /// Nothing is told to `ranges` ranges. Fails only if memory runs out.
+    /// Empty lists for `ranges` ranges. Fails only if memory runs out.
     pub fn new(alloc: Global, ranges: usize) -> Result<Self, AllocError>
         ensures { IfOk result (λ told. told ≡ record { all = []; lists = replicate ranges [] }) }
     {
@@ -57,7 +58,7 @@ impl Told {
         })
     }
 
-    /// Begins anew: nothing is told.
+    /// Empties the list of all.
     pub fn clear(&mut self)
         ensures { self.new ≡ record self.old { all = [] } }
     {
@@ -89,7 +90,7 @@ impl Told {
         }
     }
 
-    // Puts each vertex of what is told into the list of its range. Fails only if memory runs out.
+    // Puts each vertex on the list of its range. Fails only if memory runs out.
     fn deal_each(&mut self, layout: Layout) -> Result<(), AllocError>
         requires { All (λ v. range_of layout.bits v < length self.old.lists) self.old.all }
         ensures same { OnOk result (self.new.all ≡ self.old.all) }
@@ -102,7 +103,7 @@ impl Told {
         Ok(())
     }
 
-    /// Cuts what is told by the ranges. Fails only if memory runs out.
+    /// Cuts the list of all by range. Fails only if memory runs out.
     pub fn deal(&mut self, layout: Layout) -> Result<(), AllocError>
         requires { All (λ v. range_of layout.bits v < length self.old.lists) self.old.all }
         ensures same { OnOk result (self.new.all ≡ self.old.all) }
@@ -113,14 +114,14 @@ impl Told {
         Ok(())
     }
 
-    /// All that is told, in order.
+    /// All vertices that the pass told, in order.
     pub fn all(&self) -> &[u32]
         ensures { result.now ≡ self.now.all }
     {
         self.all.as_slice()
     }
 
-    /// What is told of the vertices of a range, after `deal`.
+    /// The vertices of a range that the pass told, after `deal`.
     pub fn of_range(&self, range: usize) -> &[u32]
         requires { range < length self.now.lists }
         ensures { result.now ≡ slice_index_or self.now.lists range [] }

@@ -9,8 +9,8 @@ ghost use Rattle.kc_insert.specs.Ranges.{IsHeld};
 use std::alloc::{AllocError, Global};
 use std::marker::Model;
 
-/// For each vertex of a range how many of its neighbours it counts, and a watch list of the vertices whose
-/// count came to the limit. Contracts see it as a `Watch`.
+/// How many neighbours each vertex of a range counts, and a watch list of the vertices whose count became the limit.
+/// Contracts see it as a `Watch`.
 #[derive(Drop)]
 pub struct WatchedCounts {
     // The first vertex of the range.
@@ -19,7 +19,7 @@ pub struct WatchedCounts {
     counts: Vec<u32>,
     // The limit: the greatest count with which a rising vertex stays.
     most: u32,
-    // The vertices whose count came to the limit, and maybe others.
+    // The vertices whose count became the limit, and maybe others.
     doubtful: Vec<u32>,
 }
 
@@ -142,8 +142,8 @@ impl WatchedCounts {
         Ok(())
     }
 
-    /// From now on the limit is `most`: the watch list has those of the vertices, in order, that count at most that. Fails only if
-    /// memory runs out.
+    /// From now on the limit is `most`: the watch list has those of the vertices, in order, that count at most that.
+    /// Fails only if memory runs out.
     pub fn watch(&mut self, most: u32, vertices: &[u32]) -> Result<(), AllocError>
         requires { (v : ℕ) → has_number v vertices.now ≡ true → IsHeld self.old v }
         ensures { OnOk result (self.new ≡ record self.old { most = most; doubtful = filter (is_few self.old most) vertices.now }) }

@@ -27,11 +27,12 @@ use std::marker::Model;
 use std::sync::ledger::Ledger;
 use std::thread::Threads;
 
-/// What insertion phases work with, kept between them, so that a phase costs what it changes and not what the graph has.
+/// What insertion phases work with, kept between them, so that a phase costs what it changes and not what the graph
+/// has.
 ///
-/// Contracts see it as a `Working`. Between phases it is ready for the graph (`IsReady`): it has copies of the levels and of the
-/// counts, and nothing is left of a phase. A deletion phase changes the graph, and `follow` tells it so. Takes 6 bytes a vertex,
-/// and 48 for each range and each level up to the top.
+/// Contracts see it as a `Working`. Between phases it is ready for the graph (`IsReady`). It then has copies of the
+/// levels and of the counts, and nothing is left of a phase. After a deletion phase `follow` brings the copies up to
+/// date. Takes 6 bytes a vertex, and 48 for each range and each level up to the top.
 #[derive(Drop)]
 pub struct InsertionWork {
     // How far the sweep of the phase has come. Between phases no vertex rises, waits or is to be met.
@@ -80,8 +81,8 @@ impl InsertionWork {
         })
     }
 
-    /// Makes it ready for the graph after a deletion phase, where it was ready before: the edges were taken out, and the moves are
-    /// those of the phase.
+    /// Makes it ready for the graph after a deletion phase, if it was ready before. The edges were taken out, and the
+    /// moves are those of the phase.
     ///
     /// Costs two looks an edge, and one for each moved vertex and each of its neighbours. Takes no memory.
     pub fn follow(&mut self, adj: &LevelAdj, removed: &[Edge], moves: &Moves)
@@ -99,8 +100,8 @@ impl InsertionWork {
     }
 }
 
-/// Gives the moves of the vertices that rose in a phase, ascending, and puts each of them on its new level in the graph. Afterwards the
-/// ranges have forgotten the phase. Fails only if memory runs out.
+/// Gives the moves of the vertices that rose in a phase, ascending, and puts each of them on its new level in the
+/// graph. Afterwards the ranges have forgotten the phase. Fails only if memory runs out.
 pub fn take_moves<R: Threads + Sync, G: Gate + Sync, L: Ledger>(
     rounds: &Rounds<R, G>,
     alloc: Global,

@@ -14,8 +14,8 @@ pub record HasFollowed (p : Profile) (n : ℕ) (y : List ℕ) (v own : ℕ) (old
   pub counts : new ≡ record old { counts = set old.counts (v - old.first) own }
   pub waits : queue ≡ cond (not (count_at old v == own) && nat_lt (high p (group_of p n (get_or y v 0))) own) (set first (get_or y v 0) (get_or first (get_or y v 0) [] ++ v ∷ [])) first
 
--- the first i vertices of the range count afresh, and each of them waits that counted otherwise before and counts more than its group
--- allows; whoever waited waits still, and all others are of the range, on their levels by y
+-- the first i vertices of the range count afresh. Each of them waits if it counted otherwise before and counts more
+-- than its group allows. A vertex that waited waits still. All others that wait are of the range, on their levels by y.
 pub record HaveFiled (p : Profile) (n : ℕ) (y fresh : List ℕ) (i : ℕ) (old new : Watch) (first queue : List (List ℕ)) : Type 0 where
   pub watch : new ≡ record old { counts = new.counts }
   pub sized : length new.counts ≡ length old.counts
@@ -38,8 +38,8 @@ pub record HasFiled (p : Profile) (n : ℕ) (y fresh : List ℕ) (old new : Part
   pub part : new ≡ record old { watch = new.watch; queue = new.queue }
   pub filed : HaveFiled p n y fresh (length old.watch.counts) old.watch new.watch old.queue new.queue
 
--- each vertex that waits does so on its level; each that counts more neighbours by `fresh` than its group allows waits, but for those
--- whose place in `counts` is as in `before`
+-- each vertex that waits does so on its level. A vertex waits if it counts more neighbours by `fresh` than its group
+-- allows, unless its place in `counts` is as in `before`.
 pub record IsFiling (p : Profile) (n : ℕ) (y fresh before counts : List ℕ) (queue : ℕ → List ℕ) : Type 0 where
   pub waiting : (k v : ℕ) → has_number v (queue k) ≡ true → (v < n) × (get_or y v 0 ≡ k)
   pub found : (v : ℕ) → v < n → (has_number v (queue (get_or y v 0)) ≡ true) ⊎ ((get_or fresh v 0 ≤ high p (group_of p n (get_or y v 0))) ⊎ (get_or counts v 0 ≡ get_or before v 0))
@@ -50,7 +50,8 @@ pub record CanFile (p : Profile) (n : ℕ) (y fresh : List ℕ) (old : Cut) : Ty
   pub levels : (length y ≡ length fresh) × (n ≡ length fresh) × IsCapped p n y
   pub cut : IsCut (length fresh) (top_level p n + 1) old
 
--- all vertices but those that are spared count afresh, and wait if they count otherwise than before and more than their groups allow
+-- all vertices but those that are spared count afresh, and wait if they count otherwise than before and more than their
+-- groups allow
 pub record HaveCounted (p : Profile) (n : ℕ) (y fresh : List ℕ) (spared : ℕ → Type 0) (old new : Cut) : Type 0 where
   pub same : IsSameCut old new
   pub copied : IsCopied fresh (counts_of old) (counts_of new) spared

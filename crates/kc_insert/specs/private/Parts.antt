@@ -12,8 +12,8 @@ use Rattle.kc_insert.specs.private.Telling.{AreDealtAnew, heard_by, times}
 use Rattle.kc_insert.specs.Ranges.{IsHeld, Part, range_of, Tell, Watch}
 use Rattle.kc_insert.specs.private.Watched.{count_at, StayWatched}
 
--- the vertices in the list, each once, rise no more, since their counts are within the limit; all others of the watch list that still
--- rise count more
+-- the vertices in the list, each once, rise no more, since their counts are within the limit. Other vertices of the
+-- watch list that still rise count more.
 pub record LetStay (old : RisingLevels) (watch : Watch) (new : RisingLevels) (stay : List ℕ) : Type 0 where
   pub rises_on : (v : ℕ) → rises new v ≡ (rises old v && not (has_number v stay))
   pub stays : (v : ℕ) → has_number v stay ≡ true → (rises old v ≡ true) × (count_at watch v ≤ watch.most)
@@ -21,8 +21,8 @@ pub record LetStay (old : RisingLevels) (watch : Watch) (new : RisingLevels) (st
   pub over : (v : ℕ) → has_number v watch.doubtful ≡ true → rises new v ≡ true → watch.most < count_at watch v
   pub distinct : AreDistinct stay
 
--- each vertex of the list counts one more for each time that it is there; whoever waited waits still, and besides only vertices of the
--- list on the level, among them each that came to count more than `most`
+-- each vertex of the list counts one more for each time that it is there. A vertex that waited waits still. Besides
+-- only vertices of the list on the level wait, among them each whose count passed `most`.
 pub record HaveMet (level most : ℕ) (vertices : List ℕ) (old new : Part) : Type 0 where
   pub part : new ≡ record old { watch = record old.watch { counts = new.watch.counts }; queue = new.queue }
   pub sized : length new.watch.counts ≡ length old.watch.counts
@@ -32,7 +32,8 @@ pub record HaveMet (level most : ℕ) (vertices : List ℕ) (old new : Part) : T
   pub only : (k v : ℕ) → has_number v (get_or new.queue k []) ≡ true → (has_number v (get_or old.queue k []) ≡ true) ⊎ ((k ≡ level) × (has_number v vertices ≡ true))
   pub noted : (v : ℕ) → IsHeld old.watch v → most < count_at new.watch v → (most < count_at old.watch v) ⊎ (has_number v (get_or new.queue level []) ≡ true)
 
--- what `Range::rise` asks: the vertices and the meetings are of the graph, those that rise are of the range, and there is room
+-- what `Range::rise` asks: the vertices and the meetings are of the graph, those that rise are of the range, and there
+-- is room
 pub record CanRise (step : Crossing) (old : Part) : Type 0 where
   pub met : (v w : ℕ) → has_edge (v, w) (get_or old.meetings step.level []) ≡ true → (v < step.graph.vertices) × (w < step.graph.vertices) × IsHeld old.watch v
   pub enough : (v : ℕ) → times v (left_at step (get_or old.meetings step.level [])) ≤ count_at old.watch v
@@ -44,8 +45,8 @@ pub record CanRise (step : Crossing) (old : Part) : Type 0 where
   pub places : (w : ℕ) → is_above step w ≡ true → get_or step.levels.stored w 0 < length old.meetings
   pub ranges : (v : ℕ) → v < step.graph.vertices → range_of step.bits v < length old.tell.lists
 
--- the vertices that begin are to meet all above them, and count afresh; each other vertex counts one less for each meeting at which it
--- left the other behind
+-- the vertices that begin are to meet all above them, and count afresh. Each other vertex counts one less for each
+-- meeting at which it goes on and the other stays.
 pub record HaveRisen (step : Crossing) (old new : Part) : Type 0 where
   pub meetings : HaveMeetings step old.begun (set old.meetings step.level []) new.meetings
   pub watched : StayWatched old.watch new.watch

@@ -20,8 +20,8 @@ all_stay r = flat_map (λ (p : Part). p.stay) r.parts
 abbrev pub all_begun : Cut → List ℕ
 all_begun r = flat_map (λ (p : Part). p.begun) r.parts
 
--- how ranges keep which vertices rise: each of them began and is kept by its range; all that are kept rose; each that rises and counts
--- few is on the watch list of its range; and a range keeps and watches vertices of its own alone
+-- how ranges keep which vertices rise. Each of them began and is kept by its range, and all that are kept rose. Each
+-- that rises and counts few is on the watch list of its range. A range keeps and watches its own vertices alone.
 pub record AreKept (levels : RisingLevels) (r : Cut) : Type 0 where
   pub began : (v : ℕ) → rises levels v ≡ true → has_number v (part_of r v).began ≡ true
   pub own : (j v : ℕ) → j < length r.parts → has_number v (part_at r j).began ≡ true → IsHeld (part_at r j).watch v
@@ -40,8 +40,8 @@ pub record CanLetStay (levels : RisingLevels) (old : List Part) : Type 0 where
   pub few : length (seen levels) ≤ 2 ^ 24
   pub inside : (j v : ℕ) (d : Part) → j < length old → has_number v (get_or old j d).watch.doubtful ≡ true → (v < length (seen levels)) × IsHeld (get_or old j d).watch v
 
--- what `Ranges::let_stay` leaves: the vertices that stay, each once, rise no more, since their counts are within the limits of their
--- ranges; all others of the watch lists that still rise count more; the watch lists are empty
+-- what `Ranges::let_stay` leaves. The vertices that stay, each once, rise no more, since their counts are within the
+-- limits of their ranges. All others of the watch lists that still rise count more. The watch lists are empty.
 pub record AllLetStay (before after : RisingLevels) (old new : List Part) : Type 0 where
   pub on : after.level ≡ before.level
   pub levels : seen after ≡ seen before
@@ -52,7 +52,8 @@ pub record AllLetStay (before after : RisingLevels) (old new : List Part) : Type
   pub over : (j v : ℕ) (d : Part) → j < length old → has_number v (get_or old j d).watch.doubtful ≡ true → rises after v ≡ true → (get_or old j d).watch.most < count_at (get_or old j d).watch v
   pub distinct : AreDistinct (flat_map (λ (p : Part). p.stay) new)
 
--- what `Ranges::lift_off` asks: the sweep is at the next level, all the vertices are on the level and in ranges, and none has begun
+-- what `Ranges::lift_off` asks: the sweep is at the next level, all the vertices are on the level and in ranges, and
+-- none has begun
 pub record CanLiftOff (level : ℕ) (levels : RisingLevels) (vertices : List ℕ) (bits : ℕ) (old : List Part) : Type 0 where
   pub at : levels.level ≡ level + 1
   pub below : (v : ℕ) → has_number v vertices ≡ true → v < length (seen levels)
@@ -60,7 +61,8 @@ pub record CanLiftOff (level : ℕ) (levels : RisingLevels) (vertices : List ℕ
   pub place : (v : ℕ) → has_number v vertices ≡ true → range_of bits v < length old
   pub none : (j : ℕ) (d : Part) → j < length old → (get_or old j d).begun ≡ []
 
--- what `Ranges::lift_off` leaves: the vertices of the list have begun, each once and in its own range, and are on the next level
+-- what `Ranges::lift_off` leaves: the vertices of the list have begun, each once and in its own range, and are on the
+-- next level
 pub record LiftedOff (level : ℕ) (before after : RisingLevels) (vertices : List ℕ) (bits : ℕ) (old new : List Part) : Type 0 where
   pub on : after.level ≡ before.level
   pub levels : seen after ≡ all_at (seen before) (flat_map (λ (p : Part). p.begun) new) (level + 1)

@@ -79,7 +79,8 @@ pub record AllRisen (step : Crossing) (most : ℕ) (old new : List Part) : Type 
   pub each : (j : ℕ) (d : Part) → j < length old → RisesAndHears step most (in_range step.bits j (rise_told step old)) (get_or old j d) (get_or new j d)
   pub lists : (j : ℕ) (d : Part) → j < length old → length (get_or new j d).tell.lists ≡ length old
 
--- each vertex counts its neighbours no more that stay, if it rises; all else is as before but for what was told and the steps
+-- each vertex counts its neighbours no more that stay, if it rises; all else is as before but for what was told and the
+-- steps
 pub record AllParted (step : Crossing) (old new : List Part) : Type 0 where
   pub sized : length new ≡ length old
   pub part : (j : ℕ) (d : Part) → j < length old → get_or new j d ≡ record (get_or old j d) { watch = (get_or new j d).watch; tell = (get_or new j d).tell; steps = (get_or old j d).steps + degrees step.graph (get_or old j d).stay }

@@ -11,7 +11,8 @@ count_at w v = get_or w.counts (v - w.first) 0
 abbrev pub is_few : Watch → ℕ → ℕ → Bool
 is_few w most v = nat_le (count_at w v) most
 
--- the vertices and the limit are as before, and the watch list has all that it had, and each vertex whose count came to the limit
+-- the vertices and the limit are as before. The watch list has all that it had, and each vertex whose count became the
+-- limit.
 pub record StayWatched (old new : Watch) : Type 0 where
   pub first : new.first ≡ old.first
   pub sized : length new.counts ≡ length old.counts
