@@ -3,7 +3,7 @@
 ghost use Rattle.std.specs.Prelude.{◌≡◌, ◌≤◌};
 
 use super::support::check_row;
-use kc_rounds::{FirstRound, Gate, OpenGate, RoundTest, Rounds, Spot, filter_round};
+use kc_rounds::{FirstRound, Gate, RoundTest, Rounds, Spot, filter_round};
 use std::alloc::Global;
 use std::process::Abort;
 use std::sync::atomic::AtomicU64;
