@@ -205,6 +205,7 @@ module _ (row : List ℕ) (hs : List Pair) (items : List ℕ) (i j at : ℕ) (up
     where
       long : length (take (i - from) (drop from items)) ≡ i - from
       long = length-take-le (i - from) (drop from items) (rw length-drop (omega (arith, s.fits, s.within)))
+
       same_at : (m : ℕ) → m < length (take (i - from) (drop from items)) → get_or (take (i - from) (drop from items)) m 0 ≡ get_or run m 0
       same_at m h =
           let lt : m < i - from = omega (arith, h, long) in

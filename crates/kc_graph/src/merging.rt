@@ -7,13 +7,13 @@ ghost use Rattle.kc_graph.specs.private.Halves.{has_second, SecondsRise};
 
 use crate::halves::Half;
 
-// The number of numbers that are looked at together.
+// The length of a block of numbers. A search passes over blocks by one number of each.
 const BLOCK: usize = 8;
 
-// Returns how many numbers of a short ascending list are below x. There is no branch on a number, since a processor
-// couldn't predict it.
+// Returns the first place of a short ascending list whose number isn't below x: how many numbers are below. There is no
+// branch on a number, since a processor couldn't predict it.
 #[inline(always)]
-fn count_below(items: &[u32], x: u32) -> usize
+fn place_in_block(items: &[u32], x: u32) -> usize
     requires short { length items.now ≤ 8 }
     requires rises { (j k : ℕ) → j < k → k < length items.now → slice_index items.now j < slice_index items.now k }
     ensures within { result ≤ length items.now }
@@ -27,8 +27,8 @@ fn count_below(items: &[u32], x: u32) -> usize
     count as usize
 }
 
-// Returns the first place of an ascending list whose number isn't below x. The list ends at `end`, and the search
-// begins there.
+// Returns the first place of an ascending list whose number isn't below x. The list ends at `end`, where the search
+// begins.
 fn place_before(items: &[u32], end: usize, x: u32) -> usize
     requires inside { end ≤ length items.now }
     requires rises { (j k : ℕ) → j < k → k < end → slice_index items.now j < slice_index items.now k }
@@ -42,13 +42,14 @@ fn place_before(items: &[u32], end: usize, x: u32) -> usize
     }
     if high >= BLOCK {
         let low = high - BLOCK;
-        low + count_below(&items[low..low + BLOCK], x)
+        low + place_in_block(&items[low..low + BLOCK], x)
     } else {
-        count_below(&items[..high], x)
+        place_in_block(&items[..high], x)
     }
 }
 
-/// Merges the first `old` numbers with those that come in, from the greatest down, into the end of the list.
+/// Merges the first `old` numbers with those that come in, from the greatest down, into the end of the list. Moves the
+/// numbers between two that come in at once.
 ///
 /// Returns where the old numbers that stay in place end, and where the merged ones begin. The places between are free.
 pub fn merge_back(items: &mut Vec<u32>, old: usize, incoming: &[Half]) -> (usize, usize)
@@ -125,7 +126,7 @@ fn keep_each(items: &mut Vec<u32>, outgoing: &[Half]) -> usize
     kept
 }
 
-// Returns the first place of an ascending list, from one place on, whose number isn't below x.
+// Returns the first place of an ascending list, from one place on, whose number isn't below x. The search begins there.
 fn place_from(items: &[u32], from: usize, x: u32) -> usize
     requires inside { from ≤ length items.now }
     requires rises { (j k : ℕ) → from ≤ j → j < k → k < length items.now → slice_index items.now j < slice_index items.now k }
@@ -139,9 +140,9 @@ fn place_from(items: &[u32], from: usize, x: u32) -> usize
         low += BLOCK;
     }
     if items.len() - low >= BLOCK {
-        low + count_below(&items[low..low + BLOCK], x)
+        low + place_in_block(&items[low..low + BLOCK], x)
     } else {
-        low + count_below(&items[low..], x)
+        low + place_in_block(&items[low..], x)
     }
 }
 
