@@ -20,6 +20,7 @@ mod LaterLemmas
 mod CountingLemmas
 mod CleaningLawLemmas
 mod MergeLemmas
+mod BlockLemmas
 mod BucketLemmas
 mod HalfLemmas
 mod GivenLemmas
