@@ -92,7 +92,7 @@ all_began r = flat_map (λ (p : Part). p.began) r.parts
 abbrev pub all_risen : Cut → List ℕ
 all_risen r = flat_map (λ (p : Part). p.risen) r.parts
 
--- between phases no vertex rises, waits or is to be met, and the watch lists have vertices of their own ranges alone
+-- between phases no vertex rises or is to be met, and the watch lists have vertices of their own ranges alone
 pub record AreQuiet (p : Profile) (g : GraphShape) (r : Cut) : Type 0 where
   pub shape : IsCut g.vertices (top_level p g.vertices + 1) r
   pub none : (all_began r ≡ []) × (all_risen r ≡ []) × ((k : ℕ) → meets r k ≡ [])

@@ -9,7 +9,7 @@ pub record Working : Type 0 where
   pub levels : List ℕ
   pub ranges : Cut
 
--- between phases: the levels and the counts are those of the graph, and nothing is left of a phase
+-- between phases: the levels and the counts are those of the graph, and no vertex rises, waits or is to be met
 pub record IsReady (p : Profile) (a : LeveledGraph) (w : Working) : Type 0 where
   pub levels : w.levels ≡ a.levels
   pub counted : IsCounted a.graph a.levels 0 (counts_of w.ranges)

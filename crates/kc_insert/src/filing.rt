@@ -21,7 +21,7 @@ use std::marker::Model;
 use std::thread;
 use std::thread::Threads;
 
-// The number of edges for each of which all vertices are looked at rather than the ends of the edges.
+// From one edge for each so many vertices on, all vertices are looked at and not the ends of the edges.
 const LEAST_SHARE: usize = 4;
 
 /// What ranges follow when a phase begins. Contracts see it as a `Following`.
@@ -197,7 +197,8 @@ fn file_all<R: Threads + Sync>(
 }
 
 /// Copies the fresh counts of the ends of the edges. An end whose count changed, and is more than its group allows, is
-/// filed once, by its level. Fails only if memory runs out.
+/// filed once, by its level. If there is an edge for every fourth vertex or more, looks at all vertices, by threads if
+/// there are ranges. Fails only if memory runs out.
 pub fn file_ends<R: Threads + Sync, G: Gate + Sync>(
     rounds: &Rounds<R, G>,
     fresh: &Fresh<'_>,

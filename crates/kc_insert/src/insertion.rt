@@ -78,19 +78,28 @@ fn sweep_phase<R: Threads + Sync, G: Gate + Sync, L: Ledger>(
 ///
 /// Fails only if memory runs out; graph, levels and `work` are then unspecified.
 ///
-/// Counts at most 4 steps for each edge. For each level that a vertex rises it counts three for each neighbour of the
-/// vertex, and one more (`effort`). A rising vertex costs at most three passes over its neighbours. These are where it
-/// begins, where it stays, and where it comes to its new level in `adj` after the sweep.
+/// Counts at most 4 steps for each edge. For each level that a vertex rises it counts at most three for each neighbour
+/// of the vertex in the new graph, and one more (`effort`). A rising vertex costs at most three passes over its
+/// neighbours, however far it rises. These are where it begins, where it stays, and where it comes to its new level in
+/// `adj` after the sweep.
 ///
 /// One sweep goes through the levels, from the lowest up, and stops at each where a vertex waits, is met or may stay.
-/// If at least 4,096 vertices begin, or stay, on a level, threads sweep the ranges of vertices. There is one for each
-/// 2,048 of these vertices, and at most one for each worker of `rounds`. Else the caller sweeps them. The first list of
-/// candidates in the life of `work` that isn't empty is cut into as many pieces as there are workers. The gate hears of
-/// each piece. No answer depends on the workers nor on the gate.
+/// Threads sweep ranges of vertices if the graph has at least 32,768 vertices and much is to do on a level. At least
+/// 4,096 vertices begin or stay there then; a quarter of the meetings counts with these. There is one thread for each
+/// 2,048 of them, and at most one for each range and for each worker of `rounds`. Else the caller sweeps the ranges.
+///
+/// The first list of candidates in the life of `work` that isn't empty is cut into as many pieces as there are workers.
+/// If it is short, there are fewer. The gate hears of each piece. No answer depends on the workers nor on the gate.
+///
+/// Some looks aren't counted. A rising vertex takes at most three for each neighbour that stood above it when it began.
+/// Each range takes one on each level where the sweep stops, and so do 64 levels that are passed over. The vertices
+/// that rose are sorted. If there is an edge for every fourth vertex or more, all counts are compared, by threads if
+/// there are ranges. Else no pass goes over all vertices.
 ///
 /// Takes memory for the vertices that wait or rose and for their moves. Besides it takes 8 bytes for each neighbour
-/// that stood above a rising vertex, and on one level at a time 8 for each neighbour that hears of a vertex. While
-/// 8,192 edges or more are linked it takes 24 bytes for each.
+/// that stood above a rising vertex. On one level at a time it takes 8 for each neighbour that hears of a vertex;
+/// `work` keeps the longest of these lists. While 8,192 edges or more are linked it takes 24 bytes for each. If 8,192
+/// vertices or more rose, it takes what `LevelAdj::par_lift_all` takes.
 pub fn insert_phase<R: Threads + Sync, G: Gate + Sync, L: Ledger>(
     rounds: &Rounds<R, G>,
     alloc: Global,
@@ -118,8 +127,8 @@ pub fn insert_phase<R: Threads + Sync, G: Gate + Sync, L: Ledger>(
     Ok(moves)
 }
 
-/// One phase with a workspace of its own (`insert_phase`), which costs a pass over all vertices and one over all levels
-/// besides.
+/// Raises levels in one phase with a workspace of its own (`insert_phase`). The workspace costs a pass over all
+/// vertices besides, and one over all levels for each range.
 ///
 /// `workers` is 1 to 64. Fails only if memory runs out; graph and levels are then unspecified.
 pub fn insert_rounds<R: Threads + Sync, G: Gate + Sync, L: Ledger>(

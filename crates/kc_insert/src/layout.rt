@@ -42,8 +42,7 @@ impl Layout {
         Layout { bits, least_shared }
     }
 
-    /// One range for fewer than 32,768 vertices; else 4 to 64 of at most 65,536 vertices, or of more if there are more
-    /// than 4,194,304.
+    /// One range for fewer than 32,768 vertices; else 4 to 64 of at most 65,536 vertices, or of more from 4,194,304 on.
     pub fn of(n: u32) -> Self {
         let mut bits = 0;
         if n < LEAST_CUT {
@@ -105,11 +104,14 @@ impl Layout {
 
     /// The number of threads that share a pass over `count` vertices, at most `workers`: one for each half of
     /// `least_shared`.
-    pub(crate) fn threads(self, count: usize, workers: usize) -> usize
-        ensures { 0 < result }
+    pub(crate) fn threads(self, count: usize, workers: u32) -> usize
+        requires { 1 ≤ workers }
+        ensures some { 0 < result }
+        ensures few { result ≤ workers }
     {
         if self.is_shared(count) {
-            (count / (self.least_shared / 2 + 1)).min(workers).max(1)
+            let share = (self.least_shared / 2).max(1);
+            (count / share).min(workers as usize).max(1)
         } else {
             1
         }

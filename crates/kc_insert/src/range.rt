@@ -1,4 +1,4 @@
-//! A range of vertices: all that a sweep writes of them. One thread at a time writes it.
+//! A range of vertices: all that a sweep writes of them but their levels. One thread at a time writes it.
 
 ghost use Rattle.std.specs.Prelude.{◌≡◌, ◌+◌, ◌-◌, ◌++◌, ◌∷◌, ◌<◌, ◌≤◌, ◌==◌, ◌^◌, ℕ, List, [], false, true, All, IfOk, OnOk, cond, filter, length, replicate, slice_index_or, slice_set};
 ghost use Rattle.kc_graph.specs.Numbers.{has_number};
@@ -30,7 +30,7 @@ pub struct Range {
     pub began: Vec<u32>,
     /// All that rose.
     pub risen: Vec<u32>,
-    /// The vertices that stay on the level of the sweep, to which they had come.
+    /// The vertices that stay on the level of the sweep; also room for `look_anew`.
     pub stay: Vec<u32>,
     /// The vertices that begin to rise from the level of the sweep.
     pub begun: Vec<u32>,

@@ -201,18 +201,6 @@ impl Ranges {
         range.watched.set(v, count);
     }
 
-    /// v waits on the level.
-    pub fn file(&mut self, level: u16, v: u32) -> Result<(), AllocError>
-        requires vertex { IsIn self.old v }
-        requires room { level < length (part_of self.old v).queue }
-        ensures { let part = part_of self.old v in
-            OnOk result (self.new ≡ record self.old { parts = slice_set self.old.parts (range_of self.old.bits v) (record part { queue = slice_set part.queue level (slice_index_or part.queue level [] ++ v ∷ []) }) }) }
-    {
-        let range = &mut self.items[self.layout.range_of(v)];
-        range.queue.file(level, v)?;
-        Ok(())
-    }
-
     /// The first level from this one on where a vertex waits, or the number of levels.
     pub fn next_waiting(&self, from: u16) -> u16
         requires { All (λ p. from ≤ length p.queue) self.now.parts }
@@ -375,7 +363,7 @@ impl Ranges {
         if count == 0 {
             return Ok(());
         }
-        let threads = self.layout.threads(count, rounds.workers() as usize);
+        let threads = self.layout.threads(count, rounds.workers());
         part_all(
             rounds.runtime(),
             threads,
@@ -401,7 +389,7 @@ impl Ranges {
         ensures told { OnOk result (AreToldAll (length self.old.parts) self.new.told) }
         ensures same { self.new.bits ≡ self.old.bits }
     {
-        let threads = self.layout.threads(count, rounds.workers() as usize);
+        let threads = self.layout.threads(count, rounds.workers());
         rise_all(
             rounds.runtime(),
             alloc,

@@ -137,7 +137,7 @@ impl Sweep {
         Ok(())
     }
 
-    /// Goes on to the first level where a vertex may have to rise: stays if a vertex rises.
+    /// Goes on to the first level where a vertex may have to rise. Stays if a range keeps a vertex that began.
     pub fn go_on(&mut self)
         requires within { All (λ p. self.old.levels.level ≤ length p.queue) self.old.ranges.parts }
         ensures ranges { self.new.ranges ≡ self.old.ranges }

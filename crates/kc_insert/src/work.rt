@@ -32,7 +32,7 @@ use std::thread::Threads;
 ///
 /// Contracts see it as a `Working`. Between phases it is ready for the graph (`IsReady`). It then has copies of the
 /// levels and of the counts, and nothing is left of a phase. After a deletion phase `follow` brings the copies up to
-/// date. Takes 6 bytes a vertex, and 48 for each range and each level up to the top.
+/// date. Takes 6 bytes a vertex, 48 for each range and each level up to the top, and 48 for each pair of ranges.
 #[derive(Drop)]
 pub struct InsertionWork {
     // How far the sweep of the phase has come. Between phases no vertex rises, waits or is to be met.
@@ -50,7 +50,8 @@ impl Model for InsertionWork {
 impl InsertionWork {
     /// Ready for this graph; the thresholds are for its number of vertices.
     ///
-    /// Costs a pass over the vertices and one over the levels up to the top. Fails only if memory runs out.
+    /// Costs a pass over the vertices, and for each range one over the levels up to the top. Fails only if memory runs
+    /// out.
     pub fn new(alloc: Global, th: &Thresholds, adj: &LevelAdj) -> Result<Self, AllocError>
         requires scale { th.now.vertices ≡ adj.now.graph.vertices }
         ensures { IfOk result (λ work. IsReady th.now.profile adj.now work) }

@@ -16,9 +16,3 @@ pub record IsMeeting (g : GraphShape) (x : List ℕ) (k v w : ℕ) : Type 0 wher
   pub near : has_number w (neighbours_of v g.edges) ≡ true
   pub level : get_or x w 0 ≡ k
   pub below : get_or x v 0 < k
-
--- from level l on the lists hold each meeting of those who rise once, and nothing else
-pub record AreMeetings (g : GraphShape) (x : List ℕ) (l : ℕ) (rises : ℕ → Bool) (meetings : List (List Pair)) : Type 0 where
-  pub only : (k v w : ℕ) → l ≤ k → has_edge (v, w) (get_or meetings k []) ≡ true → (rises v ≡ true) × IsMeeting g x k v w
-  pub once : (k : ℕ) → AreApart (get_or meetings k [])
-  pub each : (k v w : ℕ) → l ≤ k → rises v ≡ true → IsMeeting g x k v w → has_edge (v, w) (get_or meetings k []) ≡ true
