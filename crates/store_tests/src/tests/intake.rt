@@ -1,228 +1,266 @@
 //! One client and the server on one thread, and clients in threads of their own beside a server that only drains. A
 //! plain walk compares what was drained with the scripts.
-ghost use Rattle.std.specs.Prelude.{◌≡◌, ◌≤◌, [], IfOk};
+ghost use Rattle.std.specs.Prelude.{◌≡◌, ◌≤◌, [], length, All};
 
+use crate::tests::support::{Bench, draw_item};
 use kc_graph::Item;
-use kc_intake::{Client, Drainer, Empty, Full, Intake, Update};
-use std::alloc::Global;
-use std::process::Abort;
+use kc_intake::{Client, Drainer, Intake, MAX_SENT, Update};
 use std::sync::Wait;
-use std::test::Fail;
-use std::thread::Threads;
 use store_support::clients::{Sender, Server, exchange, open};
 use test_support::random::Random;
+
+// A client and the server of an intake on one thread.
+#[derive(Drop)]
+struct Desk<'a> {
+    intake: &'a Intake,
+    drainer: Drainer,
+    client: Client,
+    // How many items the client has submitted.
+    sent: u32,
+    ghost server: { drainer.intake ≡ intake.now },
+    ghost of: { client.intake ≡ intake.now },
+    ghost counted: { length client.sent ≡ sent },
+}
+
+impl<'a> Desk<'a> {
+    fn new(intake: &'a Intake, drainer: Drainer, client: Client) -> Desk<'a>
+        requires server { drainer.intake ≡ intake.now }
+        requires client { (client.intake ≡ intake.now) × (client.sent ≡ []) }
+    {
+        Desk {
+            intake,
+            drainer,
+            client,
+            sent: 0,
+        }
+    }
+
+    // Submits an item, and says whether it fits.
+    fn submits<R: Bench + Wait>(&mut self, rt: &R, item: Item) -> bool {
+        if self.sent == MAX_SENT || self.intake.submit(rt, &mut self.client, item).is_err() {
+            return false;
+        }
+        self.sent += 1;
+        true
+    }
+
+    // Drains, and says whether the batch is these items, numbered from `first` on. If there are none, the intake has to
+    // be empty.
+    fn drains<R: Bench + Wait>(&mut self, rt: &R, first: u32, items: &[Item]) -> bool {
+        let is_empty = self.intake.drain(rt, &mut self.drainer).is_err();
+        let batch = self.drainer.batch();
+        is_empty == items.is_empty() && batch.len() == items.len() && are_of(batch, 0, first, items)
+    }
+}
+
+// Whether the updates of a client are these items in order, numbered from `first` on.
+fn are_of(updates: &[Update], client: u32, first: u32, items: &[Item]) -> bool {
+    let mut count = 0u32;
+    for update in updates {
+        if update.client == client {
+            if update.serial != first.wrapping_add(count)
+                || items.get(count as usize) != Some(&update.item)
+            {
+                return false;
+            }
+            count = count.wrapping_add(1);
+        }
+    }
+    count as usize == items.len()
+}
 
 const INSERT: Item = Item::Insert { u: 0, v: 1 };
 
 const ISOLATE: Item = Item::Isolate { v: 7 };
 
 // An intake with one client.
-fn open_for_one<R: Abort>(rt: &R, alloc: Global, capacity: u32) -> (Intake, Drainer, Client)
+fn open_for_one(rt: &impl Bench, capacity: u32) -> (Intake, Drainer, Client)
     requires capacity { (1 ≤ capacity) × (capacity ≤ 65536) }
     ensures drainer { result.1.intake ≡ result.0 }
     ensures client { (result.2.intake ≡ result.0) × (result.2.sent ≡ []) }
 {
-    let (intake, drainer, mut clients) = Intake::open(alloc, capacity, 1).expect(rt, "memory");
-    let client = clients.pop().unwrap();
+    let (intake, drainer, mut clients) = open(rt.alloc(), capacity, 1).expect(rt, "memory");
+    let client = clients.pop().expect(rt, "a client");
     (intake, drainer, client)
 }
 
-// Whether the batch is these items of client 0, numbered from `serial` on.
-fn is_batch(drainer: &Drainer, serial: u32, items: &[Item]) -> bool {
-    let batch = drainer.batch();
-    let mut serial = serial;
-    if batch.len() != items.len() {
+// Whether these items fit, and one more doesn't. Then they are drained, and there are no more.
+fn fills_and_empties<R: Bench + Wait>(rt: &R, desk: &mut Desk<'_>, items: &[Item]) -> bool {
+    if !desk.drainer.batch().is_empty() {
         return false;
     }
-    for i in 0..items.len() {
-        let item = items[i];
-        let update = Update {
-            client: 0,
-            serial,
-            item,
-        };
-        if batch[i] != update {
+    for item in items {
+        if !desk.submits(rt, *item) {
             return false;
         }
-        serial = serial.wrapping_add(1);
     }
-    true
+    !desk.submits(rt, INSERT) && desk.drains(rt, 0, items) && desk.drains(rt, 0, &[])
 }
 
-// Two items fit, and a third one doesn't. Both are drained, and then there are no more.
-fn fills_and_empties<R: Threads + Wait + Sync>(
-    rt: &R,
-    intake: &Intake,
-    drainer: &mut Drainer,
-    client: &mut Client,
-) -> bool
-    requires drainer { drainer.old.intake ≡ intake.now }
-    requires client { (client.old.intake ≡ intake.now) × (client.old.sent ≡ []) }
+// An intake for this number of items is filled and emptied.
+fn expect_room<R: Bench + Wait>(rt: &R, capacity: u32, items: &[Item])
+    requires capacity { (1 ≤ capacity) × (capacity ≤ 65536) }
 {
-    drainer.batch().is_empty()
-        && intake.submit(rt, client, INSERT) == Ok(())
-        && intake.submit(rt, client, ISOLATE) == Ok(())
-        && intake.submit(rt, client, INSERT) == Err(Full)
-        && intake.drain(rt, drainer) == Ok(())
-        && is_batch(drainer, 0, &[INSERT, ISOLATE])
-        && intake.drain(rt, drainer) == Err(Empty)
-        && drainer.batch().is_empty()
+    let (intake, drainer, client) = open_for_one(rt, capacity);
+    let mut desk = Desk::new(&intake, drainer, client);
+    assert!(rt; fills_and_empties(rt, &mut desk, items));
+    drop(desk);
 }
+
+const TWO: &[Item] = &[INSERT, ISOLATE];
 
 #[test]
-fn three_submits_and_two_drains(rt: HostRuntime) -> Result<(), Fail> {
-    let (intake, mut drainer, mut client) = open_for_one(&rt, rt.alloc(), 2);
-    assert!(rt; fills_and_empties(&rt, &intake, &mut drainer, &mut client));
-    Ok(())
-}
-
-// An item of a client is drained, and one more is submitted.
-fn leaves_one<R: Threads + Wait + Sync>(
-    rt: &R,
-    intake: &Intake,
-    drainer: &mut Drainer,
-    client: &mut Client,
-) -> bool
-    requires drainer { drainer.old.intake ≡ intake.now }
-    requires client { (client.old.intake ≡ intake.now) × (client.old.sent ≡ []) }
-    ensures drainer { drainer.new.intake ≡ drainer.old.intake }
-    ensures client { client.new.intake ≡ client.old.intake }
-{
-    intake.drain(rt, drainer) == Err(Empty)
-        && intake.submit(rt, client, INSERT) == Ok(())
-        && intake.drain(rt, drainer) == Ok(())
-        && is_batch(drainer, 0, &[INSERT])
-        && intake.submit(rt, client, ISOLATE) == Ok(())
-}
-
-#[test]
-fn a_client_is_taken_in_before_its_last_update(rt: HostRuntime) -> Result<(), Fail> {
-    let (intake, mut drainer, mut client) = open_for_one(&rt, rt.alloc(), 1);
-    assert!(rt; leaves_one(&rt, &intake, &mut drainer, &mut client));
-    intake.take_in(&rt, &mut drainer, client);
-    assert!(rt; intake.drain(&rt, &mut drainer) == Ok(()));
-    assert!(rt; is_batch(&drainer, 1, &[ISOLATE]));
-    assert!(rt; intake.drain(&rt, &mut drainer) == Err(Empty));
-    Ok(())
+fn three_submits_and_two_drains(rt: HostRuntime) {
+    expect_room(&rt, 2, TWO);
 }
 
 const FIVE: &[Item] = &[INSERT, ISOLATE, INSERT, INSERT, ISOLATE];
 
-// Five items fit, and a sixth one doesn't. They are drained, and then there are no more.
-fn fills_five<R: Threads + Wait + Sync>(
-    rt: &R,
-    intake: &Intake,
-    drainer: &mut Drainer,
-    client: &mut Client,
-) -> bool
-    requires drainer { drainer.old.intake ≡ intake.now }
-    requires client { (client.old.intake ≡ intake.now) × (client.old.sent ≡ []) }
-{
-    intake.submit(rt, client, INSERT) == Ok(())
-        && intake.submit(rt, client, ISOLATE) == Ok(())
-        && intake.submit(rt, client, INSERT) == Ok(())
-        && intake.submit(rt, client, INSERT) == Ok(())
-        && intake.submit(rt, client, ISOLATE) == Ok(())
-        && intake.submit(rt, client, INSERT) == Err(Full)
-        && intake.drain(rt, drainer) == Ok(())
-        && is_batch(drainer, 0, FIVE)
-        && intake.drain(rt, drainer) == Err(Empty)
-        && drainer.batch().is_empty()
+#[test]
+fn a_queue_of_five_is_filled_and_drained(rt: HostRuntime) {
+    expect_room(&rt, 5, FIVE);
+}
+
+const FIRST: &[Item] = &[INSERT];
+
+const LAST: &[Item] = &[ISOLATE];
+
+// Whether an item of a client is drained, and one more submitted.
+fn leaves_one<R: Bench + Wait>(rt: &R, desk: &mut Desk<'_>) -> bool {
+    desk.drains(rt, 0, &[])
+        && desk.submits(rt, INSERT)
+        && desk.drains(rt, 0, FIRST)
+        && desk.submits(rt, ISOLATE)
+}
+
+// Takes the client in. Says whether its last update is drained afterwards, and then there are no more.
+fn takes_in<R: Bench + Wait>(rt: &R, desk: Desk<'_>) -> bool {
+    let Desk {
+        intake,
+        drainer,
+        client,
+        sent: _,
+    } = desk;
+    let mut drainer = drainer;
+    intake.take_in(rt, &mut drainer, client);
+    intake.drain(rt, &mut drainer).is_ok()
+        && drainer.batch().len() == 1
+        && are_of(drainer.batch(), 0, 1, LAST)
+        && intake.drain(rt, &mut drainer).is_err()
 }
 
 #[test]
-fn a_queue_of_five_is_filled_and_drained(rt: HostRuntime) -> Result<(), Fail> {
-    let (intake, mut drainer, mut client) = open_for_one(&rt, rt.alloc(), 5);
-    assert!(rt; fills_five(&rt, &intake, &mut drainer, &mut client));
-    Ok(())
+fn a_client_is_taken_in_before_its_last_update(rt: HostRuntime) {
+    let (intake, drainer, client) = open_for_one(&rt, 1);
+    let mut desk = Desk::new(&intake, drainer, client);
+    assert!(rt; leaves_one(&rt, &mut desk));
+    assert!(rt; takes_in(&rt, desk));
 }
 
 // A script of this number of items.
-fn random_script<R: Abort>(rt: &R, alloc: Global, random: &mut Random, count: u32) -> Vec<Item> {
-    let mut script = Vec::new(alloc);
-    for _i in 0..count {
-        let (kind, u, v) = (random.below(3), random.below(1000), random.below(1000));
-        let item = match kind {
-            0 => Item::Insert { u, v },
-            1 => Item::Delete { u, v },
-            _ => Item::Isolate { v },
+fn random_script(rt: &impl Bench, random: &mut Random, length: u32) -> Vec<Item> {
+    let mut script = Vec::new(rt.alloc());
+    for _i in 0..length {
+        let sign = match random.below(3) {
+            0 => b'+',
+            1 => b'-',
+            _ => b' ',
         };
-        script.push(item).expect(rt, "memory");
+        script
+            .push(draw_item(random, sign, 1000))
+            .expect(rt, "memory");
     }
     script
 }
 
-// Whether the updates are the scripts of the senders, each script in its order, and each item once.
-fn are_delivered<R: Abort>(
-    rt: &R,
-    alloc: Global,
-    senders: &[Sender<'_>],
-    updates: &[Update],
-) -> bool {
-    let mut found = vec![in alloc; 0usize; senders.len()].expect(rt, "memory");
-    for update in updates {
-        let client = update.client as usize;
-        if client >= found.len() {
-            return false;
-        }
-        let serial = found[client];
-        if update.serial as usize != serial
-            || senders[client].script().get(serial) != Some(&update.item)
-        {
-            return false;
-        }
-        found[client] = serial.wrapping_add(1);
-    }
-    senders
-        .iter()
-        .zip(found.as_slice())
-        .all(|(sender, count)| sender.script().len() == *count)
-}
-
-// Eight clients with scripts of these lengths submit while the server drains. The server gets each script whole and in
-// order, and afterwards finds the intake empty.
-fn expect_exchange<R: Threads + Wait + Sync + Abort>(
-    rt: &R,
-    alloc: Global,
-    capacity: u32,
-    counts: [u32; 8],
-)
-    requires capacity { (1 ≤ capacity) × (capacity ≤ 65536) }
+// The clients with scripts of these lengths.
+fn senders_of<'a>(
+    rt: &impl Bench,
+    intake: &'a Intake,
+    clients: Vec<Client>,
+    lengths: &[u32],
+) -> Vec<Sender<'a>>
+    requires { All (λ client. (client.intake ≡ intake.now) × (client.sent ≡ [])) clients.items }
 {
-    let (intake, drainer, clients) = open(alloc, capacity, 8).expect(rt, "memory");
     let mut random = Random::new(29);
-    let mut count = 0usize;
-    let mut senders = Vec::new(alloc);
+    let mut senders = Vec::new(rt.alloc());
     for client in clients {
-        let length = counts.get(senders.len()).copied().unwrap_or(0);
-        let script = random_script(rt, alloc, &mut random, length);
-        count = count.saturating_add(script.len());
+        let length = lengths.get(senders.len()).copied().unwrap_or(0);
+        let script = random_script(rt, &mut random, length);
         senders
-            .push(Sender::new(&intake, client, script))
+            .push(Sender::new(intake, client, script))
             .expect(rt, "memory");
     }
-    let mut server = Server::new(alloc, &intake, drainer, true, count).expect(rt, "memory");
-    exchange(rt, &mut server, count, senders.as_mut_slice()).expect(rt, "memory");
-    assert!(rt; are_delivered(rt, alloc, senders.as_slice(), server.updates()));
-    assert!(rt; server.drain(rt) == Ok(false));
+    senders
 }
 
-#[test]
-fn eight_clients(rt: HostRuntime) -> Result<(), Fail> {
-    expect_exchange(&rt, rt.alloc(), 64, [3000; 8]);
-    Ok(())
+// How many items the senders have.
+fn count_items(senders: &[Sender<'_>]) -> usize {
+    let mut count = 0usize;
+    for sender in senders {
+        count = count.saturating_add(sender.script().len());
+    }
+    count
 }
 
-#[test]
-fn clients_of_very_different_lengths(rt: HostRuntime) -> Result<(), Fail> {
-    let counts = [0, 20_000, 1, 300, 2, 5000, 0, 40];
-    expect_exchange(&rt, rt.alloc(), 1024, counts);
-    Ok(())
+// Whether the updates are the scripts of the senders, each script in its order, and each item once.
+fn are_delivered(senders: &[Sender<'_>], updates: &[Update]) -> bool {
+    let mut client = 0u32;
+    for sender in senders {
+        if !are_of(updates, client, 0, sender.script()) {
+            return false;
+        }
+        client = client.wrapping_add(1);
+    }
+    updates.len() == count_items(senders)
 }
 
+// Whether the server gets each script whole and in order while the clients submit, and afterwards finds the intake
+// empty.
+fn delivers<R: Bench + Wait>(
+    rt: &R,
+    intake: &Intake,
+    drainer: Drainer,
+    senders: &mut [Sender<'_>],
+) -> bool
+    requires { drainer.intake ≡ intake.now }
+{
+    let count = count_items(senders);
+    let mut server = Server::new(rt.alloc(), intake, drainer, true, count).expect(rt, "memory");
+    exchange(rt, &mut server, count, senders).expect(rt, "memory");
+    let delivered = are_delivered(senders, server.updates());
+    let drained = server.drain(rt).expect(rt, "memory");
+    drop(server);
+    delivered && !drained
+}
+
+// Eight clients with scripts of these lengths submit while the server drains.
+fn expect_exchange<R: Bench + Wait>(rt: &R, capacity: u32, lengths: &[u32])
+    requires capacity { (1 ≤ capacity) × (capacity ≤ 65536) }
+{
+    let (intake, drainer, clients) = open(rt.alloc(), capacity, 8).expect(rt, "memory");
+    let mut senders = senders_of(rt, &intake, clients, lengths);
+    assert!(rt; delivers(rt, &intake, drainer, senders.as_mut_slice()));
+    drop(senders);
+}
+
+const EIGHT: &[u32] = &[3000; 8];
+
 #[test]
-fn a_queue_of_one(rt: HostRuntime) -> Result<(), Fail> {
-    let counts = [100, 1, 0, 7, 100, 100, 30, 2];
-    expect_exchange(&rt, rt.alloc(), 1, counts);
-    Ok(())
+fn eight_clients(rt: HostRuntime) {
+    expect_exchange(&rt, 64, EIGHT);
+}
+
+const VERY_DIFFERENT: &[u32] = &[0, 20_000, 1, 300, 2, 5000, 0, 40];
+
+#[test]
+fn clients_of_very_different_lengths(rt: HostRuntime) {
+    expect_exchange(&rt, 1024, VERY_DIFFERENT);
+}
+
+const SHORT: &[u32] = &[100, 1, 0, 7, 100, 100, 30, 2];
+
+#[test]
+fn a_queue_of_one(rt: HostRuntime) {
+    expect_exchange(&rt, 1, SHORT);
 }

@@ -3,89 +3,53 @@
 ghost use Rattle.std.specs.Prelude.{◌<◌, ◌≤◌};
 ghost use Rattle.kc_session.specs.Generated.{IsLoad};
 
+use crate::tests::support::{Bench, put};
 use kc_session::GenSource;
 use kc_text::Source;
-use std::alloc::Global;
-use std::process::Abort;
-use std::test::Fail;
 
 // Whether the source has this text, if it is read in pieces of this size, at most 1,000 of them.
-fn has_text<R: Abort>(
-    rt: &R,
-    alloc: Global,
-    source: GenSource,
-    piece: usize,
-    wanted: &[u8],
-) -> bool {
-    assert!(rt; 0 < piece && piece <= 1000);
+fn has_text(rt: &impl Bench, source: GenSource, piece: usize, wanted: &[u8]) -> bool
+    requires { (0 < piece) × (piece ≤ 1000) }
+{
     let mut source = source;
     let mut buf = [0u8; 1000];
-    let mut text = Vec::new(alloc);
+    let mut text = Vec::new(rt.alloc());
     for _ in 0..1000 {
         let count = source.read(&mut buf[..piece]).unwrap_or(0);
-        text.extend_from_slice(&buf[..count]).expect(rt, "memory");
+        put(rt, &mut text, &buf[..count]);
     }
     text.as_slice() == wanted
 }
 
 // The load has its text, whatever the pieces.
-fn expect_text<R: Abort>(
-    rt: &R,
-    alloc: Global,
-    seed: u32,
-    n: u32,
-    batches: u32,
-    items: u32,
-    text: &[u8],
-)
+fn expect_text(rt: &impl Bench, seed: u32, n: u32, batches: u32, items: u32, text: &[u8])
     requires { IsLoad n batches items }
 {
-    for piece in [1, 7, 64, 1000] {
-        let source = GenSource::new(seed, n, batches, items);
-        assert!(rt; has_text(rt, alloc, source, piece, text));
-    }
+    assert!(rt; has_text(rt, GenSource::new(seed, n, batches, items), 1, text));
+    assert!(rt; has_text(rt, GenSource::new(seed, n, batches, items), 7, text));
+    assert!(rt; has_text(rt, GenSource::new(seed, n, batches, items), 64, text));
+    assert!(rt; has_text(rt, GenSource::new(seed, n, batches, items), 1000, text));
 }
 
-// A load in which an edge leaves that isn't there, and the readers ask for 16 of 17 vertices. Loads with one vertex,
-// with as many vertices as a graph may have, and with batches without items.
+// An edge leaves that isn't there, and the readers ask for 16 of 17 vertices.
+const MANY_ASKED: &[u8] =
+    b"kcore 1\nvertices 17\nask 4 0 1 2 3 4 5 6 7 8 9 10 11 12 13 14 15\nask 4 0 1 2 3 4 5 6 7 8 9 10 11 12 13 14 15\nbatch\n- 14 3\n+ 4 14\nend\nbatch\n+ 2 3\n+ 8 14\nend\n";
+
+// There is one vertex.
+const ONE_VERTEX: &[u8] = b"kcore 1\nvertices 1\nask 4 0\nask 4 0\nbatch\n- 0 0\nend\n";
+
+// There are as many vertices as a graph may have.
+const MOST_VERTICES: &[u8] =
+    b"kcore 1\nvertices 16777216\nask 4 0 1 2 3 4 5 6 7 8 9 10 11 12 13 14 15\nask 4 0 1 2 3 4 5 6 7 8 9 10 11 12 13 14 15\nbatch\n+ 3967065 6195333\n+ 11825978 847981\n+ 12998365 9331295\nend\n";
+
+// The batches have no items.
+const NO_ITEMS: &[u8] =
+    b"kcore 1\nvertices 2\nask 4 0 1\nask 4 0 1\nbatch\nend\nbatch\nend\nbatch\nend\n";
+
 #[test]
-fn loads_in_any_pieces(rt: HostRuntime) -> Result<(), Fail> {
-    let alloc = rt.alloc();
-    expect_text(
-        &rt,
-        alloc,
-        4_294_967_295,
-        17,
-        2,
-        2,
-        b"kcore 1\nvertices 17\nask 4 0 1 2 3 4 5 6 7 8 9 10 11 12 13 14 15\nask 4 0 1 2 3 4 5 6 7 8 9 10 11 12 13 14 15\nbatch\n- 14 3\n+ 4 14\nend\nbatch\n+ 2 3\n+ 8 14\nend\n",
-    );
-    expect_text(
-        &rt,
-        alloc,
-        7,
-        1,
-        1,
-        1,
-        b"kcore 1\nvertices 1\nask 4 0\nask 4 0\nbatch\n- 0 0\nend\n",
-    );
-    expect_text(
-        &rt,
-        alloc,
-        1,
-        16_777_216,
-        1,
-        3,
-        b"kcore 1\nvertices 16777216\nask 4 0 1 2 3 4 5 6 7 8 9 10 11 12 13 14 15\nask 4 0 1 2 3 4 5 6 7 8 9 10 11 12 13 14 15\nbatch\n+ 3967065 6195333\n+ 11825978 847981\n+ 12998365 9331295\nend\n",
-    );
-    expect_text(
-        &rt,
-        alloc,
-        3,
-        2,
-        3,
-        0,
-        b"kcore 1\nvertices 2\nask 4 0 1\nask 4 0 1\nbatch\nend\nbatch\nend\nbatch\nend\n",
-    );
-    Ok(())
+fn loads_in_any_pieces(rt: HostRuntime) {
+    expect_text(&rt, 4_294_967_295, 17, 2, 2, MANY_ASKED);
+    expect_text(&rt, 7, 1, 1, 1, ONE_VERTEX);
+    expect_text(&rt, 1, 16_777_216, 1, 3, MOST_VERTICES);
+    expect_text(&rt, 3, 2, 3, 0, NO_ITEMS);
 }

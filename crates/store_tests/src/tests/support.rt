@@ -1,63 +1,114 @@
-//! What the tests of several crates share: items from texts, stores with trials, and flags for which a thread waits.
-ghost use Rattle.std.specs.Prelude.{◌≡◌, ◌≤◌};
+//! What the tests of several files share: items, texts, stores with trials, and counts for which a thread waits.
+ghost use Rattle.std.specs.Prelude.{◌≡◌, ◌≤◌, ◌<◌};
 ghost use Rattle.kc_graph.specs.declared.limits.TheConstants.{MAX_VERTICES};
 ghost use Rattle.kc_store.specs.States.{opened};
 
 use kc_graph::Item;
 use kc_store::{Store, Writer};
-use std::alloc::Global;
 use std::process::Abort;
-use std::sync::atomic::AtomicBool;
+use std::sync::atomic::AtomicU64;
 use std::sync::atomic::Ordering::SeqCst;
 use std::thread;
+use std::thread::Threads;
 use store_support::trial::Trial;
+use test_support::random::Random;
 
-// How often a held thread looks whether it may go on.
+// The means of a test: memory, threads, and the right to end itself.
+pub(crate) trait Bench: Threads + Sync + Abort + AllocGlobal {}
+
+impl<R: Threads + Sync + Abort + AllocGlobal> Bench for R {}
+
+// How often a thread looks whether it may go on.
 const TURNS: u64 = 10_000_000;
 
-// Holds a thread until a flag is set, for at most `TURNS` turns; then it tells that they ran out.
-pub(crate) fn hold(until: &AtomicBool, ran_out: &AtomicBool) {
-    for _turn in 0..TURNS {
-        if until.load(SeqCst) {
-            return;
-        }
-        thread::yield_now();
-    }
-    ran_out.store(true, SeqCst);
+// A count that threads raise, and for which a thread may wait.
+#[derive(Default, Drop)]
+pub(crate) struct Count {
+    count: AtomicU64,
 }
 
-// The items of a text such as `+01 -23`: an edge that comes in and one that leaves, between vertices of one digit.
-pub(crate) fn items_of<R: Abort>(rt: &R, alloc: Global, text: &str) -> Vec<Item> {
-    let mut items = Vec::new(alloc);
-    for word in text.as_bytes().split(|b| *b == b' ') {
-        let &[sign, u, v] = word else {
-            panic!(rt; "{text}");
-        };
-        let u = u32::from(u.wrapping_sub(b'0'));
-        let v = u32::from(v.wrapping_sub(b'0'));
-        let item = if sign == b'+' {
-            Item::Insert { u, v }
-        } else {
-            Item::Delete { u, v }
-        };
+impl Count {
+    pub(crate) fn get(&self) -> u64 {
+        self.count.load(SeqCst)
+    }
+
+    // Raises the count, and returns it.
+    pub(crate) fn add(&self, number: u64) -> u64 {
+        self.count.fetch_add(number, SeqCst).wrapping_add(number)
+    }
+
+    // Holds a thread until the count is `least` or more, for at most `TURNS` turns; then it tells that they ran out.
+    pub(crate) fn wait(&self, least: u64, ran_out: &Count) {
+        for _turn in 0..TURNS {
+            if self.get() >= least {
+                return;
+            }
+            thread::yield_now();
+        }
+        ran_out.add(1);
+    }
+}
+
+// Puts bytes at the end of a text.
+pub(crate) fn put(rt: &impl Bench, text: &mut Vec<u8>, part: &[u8]) {
+    text.extend_from_slice(part).expect(rt, "memory");
+}
+
+// Puts bytes and a number at the end of a text.
+pub(crate) fn put_number(rt: &impl Bench, text: &mut Vec<u8>, part: &[u8], number: u32) {
+    let digits = format!(in rt.alloc(); "{number}").expect(rt, "memory");
+    put(rt, text, part);
+    put(rt, text, digits.as_bytes());
+}
+
+// An item that inserts an edge for the sign `+`, deletes one for `-`, and isolates v for any other.
+fn item(sign: u8, u: u32, v: u32) -> Item {
+    match sign {
+        b'+' => Item::Insert { u, v },
+        b'-' => Item::Delete { u, v },
+        _ => Item::Isolate { v },
+    }
+}
+
+// An item of this sign between vertices below n.
+pub(crate) fn draw_item(random: &mut Random, sign: u8, n: u32) -> Item
+    requires { 0 < n }
+{
+    let u = random.below(n);
+    item(sign, u, random.below(n))
+}
+
+// The digit at a place of a word. Past the end it is a great number.
+fn digit(word: &[u8], place: usize) -> u32 {
+    match word.get(place) {
+        Some(byte) => u32::from(byte.wrapping_sub(b'0')),
+        None => u32::MAX,
+    }
+}
+
+// The items of a text such as `+01 -23`: each is a sign and two vertices of one digit.
+pub(crate) fn items_of(rt: &impl Bench, text: &str) -> Vec<Item> {
+    let mut items = Vec::new(rt.alloc());
+    for word in text.as_bytes().chunks(4) {
+        let sign = word.first().copied().unwrap_or(0);
+        let item = item(sign, digit(word, 1), digit(word, 2));
         items.push(item).expect(rt, "memory");
     }
     items
 }
 
 // A store for n vertices, which was just opened.
-pub(crate) fn open_store<R: Abort>(rt: &R, alloc: Global, n: u32) -> (Store, Writer)
+pub(crate) fn open_store(rt: &impl Bench, n: u32) -> (Store, Writer)
     requires { (1 ≤ n) × (n ≤ MAX_VERTICES) }
     ensures vertices { result.0.vertices ≡ n }
     ensures writer { result.1 ≡ record { table = result.0.table; state = opened n 0 } }
 {
-    Store::open(alloc, n, 0).expect(rt, "memory")
+    Store::open(rt.alloc(), n, 0).expect(rt, "memory")
 }
 
 // An engine beside a store that was just opened.
-pub(crate) fn trial_of<'a, R: Abort>(
-    rt: &R,
-    alloc: Global,
+pub(crate) fn trial_of<'a>(
+    rt: &impl Bench,
     n: u32,
     workers: u32,
     store: &'a Store,
@@ -67,5 +118,5 @@ pub(crate) fn trial_of<'a, R: Abort>(
     requires workers { (1 ≤ workers) × (workers ≤ 64) }
     requires writer { writer ≡ record { table = store.now.table; state = opened n 0 } }
 {
-    Trial::open(alloc, n, workers, store, writer).expect(rt, "memory")
+    Trial::open(rt.alloc(), n, workers, store, writer).expect(rt, "memory")
 }
