@@ -228,10 +228,7 @@ fn delivers<R: Bench + Wait>(
     let count = count_items(senders);
     let mut server = Server::new(rt.alloc(), intake, drainer, true, count).expect(rt, "memory");
     exchange(rt, &mut server, count, senders).expect(rt, "memory");
-    let delivered = are_delivered(senders, server.updates());
-    let drained = server.drain(rt).expect(rt, "memory");
-    drop(server);
-    delivered && !drained
+    are_delivered(senders, server.updates()) && matches!(server.drain(rt), Ok(false))
 }
 
 // Eight clients with scripts of these lengths submit while the server drains.
