@@ -24,10 +24,11 @@ import time
 TESTS = {
     # Of kc_rounds.
     "graph_tests": ["pieces_run_at_the_same_time", "pieces_are_told_before_they_are_tested", "each_candidate_is_tested_once"],
-    # Of kc_store, kc_engine, kc_session and kc_intake.
+    # Of kc_store, kc_engine, kc_session, kc_intake and kc_service.
     "store_tests": ["readers_see_points_of_the_history",
                     "ranges_of_a_first_group_run_at_the_same_time", "ranges_of_a_long_group_run_at_the_same_time",
-                    "each_range_and_each_publication_is_told",
+                    "each_range_and_each_publication_is_told", "each_group_shows_at_once",
+                    "a_label_is_published_again", "a_reader_sees_two_points_in_order",
                     "a_group_takes_effect_at_once", "a_reply_is_from_before_what_waits_for_it",
                     "a_reader_looks_while_batches_are_shown", "a_reader_looks_anew_at_the_same_vertex",
                     "a_batch_is_shown_before_it_is_told",

@@ -1,4 +1,4 @@
-//! Tests of kc_store, kc_engine, kc_session and kc_intake.
+//! Tests of kc_store, kc_engine, kc_session, kc_intake and kc_service.
 #![tactic(auto)]
 
 #[cfg(test)]

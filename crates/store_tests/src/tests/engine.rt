@@ -228,9 +228,9 @@ fn batches_change_graph_and_levels(rt: HostRuntime) {
     }
 }
 
-// Plans these items if there is memory to clean them. If there is none for the plan, plans once more, which is answered
-// with `Halted`. Says whether that is so.
-fn has_halted(rt: &impl Bench, engine: &mut Engine, items: &[Item]) -> bool
+// Plans these items, which has to give 3 moves. Returns whether there was no memory for the plan; then another plan has
+// to be answered with `Halted`. If there is no memory to clean the items, plans nothing.
+fn halts(rt: &impl Bench, engine: &mut Engine, items: &[Item]) -> bool
     requires none_waits { engine.old.waits ≡ false }
     requires inside { All (IsInside engine.old.state.graph.vertices) items.now }
     requires few { length items.now ≤ MAX_ITEMS }
@@ -267,7 +267,7 @@ fn an_engine_without_memory_has_halted(rt: HostRuntime) {
         edge_limit: MAX_EDGES,
     };
     if let Ok(mut engine) = Engine::open(rt.alloc(), shape) {
-        if has_halted(&rt, &mut engine, PATH) {
+        if halts(&rt, &mut engine, PATH) {
             println!(rt; "halted").expect(&rt, "a line");
         }
         drop(engine);

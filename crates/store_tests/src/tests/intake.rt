@@ -79,8 +79,8 @@ fn open_for_one(rt: &impl Bench, capacity: u32) -> (Intake, Drainer, Client)
     ensures drainer { result.1.intake ≡ result.0 }
     ensures client { (result.2.intake ≡ result.0) × (result.2.sent ≡ []) }
 {
-    let (intake, drainer, mut clients) = open(rt.alloc(), capacity, 1).expect(rt, "memory");
-    let client = clients.pop().expect(rt, "a client");
+    let (intake, drainer, mut clients) = Intake::open(rt.alloc(), capacity, 1).expect(rt, "memory");
+    let client = clients.pop().unwrap();
     (intake, drainer, client)
 }
 

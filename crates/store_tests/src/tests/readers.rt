@@ -102,9 +102,10 @@ impl<R: Clock> Gate for Lagging<'_, R> {
         match spot {
             Spot::Publishing { phase: 1, .. } => self.replied.wait(1, &self.ran_out),
             Spot::Publishing { .. } => self.hold_second(),
-            Spot::Asking { ask, .. } => {
-                self.far.add(u64::from(ask == RUSHED));
+            Spot::Asking { ask: RUSHED, .. } => {
+                self.far.add(1);
             }
+            Spot::Asking { .. } => {}
             Spot::Replied { .. } => {
                 self.replied.add(1);
             }
@@ -115,9 +116,9 @@ impl<R: Clock> Gate for Lagging<'_, R> {
 
 // The replies in a text with one reader, with blanks between them.
 fn replies_in(text: &[u8]) -> Option<&str> {
-    let (_batches, rest) = str::from_utf8(text).ok()?.split_once("reader 0 ")?;
+    let (_batches, rest) = str::from_utf8(text).ok()?.split_once("\nreader 0 ")?;
     let (replies, rest) = rest.split_once("\n")?;
-    if rest.starts_with("vertex 0 ") {
+    if rest.starts_with("vertex 0 ") && rest.split_once("reader 0 ").is_none() {
         Some(replies)
     } else {
         None

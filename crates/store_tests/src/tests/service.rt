@@ -110,8 +110,8 @@ fn refuses<R: Bench>(rt: &R, service: &mut Service<'_, R>, items: &[Item], answe
     refused && before.bytes() == after.bytes() && !service.has_halted()
 }
 
-// Batches of a service with ten vertices, two edges and at most three, and what is answered to each. The last one is
-// an isolation.
+// Batches of a service with ten vertices and two edges, which may have three edges, and what is answered to each. The
+// last batch isolates vertex 10: `:` comes after `9`.
 const REFUSALS: &[(&str, Answer)] = &[
     ("+09 +19 +:9", ('r', 2)),
     ("+01 +12 -9: +0;", ('r', 2)),
@@ -142,12 +142,11 @@ fn refused_batches_change_nothing(rt: HostRuntime) {
     drop(service);
 }
 
-// More items than a batch may have.
+// More items than a batch may have, of a vertex that isn't there: that there are too many comes first.
 fn too_many(rt: &impl Bench) -> Vec<Item> {
     vec![in rt.alloc(); Item::Isolate { v: 2 }; MAX_ITEMS as usize + 1].expect(rt, "memory")
 }
 
-// They are of a vertex that isn't there: that there are too many comes first.
 #[test]
 fn a_batch_has_at_most_so_many_items(rt: HostRuntime) {
     let items = too_many(&rt);

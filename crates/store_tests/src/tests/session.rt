@@ -239,8 +239,8 @@ fn has_line(text: &[u8], lines: &[&[u8]]) -> bool {
     false
 }
 
-// Whether a session with these workers and this hold has one of these lines of readers.
-fn replies_so(rt: &impl Bench, hold: Hold, workers: u32, input: &[u8], lines: &[&[u8]]) -> bool {
+// Whether a session of this input, with this hold and these workers, has one of these lines of readers.
+fn has_replies(rt: &impl Bench, hold: Hold, workers: u32, input: &[u8], lines: &[&[u8]]) -> bool {
     let gate = Holds::new(hold);
     let (_ended, sink) = run(rt, &gate, workers, input);
     gate.ran_out.get() == 0 && has_line(sink.bytes(), lines)
@@ -252,7 +252,7 @@ const WORKERS: &[u32] = &[1, 3, 64];
 fn expect_replies(rt: &impl Bench, hold: Hold, asks: &[u8], lines: &[&[u8]]) {
     let input = two_groups(rt, asks);
     for workers in WORKERS {
-        assert!(rt; replies_so(rt, hold, *workers, input.as_slice(), lines));
+        assert!(rt; has_replies(rt, hold, *workers, input.as_slice(), lines));
     }
 }
 

@@ -139,9 +139,9 @@ fn ranges_of_a_long_group_run_at_the_same_time(rt: HostRuntime) {
     expect_pairing(&rt, 16_386, PATHS);
 }
 
-// Two groups in the first phase, and one in each of the next two. Each has two moves, one for each worker. They are
-// marked before the group is published, and cleared afterwards. So these publications are due, each after what the
-// pieces of `Course` have to be before it.
+// The publications that are due, in order, each with what `pieces` has to be then. There are two groups in the first
+// phase, and one in each of the next two. Each has two moves, one for each worker. They are marked before the group is
+// published, and cleared afterwards.
 const DUE: &[(u64, Spot)] = &[
     (0x0101, Spot::Publishing { phase: 1, label: 0 }),
     (0x0303, Spot::Publishing { phase: 1, label: 2 }),
@@ -161,7 +161,7 @@ struct Course {
 }
 
 impl Course {
-    // Whether a publication is due.
+    // Counts a publication, and returns whether it is due.
     fn is_due(&self, spot: Spot) -> bool {
         let place = self.published.add(1).wrapping_sub(1);
         match DUE.get(place as usize) {
@@ -179,7 +179,10 @@ impl Course {
 impl Gate for Course {
     fn at(&self, spot: Spot) {
         let is_due = match spot {
-            Spot::Piece { index } if index < 8 => self.pieces.add(1 << (8 * index)) > 0,
+            Spot::Piece { index } if index < 8 => {
+                self.pieces.add(1 << (8 * index));
+                true
+            }
             Spot::Publishing { .. } => self.is_due(spot),
             _ => false,
         };

@@ -41,7 +41,7 @@ fn reads(reader: &mut Reader<'_>, levels: &[u16]) -> bool {
     true
 }
 
-// Reads once at each spot. Says whether the levels were those of the row for it each time.
+// Reads once at each spot. Returns whether the levels were those of the spot's row each time.
 fn read_rows(turns: &Turns, reader: &mut Reader<'_>, rows: &[[u16; 5]]) -> bool {
     let mut right = true;
     for row in rows {
@@ -142,7 +142,7 @@ fn a_label_is_published_again(rt: HostRuntime) {
 const VERTICES: u32 = 24;
 
 // The number of vertices, for places in lists.
-const WIDTH: usize = 24;
+const WIDTH: usize = VERTICES as usize;
 
 const BATCHES: u32 = 2_000;
 
@@ -276,7 +276,7 @@ fn put_rows(rt: &impl Bench, rows: &mut Vec<u16>, row: &mut [u16], plan: &BatchP
     }
 }
 
-// The levels after each group of these plans, row by row, from a row of zeros on. And the last row.
+// The levels after each group of these plans, row by row, from a row of zeros on; beside them the last row.
 fn rows_of(rt: &impl Bench, plans: &[BatchPlan]) -> (Vec<u16>, Vec<u16>) {
     let mut row = vec![in rt.alloc(); 0u16; WIDTH].expect(rt, "memory");
     let mut rows = vec![in rt.alloc(); 0u16; WIDTH].expect(rt, "memory");

@@ -78,21 +78,17 @@ pub(crate) fn draw_item(random: &mut Random, sign: u8, n: u32) -> Item
     item(sign, u, random.below(n))
 }
 
-// The digit at a place of a word. Past the end it is a great number.
-fn digit(word: &[u8], place: usize) -> u32 {
-    match word.get(place) {
-        Some(byte) => u32::from(byte.wrapping_sub(b'0')),
-        None => u32::MAX,
-    }
-}
-
-// The items of a text such as `+01 -23`: each is a sign and two vertices of one digit.
+// The items of a text such as `+01 -23 *05`: each is a sign and two vertices of one digit. `*` isolates the second one.
 pub(crate) fn items_of(rt: &impl Bench, text: &str) -> Vec<Item> {
     let mut items = Vec::new(rt.alloc());
-    for word in text.as_bytes().chunks(4) {
-        let sign = word.first().copied().unwrap_or(0);
-        let item = item(sign, digit(word, 1), digit(word, 2));
-        items.push(item).expect(rt, "memory");
+    for word in text.as_bytes().split(|b| *b == b' ') {
+        let &[sign, u, v] = word else {
+            panic!(rt; "{text}");
+        };
+        assert!(rt; matches!(sign, b'+' | b'-' | b'*'));
+        let u = u32::from(u.wrapping_sub(b'0'));
+        let v = u32::from(v.wrapping_sub(b'0'));
+        items.push(item(sign, u, v)).expect(rt, "memory");
     }
     items
 }
