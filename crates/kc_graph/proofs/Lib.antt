@@ -20,7 +20,6 @@ mod LaterLemmas
 mod CountingLemmas
 mod CleaningLawLemmas
 mod MergeLemmas
-mod BlockLemmas
 mod BucketLemmas
 mod HalfLemmas
 mod GivenLemmas

@@ -2,11 +2,9 @@
 use Rattle.std.proofs.Common.{ℕ, suc, zero, ◌+◌, ◌-◌, ◌≤◌, ◌<◌, ◌≡◌, ◌≢◌, inl, inr, Bool, true, false, ◌||◌, cond, eqb, List, [], ◌∷◌, ◌++◌, length, get_or, set, take, drop, refl, ap, sym, ◌∙◌, arith, subst}
 use Rattle.std.proofs.lemmas.Bool.{cases_eq, cases_lt}
 use Rattle.std.proofs.lemmas.Bool.Decides.{nat_tests}
-use Rattle.std.proofs.lemmas.List.{length-set, get_or-set_other, drop-set, take_more, take_more_set, ext_get_or, length-take-le, length-drop, get_or-take, get_or-drop, take_all, drop_all, append-nil, append_assoc, drop-take}
-use lib.ListN.{take-append-drop}
-use lib.Seq.{drop_at, drop-drop, take-add}
+use Rattle.std.proofs.lemmas.List.{length-set, get_or-set_other, drop-set, take_more, take_more_set, ext_get_or, length-take-le, length-drop, get_or-take, get_or-drop, take_all, drop_all, append-nil, append_assoc}
 use Rattle.std.proofs.Math.Seq.{paste}
-use Rattle.std.proofs.lemmas.List.Edits.{length-paste, take-paste, drop-paste}
+use Rattle.std.proofs.lemmas.List.Edits.{length-paste, take-paste}
 use Rattle.std.proofs.lemmas.List.Elements.{filter_more}
 use Rattle.std.specs.Prelude.{filter, not}
 use Rattle.kc_graph.specs.Numbers.{RisesFrom, has_number}
@@ -169,89 +167,6 @@ module _ (row : List ℕ) (hs : List Pair) (items : List ℕ) (i j at : ℕ) (up
         regroup false true false = refl
         regroup false false true = refl
         regroup false false false = refl
-
--- what is left of the row rises
-pub merging_rises : (row : List ℕ) (hs : List Pair) (items : List ℕ) (i j at : ℕ) → RisesFrom 0 row → IsMerging row hs items i j at → (a b : ℕ) → a < b → b < i → get_or items a 0 < get_or items b 0
-merging_rises row hs items i j at up s a b lt h =
-    let order : get_or row a 0 < get_or row b 0 = rises_strictly 0 row a b up lt (omega (arith, s.old_left)) in
-    omega (arith, order, s.same a (omega arith), s.same b h)
-
--- a list from one of its places on
-rises_drop : (low k : ℕ) (xs : List ℕ) → RisesFrom low xs → k < length xs → RisesFrom (get_or xs k 0) (drop k xs)
-rises_drop low k [] up h = absurd (omega arith)
-rises_drop low zero (x ∷ xs) up h = (omega arith, up.1)
-rises_drop low (suc k) (x ∷ xs) up h = rises_drop (suc x) k xs up.1 (omega arith)
-
--- what stands from the place of a copy on
-drop_pasted : (d s : List ℕ) (at n : ℕ) → at ≤ length d → n ≤ length s → drop at (paste d at s n) ≡ take n s ++ drop (at + n) d
-drop_pasted d s at n le fits =
-    sym (take-append-drop n (drop at (paste d at s n)))
-    ∙ ap (λ (xs : List ℕ). xs ++ drop n (drop at (paste d at s n))) (sym (drop-take at n (paste d at s n)) ∙ ap (drop at) (take-paste d at s n le fits) ∙ drop_at (take at d) (take n s) at (length-take-le at d le))
-    ∙ ap (λ (xs : List ℕ). take n s ++ xs) (drop-drop n at (paste d at s n) ∙ drop-paste d at s n le fits)
-
--- the numbers of the row from one place on are merged, by a copy of them
-module _ (row : List ℕ) (hs : List Pair) (items : List ℕ) (i j at : ℕ) (up : RisesFrom 0 row) (s : IsMerging row hs items i j at) (from at' : ℕ) (after : List ℕ) (order : from ≤ i) (at_is : at ≡ at' + (i - from)) (after_is : after ≡ paste items at' (drop from items) (i - from)) (kept : (m : ℕ) → m < at' → get_or after m 0 ≡ get_or items m 0) where
-  abbrev run : List ℕ
-  run = take (i - from) (drop from row)
-
-  run_len : length run ≡ i - from
-  run_len = length-take-le (i - from) (drop from row) (rw length-drop (omega (arith, s.old_left)))
-
-  run_at : (m : ℕ) → m < i - from → get_or run m 0 ≡ get_or row (from + m) 0
-  run_at m h = get_or-take (i - from) (drop from row) m 0 h ∙ get_or-drop from row m 0
-
-  copied : take (i - from) (drop from items) ≡ run
-  copied = ext_get_or 0 (take (i - from) (drop from items)) run (long ∙ sym run_len) same_at
-    where
-      long : length (take (i - from) (drop from items)) ≡ i - from
-      long = length-take-le (i - from) (drop from items) (rw length-drop (omega (arith, s.fits, s.within)))
-
-      same_at : (m : ℕ) → m < length (take (i - from) (drop from items)) → get_or (take (i - from) (drop from items)) m 0 ≡ get_or run m 0
-      same_at m h =
-          let lt : m < i - from = omega (arith, h, long) in
-          get_or-take (i - from) (drop from items) m 0 lt ∙ get_or-drop from items m 0 ∙ s.same (from + m) (omega (arith, lt, order)) ∙ sym (run_at m lt)
-
-  suffix_is : drop at' after ≡ run ++ drop at items
-  suffix_is =
-      ap (drop at') after_is
-      ∙ drop_pasted items (drop from items) at' (i - from) (omega (arith, s.within)) (rw length-drop (omega (arith, s.fits, s.within)))
-      ∙ ap (λ (xs : List ℕ). xs ++ drop (at' + (i - from)) items) copied
-      ∙ ap (λ k. run ++ drop k items) (sym at_is)
-
-  front_is : take i row ≡ take from row ++ run
-  front_is = let whole : i ≡ from + (i - from) = omega arith in ap (λ k. take k row) whole ∙ take-add from (i - from) row
-
-  with_low : (low : ℕ) → RisesFrom low (run ++ drop at items) → ((m : ℕ) → m < from → get_or row m 0 < low) → ((m : ℕ) → m + 1 ≡ j → (get_or hs m (0, 0)).1 < low) → IsMerging row hs after from j at'
-  with_low low suffix above_old above_new = record {
-    fits = omega (arith, s.fits);
-    within = rw after_is (rw (length-paste items at' (drop from items) (i - from) (omega (arith, s.within)) (rw length-drop (omega (arith, s.fits, s.within)))) (omega (arith, s.within)));
-    old_left = omega (arith, s.old_left);
-    new_left = s.new_left;
-    same = λ m h. kept m (omega (arith, s.fits)) ∙ s.same m (omega arith);
-    low = low;
-    suffix = rw suffix_is suffix;
-    above_old = above_old;
-    above_new = above_new;
-    has = λ x. rw suffix_is (ap (λ b. (has_number x (take from row) || has_second x (take j hs)) || b) (has_number-append x run (drop at items)) ∙ regroup (has_number x (take from row)) (has_second x (take j hs)) (has_number x run) (has_number x (drop at items)) ∙ ap (λ b. (b || has_second x (take j hs)) || has_number x (drop at items)) (sym (has_number-append x (take from row) run) ∙ ap (has_number x) (sym front_is)) ∙ s.has x);
-  }
-    where
-      regroup : (a c r d : Bool) → ((a || c) || (r || d)) ≡ (((a || r) || c) || d)
-      regroup true c r d = refl
-      regroup false true true d = refl
-      regroup false true false d = refl
-      regroup false false true d = refl
-      regroup false false false d = refl
-
-  pub merging_run : ((m : ℕ) → m + 1 ≡ j → from < i → (get_or hs m (0, 0)).1 < get_or row from 0) → IsMerging row hs after from j at'
-  merging_run above = elim (cases_lt from i) [
-    | inl some ↦ with_low (get_or row from 0)
-        (rises_join (get_or row from 0) s.low run (drop at items) (rises_take (get_or row from 0) (i - from) (drop from row) (rises_drop 0 from row up (omega (arith, s.old_left)))) s.suffix (let b : get_or row from 0 < s.low = s.above_old from some in omega arith) (λ m h. let lt : m < i - from = omega (arith, h, run_len) in rw (run_at m lt) (s.above_old (from + m) (omega (arith, lt)))))
-        (λ m h. rises_strictly 0 row m from up h (omega (arith, s.old_left)))
-        (λ m e. above m e some)
-    | inr none ↦
-        let zero_is : i - from ≡ 0 = omega arith in
-        with_low s.low (rw zero_is s.suffix) (λ m h. s.above_old m (omega arith)) s.above_new
-  ]
 
 module _ (row : List ℕ) (hs : List Pair) (items : List ℕ) (i at : ℕ) (up : RisesFrom 0 row) (s : IsMerging row hs items i 0 at) where
   left : take i items ≡ take i row

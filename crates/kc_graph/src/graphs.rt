@@ -219,8 +219,8 @@ impl Graph {
     /// Fails only if memory runs out; the graph is then unchanged.
     ///
     /// Costs a sort of one pair an edge and a merge, for which it takes memory. Each vertex that loses neighbours costs
-    /// at most one pass over its old neighbours. If it loses few of many, it costs a look at every eighth of them and a
-    /// few more for each that leaves. Threads share these passes as in `par_insert_all`, and the sort is that of
+    /// at most one pass over its old neighbours. If it loses few of many, it costs a binary search for each and one
+    /// move of those that stay. Threads share these passes as in `par_insert_all`, and the sort is that of
     /// `insert_all`.
     pub fn par_remove_all<R: Threads + Sync>(
         &mut self,

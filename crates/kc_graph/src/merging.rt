@@ -7,49 +7,7 @@ ghost use Rattle.kc_graph.specs.private.Halves.{has_second, SecondsRise};
 
 use crate::halves::Half;
 
-// The length of a block of numbers. A search passes over blocks by one number of each.
-const BLOCK: usize = 8;
-
-// Returns the first place of a short ascending list whose number isn't below x: how many numbers are below. There is no
-// branch on a number, since a processor couldn't predict it.
-#[inline(always)]
-fn place_in_block(items: &[u32], x: u32) -> usize
-    requires short { length items.now ≤ 8 }
-    requires rises { (j k : ℕ) → j < k → k < length items.now → slice_index items.now j < slice_index items.now k }
-    ensures within { result ≤ length items.now }
-    ensures below { (k : ℕ) → k < result → slice_index items.now k < x }
-    ensures here { (k : ℕ) → result ≤ k → k < length items.now → x ≤ slice_index items.now k }
-{
-    let mut count = 0u32;
-    for y in items {
-        count += u32::from(*y < x);
-    }
-    count as usize
-}
-
-// Returns the first place of an ascending list whose number isn't below x. The list ends at `end`, where the search
-// begins.
-fn place_before(items: &[u32], end: usize, x: u32) -> usize
-    requires inside { end ≤ length items.now }
-    requires rises { (j k : ℕ) → j < k → k < end → slice_index items.now j < slice_index items.now k }
-    ensures within { result ≤ end }
-    ensures below { (k : ℕ) → k < result → slice_index items.now k < x }
-    ensures here { (k : ℕ) → result ≤ k → k < end → x ≤ slice_index items.now k }
-{
-    let mut high = end;
-    while high >= BLOCK && x <= items[high - BLOCK] {
-        high -= BLOCK;
-    }
-    if high >= BLOCK {
-        let low = high - BLOCK;
-        low + place_in_block(&items[low..low + BLOCK], x)
-    } else {
-        place_in_block(&items[..high], x)
-    }
-}
-
-/// Merges the first `old` numbers with those that come in, from the greatest down, into the end of the list. Moves the
-/// numbers between two that come in at once.
+/// Merges the first `old` numbers with those that come in, from the greatest down, into the end of the list.
 ///
 /// Returns where the old numbers that stay in place end, and where the merged ones begin. The places between are free.
 pub fn merge_back(items: &mut Vec<u32>, old: usize, incoming: &[Half]) -> (usize, usize)
@@ -65,17 +23,19 @@ pub fn merge_back(items: &mut Vec<u32>, old: usize, incoming: &[Half]) -> (usize
     let mut j = incoming.len();
     let mut at = items.len();
     while j > 0 {
-        j -= 1;
-        let w = incoming[j].other();
-        if i > 0 && w <= items[i - 1] {
-            let place = place_before(items, i, w);
-            let from = if items[place] == w { place + 1 } else { place };
-            at -= i - from;
-            items.copy_within(from..i, at);
-            i = place;
-        }
+        let w = incoming[j - 1].other();
         at -= 1;
-        items[at] = w;
+        if i > 0 && w <= items[i - 1] {
+            i -= 1;
+            let x = items[i];
+            if x == w {
+                j -= 1;
+            }
+            items[at] = x;
+        } else {
+            j -= 1;
+            items[at] = w;
+        }
     }
     (i, at)
 }
@@ -126,7 +86,7 @@ fn keep_each(items: &mut Vec<u32>, outgoing: &[Half]) -> usize
     kept
 }
 
-// Returns the first place of an ascending list, from one place on, whose number isn't below x. The search begins there.
+// Returns the first place of an ascending list, from one place on, whose number isn't below x.
 fn place_from(items: &[u32], from: usize, x: u32) -> usize
     requires inside { from ≤ length items.now }
     requires rises { (j k : ℕ) → from ≤ j → j < k → k < length items.now → slice_index items.now j < slice_index items.now k }
@@ -136,14 +96,16 @@ fn place_from(items: &[u32], from: usize, x: u32) -> usize
     ensures here { result < length items.now → x ≤ slice_index items.now result }
 {
     let mut low = from;
-    while items.len() - low >= BLOCK && items[low + (BLOCK - 1)] < x {
-        low += BLOCK;
+    let mut high = items.len();
+    while low < high {
+        let middle = low + (high - low) / 2;
+        if items[middle] < x {
+            low = middle + 1;
+        } else {
+            high = middle;
+        }
     }
-    if items.len() - low >= BLOCK {
-        low + place_in_block(&items[low..low + BLOCK], x)
-    } else {
-        low + place_in_block(&items[low..], x)
-    }
+    low
 }
 
 // Does what `keep_others` does, by a search for each number that leaves. Moves the numbers between two of them at once.
@@ -172,7 +134,7 @@ fn keep_runs(items: &mut Vec<u32>, outgoing: &[Half]) -> usize
 
 // If a row has this many numbers for each that leaves, or more, a search for each costs less than a look at every
 // number.
-const LEAST_RUN: usize = 4;
+const LEAST_RUN: usize = 16;
 
 /// Moves the numbers that stay to the front, in their order, and returns how many they are.
 pub fn keep_others(items: &mut Vec<u32>, outgoing: &[Half]) -> usize
