@@ -109,11 +109,11 @@ printf 'kcore 1\nvertices 5\nask 65536 0\n' | "$program" run 1 >"$out"
 "$program" audit <"$out" | grep -qx explained || wrong "a reader with 65536 questions isn't explained"
 sed '/^reader 0/s/=0$/=1/' "$out" | "$program" audit | grep -qx 'unexplained reader 0 ask 65536' || wrong "a reader with 65536 questions: its last reply"
 
-# Lists that are long enough to go to threads. In the first batch 12,288 vertices begin to rise at once, in the second
-# 24,576 that have a neighbour above them. Then a strip of vertices comes in, and goes out again. In the strip each
+# Lists that are long enough to go to threads. In the first batch 24,576 vertices begin to rise at once, in the second
+# 49,152 that have a neighbour above them. Then a strip of vertices comes in, and goes out again. In the strip each
 # vertex is joined to the next two.
 awk 'function pairs(n, further) { for (v = 0; v < n; v++) print v, v + further }
-  BEGIN { print "kcore 1\nvertices 36864\nbatch"; pairs(6144, 6144); print "end\nbatch"; pairs(12288, 12288); pairs(12288, 24576); print "end" }' >"$long"
+  BEGIN { print "kcore 1\nvertices 73728\nbatch"; pairs(12288, 12288); print "end\nbatch"; pairs(24576, 24576); pairs(24576, 49152); print "end" }' >"$long"
 awk 'function strip(sign) { print "batch"; for (v = 0; v + 2 < 60000; v++) { print sign, v, v + 1; print sign, v, v + 2 } print "end" }
   BEGIN { print "kcore 1\nvertices 60000"; strip("+"); strip("-") }' >"$strip"
 for input in "$long" "$strip"; do
