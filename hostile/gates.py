@@ -23,8 +23,7 @@ import time
 # in, and the last part of the name of each.
 TESTS = {
     # Of kc_rounds.
-    "graph_tests": ["pieces_run_at_the_same_time", "pieces_are_told_before_they_are_tested", "pieces_are_gathered_at_the_same_time",
-                    "each_candidate_is_tested_once"],
+    "graph_tests": ["pieces_run_at_the_same_time", "pieces_are_told_before_they_are_tested", "each_candidate_is_tested_once"],
     # Of kc_store, kc_engine, kc_session, kc_intake and kc_service.
     "store_tests": ["readers_see_points_of_the_history",
                     "ranges_of_a_first_group_run_at_the_same_time", "ranges_of_a_long_group_run_at_the_same_time",

@@ -109,11 +109,11 @@ printf 'kcore 1\nvertices 5\nask 65536 0\n' | "$program" run 1 >"$out"
 "$program" audit <"$out" | grep -qx explained || wrong "a reader with 65536 questions isn't explained"
 sed '/^reader 0/s/=0$/=1/' "$out" | "$program" audit | grep -qx 'unexplained reader 0 ask 65536' || wrong "a reader with 65536 questions: its last reply"
 
-# Lists that are long enough to go to threads. In the first batch 6,144 vertices begin to rise at once, in the second
-# 12,288 that have a neighbour above them. Then a strip of vertices comes in, and goes out again. In the strip each
+# Lists that are long enough to go to threads. In the first batch 24,576 vertices begin to rise at once, in the second
+# 49,152 that have a neighbour above them. Then a strip of vertices comes in, and goes out again. In the strip each
 # vertex is joined to the next two.
 awk 'function pairs(n, further) { for (v = 0; v < n; v++) print v, v + further }
-  BEGIN { print "kcore 1\nvertices 18432\nbatch"; pairs(3072, 3072); print "end\nbatch"; pairs(6144, 6144); pairs(6144, 12288); print "end" }' >"$long"
+  BEGIN { print "kcore 1\nvertices 73728\nbatch"; pairs(12288, 12288); print "end\nbatch"; pairs(24576, 24576); pairs(24576, 49152); print "end" }' >"$long"
 awk 'function strip(sign) { print "batch"; for (v = 0; v + 2 < 60000; v++) { print sign, v, v + 1; print sign, v, v + 2 } print "end" }
   BEGIN { print "kcore 1\nvertices 60000"; strip("+"); strip("-") }' >"$strip"
 for input in "$long" "$strip"; do
@@ -209,7 +209,7 @@ fi
 # A run with one worker starts no thread. With four it starts as many each time. It starts fewer if some list isn't cut
 # for them, or if there are fewer processors.
 if command -v strace >/dev/null && strace -f -qq -o "$err" true 2>"$out"; then
-  for threads in 1:0 4:41; do
+  for threads in 1:0 4:50; do
     strace -f -qq -e trace=clone,clone3 -e signal=none -o "$err" "$program" run ${threads%:*} <"$strip" >"$out"
     started=$(grep -c 'clone3\?(.*CLONE_THREAD' "$err")
     if [ ${threads%:*} -gt "$(nproc)" ]; then

@@ -34,6 +34,8 @@ pub struct LevelLists<T> {
     lists: Vec<LevelList<T>>,
     // For each 64 levels, whether one of them may have items.
     marks: Vec<bool>,
+    // No level from this one on has items.
+    end: u16,
 }
 
 impl<T> Model for LevelLists<T> {
@@ -44,7 +46,7 @@ impl<T> Model for LevelLists<T> {
 
     ghost view = { λ q. q.lists.items };
 
-    ghost invariant = { λ q. AreMarked q.lists.items q.marks.items };
+    ghost invariant = { λ q. AreMarked q.lists.items q.marks.items q.end };
 }
 
 impl<T: Drop> LevelLists<T> {
@@ -59,7 +61,11 @@ impl<T: Drop> LevelLists<T> {
             })?;
         }
         let marks = vec![in alloc; false; count as usize / SPAN + 1]?;
-        Ok(LevelLists { lists, marks })
+        Ok(LevelLists {
+            lists,
+            marks,
+            end: 0,
+        })
     }
 
     /// Returns the number of levels that have a list. Costs O(1).
@@ -95,6 +101,9 @@ impl<T: Drop> LevelLists<T> {
         ensures err { OnErr result (self.new ≡ self.old) }
     {
         self.marks[level as usize / SPAN] = true;
+        if self.end <= level {
+            self.end = level + 1;
+        }
         self.lists[level as usize].items.push(item)?;
         Ok(())
     }
@@ -125,7 +134,8 @@ impl<T: Drop> LevelLists<T> {
         ensures some { slice_index_or self.now result [] ≡ [] → length self.now ≤ result }
     {
         let mut level = from as usize;
-        while level < self.lists.len() {
+        let end = self.end as usize;
+        while level < end {
             if !self.marks[level / SPAN] {
                 level = (level / SPAN + 1) * SPAN;
             } else if self.lists[level].items.is_empty() {
@@ -147,5 +157,6 @@ impl<T: Drop> LevelLists<T> {
             level = self.next(level + 1);
         }
         self.marks.as_mut_slice().fill(false);
+        self.end = 0;
     }
 }

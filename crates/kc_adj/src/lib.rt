@@ -3,7 +3,7 @@
 //!
 //! [`LevelAdj`] is the graph with its levels. Its changing calls count their steps in a [`Steps`], which costs nothing
 //! when the program runs. [`LevelLists`] has a list of items for each level, for sweeps from level to level.
-//! [`put_where`] and [`run_of`] write and read runs of numbers in one list. `specs/` has the definitions: read
+//! [`put_where`] writes runs of numbers in one list. `specs/` has the definitions: read
 //! `LeveledGraph` first.
 //!
 //! Floor: phases. From above: phases and the engine change and read a [`LevelAdj`].
@@ -22,5 +22,5 @@ mod steps;
 
 pub use level_adj::LevelAdj;
 pub use level_lists::LevelLists;
-pub use runs::{put_where, run_of};
+pub use runs::put_where;
 pub use steps::Steps;

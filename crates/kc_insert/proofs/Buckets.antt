@@ -1,13 +1,11 @@
 -- What stands in the buckets after a vertex came into one, or left it.
-use Rattle.std.proofs.Common.{ℕ, replicate, ◌≤◌, ◌<◌, ◌≡◌, ◌≢◌, ◌⊎◌, inl, inr, Bool, true, false, ◌&&◌, List, [], ◌∷◌, ◌++◌, length, get_or, set, refl, ap, sym, ◌∙◌, arith}
+use Rattle.std.proofs.Common.{ℕ, ◌<◌, ◌≡◌, ◌≢◌, ◌⊎◌, inl, inr, Bool, true, ◌&&◌, List, [], ◌∷◌, ◌++◌, length, get_or, set, refl, ap, sym, ◌∙◌, arith}
 use Rattle.std.specs.Prelude.{filter}
-use Rattle.std.proofs.lemmas.Bool.{cases_eq, cases_Bool, true≢false}
+use Rattle.std.proofs.lemmas.Bool.{cases_eq, cases_Bool}
 use Rattle.std.proofs.lemmas.Bool.Decides.{nat_tests}
 use Rattle.std.proofs.lemmas.List.{get_or-set_same, get_or-set_other}
 use Rattle.kc_graph.specs.Numbers.{has_number}
 use Rattle.kc_graph.proofs.lemmas.Numbers.{has_number-append, has_number-push}
-use Rattle.kc_adj.proofs.lemmas.Lists.{empty_list}
-use Rattle.kc_insert.specs.private.Counting.{AreWaiting}
 
 -- what holds of a new bucket at its level, and of the old bucket at each other level, holds at every level
 pub placed : (queue : List (List ℕ)) (a k : ℕ) (new : List ℕ) → a < length queue → (P : List ℕ → Type 0) → (k ≡ a → P new) → (k ≢ a → P (get_or queue k [])) → P (get_or (set queue a new) k [])
@@ -49,24 +47,3 @@ module _ (queue : List (List ℕ)) (a : ℕ) (more : List ℕ) (inside : a < len
         | inr no_ ↦ let at = sym (has_number-append u (get_or queue a []) more) ∙ there in old a u (grind (arith, nat_tests, at, no_))
       ])
       (λ ne there. old k u there)
-
--- a vertex comes into the bucket of its level
-pub waiting_more : (n : ℕ) (x : List ℕ) (l k w : ℕ) (queue : List (List ℕ)) → k < length queue → w < n → get_or x w 0 ≡ k → l ≤ k → AreWaiting n x l queue → AreWaiting n x l (set queue k (get_or queue k [] ++ w ∷ []))
-waiting_more n x l k w queue inside h on from s = record {
-  vertex = λ j u. placed queue k j (get_or queue k [] ++ w ∷ []) inside (λ xs. has_number u xs ≡ true → u < n)
-      (λ e there. elim (pushed_is u w (get_or queue k []) there) [ inl is ↦ rw is h | inr old ↦ s.vertex k u old ])
-      (λ ne there. s.vertex j u there);
-  level = λ j u le. placed queue k j (get_or queue k [] ++ w ∷ []) inside (λ xs. has_number u xs ≡ true → get_or x u 0 ≡ j)
-      (λ e there. elim (pushed_is u w (get_or queue k []) there) [ inl is ↦ ap (λ t. get_or x t 0) is ∙ on ∙ sym e | inr old ↦ s.level k u from old ∙ sym e ])
-      (λ ne there. s.level j u le there);
-}
-
--- nobody waits in empty buckets
-pub waiting_none : (n : ℕ) (x : List ℕ) (k : ℕ) → AreWaiting n x 0 (replicate k [])
-waiting_none n x k = record {
-  vertex = λ j u there. absurd (true≢false (sym there ∙ none j u));
-  level = λ j u le there. absurd (true≢false (sym there ∙ none j u));
-}
-  where
-    none : (j u : ℕ) → has_number u (get_or (replicate k []) j []) ≡ false
-    none j u = ap (has_number u) (empty_list k j)

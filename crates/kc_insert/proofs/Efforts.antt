@@ -1,18 +1,15 @@
 -- What a step adds to the steps that a sweep may take.
-use Rattle.std.proofs.Common.{ℕ, suc, zero, ◌+◌, ◌-◌, ◌*◌, ◌≤◌, ◌<◌, ◌≡◌, ◌≢◌, inl, inr, Bool, true, false, eqb, ◌&&◌, List, [], ◌∷◌, ◌++◌, length, get_or, set, filter, refl, ap, sym, ◌∙◌, arith, subst}
-use Rattle.std.proofs.lemmas.Bool.{cases_eq, cases_Bool, true≢false}
+use Rattle.std.proofs.Common.{ℕ, suc, zero, ◌+◌, ◌-◌, ◌*◌, ◌≤◌, ◌<◌, ◌≡◌, ◌≢◌, inl, inr, true, List, [], ◌∷◌, ◌++◌, length, get_or, set, refl, ap, sym, ◌∙◌, arith, subst}
+use Rattle.std.proofs.Math.Nat.{mul-le-mul_right}
+use Rattle.std.proofs.lemmas.Bool.{cases_eq, true≢false}
 use Rattle.std.proofs.lemmas.Bool.Decides.{nat_tests}
 use Rattle.std.proofs.lemmas.List.{length-set, get_or-set_same, get_or-set_other}
 use Rattle.kc_graph.specs.Numbers.{has_number}
 use Rattle.kc_graph.specs.Shape.{GraphShape, neighbours_of}
-use Rattle.kc_graph.proofs.lemmas.Numbers.{has_number-append}
-use Rattle.kc_insert.specs.Effort.{effort}
-use Rattle.kc_insert.specs.private.Round.{is_over}
 use Rattle.kc_levels.specs.Following.{AreDistinct}
 use Rattle.kc_adj.specs.Degrees.{degrees}
-use Rattle.kc_insert.specs.private.Counting.{steps_on}
-use Rattle.kc_insert.specs.private.Sweeping.{all_at}
-use Rattle.kc_insert.proofs.Buckets.{has_number-filter}
+use Rattle.kc_insert.specs.Effort.{effort}
+use Rattle.kc_insert.specs.private.Rising.{all_at}
 
 pub effort_none : (g : GraphShape) (x : List ℕ) (n : ℕ) → effort g x x n ≡ 0
 effort_none g x zero = refl
@@ -20,6 +17,13 @@ effort_none g x (suc n) = rw (effort_none g x n) (plain (get_or x n 0) (3 * leng
   where
     plain : (k c : ℕ) → 0 + (k - k) * c ≡ 0
     plain k c = grind arith
+
+pub effort_more : (g : GraphShape) (x y z : List ℕ) (n : ℕ) → ((v : ℕ) → v < n → get_or y v 0 ≤ get_or z v 0) → effort g x y n ≤ effort g x z n
+effort_more g x y z zero more = omega arith
+effort_more g x y z (suc n) more =
+    let before = effort_more g x y z n (λ v h. more v (omega (arith, h))) in
+    let here : (get_or y n 0 - get_or x n 0) * (3 * length (neighbours_of n g.edges) + 1) ≤ (get_or z n 0 - get_or x n 0) * (3 * length (neighbours_of n g.edges) + 1) = mul-le-mul_right (3 * length (neighbours_of n g.edges) + 1) (omega (arith, more n (omega arith))) in
+    omega (arith, before, here)
 
 effort_other : (g : GraphShape) (x y : List ℕ) (v l n : ℕ) → n ≤ v → effort g x (set y v l) n ≡ effort g x y n
 effort_other g x y v l zero le = refl
@@ -62,48 +66,3 @@ effort_up g x y (v ∷ vs) l n distinct all =
 pub degrees-append : (g : GraphShape) (us vs : List ℕ) → degrees g (us ++ vs) ≡ degrees g us + degrees g vs
 degrees-append g [] vs = omega arith
 degrees-append g (u ∷ us) vs = omega (arith, degrees-append g us vs)
-
--- those who stay on the level, and those who go on, are not more than all together
-pub fee_parts : (g : GraphShape) (z c vs : List ℕ) (l most : ℕ) → ((v : ℕ) → has_number v vs ≡ true → is_over c most v ≡ true → get_or z v 0 ≡ l + 1) → steps_on g z l vs + degrees g (filter (is_over c most) vs) ≤ degrees g vs
-fee_parts g z c [] l most up = omega arith
-fee_parts g z c (v ∷ vs) l most up =
-    let more = fee_parts g z c vs l most (λ u there over. up u (grind (arith, nat_tests, there)) over) in
-    elim (cases_Bool (is_over c most v)) [
-      | inl over ↦
-          let to : get_or z v 0 ≡ l + 1 = up v (grind (arith, nat_tests)) over in
-          let off : eqb (get_or z v 0) l ≡ false = grind (arith, nat_tests, to) in
-          let kept : filter (is_over c most) (v ∷ vs) ≡ v ∷ filter (is_over c most) vs = filter_yes over in
-          rw kept (rw off (omega (arith, more)))
-      | inr few ↦
-          let kept : filter (is_over c most) (v ∷ vs) ≡ filter (is_over c most) vs = filter_no few in
-          rw kept (elim (cases_Bool (eqb (get_or z v 0) l)) [ inl on ↦ rw on (omega (arith, more)) | inr off ↦ rw off (omega (arith, more)) ])
-    ]
-  where
-    filter_yes : is_over c most v ≡ true → filter (is_over c most) (v ∷ vs) ≡ v ∷ filter (is_over c most) vs
-    filter_yes over = grind (arith, nat_tests, over)
-
-    filter_no : is_over c most v ≡ false → filter (is_over c most) (v ∷ vs) ≡ filter (is_over c most) vs
-    filter_no few = grind (arith, nat_tests, few)
-
-pub distinct_filter : (test : ℕ → Bool) (vs : List ℕ) → AreDistinct vs → AreDistinct (filter test vs)
-distinct_filter test [] d = record {}
-distinct_filter test (v ∷ vs) d = elim (cases_Bool (test v)) [
-  | inl yes_ ↦ rw (keeps yes_) (none, distinct_filter test vs d.1)
-  | inr no_ ↦ rw (drops no_) (distinct_filter test vs d.1)
-]
-  where
-    keeps : test v ≡ true → filter test (v ∷ vs) ≡ v ∷ filter test vs
-    keeps e = grind (arith, nat_tests, e)
-
-    drops : test v ≡ false → filter test (v ∷ vs) ≡ filter test vs
-    drops e = grind (arith, nat_tests, e)
-
-    none : has_number v (filter test vs) ≡ false
-    none = has_number-filter v test vs ∙ ap (λ b. b && test v) d.0
-
-pub distinct_append : (us vs : List ℕ) → AreDistinct us → AreDistinct vs → ((u : ℕ) → has_number u us ≡ true → has_number u vs ≡ false) → AreDistinct (us ++ vs)
-distinct_append [] vs d e apart = e
-distinct_append (u ∷ us) vs d e apart = (
-  has_number-append u us vs ∙ grind (arith, nat_tests, d.0, apart u (grind (arith, nat_tests))),
-  distinct_append us vs d.1 e (λ w there. apart w (grind (arith, nat_tests, there))),
-)

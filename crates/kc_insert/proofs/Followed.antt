@@ -1,53 +1,22 @@
 -- Counts that follow those of the graph where edges came in or left and vertices moved.
-use Rattle.std.proofs.Common.{ℕ, ◌+◌, ◌-◌, ◌≤◌, ◌<◌, ◌≡◌, ◌≢◌, inl, inr, true, false, List, [], ◌∷◌, length, get_or, set, take, leb, refl, ap, sym, ◌∙◌, arith, subst}
+use Rattle.std.proofs.Common.{ℕ, ◌-◌, ◌<◌, ◌≡◌, ◌≢◌, inl, inr, true, false, List, [], ◌∷◌, length, get_or, leb, refl, ap, sym, ◌∙◌, arith, subst}
 use Rattle.std.specs.Prelude.{count_by}
-use Rattle.std.specs.Bool.{⊤}
 use Rattle.std.specs.List.{All}
 use Rattle.std.proofs.lemmas.Bool.{cases_lt, true≢false}
-use Rattle.std.proofs.lemmas.List.{get_or_past, take_more, take_all}
-use Rattle.std.proofs.lemmas.List.Elements.{All-tail, All-push}
+use Rattle.std.proofs.lemmas.List.{get_or_past}
+use Rattle.std.proofs.lemmas.List.Elements.{All-tail}
 use Rattle.kc_graph.specs.Numbers.{has_number}
 use Rattle.kc_graph.specs.Shape.{GraphShape, Pair, neighbours_of, with_edge, without_edge, with_edges, without_edges}
-use Rattle.kc_graph.proofs.lemmas.Numbers.{has_number_nowhere}
 use Rattle.kc_graph.proofs.lemmas.Neighbours.{neighbours_both, neighbours_of_insert_other, neighbours_of_remove_other}
 use Rattle.kc_graph.proofs.lemmas.Changes.{vertices-without_edges}
 use Rattle.kc_levels.specs.declared.moves.Move.{Move}
 use Rattle.kc_levels.specs.LevelList.{at_least}
 use Rattle.kc_levels.specs.Moved.{moves_between}
 use Rattle.kc_levels.specs.private.Following.{IsCopied}
-use Rattle.kc_levels.proofs.lemmas.Writes.{copied_first, copied_one, copied_then, copied_next}
+use Rattle.kc_levels.proofs.lemmas.Writes.{copied_then}
 use Rattle.kc_levels.proofs.lemmas.Moves.{still_here}
 use Rattle.kc_adj.specs.LeveledGraph.{IsCounted}
 use Rattle.kc_insert.proofs.Flips.{count_agree}
-
--- the counts of both ends of an edge were copied
-pub ends_copied : (fresh old mid : List ℕ) (es : List Pair) (i a b : ℕ) (d : Pair) → length old ≡ length fresh → All (λ (e : Pair). e.1 < length fresh) es → i < length es → (a, b) ≡ get_or es i d → a < b → IsCopied fresh old mid (λ v. All (λ (e : Pair). (v ≢ e.0) × (v ≢ e.1)) (take i es)) → IsCopied fresh old (set (set mid a (get_or fresh a 0)) b (get_or fresh b 0)) (λ v. All (λ (e : Pair). (v ≢ e.0) × (v ≢ e.1)) (take (i + 1) es))
-ends_copied fresh old mid es i a b d long inside at is order s =
-    copied_next (λ v (e : Pair). (v ≢ e.0) × (v ≢ e.1)) es i d (a, b) fresh old mid (set (set mid a (get_or fresh a 0)) b (get_or fresh b 0)) at is s
-    (copied_one fresh mid (set mid a (get_or fresh a 0)) b (get_or fresh b 0) (λ v. v ≢ a) (λ v. (v ≢ a) × (v ≢ b)) high refl
-    (copied_one fresh mid mid a (get_or fresh a 0) (λ v. ⊤) (λ v. v ≢ a) (omega (arith, order, high)) refl (copied_first fresh mid (λ v. ⊤) (λ v. tt)) (λ u ne p. ne))
-    (λ u ne p. (p, ne)))
-  where
-    high : b < length mid
-    high = omega (arith, subst (λ (e : Pair). e.1 < length fresh) (sym is) (inside i d at), long, s.sized)
-
--- the count of a vertex of a row was copied
-pub row_copied : (fresh old mid ws : List ℕ) (v i : ℕ) → i < length ws → get_or ws i 0 < length old → IsCopied fresh old mid (λ u. (u ≢ v) × All (λ (w : ℕ). u ≢ w) (take i ws)) → IsCopied fresh old (set mid (get_or ws i 0) (get_or fresh (get_or ws i 0) 0)) (λ u. (u ≢ v) × All (λ (w : ℕ). u ≢ w) (take (i + 1) ws))
-row_copied fresh old mid ws v i at inside s =
-    copied_one fresh old mid (get_or ws i 0) (get_or fresh (get_or ws i 0) 0) (λ u. (u ≢ v) × All (λ (w : ℕ). u ≢ w) (take i ws)) (λ u. (u ≢ v) × All (λ (w : ℕ). u ≢ w) (take (i + 1) ws)) inside refl s
-    (λ u ne p. (p.0, subst (All (λ (w : ℕ). u ≢ w)) (sym (take_more ws i 0 at)) (All-push (λ (w : ℕ). u ≢ w) (take i ws) (get_or ws i 0) p.1 ne)))
-
-pub row_first : (fresh old : List ℕ) (ws : List ℕ) (v : ℕ) → v < length old → IsCopied fresh old (set old v (get_or fresh v 0)) (λ u. (u ≢ v) × All (λ (w : ℕ). u ≢ w) (take 0 ws))
-row_first fresh old ws v inside = copied_one fresh old old v (get_or fresh v 0) (λ u. ⊤) (λ u. (u ≢ v) × All (λ (w : ℕ). u ≢ w) (take 0 ws)) inside refl (copied_first fresh old (λ u. ⊤) (λ u. tt)) (λ u ne p. (ne, λ k d h. absurd (omega (arith, h))))
-
-pub row_last : (fresh old new ws : List ℕ) (v i : ℕ) → length ws ≤ i → IsCopied fresh old new (λ u. (u ≢ v) × All (λ (w : ℕ). u ≢ w) (take i ws)) → IsCopied fresh old new (λ u. (u ≢ v) × (has_number u ws ≡ false))
-row_last fresh old new ws v i end s = record {
-  sized = s.sized;
-  each = λ u. elim (s.each u) [
-    | inl done ↦ inl done
-    | inr kept ↦ inr (kept.0, (kept.1.0, has_number_nowhere u ws (λ k h e. subst (All (λ (w : ℕ). u ≢ w)) (take_all i ws end) kept.1.1 k 0 h (sym e))))
-  ];
-}
 
 -- edges elsewhere don't change the neighbours
 pub neighbours_added : (v : ℕ) (g : GraphShape) (es : List Pair) → All (λ e. (v ≢ e.0) × (v ≢ e.1)) es → neighbours_of v (with_edges g es).edges ≡ neighbours_of v g.edges

@@ -11,7 +11,7 @@ use Rattle.kc_graph.proofs.lemmas.Numbers.{has_number_at, has_number_index, has_
 use Rattle.kc_levels.specs.LevelList.{IsBelow}
 use Rattle.kc_adj.specs.LeveledGraph.{LeveledGraph}
 use Rattle.kc_levels.specs.Following.{AreDistinct}
-use Rattle.kc_insert.specs.private.Sweeping.{all_at}
+use Rattle.kc_insert.specs.private.Rising.{all_at}
 use Rattle.kc_insert.proofs.Buckets.{pushed_is, has_last}
 
 pub length-all_at : (y vs : List ℕ) (k : ℕ) → length (all_at y vs k) ≡ length y

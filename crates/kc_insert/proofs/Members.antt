@@ -1,19 +1,13 @@
 -- Lists of the same numbers.
-use Rattle.std.proofs.Common.{ℕ, suc, ◌+◌, ◌<◌, ◌≡◌, ◌≢◌, inl, inr, Bool, true, false, eqb, not, ◌&&◌, List, [], ◌∷◌, length, get_or, set, filter, refl, ap, sym, ◌∙◌, arith}
+use Rattle.std.proofs.Common.{ℕ, ◌+◌, ◌≡◌, ◌≢◌, inl, inr, Bool, true, false, eqb, not, ◌&&◌, ◌||◌, List, [], ◌∷◌, ◌++◌, length, filter, refl, ap, sym, ◌∙◌, arith}
 use Rattle.std.proofs.lemmas.Bool.{cases_eq, cases_Bool, true≢false}
 use Rattle.std.proofs.lemmas.Bool.Decides.{nat_tests}
-use Rattle.std.proofs.lemmas.Grind.{same_number_lists}
-use Rattle.kc_graph.specs.Numbers.{has_number, RisesFrom}
+use Rattle.kc_graph.specs.Numbers.{has_number}
 use Rattle.kc_graph.specs.Shape.{GraphShape, neighbours_of}
-use Rattle.kc_graph.proofs.lemmas.Numbers.{has_number_below}
+use Rattle.kc_graph.proofs.lemmas.Numbers.{has_number-append}
 use Rattle.kc_levels.specs.Following.{AreDistinct}
-use Rattle.kc_adj.specs.LeveledGraph.{LeveledGraph}
 use Rattle.kc_adj.specs.Degrees.{degrees}
-use Rattle.kc_insert.specs.private.Counting.{steps_on}
-use Rattle.kc_insert.specs.private.Sweeping.{all_at}
 use Rattle.kc_insert.proofs.Buckets.{has_number-filter}
-use Rattle.kc_insert.proofs.Efforts.{distinct_filter}
-use Rattle.kc_insert.proofs.Parting.{settled_at, length-settled_at, settled_at-get, settled_at-there}
 
 pub filter_yes : (p : ℕ → Bool) (v : ℕ) (vs : List ℕ) → p v ≡ true → filter p (v ∷ vs) ≡ v ∷ filter p vs
 filter_yes p v vs e = grind (arith, nat_tests, e)
@@ -47,37 +41,71 @@ filter_both p q (v ∷ vs) = elim (cases_Bool (q v)) [
   ]
 ]
 
-pub nobody_in : (vs : List ℕ) → ((v : ℕ) → has_number v vs ≡ false) → vs ≡ []
-nobody_in [] none = refl
-nobody_in (v ∷ vs) none = absurd (true≢false (sym (grind (arith, nat_tests)) ∙ none v))
+pub none_in : (vs : List ℕ) → ((v : ℕ) → has_number v vs ≡ false) → vs ≡ []
+none_in [] none = refl
+none_in (v ∷ vs) none = absurd (true≢false (sym (grind (arith, nat_tests)) ∙ none v))
+
+pub distinct_filter : (test : ℕ → Bool) (vs : List ℕ) → AreDistinct vs → AreDistinct (filter test vs)
+distinct_filter test [] d = record {}
+distinct_filter test (v ∷ vs) d = elim (cases_Bool (test v)) [
+  | inl yes_ ↦ rw (filter_yes test v vs yes_) (none, distinct_filter test vs d.1)
+  | inr no_ ↦ rw (filter_no test v vs no_) (distinct_filter test vs d.1)
+]
+  where
+    none : has_number v (filter test vs) ≡ false
+    none = has_number-filter v test vs ∙ ap (λ b. b && test v) d.0
+
+pub distinct_append : (us vs : List ℕ) → AreDistinct us → AreDistinct vs → ((u : ℕ) → has_number u us ≡ true → has_number u vs ≡ false) → AreDistinct (us ++ vs)
+distinct_append [] vs d e apart = e
+distinct_append (u ∷ us) vs d e apart = (
+  has_number-append u us vs ∙ grind (arith, nat_tests, d.0, apart u (grind (arith, nat_tests))),
+  distinct_append us vs d.1 e (λ w there. apart w (grind (arith, nat_tests, there))),
+)
 
 -- all but one number
 abbrev but : ℕ → ℕ → Bool
 but v u = not (eqb u v)
 
-steps_but : (g : GraphShape) (z : List ℕ) (l v : ℕ) (vs : List ℕ) → AreDistinct vs → has_number v vs ≡ true → steps_on g z l vs ≡ steps_on g z l (v ∷ []) + steps_on g z l (filter (but v) vs)
-steps_but g z l v [] once there = absurd (true≢false (sym there))
-steps_but g z l v (u ∷ us) once there = elim (cases_eq u v) [
+-- a weight for each number of the list
+abbrev pub weigh : (ℕ → ℕ) → List ℕ → ℕ
+weigh f [] = 0
+weigh f (v ∷ vs) = f v + weigh f vs
+
+pub weigh-append : (f : ℕ → ℕ) (us vs : List ℕ) → weigh f (us ++ vs) ≡ weigh f us + weigh f vs
+weigh-append f [] vs = omega arith
+weigh-append f (u ∷ us) vs = omega (arith, weigh-append f us vs)
+
+pub weigh_degrees : (g : GraphShape) (vs : List ℕ) → weigh (λ v. length (neighbours_of v g.edges)) vs ≡ degrees g vs
+weigh_degrees g [] = refl
+weigh_degrees g (v ∷ vs) = omega (arith, weigh_degrees g vs)
+
+pub weigh_length : (vs : List ℕ) → weigh (λ v. 1) vs ≡ length vs
+weigh_length [] = refl
+weigh_length (v ∷ vs) = omega (arith, weigh_length vs)
+
+weigh_but : (f : ℕ → ℕ) (v : ℕ) (vs : List ℕ) → AreDistinct vs → has_number v vs ≡ true → weigh f vs ≡ f v + weigh f (filter (but v) vs)
+weigh_but f v [] once there = absurd (true≢false (sym there))
+weigh_but f v (u ∷ us) once there = elim (cases_eq u v) [
   | inl e ↦
-      let all : filter (but v) us ≡ us = filter_all (but v) us (λ w at. grind (arith, nat_tests, other w at)) in
+      let all : filter (but v) us ≡ us = filter_all (but v) us (λ w at. grind (arith, nat_tests, other e w at)) in
       let kept : filter (but v) (u ∷ us) ≡ us = filter_no (but v) u us (grind (arith, nat_tests, e)) ∙ all in
-      rw kept (rw e (omega arith))
+      omega (arith, ap (weigh f) kept, ap f e)
   | inr ne ↦
       let later : has_number v us ≡ true = grind (arith, nat_tests, there, ne) in
       let kept : filter (but v) (u ∷ us) ≡ u ∷ filter (but v) us = filter_yes (but v) u us (grind (arith, nat_tests, ne)) in
-      rw kept (omega (arith, steps_but g z l v us once.1 later))
+      omega (arith, ap (weigh f) kept, weigh_but f v us once.1 later)
 ]
   where
-    other : (w : ℕ) → has_number w us ≡ true → w ≢ u
-    other w at e = true≢false (sym at ∙ ap (λ t. has_number t us) e ∙ once.0)
+    other : u ≡ v → (w : ℕ) → has_number w us ≡ true → w ≢ v
+    other e w at f = true≢false (sym at ∙ ap (λ t. has_number t us) (f ∙ sym e) ∙ once.0)
 
--- the steps depend on who is in the list, and not on the order
-pub same_steps : (g : GraphShape) (z : List ℕ) (l : ℕ) (vs us : List ℕ) → AreDistinct vs → AreDistinct us → ((v : ℕ) → has_number v vs ≡ has_number v us) → steps_on g z l vs ≡ steps_on g z l us
-same_steps g z l [] us once too same = ap (steps_on g z l) (sym (nobody_in us (λ v. sym (same v))))
-same_steps g z l (v ∷ vs) us once too same =
+-- the weight depends on which numbers are in the list, and not on their order
+pub weigh_same : (f : ℕ → ℕ) (vs us : List ℕ) → AreDistinct vs → AreDistinct us → ((v : ℕ) → has_number v vs ≡ has_number v us) → weigh f vs ≡ weigh f us
+weigh_same f [] us once too same = ap (weigh f) (sym (none_in us (λ v. sym (same v))))
+weigh_same f (v ∷ vs) us once too same =
     let here : has_number v us ≡ true = sym (same v) ∙ grind (arith, nat_tests) in
-    let rest : steps_on g z l vs ≡ steps_on g z l (filter (but v) us) = same_steps g z l vs (filter (but v) us) once.1 (distinct_filter (but v) us too) (λ u. left u ∙ sym (has_number-filter u (but v) us)) in
-    omega (arith, rest, steps_but g z l v us too here)
+    let rest : weigh f vs ≡ weigh f (filter (but v) us) = weigh_same f vs (filter (but v) us) once.1 (distinct_filter (but v) us too) (λ u. left u ∙ sym (has_number-filter u (but v) us)) in
+    omega (arith, rest, weigh_but f v us too here)
   where
     left : (u : ℕ) → has_number u vs ≡ has_number u us && but v u
     left u = elim (cases_eq u v) [
@@ -85,57 +113,6 @@ same_steps g z l (v ∷ vs) us once too same =
       | inr ne ↦ grind (arith, nat_tests, ne, same u)
     ]
 
-fee_but : (g : GraphShape) (v : ℕ) (vs : List ℕ) → AreDistinct vs → has_number v vs ≡ true → degrees g vs + length vs ≡ (length (neighbours_of v g.edges) + 1) + (degrees g (filter (but v) vs) + length (filter (but v) vs))
-fee_but g v [] once there = absurd (true≢false (sym there))
-fee_but g v (u ∷ us) once there = elim (cases_eq u v) [
-  | inl e ↦
-      let all : filter (but v) us ≡ us = filter_all (but v) us (λ w at. grind (arith, nat_tests, other w at)) in
-      let kept : filter (but v) (u ∷ us) ≡ us = filter_no (but v) u us (grind (arith, nat_tests, e)) ∙ all in
-      rw kept (rw e (omega arith))
-  | inr ne ↦
-      let later : has_number v us ≡ true = grind (arith, nat_tests, there, ne) in
-      let kept : filter (but v) (u ∷ us) ≡ u ∷ filter (but v) us = filter_yes (but v) u us (grind (arith, nat_tests, ne)) in
-      rw kept (omega (arith, fee_but g v us once.1 later))
-]
-  where
-    other : (w : ℕ) → has_number w us ≡ true → w ≢ u
-    other w at e = true≢false (sym at ∙ ap (λ t. has_number t us) e ∙ once.0)
-
--- what a pass over the neighbours of each and a step more come to depends on who is in the list, and not on the order
-pub same_fees : (g : GraphShape) (vs us : List ℕ) → AreDistinct vs → AreDistinct us → ((v : ℕ) → has_number v vs ≡ has_number v us) → degrees g vs + length vs ≡ degrees g us + length us
-same_fees g [] us once too same = ap (λ ws. degrees g ws + length ws) (sym (nobody_in us (λ v. sym (same v))))
-same_fees g (v ∷ vs) us once too same =
-    let here : has_number v us ≡ true = sym (same v) ∙ grind (arith, nat_tests) in
-    let rest : degrees g vs + length vs ≡ degrees g (filter (but v) us) + length (filter (but v) us) = same_fees g vs (filter (but v) us) once.1 (distinct_filter (but v) us too) (λ u. left u ∙ sym (has_number-filter u (but v) us)) in
-    omega (arith, rest, fee_but g v us too here)
-  where
-    left : (u : ℕ) → has_number u vs ≡ has_number u us && but v u
-    left u = elim (cases_eq u v) [
-      | inl e ↦ ap (λ t. has_number t vs) e ∙ once.0 ∙ grind (arith, nat_tests, e)
-      | inr ne ↦ grind (arith, nat_tests, ne, same u)
-    ]
-
-pub rising_once : (k : ℕ) (vs : List ℕ) → RisesFrom k vs → AreDistinct vs
-rising_once k [] r = record {}
-rising_once k (v ∷ vs) r = (has_number_below (suc v) v vs r.1 (omega arith), rising_once (suc v) vs r.1)
-
--- the graph with other levels
-abbrev pub placed_at : LeveledGraph → List ℕ → LeveledGraph
-placed_at a x = record a { levels = x }
-
--- where all of the list stay on the level l, they are put there
-pub settled_all_at : (x z : List ℕ) (l : ℕ) (vs : List ℕ) → ((v : ℕ) → has_number v vs ≡ true → get_or z v 0 ≡ l) → settled_at x z l vs ≡ all_at x vs l
-settled_all_at x z l [] here = refl
-settled_all_at x z l (v ∷ vs) here =
-    let on : eqb (get_or z v 0) l ≡ true = grind (arith, nat_tests, here v (grind (arith, nat_tests))) in
-    rw on (settled_all_at (set x v l) z l vs (λ u there. here u (grind (arith, nat_tests, there))))
-
--- who is put on the level l depends on who is in the list and on it
-pub same_settled : (x z : List ℕ) (l : ℕ) (vs us : List ℕ) → ((v : ℕ) → has_number v vs ≡ true → v < length x) → ((v : ℕ) → has_number v us ≡ true → v < length x) → ((v : ℕ) → get_or z v 0 ≡ l → has_number v vs ≡ has_number v us) → settled_at x z l vs ≡ settled_at x z l us
-same_settled x z l vs us inside within same = same_number_lists (settled_at x z l vs) (settled_at x z l us) (length-settled_at x z l vs ∙ sym (length-settled_at x z l us)) (λ v h. elim (settled_at-get x z l vs v inside) [
-  | inr it ↦ it.2 ∙ sym (settled_at-there x z l us v within (sym (same v it.1) ∙ it.0) it.1)
-  | inl kept ↦ elim (settled_at-get x z l us v within) [
-    | inl too ↦ kept ∙ sym too
-    | inr it ↦ settled_at-there x z l vs v inside (same v it.1 ∙ it.0) it.1 ∙ sym it.2
-  ]
-])
+-- the numbers of one list are those of two others together
+pub weigh_parts : (f : ℕ → ℕ) (vs us ws : List ℕ) → AreDistinct vs → AreDistinct us → AreDistinct ws → ((v : ℕ) → has_number v us ≡ true → has_number v ws ≡ false) → ((v : ℕ) → has_number v vs ≡ has_number v us || has_number v ws) → weigh f vs ≡ weigh f us + weigh f ws
+weigh_parts f vs us ws once too three apart same = weigh_same f vs (us ++ ws) once (distinct_append us ws too three apart) (λ v. same v ∙ sym (has_number-append v us ws)) ∙ weigh-append f us ws

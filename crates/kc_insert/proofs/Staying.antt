@@ -9,44 +9,51 @@ use Rattle.kc_graph.specs.Numbers.{has_number}
 use Rattle.kc_graph.proofs.lemmas.Numbers.{has_number-push, has_number_index}
 use Rattle.kc_levels.specs.Following.{AreDistinct}
 use Rattle.kc_insert.specs.declared.rising.RisingLevels.{RisingLevels}
-use Rattle.kc_insert.specs.declared.watched.WatchedCounts.{WatchedCounts}
 use Rattle.kc_insert.specs.private.Rising.{rises, seen}
-use Rattle.kc_insert.specs.private.Sweeping.{LetStay}
+use Rattle.kc_insert.specs.private.Parts.{LetStay}
+use Rattle.kc_insert.specs.private.Watched.{count_at}
+use Rattle.kc_insert.specs.Ranges.{Watch}
 use Rattle.kc_insert.proofs.Buckets.{pushed_is}
 use Rattle.kc_insert.proofs.Lifting.{distinct-push}
 use Rattle.kc_insert.proofs.Seen.{length-seen, stored_at}
 
 -- of those written down, in `listed`, those before the place i were looked at
-pub record IsLettingStay (old : RisingLevels) (counts listed : List ℕ) (most i : ℕ) (new : RisingLevels) (stay : List ℕ) : Type 0 where
+pub record IsLettingStay (old : RisingLevels) (watch : Watch) (listed : List ℕ) (i : ℕ) (new : RisingLevels) (stay : List ℕ) : Type 0 where
   pub level : new.level ≡ old.level
   pub seen_on : seen new ≡ seen old
   pub rises_on : (v : ℕ) → rises new v ≡ rises old v && not (has_number v stay)
-  pub stays : (v : ℕ) → has_number v stay ≡ true → (rises old v ≡ true) × (get_or counts v 0 ≤ most)
-  pub over : (j : ℕ) → j < i → rises new (get_or listed j 0) ≡ true → most < get_or counts (get_or listed j 0) 0
+  pub stays : (v : ℕ) → has_number v stay ≡ true → (rises old v ≡ true) × (count_at watch v ≤ watch.most)
+  pub from : (v : ℕ) → has_number v stay ≡ true → has_number v listed ≡ true
+  pub over : (j : ℕ) → j < i → rises new (get_or listed j 0) ≡ true → watch.most < count_at watch (get_or listed j 0)
   pub distinct : AreDistinct stay
 
-pub letting_first : (old : RisingLevels) (counts listed : List ℕ) (most : ℕ) (stay : List ℕ) → stay ≡ [] → IsLettingStay old counts listed most 0 old stay
-letting_first old counts listed most stay none = rw none (record {
+pub letting_first : (old : RisingLevels) (watch : Watch) (listed : List ℕ) (stay : List ℕ) → stay ≡ [] → IsLettingStay old watch listed 0 old stay
+letting_first old watch listed stay none = rw none (record {
   level = refl;
   seen_on = refl;
   rises_on = λ v. grind (arith, nat_tests);
   stays = λ v there. absurd (true≢false (sym there));
+  from = λ v there. absurd (true≢false (sym there));
   over = λ j h. absurd (omega (arith, h));
   distinct = record {};
 })
 
-module _ (old : RisingLevels) (counts listed : List ℕ) (most i : ℕ) (new : RisingLevels) (stay : List ℕ) (s : IsLettingStay old counts listed most i new stay) where
+module _ (old : RisingLevels) (watch : Watch) (listed : List ℕ) (i : ℕ) (new : RisingLevels) (stay : List ℕ) (s : IsLettingStay old watch listed i new stay) where
   abbrev item : ℕ
   item = get_or listed i 0
 
-  pub letting_stays : (next : RisingLevels) → next.level ≡ new.level → seen next ≡ seen new → ((u : ℕ) → rises next u ≡ rises new u && not (eqb u item)) → rises new item ≡ true → get_or counts item 0 ≤ most → IsLettingStay old counts listed most (i + 1) next (stay ++ item ∷ [])
-  letting_stays next level same left on few = record {
+  pub letting_stays : (next : RisingLevels) → has_number item listed ≡ true → next.level ≡ new.level → seen next ≡ seen new → ((u : ℕ) → rises next u ≡ rises new u && not (eqb u item)) → rises new item ≡ true → count_at watch item ≤ watch.most → IsLettingStay old watch listed (i + 1) next (stay ++ item ∷ [])
+  letting_stays next there level same left on few = record {
     level = level ∙ s.level;
     seen_on = same ∙ s.seen_on;
     rises_on = λ u. left u ∙ grind (arith, nat_tests, s.rises_on u, has_number-push u item stay);
-    stays = λ u there. elim (pushed_is u item stay there) [
+    stays = λ u in_it. elim (pushed_is u item stay in_it) [
       | inr early ↦ s.stays u early
       | inl e ↦ rw e (was, few)
+    ];
+    from = λ u in_it. elim (pushed_is u item stay in_it) [
+      | inr early ↦ s.from u early
+      | inl e ↦ rw e there
     ];
     over = λ j h up. elim (cases_eq j i) [
       | inr ne ↦ s.over j (omega (arith, h, ne)) (grind (arith, nat_tests, up, left (get_or listed j 0)))
@@ -64,26 +71,28 @@ module _ (old : RisingLevels) (counts listed : List ℕ) (most i : ℕ) (new : R
       gone : rises next item ≡ false
       gone = left item ∙ grind (arith, nat_tests)
 
-  pub letting_passes : (rises new item ≡ true → most < get_or counts item 0) → IsLettingStay old counts listed most (i + 1) new stay
+  pub letting_passes : (rises new item ≡ true → watch.most < count_at watch item) → IsLettingStay old watch listed (i + 1) new stay
   letting_passes over = record {
     level = s.level;
     seen_on = s.seen_on;
     rises_on = s.rises_on;
     stays = s.stays;
+    from = s.from;
     over = λ j h up. elim (cases_eq j i) [
       | inr ne ↦ s.over j (omega (arith, h, ne)) up
-      | inl e ↦ subst (λ k. most < get_or counts (get_or listed k 0) 0) (sym e) (over (ap (λ k. rises new (get_or listed k 0)) (sym e) ∙ up))
+      | inl e ↦ subst (λ k. watch.most < count_at watch (get_or listed k 0)) (sym e) (over (ap (λ k. rises new (get_or listed k 0)) (sym e) ∙ up))
     ];
     distinct = s.distinct;
   }
 
-pub letting_last : (old : RisingLevels) (w : WatchedCounts) (i : ℕ) (new : RisingLevels) (stay : List ℕ) → length w.doubtful.items ≤ i → IsLettingStay old w.counts.items w.doubtful.items w.most i new stay → LetStay old w new stay
+pub letting_last : (old : RisingLevels) (w : Watch) (i : ℕ) (new : RisingLevels) (stay : List ℕ) → length w.doubtful ≤ i → IsLettingStay old w w.doubtful i new stay → LetStay old w new stay
 letting_last old w i new stay end s = record {
   rises_on = s.rises_on;
   stays = s.stays;
+  watched = s.from;
   over = λ v there up.
-      let place = has_number_index v w.doubtful.items there in
-      subst (λ u. w.most < get_or w.counts.items u 0) place.2 (s.over place.0 (omega (arith, place.1, end)) (ap (rises new) place.2 ∙ up));
+      let place = has_number_index v w.doubtful there in
+      subst (λ u. w.most < count_at w u) place.2 (s.over place.0 (omega (arith, place.1, end)) (ap (rises new) place.2 ∙ up));
   distinct = s.distinct;
 }
 

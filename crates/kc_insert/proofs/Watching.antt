@@ -1,71 +1,128 @@
--- Counts where whoever comes to count few is written down: one change of a count, and many.
-use Rattle.std.proofs.Common.{ℕ, ◌+◌, ◌≤◌, ◌<◌, ◌≡◌, inl, inr, true, false, List, [], ◌∷◌, ◌++◌, length, get_or, set, cond, filter, append-nil, take, refl, ap, sym, ◌∙◌, arith}
+-- Counts of a range with a watch list: one change of a count, and many.
+use Rattle.std.proofs.Common.{ℕ, ◌+◌, ◌-◌, ◌≤◌, ◌<◌, ◌≡◌, ◌≢◌, inl, inr, true, false, cond, List, [], ◌∷◌, ◌++◌, length, get_or, set, filter, append-nil, take, refl, ap, sym, ◌∙◌, arith}
 use Rattle.std.proofs.lemmas.Bool.{cases_eq}
 use Rattle.std.proofs.lemmas.Bool.Decides.{nat_tests}
 use Rattle.std.proofs.lemmas.List.{length-set, get_or-set_same, get_or-set_other}
-use Rattle.kc_graph.specs.Numbers.{has_number}
-use Rattle.kc_graph.proofs.lemmas.Numbers.{has_number-push}
-use Rattle.kc_insert.specs.declared.watched.WatchedCounts.{WatchedCounts}
 use Rattle.std.proofs.lemmas.List.Elements.{filter_more}
-use Rattle.kc_insert.specs.private.Watched.{is_few, StayWatched}
+use Rattle.kc_graph.specs.Numbers.{has_number}
+use Rattle.kc_graph.proofs.lemmas.Numbers.{has_number-push, has_number_at}
+use Rattle.kc_insert.specs.private.Telling.{times}
+use Rattle.kc_insert.specs.private.Watched.{count_at, is_few, StayWatched}
+use Rattle.kc_insert.specs.Ranges.{IsHeld, Watch}
+use Rattle.kc_insert.proofs.Adding.{times_more, times_part}
 use Rattle.kc_insert.proofs.Buckets.{pushed_is, has_last}
 
-pub watched_same : (a : WatchedCounts) → StayWatched a a
-watched_same a = record { sized = refl; most = refl; still = λ v there. there; inside = λ v there. inl there; fell = λ v few. inl few }
+pub watched_same : (a : Watch) → StayWatched a a
+watched_same a = record { first = refl; sized = refl; most = refl; still = λ v there. there; inside = λ v there. inl there; fell = λ v from few. inl few }
 
-pub watched_on : (a b c : WatchedCounts) → StayWatched a b → StayWatched b c → StayWatched a c
+pub watched_on : (a b c : Watch) → StayWatched a b → StayWatched b c → StayWatched a c
 watched_on a b c s t = record {
+  first = t.first ∙ s.first;
   sized = t.sized ∙ s.sized;
   most = t.most ∙ s.most;
   still = λ v there. t.still v (s.still v there);
   inside = λ v there. elim (t.inside v there) [
     | inl old ↦ s.inside v old
-    | inr low ↦ inr (omega (arith, low, s.sized))
+    | inr held ↦ inr (record { from = omega (arith, held.from, s.first); below = omega (arith, held.below, s.first, s.sized) })
   ];
-  fell = λ v few. elim (t.fell v (omega (arith, few, s.most))) [
+  fell = λ v from few. elim (t.fell v (omega (arith, from, s.first)) (omega (arith, few, s.most))) [
     | inr there ↦ inr there
-    | inl was ↦ elim (s.fell v (omega (arith, was, s.most))) [
+    | inl was ↦ elim (s.fell v from (omega (arith, was, s.most))) [
       | inl old ↦ inl old
       | inr there ↦ inr (t.still v there)
     ]
   ];
 }
 
--- v counts k from now on, and where that is few, and was not, it is written down
-pub watched_noted : (a b : WatchedCounts) (v k : ℕ) → v < length a.counts.items → b.counts.items ≡ set a.counts.items v k → b.most ≡ a.most → b.doubtful.items ≡ a.doubtful.items ++ v ∷ [] → StayWatched a b
-watched_noted a b v k inside is same more = record {
-  sized = ap (λ (c : List ℕ). length c) is ∙ length-set a.counts.items v k;
-  most = same;
-  still = λ u there. ap (has_number u) more ∙ has_number-push u v a.doubtful.items ∙ grind (arith, nat_tests, there);
-  inside = λ u there. elim (pushed_is u v a.doubtful.items (sym (ap (has_number u) more) ∙ there)) [
-    | inl e ↦ inr (rw e inside)
-    | inr old ↦ inl old
-  ];
-  fell = λ u few. elim (cases_eq u v) [
-    | inl e ↦ inr (rw (more, e) (has_last v a.doubtful.items))
-    | inr ne ↦ inl (omega (arith, few, ap (λ (c : List ℕ). get_or c u 0) is, get_or-set_other a.counts.items v u k 0 ne))
-  ];
-}
+-- a vertex of the range has a place of its own
+pub held_place : (a : Watch) (v : ℕ) → IsHeld a v → v - a.first < length a.counts
+held_place a v h = omega (arith, h.from, h.below)
 
-pub watched_kept : (a b : WatchedCounts) (v k : ℕ) → v < length a.counts.items → b.counts.items ≡ set a.counts.items v k → b.most ≡ a.most → b.doubtful.items ≡ a.doubtful.items → (k ≤ a.most → get_or a.counts.items v 0 ≤ a.most) → StayWatched a b
-watched_kept a b v k inside is same list few_then = record {
-  sized = ap (λ (c : List ℕ). length c) is ∙ length-set a.counts.items v k;
-  most = same;
-  still = λ u there. ap (has_number u) list ∙ there;
-  inside = λ u there. inl (sym (ap (has_number u) list) ∙ there);
-  fell = λ u few. elim (cases_eq u v) [
-    | inl e ↦ inl (rw e (few_then (omega (arith, rw e at few, ap (λ (c : List ℕ). get_or c v 0) is, get_or-set_same a.counts.items v k 0 inside))))
-    | inr ne ↦ inl (omega (arith, few, ap (λ (c : List ℕ). get_or c u 0) is, get_or-set_other a.counts.items v u k 0 ne))
-  ];
-}
+pub same_place : (first u v : ℕ) → first ≤ u → first ≤ v → u ≢ v → u - first ≢ v - first
+same_place first u v a b ne e = ne (omega (arith, a, b, e))
+
+-- v counts k from now on
+module _ (a b : Watch) (v k : ℕ) (held : IsHeld a v) (first : b.first ≡ a.first) (is : b.counts ≡ set a.counts (v - a.first) k) where
+  pub count_here : count_at b v ≡ k
+  count_here = rw (is, first) (get_or-set_same a.counts (v - a.first) k 0 (held_place a v held))
+
+  pub count_other : (u : ℕ) → a.first ≤ u → u ≢ v → count_at b u ≡ count_at a u
+  count_other u from ne = rw (is, first) (get_or-set_other a.counts (v - a.first) (u - a.first) k 0 (same_place a.first u v from held.from ne))
+
+  pub count_sized : length b.counts ≡ length a.counts
+  count_sized = rw is (length-set a.counts (v - a.first) k)
+
+  -- and is written down
+  pub watched_noted : b.most ≡ a.most → b.doubtful ≡ a.doubtful ++ v ∷ [] → StayWatched a b
+  watched_noted most more = record {
+    first = first;
+    sized = count_sized;
+    most = most;
+    still = λ u there. ap (has_number u) more ∙ has_number-push u v a.doubtful ∙ grind (arith, nat_tests, there);
+    inside = λ u there. elim (pushed_is u v a.doubtful (sym (ap (has_number u) more) ∙ there)) [
+      | inl e ↦ inr (rw e held)
+      | inr old ↦ inl old
+    ];
+    fell = λ u from few. elim (cases_eq u v) [
+      | inl e ↦ inr (rw (more, e) (has_last v a.doubtful))
+      | inr ne ↦ inl (omega (arith, few, count_other u from ne))
+    ];
+  }
+
+  -- and that is few only if it was before
+  pub watched_kept : b.most ≡ a.most → b.doubtful ≡ a.doubtful → (k ≤ a.most → count_at a v ≤ a.most) → StayWatched a b
+  watched_kept most same few_then = record {
+    first = first;
+    sized = count_sized;
+    most = most;
+    still = λ u there. ap (has_number u) same ∙ there;
+    inside = λ u there. inl (sym (ap (has_number u) same) ∙ there);
+    fell = λ u from few. elim (cases_eq u v) [
+      | inl e ↦ inl (rw e (few_then (omega (arith, rw e at few, count_here))))
+      | inr ne ↦ inl (omega (arith, few, count_other u from ne))
+    ];
+  }
+
+-- each of the first i of the list counted one less
+pub record IsLess (a b : Watch) (xs : List ℕ) (i : ℕ) : Type 0 where
+  pub watched : StayWatched a b
+  pub less : (v : ℕ) → a.first ≤ v → count_at b v + times v (take i xs) ≡ count_at a v
+
+pub less_first : (a : Watch) (xs : List ℕ) → IsLess a a xs 0
+less_first a xs = record { watched = watched_same a; less = λ v from. omega arith }
+
+module _ (a b : Watch) (xs : List ℕ) (i : ℕ) (at : i < length xs) (held : (v : ℕ) → has_number v xs ≡ true → IsHeld a v) (enough : (v : ℕ) → times v xs ≤ count_at a v) (s : IsLess a b xs i) where
+  was : IsHeld a (get_or xs i 0)
+  was = held (get_or xs i 0) (has_number_at (get_or xs i 0) xs i at refl)
+
+  pub less_held : IsHeld b (get_or xs i 0)
+  less_held = record { from = omega (arith, was.from, s.watched.first); below = omega (arith, was.below, s.watched.first, s.watched.sized) }
+
+  one : times (get_or xs i 0) (take (i + 1) xs) ≡ times (get_or xs i 0) (take i xs) + 1
+  one = times_more (get_or xs i 0) i xs at ∙ grind (arith, nat_tests)
+
+  pub less_some : 1 ≤ count_at b (get_or xs i 0)
+  less_some = omega (arith, s.less (get_or xs i 0) was.from, one, times_part (get_or xs i 0) (i + 1) xs, enough (get_or xs i 0))
+
+  pub less_on : (c : Watch) → c.first ≡ b.first → c.counts ≡ set b.counts (get_or xs i 0 - b.first) (count_at b (get_or xs i 0) - 1) → StayWatched b c → IsLess a c xs (i + 1)
+  less_on c first is t = record {
+    watched = watched_on a b c s.watched t;
+    less = λ v from. elim (cases_eq v (get_or xs i 0)) [
+      | inl e ↦ rw e (omega (arith, count_here b c (get_or xs i 0) (count_at b (get_or xs i 0) - 1) less_held first is, less_some, one, s.less (get_or xs i 0) was.from))
+      | inr ne ↦ omega (arith, count_other b c (get_or xs i 0) (count_at b (get_or xs i 0) - 1) less_held first is v (omega (arith, from, s.watched.first)) ne, s.less v from, none v ne)
+    ];
+  }
+    where
+      none : (v : ℕ) → v ≢ get_or xs i 0 → times v (take (i + 1) xs) ≡ times v (take i xs)
+      none v ne = times_more v i xs at ∙ grind (arith, nat_tests, ne)
 
 -- one more of the vertices was looked at
-pub few_yes : (c d xs : List ℕ) (most i : ℕ) → i < length xs → get_or c (get_or xs i 0) 0 ≤ most → d ≡ filter (is_few c most) (take i xs) → d ++ get_or xs i 0 ∷ [] ≡ filter (is_few c most) (take (i + 1) xs)
-few_yes c d xs most i at few is =
-    let pass : is_few c most (get_or xs i 0) ≡ true = grind (arith, nat_tests, few) in
-    ap (λ t. t ++ get_or xs i 0 ∷ []) is ∙ ap (λ b. filter (is_few c most) (take i xs) ++ cond b (get_or xs i 0 ∷ []) []) (sym pass) ∙ sym (filter_more (is_few c most) xs i 0 at)
+pub few_yes : (w : Watch) (d xs : List ℕ) (most i : ℕ) → i < length xs → count_at w (get_or xs i 0) ≤ most → d ≡ filter (is_few w most) (take i xs) → d ++ get_or xs i 0 ∷ [] ≡ filter (is_few w most) (take (i + 1) xs)
+few_yes w d xs most i at few is =
+    let pass : is_few w most (get_or xs i 0) ≡ true = grind (arith, nat_tests, few) in
+    ap (λ t. t ++ get_or xs i 0 ∷ []) is ∙ ap (λ b. filter (is_few w most) (take i xs) ++ cond b (get_or xs i 0 ∷ []) []) (sym pass) ∙ sym (filter_more (is_few w most) xs i 0 at)
 
-pub few_no : (c d xs : List ℕ) (most i : ℕ) → i < length xs → most < get_or c (get_or xs i 0) 0 → d ≡ filter (is_few c most) (take i xs) → d ≡ filter (is_few c most) (take (i + 1) xs)
-few_no c d xs most i at many is =
-    let fail : is_few c most (get_or xs i 0) ≡ false = grind (arith, nat_tests, many) in
-    is ∙ sym (append-nil (filter (is_few c most) (take i xs))) ∙ ap (λ b. filter (is_few c most) (take i xs) ++ cond b (get_or xs i 0 ∷ []) []) (sym fail) ∙ sym (filter_more (is_few c most) xs i 0 at)
+pub few_no : (w : Watch) (d xs : List ℕ) (most i : ℕ) → i < length xs → most < count_at w (get_or xs i 0) → d ≡ filter (is_few w most) (take i xs) → d ≡ filter (is_few w most) (take (i + 1) xs)
+few_no w d xs most i at many is =
+    let fail : is_few w most (get_or xs i 0) ≡ false = grind (arith, nat_tests, many) in
+    is ∙ sym (append-nil (filter (is_few w most) (take i xs))) ∙ ap (λ b. filter (is_few w most) (take i xs) ++ cond b (get_or xs i 0 ∷ []) []) (sym fail) ∙ sym (filter_more (is_few w most) xs i 0 at)

@@ -1,3 +1,4 @@
 pub mod Effort
+pub mod Ranges
 pub mod Working
 pub mod private

@@ -1,9 +1,14 @@
 -- Words of private contracts and loop invariants: no public contract needs them.
-pub mod BucketQueue
-pub mod Counting
+pub mod Crossing
+pub mod Filed
+pub mod LevelStep
 pub mod Meetings
+pub mod Parts
+pub mod Phase
+pub mod Ranges
 pub mod Rising
 pub mod Round
+pub mod Sharing
 pub mod Sweeping
-pub mod Together
+pub mod Telling
 pub mod Watched

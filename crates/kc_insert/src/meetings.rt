@@ -1,8 +1,10 @@
-//! A meeting: a vertex that rises and a neighbour above it, which are looked at when the sweep comes to the neighbour's level.
+//! A meeting: a vertex that rises and a neighbour above it. The sweep looks at both when it is at the neighbour's
+//! level.
 
 use std::marker::Model;
 
-/// A vertex that rises, and a neighbour of it that stood above it when it began to. Contracts see it as the pair of the two.
+/// A vertex that rises, and a neighbour of it that stood above it when it began to. Contracts see it as the pair of the
+/// two.
 #[derive(Clone, Copy)]
 pub struct Meeting {
     /// The vertex that rises.

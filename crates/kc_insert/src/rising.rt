@@ -1,21 +1,20 @@
-//! The levels during a sweep. All who rise are on one level, so that a step puts all of them on the next by one write.
+//! The levels during a sweep. All rising vertices are on one level, so that a step puts them on the next by one write.
 
 ghost use Rattle.std.specs.Prelude.{◌≡◌, ◌<◌, ◌==◌, ◌&&◌, ◌||◌, ℕ, true, List, not, length, slice_index, slice_set};
 ghost use Rattle.kc_graph.specs.Numbers.{has_number};
-ghost use Rattle.kc_insert.specs.private.Rising.{rises, seen};
-ghost use Rattle.kc_insert.specs.private.Sweeping.{all_at};
+ghost use Rattle.kc_insert.specs.private.Rising.{all_at, rises, seen};
 
 use kc_levels::Levels;
 
-// What stands in the list for the level of who rises. A level is always less.
-const RISING: u16 = 65_535;
+/// What stands in the list for the level of a rising vertex. A level is always less.
+pub(crate) const RISING: u16 = 65_535;
 
-/// The levels during a sweep, and who rises with it: contracts speak of `seen` and `rises`.
+/// The levels during a sweep, and which vertices rise: contracts speak of `seen` and `rises`.
 #[derive(Drop)]
 pub struct RisingLevels {
-    /// The level of each vertex that doesn't rise, and 65,535 for who does.
+    /// The level of each vertex that doesn't rise, and 65,535 for each that does.
     pub stored: Levels,
-    /// The level that the sweep is at, on which all are who rise.
+    /// The level that the sweep is at, on which all rising vertices are.
     pub level: u16,
 }
 
@@ -59,7 +58,7 @@ impl RisingLevels {
         self.stored.set(v, level);
     }
 
-    /// The sweep goes to the level, and all who rise are on it.
+    /// The sweep goes to the level, and all rising vertices are on it.
     pub fn go_to(&mut self, level: u16)
         ensures level { self.new.level ≡ level }
         ensures seen { (risers : List ℕ) → ((v : ℕ) → rises self.old v ≡ has_number v risers) → seen self.new ≡ all_at (seen self.old) risers level }

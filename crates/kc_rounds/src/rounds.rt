@@ -1,19 +1,13 @@
 //! How many workers share a list: all of them in a first round, one or a few if a later list is short.
 ghost use Rattle.std.specs.Prelude.{◌≡◌, ◌≤◌, ◌<◌, All, IfOk, filter};
-ghost use Rattle.kc_rounds.specs.Gathering.{AreGathered};
 
-use crate::gathering::gather_round;
-use crate::{Gate, Gathered, RoundGather, RoundTest, filter_round};
+use crate::{Gate, RoundTest, filter_round};
 use std::alloc::{AllocError, Global};
 use std::thread::Threads;
 
 // The least number of tests of a piece, except in a first round: a thread costs as much as some tens of thousands of
 // tests.
 const LEAST_TESTS: usize = 131_072;
-
-// The least number of vertices of a piece that is gathered: each costs a pass over its neighbours, far more than a
-// test.
-const LEAST_GATHERED: usize = 2_048;
 
 /// Whether a first round is still to come.
 ///
@@ -35,8 +29,8 @@ impl FirstRound {
 /// The workers that rounds may use, and the gate that they call.
 ///
 /// A first round goes to all workers: `filter_round` cuts it into as many pieces, or fewer if there are few candidates.
-/// In later rounds and in gathering, a short list goes to fewer workers, down to one: a thread would cost more than its
-/// share. No answer depends on it.
+/// In later rounds a short list goes to fewer workers, down to one: a thread would cost more than its share. No answer
+/// depends on it.
 #[derive(Drop)]
 pub struct Rounds<'a, R, G> {
     // Starts the threads.
@@ -111,22 +105,5 @@ impl<'a, R: Threads + Sync, G: Gate + Sync> Rounds<'a, R, G> {
         };
         first.is_ahead = first.is_ahead && candidates.is_empty();
         filter_round(self.rt, self.alloc, self.gate, workers, candidates, test)
-    }
-
-    /// Returns what is gathered at each vertex, in order (`AreGathered`). No gate is called. Fails only if memory runs
-    /// out.
-    ///
-    /// There are no more pieces than workers, and no more than full 2,048s in the list. So fewer than 4,096 vertices go
-    /// to one worker.
-    pub fn gather<F: RoundGather + Sync>(
-        &self,
-        vertices: &[u32],
-        what: &F,
-    ) -> Result<Gathered, AllocError>
-        requires { All (F.may_gather what.now) vertices.now }
-        ensures { IfOk result (AreGathered (F.number what.now) (F.finds what.now) vertices.now) }
-    {
-        let workers = workers_for(self.workers, vertices.len(), LEAST_GATHERED);
-        gather_round(self.rt, self.alloc, workers, vertices, what)
     }
 }

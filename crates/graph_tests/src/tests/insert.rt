@@ -10,7 +10,7 @@ use super::plainly::{are_moves, count_of, settle_plainly};
 use super::support;
 use kc_adj::{LevelAdj, Steps};
 use kc_graph::{MAX_EDGES, MAX_VERTICES};
-use kc_insert::{InsertionWork, insert_phase, insert_rounds};
+use kc_insert::{InsertionWork, Layout, insert_phase, insert_rounds};
 use kc_levels::{Moves, Profile, Thresholds, check_upper};
 use kc_rounds::{Gate, OpenGate, Rounds};
 use std::alloc::Global;
@@ -67,35 +67,51 @@ fn come_in_once<R: Threads + Sync + Abort, G: Gate + Sync, L: Ledger>(
     moves
 }
 
-// Does what `come_in` does, with a counter of its own.
+// Does what `come_in` does, with a workspace that is ready and a counter of its own.
 fn come_in_counted<R: Threads + Sync + Abort, G: Gate + Sync, L: Ledger>(
-    rt: &R,
+    rounds: &Rounds<R, G>,
     alloc: Global,
     blank: Blank,
-    gate: &G,
-    workers: u32,
     th: &Thresholds,
     adj: &mut LevelAdj,
+    work: &mut InsertionWork,
     batches: &[&[(u32, u32)]],
 )
     requires scale { th.now.vertices ≡ adj.old.graph.vertices }
+    requires ready { IsReady th.now.profile adj.old work.old }
     requires name { blank.name ≡ L.name }
     requires parts { blank.parts ≡ L.parts }
     requires some { 0 < L.parts }
 {
-    assert!(rt; 1 <= workers && workers <= 64);
-    let rounds = Rounds::new(rt, alloc, gate, workers);
+    let rt = rounds.runtime();
     let n = adj.graph().vertices();
-    let mut work = InsertionWork::new(alloc, th, adj).expect(rt, "memory");
     let mut steps = Steps::<L>::new(blank);
     let mut plain = adj.levels().as_slice().to_vec(alloc).expect(rt, "memory");
     for batch in batches {
-        let moves = come_in_once(&rounds, alloc, th, adj, &mut work, batch, &mut steps);
+        let moves = come_in_once(rounds, alloc, th, adj, work, batch, &mut steps);
         let before = plain.as_slice().to_vec(alloc).expect(rt, "memory");
         settle_plainly(rt, alloc, adj.graph(), th, true, &mut plain);
         assert!(rt; adj.levels().as_slice() == plain.as_slice());
         assert!(rt; are_moves(moves.as_slice(), n, &before, &plain));
     }
+}
+
+// Does what `come_in` does, with the vertices cut as by this layout.
+fn come_in_cut<R: Threads + Sync + Abort, G: Gate + Sync>(
+    rt: &R,
+    alloc: Global,
+    gate: &G,
+    workers: u32,
+    layout: Layout,
+    adj: &mut LevelAdj,
+    batches: &[&[(u32, u32)]],
+) {
+    assert!(rt; 1 <= workers && workers <= 64);
+    let th = Thresholds::new(alloc, Profile::One, adj.graph().vertices()).expect(rt, "memory");
+    let mut work = InsertionWork::with_layout(alloc, &th, adj, layout).expect(rt, "memory");
+    let rounds = Rounds::new(rt, alloc, gate, workers);
+    let blank = Blank::new(1);
+    come_in_counted::<R, G, Brand>(&rounds, alloc, blank, &th, adj, &mut work, batches);
 }
 
 // Lets batches come in one after another, by 1 to 64 workers with one workspace. Each gives the levels of the plain
@@ -108,9 +124,8 @@ pub fn come_in<R: Threads + Sync + Abort, G: Gate + Sync>(
     adj: &mut LevelAdj,
     batches: &[&[(u32, u32)]],
 ) {
-    let th = Thresholds::new(alloc, Profile::One, adj.graph().vertices()).expect(rt, "memory");
-    let blank = Blank::new(1);
-    come_in_counted::<R, G, Brand>(rt, alloc, blank, gate, workers, &th, adj, batches);
+    let layout = Layout::of(adj.graph().vertices());
+    come_in_cut(rt, alloc, gate, workers, layout, adj, batches);
 }
 
 // Checks a phase with a workspace of its own. It begins with the graph without edges, on as many vertices as `want` has
@@ -234,6 +249,35 @@ fn batches_rise_as_by_recounting(rt: HostRuntime) {
             let mut adj = empty(&rt, rt.alloc(), n);
             let batches = batches.parts();
             come_in(&rt, rt.alloc(), &OpenGate, workers, &mut adj, &batches);
+        }
+    }
+}
+
+// Ranges of 1, 2 and 8 vertices, and from how many vertices on threads share a pass.
+const LAYOUTS: [(u32, usize); 4] = [(0, 9), (1, 5), (3, 1), (3, 5)];
+
+#[test]
+fn ranges_rise_as_by_recounting(rt: HostRuntime) {
+    let mut random = Random::new(2);
+    for round in 0..2u32 {
+        for (bits, least_shared) in LAYOUTS {
+            let n = 8 + random.below(16);
+            let pairs = drawn_pairs(&rt, rt.alloc(), &mut random, n, 1 + round, n);
+            let batches = dealt(&rt, rt.alloc(), &mut random, &pairs, 3);
+            for workers in WORKERS {
+                let layout = Layout::new(bits, least_shared);
+                let mut adj = empty(&rt, rt.alloc(), n);
+                let batches = batches.parts();
+                come_in_cut(
+                    &rt,
+                    rt.alloc(),
+                    &OpenGate,
+                    workers,
+                    layout,
+                    &mut adj,
+                    &batches,
+                );
+            }
         }
     }
 }

@@ -32,8 +32,6 @@ pub use Rattle.kc_graph.proofs.NumberLemmas.{rises_at_least}
 pub use Rattle.kc_graph.proofs.NumberLemmas.{rises_from_put}
 -- a number of an ascending list is at most each one after it
 pub use Rattle.kc_graph.proofs.NumberLemmas.{rises_in_order}
--- an ascending list rises from each lesser number too
-pub use Rattle.kc_graph.proofs.NumberLemmas.{rises_weaker}
 -- the numbers of an ascending list that pass a test are ascending
 pub use Rattle.kc_graph.proofs.MergeLemmas.{rises_filter}
 -- ascending lists of the same numbers are the same

@@ -1,7 +1,7 @@
 -- Risers and the neighbours above them that they meet on their way up.
 --
--- In a sweep from level to level the vertices of x rise to y. A riser v and a neighbour w that stood above it meet on the level
--- of w: there v begins to count for w, and w counts no more for v when v goes on and w stays.
+-- In a sweep from level to level the vertices of x rise to y. A riser v and a neighbour w that stood above it meet on
+-- the level of w. There w begins to count v. If v goes on and w stays, v counts w no more.
 use Rattle.std.specs.Prelude.{ℕ, ◌≤◌, ◌<◌, ◌≡◌, true, false, Bool, List, [], ◌∷◌, get_or}
 use Rattle.kc_graph.specs.Numbers.{has_number}
 use Rattle.kc_graph.specs.Shape.{GraphShape, Pair, neighbours_of, has_edge}
@@ -16,9 +16,3 @@ pub record IsMeeting (g : GraphShape) (x : List ℕ) (k v w : ℕ) : Type 0 wher
   pub near : has_number w (neighbours_of v g.edges) ≡ true
   pub level : get_or x w 0 ≡ k
   pub below : get_or x v 0 < k
-
--- from level l on the lists hold each meeting of those who rise once, and nothing else
-pub record AreMeetings (g : GraphShape) (x : List ℕ) (l : ℕ) (rises : ℕ → Bool) (meetings : List (List Pair)) : Type 0 where
-  pub only : (k v w : ℕ) → l ≤ k → has_edge (v, w) (get_or meetings k []) ≡ true → (rises v ≡ true) × IsMeeting g x k v w
-  pub once : (k : ℕ) → AreApart (get_or meetings k [])
-  pub each : (k v w : ℕ) → l ≤ k → rises v ≡ true → IsMeeting g x k v w → has_edge (v, w) (get_or meetings k []) ≡ true

@@ -1,6 +1,6 @@
 -- Which vertices of a level have to rise.
-use Rattle.std.specs.Prelude.{ℕ, nat_lt, Bool, List, get_or}
+use Rattle.std.specs.Prelude.{ℕ, nat_lt, Bool}
 
--- whether the count of v is above `most`
-abbrev pub is_over : List ℕ → ℕ → ℕ → Bool
-is_over counts most v = nat_lt most (get_or counts v 0)
+-- whether v counts more than `most`
+abbrev pub is_over : (ℕ → ℕ) → ℕ → ℕ → Bool
+is_over count most v = nat_lt most (count v)

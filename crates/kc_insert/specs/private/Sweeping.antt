@@ -1,87 +1,110 @@
 -- How far a sweep has come, level by level.
-use Rattle.std.specs.Prelude.{ℕ, ◌+◌, ◌≤◌, ◌<◌, ◌≡◌, ◌⊎◌, ◌&&◌, not, true, List, [], ◌∷◌, length, get_or, set, filter}
+--
+-- A sweep that began with the levels x is at one level, on which all rising vertices are. Below it no vertex breaks the
+-- upper invariant. On it and above, each vertex that doesn't rise stands where it stood in x.
+use Rattle.std.specs.Prelude.{ℕ, ◌+◌, ◌≤◌, ◌<◌, ◌≡◌, ◌⊎◌, true, false, List, [], length, get_or, filter}
 use Rattle.kc_graph.specs.Numbers.{has_number}
-use Rattle.kc_graph.specs.Shape.{GraphShape, Pair}
+use Rattle.kc_graph.specs.Shape.{GraphShape, Pair, has_edge}
 use Rattle.kc_levels.specs.declared.profile.Profile.{Profile}
-use Rattle.kc_levels.specs.Thresholds.{top_level}
-use Rattle.kc_levels.specs.Moved.{is_moved}
-use Rattle.kc_levels.specs.LevelList.{MeetsUpper, IsBelow, IsCapped}
-use Rattle.kc_levels.specs.private.LevelList.{IsRaising}
-use Rattle.kc_adj.specs.LeveledGraph.{IsCounted}
-use Rattle.kc_insert.specs.Effort.{effort}
 use Rattle.kc_levels.specs.Following.{AreDistinct}
-use Rattle.kc_insert.specs.private.Meetings.{AreMeetings}
+use Rattle.kc_levels.specs.LevelList.{at_least, IsCapped, MeetsUpper}
+use Rattle.kc_levels.specs.Moved.{is_moved}
+use Rattle.kc_levels.specs.private.LevelList.{IsRaising}
 use Rattle.kc_adj.specs.Degrees.{degrees}
-use Rattle.kc_insert.specs.private.Counting.{AreWaiting}
-use Rattle.kc_insert.specs.private.Rising.{rises, seen}
+use Rattle.kc_insert.specs.Effort.{effort}
 use Rattle.kc_insert.specs.declared.rising.RisingLevels.{RisingLevels}
-use Rattle.kc_insert.specs.declared.sweeping.Sweep.{Sweep}
-use Rattle.kc_insert.specs.declared.watched.WatchedCounts.{WatchedCounts}
+use Rattle.kc_insert.specs.private.Meetings.{AreApart, IsMeeting}
+use Rattle.kc_insert.specs.private.Ranges.{count_of}
+use Rattle.kc_insert.specs.Ranges.{all_began, all_risen, Cut, meets, waits}
+use Rattle.kc_insert.specs.private.Rising.{all_at, rises, seen}
 
--- the list with those of `risers` on the level k
-abbrev pub all_at : List ℕ → List ℕ → ℕ → List ℕ
-all_at y [] k = y
-all_at y (v ∷ vs) k = all_at (set y v k) vs k
-
--- what contracts see of a `Sweep`: the level that it is at; the levels by now, and how many neighbours each vertex counts; those who
--- came to the level of the sweep, and all who rose; those who wait, and the meetings to come, by level
+-- A sweep on its way: the level that it is at, the levels by now, and the count of each vertex. `rising` has the
+-- vertices that rise, and `risen` all that rose. `waits` gives the vertices that wait on a level, and `meets` the
+-- meetings there.
 pub record Sweeping : Type 0 where
   pub level : ℕ
   pub levels : List ℕ
-  pub counts : List ℕ
+  pub count : ℕ → ℕ
   pub rising : List ℕ
   pub risen : List ℕ
-  pub queue : List (List ℕ)
-  pub meetings : List (List Pair)
+  pub waits : ℕ → List ℕ
+  pub meets : ℕ → List Pair
 
--- what a `Sweep` stands for: who rises is among those who began
-abbrev pub sweeping_of : Sweep → Sweeping
-sweeping_of s = record { level = s.levels.level; levels = seen s.levels; counts = s.counted.watched.counts.items; rising = filter (rises s.levels) s.began.items; risen = s.risen.items; queue = s.counted.queue; meetings = s.meetings }
+-- the sweep that levels and ranges stand for
+abbrev pub sweeping_of : RisingLevels → Cut → Sweeping
+sweeping_of s r = record { level = s.level; levels = seen s; count = count_of r; rising = filter (rises s) (all_began r); risen = all_risen r; waits = waits r; meets = meets r }
 
--- how a `Sweep` keeps who rises: all of them began, all who began rose, and who rises and counts few is written down
-pub record AreKept (s : Sweep) : Type 0 where
-  pub began : (v : ℕ) → rises s.levels v ≡ true → has_number v s.began.items ≡ true
-  pub risen : (v : ℕ) → has_number v s.began.items ≡ true → has_number v s.risen.items ≡ true
-  pub few : (v : ℕ) → rises s.levels v ≡ true → get_or s.counted.watched.counts.items v 0 ≤ s.counted.watched.most → has_number v s.counted.watched.doubtful.items ≡ true
-  pub inside : (v : ℕ) → has_number v s.counted.watched.doubtful.items ≡ true → v < length s.counted.watched.counts.items
+-- each vertex counts its neighbours on its level or above
+abbrev pub AreCounted : GraphShape → List ℕ → (ℕ → ℕ) → Type 0
+AreCounted g y count = (v : ℕ) → v < g.vertices → count v ≡ at_least g y v (get_or y v 0)
 
--- those in the list, each once, rise no more, since they count few; of those written down who still rises counts more
-pub record LetStay (old : RisingLevels) (watched : WatchedCounts) (new : RisingLevels) (stay : List ℕ) : Type 0 where
-  pub rises_on : (v : ℕ) → rises new v ≡ (rises old v && not (has_number v stay))
-  pub stays : (v : ℕ) → has_number v stay ≡ true → (rises old v ≡ true) × (get_or watched.counts.items v 0 ≤ watched.most)
-  pub over : (v : ℕ) → has_number v watched.doubtful.items ≡ true → rises new v ≡ true → watched.most < get_or watched.counts.items v 0
-  pub distinct : AreDistinct stay
+-- v rises, or waits on its level, which is that of the sweep or above
+abbrev pub IsAwaited : Sweeping → ℕ → Type 0
+IsAwaited s v = (has_number v s.rising ≡ true) ⊎ ((s.level ≤ get_or s.levels v 0) × (has_number v (s.waits (get_or s.levels v 0)) ≡ true))
 
--- v waits on its level, which is that of the sweep or above, or came to the sweep's level, or meets the upper invariant; x are the
--- levels on which the vertices are put
-abbrev pub IsFound : Profile → GraphShape → List ℕ → Sweeping → ℕ → Type 0
-IsFound p g x sweep v = MeetsUpper p g sweep.levels v ⊎ ((get_or sweep.levels v 0 ≡ sweep.level) × (has_number v sweep.rising ≡ true)) ⊎ ((sweep.level ≤ get_or sweep.levels v 0) × (get_or sweep.levels v 0 ≡ get_or x v 0) × (has_number v (get_or sweep.queue (get_or sweep.levels v 0) []) ≡ true))
-
--- a sweep on its way; x are the levels on which the vertices are put, where those who are still rising stand on their old ones
-pub record IsSweeping (p : Profile) (g : GraphShape) (x : List ℕ) (sweep : Sweeping) : Type 0 where
+-- The levels lie between x and each list that is raisable from it. On the level of the sweep or above, only rising
+-- vertices have moved.
+pub record IsPlaced (p : Profile) (g : GraphShape) (x : List ℕ) (s : Sweeping) : Type 0 where
   pub start : length x ≡ g.vertices
-  pub sized : length sweep.levels ≡ g.vertices
-  pub under : IsBelow g.vertices x sweep.levels
-  pub capped : IsCapped p g.vertices sweep.levels
-  pub counted : IsCounted g sweep.levels 0 sweep.counts
-  pub still : (v : ℕ) → sweep.level < get_or sweep.levels v 0 → get_or sweep.levels v 0 ≡ get_or x v 0
-  pub settled : (v : ℕ) → get_or sweep.levels v 0 < sweep.level → get_or sweep.levels v 0 ≡ get_or x v 0
-  pub came : (v : ℕ) → has_number v sweep.rising ≡ true → (v < g.vertices) × (get_or sweep.levels v 0 ≡ sweep.level) × (get_or x v 0 < sweep.level)
-  pub all : (v : ℕ) → get_or sweep.levels v 0 ≡ sweep.level → get_or x v 0 < sweep.level → has_number v sweep.rising ≡ true
-  pub distinct : AreDistinct sweep.rising
-  pub risen_in : (v : ℕ) → has_number v sweep.risen ≡ true → (v < g.vertices) × (get_or x v 0 < sweep.level)
-  pub risen_all : (v : ℕ) → get_or x v 0 < get_or sweep.levels v 0 → has_number v sweep.risen ≡ true
-  pub once : AreDistinct sweep.risen
-  pub buckets : length sweep.queue ≡ top_level p g.vertices + 1
-  pub waiting : AreWaiting g.vertices x sweep.level sweep.queue
-  pub found : (v : ℕ) → v < g.vertices → IsFound p g x sweep v
-  pub places : length sweep.meetings ≡ top_level p g.vertices + 1
-  pub meet : AreMeetings g x sweep.level (λ v. has_number v sweep.risen) sweep.meetings
+  pub raising : IsRaising p g x s.levels
+  pub stood : (v : ℕ) → s.level ≤ get_or s.levels v 0 → has_number v s.rising ≡ false → get_or s.levels v 0 ≡ get_or x v 0
 
--- what a sweep that began with the list x0 has come to, where the vertices are put on the levels x: each vertex is put on its old
--- level, or on its new one below that of the sweep; s steps were counted before the sweep and t by now
-pub record HaveCome (p : Profile) (g : GraphShape) (x0 x : List ℕ) (sweep : Sweeping) (s t : ℕ) : Type 0 where
-  pub raising : IsRaising p g x0 sweep.levels
-  pub either : (v : ℕ) → (get_or x v 0 ≡ get_or x0 v 0) ⊎ ((get_or x0 v 0 < get_or x v 0) × (get_or x v 0 ≡ get_or sweep.levels v 0) × (get_or sweep.levels v 0 < sweep.level))
-  pub moved : (v : ℕ) → has_number v sweep.risen ≡ is_moved x0 sweep.levels v
-  pub cost : t + (degrees g sweep.rising + (degrees g sweep.risen + length sweep.risen)) ≤ s + effort g x0 sweep.levels g.vertices
+-- the vertices that rise are on the level of the sweep, and stood below; the vertices that rose are those that moved
+pub record AreRising (g : GraphShape) (x : List ℕ) (s : Sweeping) : Type 0 where
+  pub came : (v : ℕ) → has_number v s.rising ≡ true → (v < g.vertices) × (get_or s.levels v 0 ≡ s.level) × (get_or x v 0 < s.level)
+  pub distinct : AreDistinct s.rising
+  pub moved : (v : ℕ) → has_number v s.risen ≡ is_moved x s.levels v
+  pub once : AreDistinct s.risen
+
+-- From the level of the sweep on, vertices wait where they stood, and the meetings are those of the vertices that rose,
+-- each once. A vertex that neither rises nor waits meets the upper invariant.
+pub record AreAwaited (p : Profile) (g : GraphShape) (x : List ℕ) (s : Sweeping) : Type 0 where
+  pub counted : AreCounted g s.levels s.count
+  pub waiting : (k v : ℕ) → s.level ≤ k → has_number v (s.waits k) ≡ true → (v < g.vertices) × (get_or x v 0 ≡ k)
+  pub found : (v : ℕ) → v < g.vertices → MeetsUpper p g s.levels v ⊎ IsAwaited s v
+  pub met : (k v w : ℕ) → s.level ≤ k → has_edge (v, w) (s.meets k) ≡ true → (has_number v s.risen ≡ true) × IsMeeting g x k v w
+  pub each : (k v w : ℕ) → s.level ≤ k → has_number v s.risen ≡ true → IsMeeting g x k v w → has_edge (v, w) (s.meets k) ≡ true
+  pub apart : (k : ℕ) → s.level ≤ k → AreApart (s.meets k)
+
+-- a sweep that began with the levels x
+pub record IsSweeping (p : Profile) (g : GraphShape) (x : List ℕ) (s : Sweeping) : Type 0 where
+  pub placed : IsPlaced p g x s
+  pub rise : AreRising g x s
+  pub awaited : AreAwaited p g x s
+
+-- Enough steps are left for the passes to come: one over the neighbours of each rising vertex, for when it stays. Each
+-- vertex that rose costs another pass and one step more, for when it is lifted in the graph.
+abbrev pub IsPaid : GraphShape → List ℕ → Sweeping → ℕ → ℕ → Type 0
+IsPaid g x s first now = now + (degrees g s.rising + (degrees g s.risen + length s.risen)) ≤ first + effort g x s.levels g.vertices
+
+-- each vertex that waits is on its level by x, and each that doesn't meets the upper invariant
+pub record IsQueued (p : Profile) (g : GraphShape) (x : List ℕ) (waits : ℕ → List ℕ) : Type 0 where
+  pub waiting : (k v : ℕ) → has_number v (waits k) ≡ true → (v < g.vertices) × (get_or x v 0 ≡ k)
+  pub found : (v : ℕ) → v < g.vertices → (has_number v (waits (get_or x v 0)) ≡ true) ⊎ MeetsUpper p g x v
+
+-- a sweep that begins with the levels x
+pub record IsFirst (p : Profile) (g : GraphShape) (x : List ℕ) (s : Sweeping) : Type 0 where
+  pub sized : length x ≡ g.vertices
+  pub capped : IsCapped p g.vertices x
+  pub levels : s.levels ≡ x
+  pub counted : AreCounted g x s.count
+  pub queued : IsQueued p g x s.waits
+  pub none : (s.rising ≡ []) × (s.risen ≡ []) × ((k : ℕ) → s.meets k ≡ [])
+
+-- no vertex waits on the levels from l to k - 1, and none is to be met on those and on k
+pub record IsFree (l k : ℕ) (waits : ℕ → List ℕ) (meets : ℕ → List Pair) : Type 0 where
+  pub none_waits : (j : ℕ) → l ≤ j → j < k → waits j ≡ []
+  pub none_meets : (j : ℕ) → l ≤ j → j ≤ k → meets j ≡ []
+
+-- the sweep at the level k, with all rising vertices
+abbrev pub together : Sweeping → ℕ → Sweeping
+together s k = record s { level = k; levels = all_at s.levels s.rising k }
+
+-- two states of a sweep that are the same to each test
+pub record IsSame (s t : Sweeping) : Type 0 where
+  pub level : t.level ≡ s.level
+  pub levels : t.levels ≡ s.levels
+  pub count : (v : ℕ) → t.count v ≡ s.count v
+  pub lists : (t.rising ≡ s.rising) × (t.risen ≡ s.risen)
+  pub waits : (k : ℕ) → t.waits k ≡ s.waits k
+  pub meets : (k : ℕ) → t.meets k ≡ s.meets k

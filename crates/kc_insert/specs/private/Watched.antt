@@ -1,16 +1,22 @@
--- Counts where whoever comes to count few is written down.
-use Rattle.std.specs.Prelude.{ℕ, ◌≤◌, ◌<◌, ◌≡◌, ◌⊎◌, nat_le, Bool, true, List, length, get_or}
+-- Counts of a range, with a watch list of the vertices whose count came to the limit.
+use Rattle.std.specs.Prelude.{ℕ, ◌-◌, ◌≤◌, ◌≡◌, ◌⊎◌, nat_le, Bool, true, length, get_or}
 use Rattle.kc_graph.specs.Numbers.{has_number}
-use Rattle.kc_insert.specs.declared.watched.WatchedCounts.{WatchedCounts}
+use Rattle.kc_insert.specs.Ranges.{IsHeld, Watch}
+
+-- how many neighbours v counts
+abbrev pub count_at : Watch → ℕ → ℕ
+count_at w v = get_or w.counts (v - w.first) 0
 
 -- v counts at most `most`
-abbrev pub is_few : List ℕ → ℕ → ℕ → Bool
-is_few counts most v = nat_le (get_or counts v 0) most
+abbrev pub is_few : Watch → ℕ → ℕ → Bool
+is_few w most v = nat_le (count_at w v) most
 
--- what is few is as before, and the list has all whom it had and whoever came to count few
-pub record StayWatched (old new : WatchedCounts) : Type 0 where
-  pub sized : length new.counts.items ≡ length old.counts.items
+-- the vertices and the limit are as before. The watch list has all that it had, and each vertex whose count became the
+-- limit.
+pub record StayWatched (old new : Watch) : Type 0 where
+  pub first : new.first ≡ old.first
+  pub sized : length new.counts ≡ length old.counts
   pub most : new.most ≡ old.most
-  pub still : (v : ℕ) → has_number v old.doubtful.items ≡ true → has_number v new.doubtful.items ≡ true
-  pub inside : (v : ℕ) → has_number v new.doubtful.items ≡ true → (has_number v old.doubtful.items ≡ true) ⊎ (v < length old.counts.items)
-  pub fell : (v : ℕ) → get_or new.counts.items v 0 ≤ old.most → (get_or old.counts.items v 0 ≤ old.most) ⊎ (has_number v new.doubtful.items ≡ true)
+  pub still : (v : ℕ) → has_number v old.doubtful ≡ true → has_number v new.doubtful ≡ true
+  pub inside : (v : ℕ) → has_number v new.doubtful ≡ true → (has_number v old.doubtful ≡ true) ⊎ IsHeld old v
+  pub fell : (v : ℕ) → old.first ≤ v → count_at new v ≤ old.most → (count_at old v ≤ old.most) ⊎ (has_number v new.doubtful ≡ true)

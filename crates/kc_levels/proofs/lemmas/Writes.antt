@@ -4,8 +4,6 @@
 pub use Rattle.kc_levels.proofs.Places.{changed}
 -- at first no place of the list was copied
 pub use Rattle.kc_levels.proofs.Copied.{copied_first}
--- one number more was copied
-pub use Rattle.kc_levels.proofs.Copied.{copied_one}
 -- more numbers were copied, and then more
 pub use Rattle.kc_levels.proofs.Copied.{copied_then}
 -- the places of one item more were copied

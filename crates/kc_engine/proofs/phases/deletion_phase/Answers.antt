@@ -1,4 +1,4 @@
-use Rattle.std.proofs.Common.{ℕ, ◌≡◌, false, List, length, ap, refl, sym, ◌∙◌, arith}
+use Rattle.std.proofs.Common.{ℕ, ◌≡◌, ◌<◌, false, List, length, ap, refl, sym, ◌∙◌, arith}
 use Rattle.std.proofs.lemmas.Result.{IfOk-weaker}
 use Rattle.kc_graph.specs.Shape.{GraphShape}
 use Rattle.kc_graph.proofs.lemmas.Changes.{vertices-without_edges}
@@ -16,20 +16,15 @@ use Rattle.kc_engine.proofs.phases.deletion_phase.Goals as goal
 pub returns-then-is_empty-clause-moves : goal.returns-then-is_empty-clause-moves
 returns-then-is_empty-clause-moves g c = ap (λ (p : BatchPlan). p.moves) c.empty.ensures ∙ sym (moved_same c.args.adj.now.graph.vertices c.args.adj.now.levels)
 
-pub follow-requires-clause-placed : goal.follow-requires-clause-placed
-follow-requires-clause-placed g c =
-    let same : c.delete_phase.new.adj.graph.vertices ≡ c.args.adj.now.graph.vertices = ap (λ (h : GraphShape). h.vertices) c.in_ok-moves.ensures.graph ∙ vertices-without_edges c.args.adj.now.graph c.as_slice-edges.result.now in
-    ap (λ (x : List ℕ). length x) c.requires.ready.insertion.placed ∙ c.levels-levels.ensures.sized ∙ sym same
-
 pub follow-requires-clause-levels : goal.follow-requires-clause-levels
 follow-requires-clause-levels g c =
     let same : c.delete_phase.new.adj.graph.vertices ≡ c.args.adj.now.graph.vertices = ap (λ (h : GraphShape). h.vertices) c.in_ok-moves.ensures.graph ∙ vertices-without_edges c.args.adj.now.graph c.as_slice-edges.result.now in
     ap (λ (x : List ℕ). length x) c.requires.ready.insertion.levels ∙ c.levels-levels.ensures.sized ∙ sym same
 
-pub follow-requires-clause-counts : goal.follow-requires-clause-counts
-follow-requires-clause-counts g c =
+pub follow-requires-clause-vertices : goal.follow-requires-clause-vertices
+follow-requires-clause-vertices g c =
     let same : c.delete_phase.new.adj.graph.vertices ≡ c.args.adj.now.graph.vertices = ap (λ (h : GraphShape). h.vertices) c.in_ok-moves.ensures.graph ∙ vertices-without_edges c.args.adj.now.graph c.as_slice-edges.result.now in
-    c.requires.ready.insertion.counted.sized ∙ sym same
+    λ v h. c.requires.ready.insertion.quiet.shape.vertex v (omega (arith, h, same))
 
 pub follow-requires-clause-edges : goal.follow-requires-clause-edges
 follow-requires-clause-edges g c =

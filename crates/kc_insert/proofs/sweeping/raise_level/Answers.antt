@@ -1,279 +1,165 @@
-use Rattle.std.proofs.Common.{ℕ, ◌≡◌, ◌+◌, ◌<◌, ◌++◌, ◌&&◌, ◌||◌, eqb, List, [], ap, sym, ◌∙◌, filter, get_or, length, refl, subst}
-use Rattle.std.proofs.lemmas.List.{length-set}
+-- The step of a sweep: what its calls ask, and what they leave.
+use Rattle.std.proofs.Common.{ℕ, ◌+◌, ◌<◌, ◌≡◌, true, List, get_or, filter, refl, ap, sym, subst, ◌∙◌, arith}
+use Rattle.std.proofs.lemmas.List.{get_or_default}
 use Rattle.kc_graph.specs.Numbers.{has_number}
-use Rattle.kc_graph.specs.Shape.{Pair, has_edge}
-use Rattle.kc_levels.specs.Following.{AreDistinct}
-use Rattle.kc_levels.specs.Thresholds.{high, group_of, top_level}
-use Rattle.kc_insert.specs.private.Rising.{rises, seen}
+use Rattle.kc_graph.specs.Shape.{GraphShape}
+use Rattle.kc_graph.proofs.lemmas.Numbers.{has_number_at}
+use Rattle.kc_levels.specs.declared.profile.Profile.{Profile}
+use Rattle.kc_levels.specs.Thresholds.{group_of, high, top_level}
+use Rattle.kc_insert.specs.private.LevelStep.{HasLimit, IsLevelStep}
+use Rattle.kc_insert.specs.private.Ranges.{count_of}
+use Rattle.kc_insert.specs.Ranges.{Cut, waits}
+use Rattle.kc_insert.specs.private.Rising.{seen}
 use Rattle.kc_insert.specs.private.Round.{is_over}
-use Rattle.kc_insert.specs.private.Sweeping.{all_at, IsSweeping, HaveCome}
-use Rattle.kc_insert.proofs.Climbing.{half_is, kept_on, stay_is, stepped_is}
-use Rattle.kc_insert.proofs.Efforts.{distinct_filter}
-use Rattle.kc_insert.proofs.Lifting.{length-all_at}
-use Rattle.kc_insert.proofs.Members.{placed_at, settled_all_at}
-use Rattle.kc_insert.proofs.Parting.{settled_at}
-use Rattle.kc_insert.proofs.Stepping.{step_from, long, waiting_inside, met_seen, arrived_seen, unlisted_seen, meet_here, meet_next, met_before, next_noting, next_meetings, left_meetings, begun_fresh, are_beginners, places_on, stay_inside, stay_here, stay_seen, stay_settled, stay_steps, stepped, have_come, starting_waits, still_here}
-use Rattle.kc_insert.proofs.Watching.{watched_on}
+use Rattle.kc_insert.specs.private.Sharing.{AllParted, AllRisen, CanPartAll, CanRiseAll}
+use Rattle.kc_insert.specs.private.Sweeping.{IsPaid, sweeping_of}
+use Rattle.kc_insert.proofs.RoundCalls.{call_lift, call_meetings, call_movers, call_part, call_rise, call_rise_step, call_stay, call_steps, next_order, next_paid, next_step, next_sweeping}
+use Rattle.kc_insert.proofs.RoundParts.{step_at}
 use Rattle.kc_insert.proofs.sweeping.raise_level.Goals as goal
 
-pub movers-requires-clause-asked : goal.movers-requires-clause-asked
-movers-requires-clause-asked g c κs within =
-    let s = c.requires.sweeping in
-    waiting_inside _ _ _ _ _ _ s c.deref.ensures.value c.take_all-waiting.ensures.taken
+-- the limit of the level
+limit_from : (p : Profile) (n level most group : ℕ) (r : Cut) → most ≡ high p group → group ≡ group_of p n level → HasLimit (high p (group_of p n level)) r → HasLimit most r
+limit_from p n level most group r e f limit = subst (λ m. HasLimit m r) (sym (e ∙ ap (high p) f)) limit
 
-pub let_stay-requires-clause-inside : goal.let_stay-requires-clause-inside
-let_stay-requires-clause-inside g c =
-    let s = c.requires.sweeping in
-    λ v there.
-    let low : v < length c.args.sweep.now.counted.watched.counts.items = c.requires.kept.inside v there in
-    (rw (s.sized, sym s.counted.sized) low, low)
+level_limit : (p : Profile) (n m level most group : ℕ) → most ≡ high p group → group ≡ group_of p n level → n ≡ m → most ≡ high p (group_of p m level)
+level_limit p n m level most group e f scale = rw (← scale) (e ∙ ap (high p) f)
 
-pub lift_off-requires-clause-below : goal.lift_off-requires-clause-below
-lift_off-requires-clause-below g c =
-    let s = c.requires.sweeping in
-    let l = c.in_ok-let_stay.ensures.stay in
-    let h = half_is _ _ _ c.args.sweep.now s c.requires.kept _ _ l c.go_to.new.self (c.args.sweep.now.levels.level + 1) c.go_to.ensures.seen c.in_ok-let_stay.ensures.same.1 in
-    λ v there.
-    let waits = starting_waits _ c.args.sweep.now.counted.queue c.args.sweep.now.levels.level c.args.sweep.now.counted.watched.counts.items c.args.sweep.now.counted.watched.most _ _ _ c.in_ok-starting.ensures c.deref.ensures.value c.take_all-waiting.ensures.taken c.deref-2.ensures.value v there in
-    rw (h, length-all_at, s.sized) (s.waiting.vertex c.args.sweep.now.levels.level v waits)
+-- the vertices that begin
+begin_from : (count : ℕ → ℕ) (most : ℕ) (asked taken waiting starting given : List ℕ) → given ≡ starting → starting ≡ filter (is_over count most) asked → asked ≡ taken → taken ≡ waiting → given ≡ filter (is_over count most) waiting
+begin_from count most asked taken waiting starting given e f a b = e ∙ f ∙ ap (filter (is_over count most)) (a ∙ b)
 
-pub lift_off-requires-clause-here : goal.lift_off-requires-clause-here
-lift_off-requires-clause-here g c =
-    let s = c.requires.sweeping in
-    let l = c.in_ok-let_stay.ensures.stay in
-    let h = half_is _ _ _ c.args.sweep.now s c.requires.kept _ _ l c.go_to.new.self (c.args.sweep.now.levels.level + 1) c.go_to.ensures.seen c.in_ok-let_stay.ensures.same.1 in
-    λ v there.
-    let waits = starting_waits _ c.args.sweep.now.counted.queue c.args.sweep.now.levels.level c.args.sweep.now.counted.watched.counts.items c.args.sweep.now.counted.watched.most _ _ _ c.in_ok-starting.ensures c.deref.ensures.value c.take_all-waiting.ensures.taken c.deref-2.ensures.value v there in
-    still_here _ _ _ _ _ c.args.sweep.now.counted.watched.most s h v waits
+step_from : (p : Profile) (n level most group : ℕ) (g : GraphShape) (y z : List ℕ) (c d : ℕ → ℕ) → most ≡ high p group → group ≡ group_of p n level → IsLevelStep g y z c d level most → IsLevelStep g y z c d level (high p (group_of p n level))
+step_from p n level most group g y z c d e f step = subst (λ m. IsLevelStep g y z c d level m) (e ∙ ap (high p) f) step
 
-pub leave_behind-requires-clause-sized : goal.leave_behind-requires-clause-sized
-leave_behind-requires-clause-sized g c =
-    let s = c.requires.sweeping in
-    let l = c.in_ok-let_stay.ensures.stay in
-    let h = half_is _ _ _ c.args.sweep.now s c.requires.kept _ _ l c.go_to.new.self (c.args.sweep.now.levels.level + 1) c.go_to.ensures.seen c.in_ok-let_stay.ensures.same.1 in
-    let t = step_from _ _ _ _ s c.args.sweep.now.counted.watched.most c.in_ok-begun.begun.items c.in_ok-starting.starting.items c.take_all-waiting.result.items (seen c.go_to.new.self) (seen c.lift_off.new.levels) _ _ c.in_ok-starting.ensures c.deref.ensures.value c.take_all-waiting.ensures.taken h c.in_ok-begun.ensures.levels c.in_ok-begun.ensures.same c.deref-2.ensures.value in
-    long _ _ _ _ _ _ _ _ s t
+same_bits : (a b c d : ℕ) → d ≡ c → c ≡ b → a ≡ b → a ≡ d
+same_bits a b c d e f is = is ∙ sym f ∙ sym e
 
-pub leave_behind-requires-clause-meet : goal.leave_behind-requires-clause-meet
-leave_behind-requires-clause-meet g c =
-    let s = c.requires.sweeping in
-    let l = c.in_ok-let_stay.ensures.stay in
-    let h = half_is _ _ _ c.args.sweep.now s c.requires.kept _ _ l c.go_to.new.self (c.args.sweep.now.levels.level + 1) c.go_to.ensures.seen c.in_ok-let_stay.ensures.same.1 in
-    let t = step_from _ _ _ _ s c.args.sweep.now.counted.watched.most c.in_ok-begun.begun.items c.in_ok-starting.starting.items c.take_all-waiting.result.items (seen c.go_to.new.self) (seen c.lift_off.new.levels) _ _ c.in_ok-starting.ensures c.deref.ensures.value c.take_all-waiting.ensures.taken h c.in_ok-begun.ensures.levels c.in_ok-begun.ensures.same c.deref-2.ensures.value in
-    rw (c.deref-3.ensures.value, c.take_all-met.ensures.taken) (meet_here _ _ _ _ _ _ _ _ s t)
+pub movers-requires-after_bounds : goal.movers-requires-after_bounds
+movers-requires-after_bounds g c κs within = λ i d at.
+    let most_is : c.high-most.result ≡ high c.args.th.now.profile (group_of c.args.th.now.profile c.args.graph.now.vertices c.args.sweep.now.levels.level) = level_limit c.args.th.now.profile c.args.th.now.vertices c.args.graph.now.vertices c.args.sweep.now.levels.level c.high-most.result c.group.result c.high-most.ensures.value c.group.ensures.value c.requires.scale in
+    let limit : HasLimit c.high-most.result c.args.sweep.now.ranges = limit_from c.args.th.now.profile c.args.th.now.vertices c.args.sweep.now.levels.level c.high-most.result c.group.result c.args.sweep.now.ranges c.high-most.ensures.value c.group.ensures.value c.requires.limit in
+    let room : c.args.sweep.now.levels.level < top_level c.args.th.now.profile c.args.graph.now.vertices = subst (λ n. c.args.sweep.now.levels.level < top_level c.args.th.now.profile n) c.requires.scale c.requires.room in
+    let tops : top_level c.args.th.now.profile c.args.graph.now.vertices < 65535 = subst (λ n. top_level c.args.th.now.profile n < 65535) c.requires.scale c.group.ensures.small in
+    let listed : has_number (get_or c.deref.result.now i d) (waits c.args.sweep.now.ranges c.args.sweep.now.levels.level) ≡ true = ap (has_number (get_or c.deref.result.now i d)) (sym (c.deref.ensures.value ∙ c.in_ok-waiting.ensures.waiting)) ∙ has_number_at (get_or c.deref.result.now i d) c.deref.result.now i at (get_or_default c.deref.result.now i 0 d at) in
+    call_movers c.args.th.now.profile c.args.graph.now c.requires.running.start c.args.sweep.now.levels c.args.sweep.now.ranges c.high-most.result c.requires.running.order limit c.requires.running.sweeping most_is c.vertices-n.ensures.graph c.vertices-n.ensures.small room tops c.take_waiting.new.self c.in_ok-waiting.ensures.took c.in_ok-waiting.ensures.same (get_or c.deref.result.now i d) listed
 
-pub leave_behind-requires-clause-met : goal.leave_behind-requires-clause-met
-leave_behind-requires-clause-met g c =
-    let s = c.requires.sweeping in
-    let l = c.in_ok-let_stay.ensures.stay in
-    let h = half_is _ _ _ c.args.sweep.now s c.requires.kept _ _ l c.go_to.new.self (c.args.sweep.now.levels.level + 1) c.go_to.ensures.seen c.in_ok-let_stay.ensures.same.1 in
-    let t = step_from _ _ _ _ s c.args.sweep.now.counted.watched.most c.in_ok-begun.begun.items c.in_ok-starting.starting.items c.take_all-waiting.result.items (seen c.go_to.new.self) (seen c.lift_off.new.levels) _ _ c.in_ok-starting.ensures c.deref.ensures.value c.take_all-waiting.ensures.taken h c.in_ok-begun.ensures.levels c.in_ok-begun.ensures.same c.deref-2.ensures.value in
-    rw (c.deref-3.ensures.value, c.take_all-met.ensures.taken, c.in_ok-let_stay.ensures.counts) (met_seen _ _ _ _ _ _ _ _ s t)
+pub let_stay-requires : goal.let_stay-requires
+let_stay-requires g c =
+    let most_is : c.high-most.result ≡ high c.args.th.now.profile (group_of c.args.th.now.profile c.args.graph.now.vertices c.args.sweep.now.levels.level) = level_limit c.args.th.now.profile c.args.th.now.vertices c.args.graph.now.vertices c.args.sweep.now.levels.level c.high-most.result c.group.result c.high-most.ensures.value c.group.ensures.value c.requires.scale in
+    let limit : HasLimit c.high-most.result c.args.sweep.now.ranges = limit_from c.args.th.now.profile c.args.th.now.vertices c.args.sweep.now.levels.level c.high-most.result c.group.result c.args.sweep.now.ranges c.high-most.ensures.value c.group.ensures.value c.requires.limit in
+    let room : c.args.sweep.now.levels.level < top_level c.args.th.now.profile c.args.graph.now.vertices = subst (λ n. c.args.sweep.now.levels.level < top_level c.args.th.now.profile n) c.requires.scale c.requires.room in
+    let tops : top_level c.args.th.now.profile c.args.graph.now.vertices < 65535 = subst (λ n. top_level c.args.th.now.profile n < 65535) c.requires.scale c.group.ensures.small in
+    call_stay c.args.th.now.profile c.args.graph.now c.requires.running.start c.args.sweep.now.levels c.args.sweep.now.ranges c.high-most.result c.requires.running.order limit c.requires.running.sweeping most_is c.vertices-n.ensures.graph c.vertices-n.ensures.small room tops c.take_waiting.new.self c.in_ok-waiting.ensures.took c.in_ok-waiting.ensures.same
 
-pub part-requires-clause-sized : goal.part-requires-clause-sized
-part-requires-clause-sized g c κs within =
-    let s = c.requires.sweeping in
-    let l = c.in_ok-let_stay.ensures.stay in
-    let h = half_is _ _ _ c.args.sweep.now s c.requires.kept _ _ l c.go_to.new.self (c.args.sweep.now.levels.level + 1) c.go_to.ensures.seen c.in_ok-let_stay.ensures.same.1 in
-    let t = step_from _ _ _ _ s c.args.sweep.now.counted.watched.most c.in_ok-begun.begun.items c.in_ok-starting.starting.items c.take_all-waiting.result.items (seen c.go_to.new.self) (seen c.lift_off.new.levels) _ _ c.in_ok-starting.ensures c.deref.ensures.value c.take_all-waiting.ensures.taken h c.in_ok-begun.ensures.levels c.in_ok-begun.ensures.same c.deref-2.ensures.value in
-    long _ _ _ _ _ _ _ _ s t
+pub part-requires-clause-ready : goal.part-requires-clause-ready
+part-requires-clause-ready g c κs within =
+    let most_is : c.high-most.result ≡ high c.args.th.now.profile (group_of c.args.th.now.profile c.args.graph.now.vertices c.args.sweep.now.levels.level) = level_limit c.args.th.now.profile c.args.th.now.vertices c.args.graph.now.vertices c.args.sweep.now.levels.level c.high-most.result c.group.result c.high-most.ensures.value c.group.ensures.value c.requires.scale in
+    let limit : HasLimit c.high-most.result c.args.sweep.now.ranges = limit_from c.args.th.now.profile c.args.th.now.vertices c.args.sweep.now.levels.level c.high-most.result c.group.result c.args.sweep.now.ranges c.high-most.ensures.value c.group.ensures.value c.requires.limit in
+    let room : c.args.sweep.now.levels.level < top_level c.args.th.now.profile c.args.graph.now.vertices = subst (λ n. c.args.sweep.now.levels.level < top_level c.args.th.now.profile n) c.requires.scale c.requires.room in
+    let tops : top_level c.args.th.now.profile c.args.graph.now.vertices < 65535 = subst (λ n. top_level c.args.th.now.profile n < 65535) c.requires.scale c.group.ensures.small in
+    let movers : c.in_ok-starting.starting.items ≡ filter (is_over (count_of c.take_waiting.new.self) c.high-most.result) (waits c.args.sweep.now.ranges c.args.sweep.now.levels.level) = begin_from (count_of c.take_waiting.new.self) c.high-most.result c.deref.result.now c.in_ok-waiting.waiting.items (waits c.args.sweep.now.ranges c.args.sweep.now.levels.level) c.in_ok-starting.starting.items c.in_ok-starting.starting.items refl c.in_ok-starting.ensures c.deref.ensures.value c.in_ok-waiting.ensures.waiting in
+    let bits : c.ranges-2.inside.layout.bits ≡ c.let_stay.new.self.bits = ap (λ (r : Cut). r.bits) c.ranges-2.view_is in
+    subst (λ b. CanPartAll (step_at c.args.graph.now c.let_stay.new.levels b c.args.sweep.now.levels.level c.is_dealt-is_dealt.result) c.let_stay.new.self.parts c.let_stay.new.self.told) (sym bits) (call_part c.args.th.now.profile c.args.graph.now c.requires.running.start c.args.sweep.now.levels c.args.sweep.now.ranges c.high-most.result c.requires.running.order limit c.requires.running.sweeping most_is c.vertices-n.ensures.graph c.vertices-n.ensures.small room tops c.take_waiting.new.self c.in_ok-waiting.ensures.took c.in_ok-waiting.ensures.same c.in_ok-starting.starting.items movers c.let_stay.new.levels c.let_stay.new.self c.in_ok-staying.ensures.stay c.in_ok-staying.ensures.same c.is_dealt-is_dealt.result)
 
-pub part-requires-clause-vertices : goal.part-requires-clause-vertices
-part-requires-clause-vertices g c κs within =
-    let s = c.requires.sweeping in
-    let l = c.in_ok-let_stay.ensures.stay in
-    let h = half_is _ _ _ c.args.sweep.now s c.requires.kept _ _ l c.go_to.new.self (c.args.sweep.now.levels.level + 1) c.go_to.ensures.seen c.in_ok-let_stay.ensures.same.1 in
-    let t = step_from _ _ _ _ s c.args.sweep.now.counted.watched.most c.in_ok-begun.begun.items c.in_ok-starting.starting.items c.take_all-waiting.result.items (seen c.go_to.new.self) (seen c.lift_off.new.levels) _ _ c.in_ok-starting.ensures c.deref.ensures.value c.take_all-waiting.ensures.taken h c.in_ok-begun.ensures.levels c.in_ok-begun.ensures.same c.deref-2.ensures.value in
-    let o : AreDistinct c.deref-4.result.now = subst AreDistinct (sym c.deref-4.ensures.value) l.distinct in
-    let k : (v : ℕ) → has_number v c.deref-4.result.now ≡ has_number v (filter (rises c.args.sweep.now.levels) c.args.sweep.now.began.items) && eqb (get_or (seen c.lift_off.new.levels) v 0) c.args.sweep.now.levels.level = λ v. ap (has_number v) c.deref-4.ensures.value ∙ stay_is _ _ _ c.args.sweep.now s c.requires.kept _ _ l _ _ t v in
-    stay_inside _ _ _ _ _ _ _ _ s t _ o k
+pub lift_off-requires : goal.lift_off-requires
+lift_off-requires g c =
+    let most_is : c.high-most.result ≡ high c.args.th.now.profile (group_of c.args.th.now.profile c.args.graph.now.vertices c.args.sweep.now.levels.level) = level_limit c.args.th.now.profile c.args.th.now.vertices c.args.graph.now.vertices c.args.sweep.now.levels.level c.high-most.result c.group.result c.high-most.ensures.value c.group.ensures.value c.requires.scale in
+    let limit : HasLimit c.high-most.result c.args.sweep.now.ranges = limit_from c.args.th.now.profile c.args.th.now.vertices c.args.sweep.now.levels.level c.high-most.result c.group.result c.args.sweep.now.ranges c.high-most.ensures.value c.group.ensures.value c.requires.limit in
+    let room : c.args.sweep.now.levels.level < top_level c.args.th.now.profile c.args.graph.now.vertices = subst (λ n. c.args.sweep.now.levels.level < top_level c.args.th.now.profile n) c.requires.scale c.requires.room in
+    let tops : top_level c.args.th.now.profile c.args.graph.now.vertices < 65535 = subst (λ n. top_level c.args.th.now.profile n < 65535) c.requires.scale c.group.ensures.small in
+    let movers : c.deref-2.result.now ≡ filter (is_over (count_of c.take_waiting.new.self) c.high-most.result) (waits c.args.sweep.now.ranges c.args.sweep.now.levels.level) = begin_from (count_of c.take_waiting.new.self) c.high-most.result c.deref.result.now c.in_ok-waiting.waiting.items (waits c.args.sweep.now.ranges c.args.sweep.now.levels.level) c.in_ok-starting.starting.items c.deref-2.result.now c.deref-2.ensures.value c.in_ok-starting.ensures c.deref.ensures.value c.in_ok-waiting.ensures.waiting in
+    let bits : c.ranges-2.inside.layout.bits ≡ c.let_stay.new.self.bits = ap (λ (r : Cut). r.bits) c.ranges-2.view_is in
+    let parted : AllParted (step_at c.args.graph.now c.let_stay.new.levels c.let_stay.new.self.bits c.args.sweep.now.levels.level c.is_dealt-is_dealt.result) c.let_stay.new.self.parts c.part.new.self.parts = subst (λ b. AllParted (step_at c.args.graph.now c.let_stay.new.levels b c.args.sweep.now.levels.level c.is_dealt-is_dealt.result) c.let_stay.new.self.parts c.part.new.self.parts) bits c.in_ok-part.ensures.parted in
+    call_lift c.args.th.now.profile c.args.graph.now c.requires.running.start c.args.sweep.now.levels c.args.sweep.now.ranges c.high-most.result c.requires.running.order limit c.requires.running.sweeping most_is c.vertices-n.ensures.graph c.vertices-n.ensures.small room tops c.take_waiting.new.self c.in_ok-waiting.ensures.took c.in_ok-waiting.ensures.same c.deref-2.result.now movers c.let_stay.new.levels c.let_stay.new.self c.in_ok-staying.ensures.stay c.in_ok-staying.ensures.same c.is_dealt-is_dealt.result c.part.new.self parted c.in_ok-part.ensures.told c.in_ok-part.ensures.same c.go_to.new.self c.go_to.ensures.level c.go_to.ensures.seen c.go_to.ensures.rises
 
-pub part-requires-clause-here : goal.part-requires-clause-here
-part-requires-clause-here g c κs within =
-    let s = c.requires.sweeping in
-    let l = c.in_ok-let_stay.ensures.stay in
-    let h = half_is _ _ _ c.args.sweep.now s c.requires.kept _ _ l c.go_to.new.self (c.args.sweep.now.levels.level + 1) c.go_to.ensures.seen c.in_ok-let_stay.ensures.same.1 in
-    let t = step_from _ _ _ _ s c.args.sweep.now.counted.watched.most c.in_ok-begun.begun.items c.in_ok-starting.starting.items c.take_all-waiting.result.items (seen c.go_to.new.self) (seen c.lift_off.new.levels) _ _ c.in_ok-starting.ensures c.deref.ensures.value c.take_all-waiting.ensures.taken h c.in_ok-begun.ensures.levels c.in_ok-begun.ensures.same c.deref-2.ensures.value in
-    let o : AreDistinct c.deref-4.result.now = subst AreDistinct (sym c.deref-4.ensures.value) l.distinct in
-    let k : (v : ℕ) → has_number v c.deref-4.result.now ≡ has_number v (filter (rises c.args.sweep.now.levels) c.args.sweep.now.began.items) && eqb (get_or (seen c.lift_off.new.levels) v 0) c.args.sweep.now.levels.level = λ v. ap (has_number v) c.deref-4.ensures.value ∙ stay_is _ _ _ c.args.sweep.now s c.requires.kept _ _ l _ _ t v in
-    stay_here _ _ _ _ _ _ _ _ s t _ o k
+pub meeting_count-requires : goal.meeting_count-requires
+meeting_count-requires g c =
+    let most_is : c.high-most.result ≡ high c.args.th.now.profile (group_of c.args.th.now.profile c.args.graph.now.vertices c.args.sweep.now.levels.level) = level_limit c.args.th.now.profile c.args.th.now.vertices c.args.graph.now.vertices c.args.sweep.now.levels.level c.high-most.result c.group.result c.high-most.ensures.value c.group.ensures.value c.requires.scale in
+    let limit : HasLimit c.high-most.result c.args.sweep.now.ranges = limit_from c.args.th.now.profile c.args.th.now.vertices c.args.sweep.now.levels.level c.high-most.result c.group.result c.args.sweep.now.ranges c.high-most.ensures.value c.group.ensures.value c.requires.limit in
+    let room : c.args.sweep.now.levels.level < top_level c.args.th.now.profile c.args.graph.now.vertices = subst (λ n. c.args.sweep.now.levels.level < top_level c.args.th.now.profile n) c.requires.scale c.requires.room in
+    let tops : top_level c.args.th.now.profile c.args.graph.now.vertices < 65535 = subst (λ n. top_level c.args.th.now.profile n < 65535) c.requires.scale c.group.ensures.small in
+    let movers : c.deref-2.result.now ≡ filter (is_over (count_of c.take_waiting.new.self) c.high-most.result) (waits c.args.sweep.now.ranges c.args.sweep.now.levels.level) = begin_from (count_of c.take_waiting.new.self) c.high-most.result c.deref.result.now c.in_ok-waiting.waiting.items (waits c.args.sweep.now.ranges c.args.sweep.now.levels.level) c.in_ok-starting.starting.items c.deref-2.result.now c.deref-2.ensures.value c.in_ok-starting.ensures c.deref.ensures.value c.in_ok-waiting.ensures.waiting in
+    let bits : c.ranges-2.inside.layout.bits ≡ c.let_stay.new.self.bits = ap (λ (r : Cut). r.bits) c.ranges-2.view_is in
+    let parted : AllParted (step_at c.args.graph.now c.let_stay.new.levels c.let_stay.new.self.bits c.args.sweep.now.levels.level c.is_dealt-is_dealt.result) c.let_stay.new.self.parts c.part.new.self.parts = subst (λ b. AllParted (step_at c.args.graph.now c.let_stay.new.levels b c.args.sweep.now.levels.level c.is_dealt-is_dealt.result) c.let_stay.new.self.parts c.part.new.self.parts) bits c.in_ok-part.ensures.parted in
+    call_meetings c.args.th.now.profile c.args.graph.now c.requires.running.start c.args.sweep.now.levels c.args.sweep.now.ranges c.high-most.result c.requires.running.order limit c.requires.running.sweeping most_is c.vertices-n.ensures.graph c.vertices-n.ensures.small room tops c.take_waiting.new.self c.in_ok-waiting.ensures.took c.in_ok-waiting.ensures.same c.deref-2.result.now movers c.let_stay.new.levels c.let_stay.new.self c.in_ok-staying.ensures.stay c.in_ok-staying.ensures.same c.is_dealt-is_dealt.result c.part.new.self parted c.in_ok-part.ensures.told c.in_ok-part.ensures.same c.go_to.new.self c.go_to.ensures.level c.go_to.ensures.seen c.go_to.ensures.rises c.lift_off.new.levels c.lift_off.new.self c.in_ok-begun.ensures.lifted c.in_ok-begun.ensures.same c.args.sweep.now.levels.level (omega arith)
 
-pub part-requires-clause-distinct : goal.part-requires-clause-distinct
-part-requires-clause-distinct g c κs within =
-    let l = c.in_ok-let_stay.ensures.stay in
-    let o : AreDistinct c.deref-4.result.now = subst AreDistinct (sym c.deref-4.ensures.value) l.distinct in
-    o
+pub meeting_count-requires-2 : goal.meeting_count-requires-2
+meeting_count-requires-2 g c =
+    let most_is : c.high-most.result ≡ high c.args.th.now.profile (group_of c.args.th.now.profile c.args.graph.now.vertices c.args.sweep.now.levels.level) = level_limit c.args.th.now.profile c.args.th.now.vertices c.args.graph.now.vertices c.args.sweep.now.levels.level c.high-most.result c.group.result c.high-most.ensures.value c.group.ensures.value c.requires.scale in
+    let limit : HasLimit c.high-most.result c.args.sweep.now.ranges = limit_from c.args.th.now.profile c.args.th.now.vertices c.args.sweep.now.levels.level c.high-most.result c.group.result c.args.sweep.now.ranges c.high-most.ensures.value c.group.ensures.value c.requires.limit in
+    let room : c.args.sweep.now.levels.level < top_level c.args.th.now.profile c.args.graph.now.vertices = subst (λ n. c.args.sweep.now.levels.level < top_level c.args.th.now.profile n) c.requires.scale c.requires.room in
+    let tops : top_level c.args.th.now.profile c.args.graph.now.vertices < 65535 = subst (λ n. top_level c.args.th.now.profile n < 65535) c.requires.scale c.group.ensures.small in
+    let movers : c.deref-2.result.now ≡ filter (is_over (count_of c.take_waiting.new.self) c.high-most.result) (waits c.args.sweep.now.ranges c.args.sweep.now.levels.level) = begin_from (count_of c.take_waiting.new.self) c.high-most.result c.deref.result.now c.in_ok-waiting.waiting.items (waits c.args.sweep.now.ranges c.args.sweep.now.levels.level) c.in_ok-starting.starting.items c.deref-2.result.now c.deref-2.ensures.value c.in_ok-starting.ensures c.deref.ensures.value c.in_ok-waiting.ensures.waiting in
+    let bits : c.ranges-2.inside.layout.bits ≡ c.let_stay.new.self.bits = ap (λ (r : Cut). r.bits) c.ranges-2.view_is in
+    let parted : AllParted (step_at c.args.graph.now c.let_stay.new.levels c.let_stay.new.self.bits c.args.sweep.now.levels.level c.is_dealt-is_dealt.result) c.let_stay.new.self.parts c.part.new.self.parts = subst (λ b. AllParted (step_at c.args.graph.now c.let_stay.new.levels b c.args.sweep.now.levels.level c.is_dealt-is_dealt.result) c.let_stay.new.self.parts c.part.new.self.parts) bits c.in_ok-part.ensures.parted in
+    call_meetings c.args.th.now.profile c.args.graph.now c.requires.running.start c.args.sweep.now.levels c.args.sweep.now.ranges c.high-most.result c.requires.running.order limit c.requires.running.sweeping most_is c.vertices-n.ensures.graph c.vertices-n.ensures.small room tops c.take_waiting.new.self c.in_ok-waiting.ensures.took c.in_ok-waiting.ensures.same c.deref-2.result.now movers c.let_stay.new.levels c.let_stay.new.self c.in_ok-staying.ensures.stay c.in_ok-staying.ensures.same c.is_dealt-is_dealt.result c.part.new.self parted c.in_ok-part.ensures.told c.in_ok-part.ensures.same c.go_to.new.self c.go_to.ensures.level c.go_to.ensures.seen c.go_to.ensures.rises c.lift_off.new.levels c.lift_off.new.self c.in_ok-begun.ensures.lifted c.in_ok-begun.ensures.same (c.args.sweep.now.levels.level + 1) (omega arith)
 
-pub part-requires-clause-listed : goal.part-requires-clause-listed
-part-requires-clause-listed g c κs within =
-    let s = c.requires.sweeping in
-    let l = c.in_ok-let_stay.ensures.stay in
-    let h = half_is _ _ _ c.args.sweep.now s c.requires.kept _ _ l c.go_to.new.self (c.args.sweep.now.levels.level + 1) c.go_to.ensures.seen c.in_ok-let_stay.ensures.same.1 in
-    let t = step_from _ _ _ _ s c.args.sweep.now.counted.watched.most c.in_ok-begun.begun.items c.in_ok-starting.starting.items c.take_all-waiting.result.items (seen c.go_to.new.self) (seen c.lift_off.new.levels) _ _ c.in_ok-starting.ensures c.deref.ensures.value c.take_all-waiting.ensures.taken h c.in_ok-begun.ensures.levels c.in_ok-begun.ensures.same c.deref-2.ensures.value in
-    let o : AreDistinct c.deref-4.result.now = subst AreDistinct (sym c.deref-4.ensures.value) l.distinct in
-    let k : (v : ℕ) → has_number v c.deref-4.result.now ≡ has_number v (filter (rises c.args.sweep.now.levels) c.args.sweep.now.began.items) && eqb (get_or (seen c.lift_off.new.levels) v 0) c.args.sweep.now.levels.level = λ v. ap (has_number v) c.deref-4.ensures.value ∙ stay_is _ _ _ c.args.sweep.now s c.requires.kept _ _ l _ _ t v in
-    let met = rw c.in_ok-let_stay.ensures.counts at c.in_ok-leave_behind.ensures.seen in
-    stay_seen _ _ _ _ _ _ _ _ s t _ o k c.leave_behind.new.watched.counts.items met
+pub invariant_of-rising : goal.invariant_of-rising
+invariant_of-rising g c =
+    let most_is : c.high-most.result ≡ high c.args.th.now.profile (group_of c.args.th.now.profile c.args.graph.now.vertices c.args.sweep.now.levels.level) = level_limit c.args.th.now.profile c.args.th.now.vertices c.args.graph.now.vertices c.args.sweep.now.levels.level c.high-most.result c.group.result c.high-most.ensures.value c.group.ensures.value c.requires.scale in
+    let limit : HasLimit c.high-most.result c.args.sweep.now.ranges = limit_from c.args.th.now.profile c.args.th.now.vertices c.args.sweep.now.levels.level c.high-most.result c.group.result c.args.sweep.now.ranges c.high-most.ensures.value c.group.ensures.value c.requires.limit in
+    let room : c.args.sweep.now.levels.level < top_level c.args.th.now.profile c.args.graph.now.vertices = subst (λ n. c.args.sweep.now.levels.level < top_level c.args.th.now.profile n) c.requires.scale c.requires.room in
+    let tops : top_level c.args.th.now.profile c.args.graph.now.vertices < 65535 = subst (λ n. top_level c.args.th.now.profile n < 65535) c.requires.scale c.group.ensures.small in
+    let movers : c.deref-2.result.now ≡ filter (is_over (count_of c.take_waiting.new.self) c.high-most.result) (waits c.args.sweep.now.ranges c.args.sweep.now.levels.level) = begin_from (count_of c.take_waiting.new.self) c.high-most.result c.deref.result.now c.in_ok-waiting.waiting.items (waits c.args.sweep.now.ranges c.args.sweep.now.levels.level) c.in_ok-starting.starting.items c.deref-2.result.now c.deref-2.ensures.value c.in_ok-starting.ensures c.deref.ensures.value c.in_ok-waiting.ensures.waiting in
+    let bits : c.ranges-2.inside.layout.bits ≡ c.let_stay.new.self.bits = ap (λ (r : Cut). r.bits) c.ranges-2.view_is in
+    let parted : AllParted (step_at c.args.graph.now c.let_stay.new.levels c.let_stay.new.self.bits c.args.sweep.now.levels.level c.is_dealt-is_dealt.result) c.let_stay.new.self.parts c.part.new.self.parts = subst (λ b. AllParted (step_at c.args.graph.now c.let_stay.new.levels b c.args.sweep.now.levels.level c.is_dealt-is_dealt.result) c.let_stay.new.self.parts c.part.new.self.parts) bits c.in_ok-part.ensures.parted in
+    call_rise_step c.args.th.now.profile c.args.graph.now c.requires.running.start c.args.sweep.now.levels c.args.sweep.now.ranges c.high-most.result c.requires.running.order limit c.requires.running.sweeping most_is c.vertices-n.ensures.graph c.vertices-n.ensures.small room tops c.take_waiting.new.self c.in_ok-waiting.ensures.took c.in_ok-waiting.ensures.same c.deref-2.result.now movers c.let_stay.new.levels c.let_stay.new.self c.in_ok-staying.ensures.stay c.in_ok-staying.ensures.same c.is_dealt-is_dealt.result c.part.new.self parted c.in_ok-part.ensures.told c.in_ok-part.ensures.same c.go_to.new.self c.go_to.ensures.level c.go_to.ensures.seen c.go_to.ensures.rises c.lift_off.new.levels c.lift_off.new.self c.in_ok-begun.ensures.lifted c.in_ok-begun.ensures.same c.ranges-2.inside.layout.bits c.is_dealt-is_dealt_up.result
 
-pub come_up-requires-clause-sized : goal.come_up-requires-clause-sized
-come_up-requires-clause-sized g c =
-    let s = c.requires.sweeping in
-    let l = c.in_ok-let_stay.ensures.stay in
-    let h = half_is _ _ _ c.args.sweep.now s c.requires.kept _ _ l c.go_to.new.self (c.args.sweep.now.levels.level + 1) c.go_to.ensures.seen c.in_ok-let_stay.ensures.same.1 in
-    let t = step_from _ _ _ _ s c.args.sweep.now.counted.watched.most c.in_ok-begun.begun.items c.in_ok-starting.starting.items c.take_all-waiting.result.items (seen c.go_to.new.self) (seen c.lift_off.new.levels) _ _ c.in_ok-starting.ensures c.deref.ensures.value c.take_all-waiting.ensures.taken h c.in_ok-begun.ensures.levels c.in_ok-begun.ensures.same c.deref-2.ensures.value in
-    let o : AreDistinct c.deref-4.result.now = subst AreDistinct (sym c.deref-4.ensures.value) l.distinct in
-    let k : (v : ℕ) → has_number v c.deref-4.result.now ≡ has_number v (filter (rises c.args.sweep.now.levels) c.args.sweep.now.began.items) && eqb (get_or (seen c.lift_off.new.levels) v 0) c.args.sweep.now.levels.level = λ v. ap (has_number v) c.deref-4.ensures.value ∙ stay_is _ _ _ c.args.sweep.now s c.requires.kept _ _ l _ _ t v in
-    let settled : c.put_on.new.self ≡ record c.args.placed.now { levels = settled_at c.args.placed.now.levels (seen c.lift_off.new.levels) c.args.sweep.now.levels.level c.deref-4.result.now } = c.put_on.ensures ∙ ap (λ (ys : List ℕ). placed_at c.args.placed.now ys) (ap (λ (vs : List ℕ). all_at c.args.placed.now.levels vs c.args.sweep.now.levels.level) (c.deref-5.ensures.value ∙ sym c.deref-4.ensures.value) ∙ sym (settled_all_at c.args.placed.now.levels (seen c.lift_off.new.levels) c.args.sweep.now.levels.level c.deref-4.result.now (stay_here _ _ _ _ _ _ _ _ s t _ o k))) in
-    rw settled (long _ _ _ _ _ _ _ _ s t)
+pub rise-requires-after_bounds : goal.rise-requires-after_bounds
+rise-requires-after_bounds g c κs within =
+    let most_is : c.high-most.result ≡ high c.args.th.now.profile (group_of c.args.th.now.profile c.args.graph.now.vertices c.args.sweep.now.levels.level) = level_limit c.args.th.now.profile c.args.th.now.vertices c.args.graph.now.vertices c.args.sweep.now.levels.level c.high-most.result c.group.result c.high-most.ensures.value c.group.ensures.value c.requires.scale in
+    let limit : HasLimit c.high-most.result c.args.sweep.now.ranges = limit_from c.args.th.now.profile c.args.th.now.vertices c.args.sweep.now.levels.level c.high-most.result c.group.result c.args.sweep.now.ranges c.high-most.ensures.value c.group.ensures.value c.requires.limit in
+    let room : c.args.sweep.now.levels.level < top_level c.args.th.now.profile c.args.graph.now.vertices = subst (λ n. c.args.sweep.now.levels.level < top_level c.args.th.now.profile n) c.requires.scale c.requires.room in
+    let tops : top_level c.args.th.now.profile c.args.graph.now.vertices < 65535 = subst (λ n. top_level c.args.th.now.profile n < 65535) c.requires.scale c.group.ensures.small in
+    let movers : c.deref-2.result.now ≡ filter (is_over (count_of c.take_waiting.new.self) c.high-most.result) (waits c.args.sweep.now.ranges c.args.sweep.now.levels.level) = begin_from (count_of c.take_waiting.new.self) c.high-most.result c.deref.result.now c.in_ok-waiting.waiting.items (waits c.args.sweep.now.ranges c.args.sweep.now.levels.level) c.in_ok-starting.starting.items c.deref-2.result.now c.deref-2.ensures.value c.in_ok-starting.ensures c.deref.ensures.value c.in_ok-waiting.ensures.waiting in
+    let bits : c.ranges-2.inside.layout.bits ≡ c.let_stay.new.self.bits = ap (λ (r : Cut). r.bits) c.ranges-2.view_is in
+    let parted : AllParted (step_at c.args.graph.now c.let_stay.new.levels c.let_stay.new.self.bits c.args.sweep.now.levels.level c.is_dealt-is_dealt.result) c.let_stay.new.self.parts c.part.new.self.parts = subst (λ b. AllParted (step_at c.args.graph.now c.let_stay.new.levels b c.args.sweep.now.levels.level c.is_dealt-is_dealt.result) c.let_stay.new.self.parts c.part.new.self.parts) bits c.in_ok-part.ensures.parted in
+    let bits4 : c.ranges-2.inside.layout.bits ≡ c.lift_off.new.self.bits = same_bits c.ranges-2.inside.layout.bits c.let_stay.new.self.bits c.part.new.self.bits c.lift_off.new.self.bits c.in_ok-begun.ensures.same.0 c.in_ok-part.ensures.same bits in
+    subst (λ b. CanRiseAll (step_at c.args.graph.now c.lift_off.new.levels b c.args.sweep.now.levels.level c.is_dealt-is_dealt_up.result) c.lift_off.new.self.parts c.lift_off.new.self.told) (sym bits4) (call_rise c.args.th.now.profile c.args.graph.now c.requires.running.start c.args.sweep.now.levels c.args.sweep.now.ranges c.high-most.result c.requires.running.order limit c.requires.running.sweeping most_is c.vertices-n.ensures.graph c.vertices-n.ensures.small room tops c.take_waiting.new.self c.in_ok-waiting.ensures.took c.in_ok-waiting.ensures.same c.deref-2.result.now movers c.let_stay.new.levels c.let_stay.new.self c.in_ok-staying.ensures.stay c.in_ok-staying.ensures.same c.is_dealt-is_dealt.result c.part.new.self parted c.in_ok-part.ensures.told c.in_ok-part.ensures.same c.go_to.new.self c.go_to.ensures.level c.go_to.ensures.seen c.go_to.ensures.rises c.lift_off.new.levels c.lift_off.new.self c.in_ok-begun.ensures.lifted c.in_ok-begun.ensures.same c.is_dealt-is_dealt_up.result)
 
-pub come_up-requires-clause-meet : goal.come_up-requires-clause-meet
-come_up-requires-clause-meet g c =
-    let s = c.requires.sweeping in
-    let l = c.in_ok-let_stay.ensures.stay in
-    let h = half_is _ _ _ c.args.sweep.now s c.requires.kept _ _ l c.go_to.new.self (c.args.sweep.now.levels.level + 1) c.go_to.ensures.seen c.in_ok-let_stay.ensures.same.1 in
-    let t = step_from _ _ _ _ s c.args.sweep.now.counted.watched.most c.in_ok-begun.begun.items c.in_ok-starting.starting.items c.take_all-waiting.result.items (seen c.go_to.new.self) (seen c.lift_off.new.levels) _ _ c.in_ok-starting.ensures c.deref.ensures.value c.take_all-waiting.ensures.taken h c.in_ok-begun.ensures.levels c.in_ok-begun.ensures.same c.deref-2.ensures.value in
-    let o : AreDistinct c.deref-4.result.now = subst AreDistinct (sym c.deref-4.ensures.value) l.distinct in
-    let k : (v : ℕ) → has_number v c.deref-4.result.now ≡ has_number v (filter (rises c.args.sweep.now.levels) c.args.sweep.now.began.items) && eqb (get_or (seen c.lift_off.new.levels) v 0) c.args.sweep.now.levels.level = λ v. ap (has_number v) c.deref-4.ensures.value ∙ stay_is _ _ _ c.args.sweep.now s c.requires.kept _ _ l _ _ t v in
-    let settled : c.put_on.new.self ≡ record c.args.placed.now { levels = settled_at c.args.placed.now.levels (seen c.lift_off.new.levels) c.args.sweep.now.levels.level c.deref-4.result.now } = c.put_on.ensures ∙ ap (λ (ys : List ℕ). placed_at c.args.placed.now ys) (ap (λ (vs : List ℕ). all_at c.args.placed.now.levels vs c.args.sweep.now.levels.level) (c.deref-5.ensures.value ∙ sym c.deref-4.ensures.value) ∙ sym (settled_all_at c.args.placed.now.levels (seen c.lift_off.new.levels) c.args.sweep.now.levels.level c.deref-4.result.now (stay_here _ _ _ _ _ _ _ _ s t _ o k))) in
-    let x = stay_settled _ _ _ _ _ _ _ _ s t _ o k in
-    rw (settled, c.on.ensures, c.take_all-met.ensures.left, next_meetings _ _ _ _ _ _ _ _ s t) (meet_next _ _ _ _ _ _ _ _ s t _ x)
+pub take_steps-requires : goal.take_steps-requires
+take_steps-requires g c =
+    let most_is : c.high-most.result ≡ high c.args.th.now.profile (group_of c.args.th.now.profile c.args.graph.now.vertices c.args.sweep.now.levels.level) = level_limit c.args.th.now.profile c.args.th.now.vertices c.args.graph.now.vertices c.args.sweep.now.levels.level c.high-most.result c.group.result c.high-most.ensures.value c.group.ensures.value c.requires.scale in
+    let limit : HasLimit c.high-most.result c.args.sweep.now.ranges = limit_from c.args.th.now.profile c.args.th.now.vertices c.args.sweep.now.levels.level c.high-most.result c.group.result c.args.sweep.now.ranges c.high-most.ensures.value c.group.ensures.value c.requires.limit in
+    let room : c.args.sweep.now.levels.level < top_level c.args.th.now.profile c.args.graph.now.vertices = subst (λ n. c.args.sweep.now.levels.level < top_level c.args.th.now.profile n) c.requires.scale c.requires.room in
+    let tops : top_level c.args.th.now.profile c.args.graph.now.vertices < 65535 = subst (λ n. top_level c.args.th.now.profile n < 65535) c.requires.scale c.group.ensures.small in
+    let movers : c.deref-2.result.now ≡ filter (is_over (count_of c.take_waiting.new.self) c.high-most.result) (waits c.args.sweep.now.ranges c.args.sweep.now.levels.level) = begin_from (count_of c.take_waiting.new.self) c.high-most.result c.deref.result.now c.in_ok-waiting.waiting.items (waits c.args.sweep.now.ranges c.args.sweep.now.levels.level) c.in_ok-starting.starting.items c.deref-2.result.now c.deref-2.ensures.value c.in_ok-starting.ensures c.deref.ensures.value c.in_ok-waiting.ensures.waiting in
+    let bits : c.ranges-2.inside.layout.bits ≡ c.let_stay.new.self.bits = ap (λ (r : Cut). r.bits) c.ranges-2.view_is in
+    let parted : AllParted (step_at c.args.graph.now c.let_stay.new.levels c.let_stay.new.self.bits c.args.sweep.now.levels.level c.is_dealt-is_dealt.result) c.let_stay.new.self.parts c.part.new.self.parts = subst (λ b. AllParted (step_at c.args.graph.now c.let_stay.new.levels b c.args.sweep.now.levels.level c.is_dealt-is_dealt.result) c.let_stay.new.self.parts c.part.new.self.parts) bits c.in_ok-part.ensures.parted in
+    let bits4 : c.ranges-2.inside.layout.bits ≡ c.lift_off.new.self.bits = same_bits c.ranges-2.inside.layout.bits c.let_stay.new.self.bits c.part.new.self.bits c.lift_off.new.self.bits c.in_ok-begun.ensures.same.0 c.in_ok-part.ensures.same bits in
+    let above_is : c.high-above.result ≡ high c.args.th.now.profile (group_of c.args.th.now.profile c.args.graph.now.vertices (c.args.sweep.now.levels.level + 1)) = level_limit c.args.th.now.profile c.args.th.now.vertices c.args.graph.now.vertices (c.args.sweep.now.levels.level + 1) c.high-above.result c.group-2.result c.high-above.ensures.value c.group-2.ensures.value c.requires.scale in
+    let risen : AllRisen (step_at c.args.graph.now c.lift_off.new.levels c.lift_off.new.self.bits c.args.sweep.now.levels.level c.is_dealt-is_dealt_up.result) c.high-above.result c.lift_off.new.self.parts c.rise.new.self.parts = subst (λ b. AllRisen (step_at c.args.graph.now c.lift_off.new.levels b c.args.sweep.now.levels.level c.is_dealt-is_dealt_up.result) c.high-above.result c.lift_off.new.self.parts c.rise.new.self.parts) bits4 c.in_ok-rise.ensures.risen in
+    call_steps c.args.th.now.profile c.args.graph.now c.requires.running.start c.args.sweep.now.levels c.args.sweep.now.ranges c.high-most.result c.requires.running.order limit c.requires.running.sweeping most_is c.vertices-n.ensures.graph c.vertices-n.ensures.small room tops c.take_waiting.new.self c.in_ok-waiting.ensures.took c.in_ok-waiting.ensures.same c.deref-2.result.now movers c.let_stay.new.levels c.let_stay.new.self c.in_ok-staying.ensures.stay c.in_ok-staying.ensures.same c.is_dealt-is_dealt.result c.part.new.self parted c.in_ok-part.ensures.told c.in_ok-part.ensures.same c.go_to.new.self c.go_to.ensures.level c.go_to.ensures.seen c.go_to.ensures.rises c.lift_off.new.levels c.lift_off.new.self c.in_ok-begun.ensures.lifted c.in_ok-begun.ensures.same c.high-above.result above_is c.is_dealt-is_dealt_up.result c.rise.new.self risen c.in_ok-rise.ensures.told c.in_ok-rise.ensures.same
 
-pub come_up-requires-clause-before : goal.come_up-requires-clause-before
-come_up-requires-clause-before g c =
-    let s = c.requires.sweeping in
-    let l = c.in_ok-let_stay.ensures.stay in
-    let h = half_is _ _ _ c.args.sweep.now s c.requires.kept _ _ l c.go_to.new.self (c.args.sweep.now.levels.level + 1) c.go_to.ensures.seen c.in_ok-let_stay.ensures.same.1 in
-    let t = step_from _ _ _ _ s c.args.sweep.now.counted.watched.most c.in_ok-begun.begun.items c.in_ok-starting.starting.items c.take_all-waiting.result.items (seen c.go_to.new.self) (seen c.lift_off.new.levels) _ _ c.in_ok-starting.ensures c.deref.ensures.value c.take_all-waiting.ensures.taken h c.in_ok-begun.ensures.levels c.in_ok-begun.ensures.same c.deref-2.ensures.value in
-    let o : AreDistinct c.deref-4.result.now = subst AreDistinct (sym c.deref-4.ensures.value) l.distinct in
-    let k : (v : ℕ) → has_number v c.deref-4.result.now ≡ has_number v (filter (rises c.args.sweep.now.levels) c.args.sweep.now.began.items) && eqb (get_or (seen c.lift_off.new.levels) v 0) c.args.sweep.now.levels.level = λ v. ap (has_number v) c.deref-4.ensures.value ∙ stay_is _ _ _ c.args.sweep.now s c.requires.kept _ _ l _ _ t v in
-    let settled : c.put_on.new.self ≡ record c.args.placed.now { levels = settled_at c.args.placed.now.levels (seen c.lift_off.new.levels) c.args.sweep.now.levels.level c.deref-4.result.now } = c.put_on.ensures ∙ ap (λ (ys : List ℕ). placed_at c.args.placed.now ys) (ap (λ (vs : List ℕ). all_at c.args.placed.now.levels vs c.args.sweep.now.levels.level) (c.deref-5.ensures.value ∙ sym c.deref-4.ensures.value) ∙ sym (settled_all_at c.args.placed.now.levels (seen c.lift_off.new.levels) c.args.sweep.now.levels.level c.deref-4.result.now (stay_here _ _ _ _ _ _ _ _ s t _ o k))) in
-    let x = stay_settled _ _ _ _ _ _ _ _ s t _ o k in
-    λ v w there up. rw settled (met_before _ _ _ _ _ _ _ _ s t _ x v w (ap (has_edge (v, w)) (sym (rw c.take_all-met.ensures.left at c.on.ensures ∙ next_meetings _ _ _ _ _ _ _ _ s t)) ∙ there) up)
+pub returns-clause-step : goal.returns-clause-step
+returns-clause-step g c =
+    let most_is : c.high-most.result ≡ high c.args.th.now.profile (group_of c.args.th.now.profile c.args.graph.now.vertices c.args.sweep.now.levels.level) = level_limit c.args.th.now.profile c.args.th.now.vertices c.args.graph.now.vertices c.args.sweep.now.levels.level c.high-most.result c.group.result c.high-most.ensures.value c.group.ensures.value c.requires.scale in
+    let limit : HasLimit c.high-most.result c.args.sweep.now.ranges = limit_from c.args.th.now.profile c.args.th.now.vertices c.args.sweep.now.levels.level c.high-most.result c.group.result c.args.sweep.now.ranges c.high-most.ensures.value c.group.ensures.value c.requires.limit in
+    let room : c.args.sweep.now.levels.level < top_level c.args.th.now.profile c.args.graph.now.vertices = subst (λ n. c.args.sweep.now.levels.level < top_level c.args.th.now.profile n) c.requires.scale c.requires.room in
+    let tops : top_level c.args.th.now.profile c.args.graph.now.vertices < 65535 = subst (λ n. top_level c.args.th.now.profile n < 65535) c.requires.scale c.group.ensures.small in
+    let movers : c.deref-2.result.now ≡ filter (is_over (count_of c.take_waiting.new.self) c.high-most.result) (waits c.args.sweep.now.ranges c.args.sweep.now.levels.level) = begin_from (count_of c.take_waiting.new.self) c.high-most.result c.deref.result.now c.in_ok-waiting.waiting.items (waits c.args.sweep.now.ranges c.args.sweep.now.levels.level) c.in_ok-starting.starting.items c.deref-2.result.now c.deref-2.ensures.value c.in_ok-starting.ensures c.deref.ensures.value c.in_ok-waiting.ensures.waiting in
+    let bits : c.ranges-2.inside.layout.bits ≡ c.let_stay.new.self.bits = ap (λ (r : Cut). r.bits) c.ranges-2.view_is in
+    let parted : AllParted (step_at c.args.graph.now c.let_stay.new.levels c.let_stay.new.self.bits c.args.sweep.now.levels.level c.is_dealt-is_dealt.result) c.let_stay.new.self.parts c.part.new.self.parts = subst (λ b. AllParted (step_at c.args.graph.now c.let_stay.new.levels b c.args.sweep.now.levels.level c.is_dealt-is_dealt.result) c.let_stay.new.self.parts c.part.new.self.parts) bits c.in_ok-part.ensures.parted in
+    let bits4 : c.ranges-2.inside.layout.bits ≡ c.lift_off.new.self.bits = same_bits c.ranges-2.inside.layout.bits c.let_stay.new.self.bits c.part.new.self.bits c.lift_off.new.self.bits c.in_ok-begun.ensures.same.0 c.in_ok-part.ensures.same bits in
+    let above_is : c.high-above.result ≡ high c.args.th.now.profile (group_of c.args.th.now.profile c.args.graph.now.vertices (c.args.sweep.now.levels.level + 1)) = level_limit c.args.th.now.profile c.args.th.now.vertices c.args.graph.now.vertices (c.args.sweep.now.levels.level + 1) c.high-above.result c.group-2.result c.high-above.ensures.value c.group-2.ensures.value c.requires.scale in
+    let risen : AllRisen (step_at c.args.graph.now c.lift_off.new.levels c.lift_off.new.self.bits c.args.sweep.now.levels.level c.is_dealt-is_dealt_up.result) c.high-above.result c.lift_off.new.self.parts c.rise.new.self.parts = subst (λ b. AllRisen (step_at c.args.graph.now c.lift_off.new.levels b c.args.sweep.now.levels.level c.is_dealt-is_dealt_up.result) c.high-above.result c.lift_off.new.self.parts c.rise.new.self.parts) bits4 c.in_ok-rise.ensures.risen in
+    step_from c.args.th.now.profile c.args.th.now.vertices c.args.sweep.now.levels.level c.high-most.result c.group.result c.args.graph.now (seen c.args.sweep.now.levels) (seen c.lift_off.new.levels) (count_of c.args.sweep.now.ranges) (count_of c.take_steps.new.self) c.high-most.ensures.value c.group.ensures.value (next_step c.args.th.now.profile c.args.graph.now c.requires.running.start c.args.sweep.now.levels c.args.sweep.now.ranges c.high-most.result c.requires.running.order limit c.requires.running.sweeping most_is c.vertices-n.ensures.graph c.vertices-n.ensures.small room tops c.take_waiting.new.self c.in_ok-waiting.ensures.took c.in_ok-waiting.ensures.same c.deref-2.result.now movers c.let_stay.new.levels c.let_stay.new.self c.in_ok-staying.ensures.stay c.in_ok-staying.ensures.same c.is_dealt-is_dealt.result c.part.new.self parted c.in_ok-part.ensures.told c.in_ok-part.ensures.same c.go_to.new.self c.go_to.ensures.level c.go_to.ensures.seen c.go_to.ensures.rises c.lift_off.new.levels c.lift_off.new.self c.in_ok-begun.ensures.lifted c.in_ok-begun.ensures.same c.high-above.result above_is c.is_dealt-is_dealt_up.result c.rise.new.self risen c.in_ok-rise.ensures.told c.in_ok-rise.ensures.same c.take_steps.new.self c.take_steps.ensures.rest c.take_steps.ensures.same)
 
-pub come_up-requires-clause-met : goal.come_up-requires-clause-met
-come_up-requires-clause-met g c =
-    let s = c.requires.sweeping in
-    let l = c.in_ok-let_stay.ensures.stay in
-    let h = half_is _ _ _ c.args.sweep.now s c.requires.kept _ _ l c.go_to.new.self (c.args.sweep.now.levels.level + 1) c.go_to.ensures.seen c.in_ok-let_stay.ensures.same.1 in
-    let t = step_from _ _ _ _ s c.args.sweep.now.counted.watched.most c.in_ok-begun.begun.items c.in_ok-starting.starting.items c.take_all-waiting.result.items (seen c.go_to.new.self) (seen c.lift_off.new.levels) _ _ c.in_ok-starting.ensures c.deref.ensures.value c.take_all-waiting.ensures.taken h c.in_ok-begun.ensures.levels c.in_ok-begun.ensures.same c.deref-2.ensures.value in
-    let o : AreDistinct c.deref-4.result.now = subst AreDistinct (sym c.deref-4.ensures.value) l.distinct in
-    let k : (v : ℕ) → has_number v c.deref-4.result.now ≡ has_number v (filter (rises c.args.sweep.now.levels) c.args.sweep.now.began.items) && eqb (get_or (seen c.lift_off.new.levels) v 0) c.args.sweep.now.levels.level = λ v. ap (has_number v) c.deref-4.ensures.value ∙ stay_is _ _ _ c.args.sweep.now s c.requires.kept _ _ l _ _ t v in
-    let settled : c.put_on.new.self ≡ record c.args.placed.now { levels = settled_at c.args.placed.now.levels (seen c.lift_off.new.levels) c.args.sweep.now.levels.level c.deref-4.result.now } = c.put_on.ensures ∙ ap (λ (ys : List ℕ). placed_at c.args.placed.now ys) (ap (λ (vs : List ℕ). all_at c.args.placed.now.levels vs c.args.sweep.now.levels.level) (c.deref-5.ensures.value ∙ sym c.deref-4.ensures.value) ∙ sym (settled_all_at c.args.placed.now.levels (seen c.lift_off.new.levels) c.args.sweep.now.levels.level c.deref-4.result.now (stay_here _ _ _ _ _ _ _ _ s t _ o k))) in
-    let x = stay_settled _ _ _ _ _ _ _ _ s t _ o k in
-    let met = rw c.in_ok-let_stay.ensures.counts at c.in_ok-leave_behind.ensures.seen in
-    rw (settled, c.on.ensures, c.take_all-met.ensures.left, next_meetings _ _ _ _ _ _ _ _ s t) (arrived_seen _ _ _ _ _ _ _ _ s t _ x c.leave_behind.new.watched.counts.items c.part.new.watched.counts.items met c.in_ok-part.ensures.seen)
-
-pub come_up-requires-clause-noting : goal.come_up-requires-clause-noting
-come_up-requires-clause-noting g c =
-    let s = c.requires.sweeping in
-    let l = c.in_ok-let_stay.ensures.stay in
-    let h = half_is _ _ _ c.args.sweep.now s c.requires.kept _ _ l c.go_to.new.self (c.args.sweep.now.levels.level + 1) c.go_to.ensures.seen c.in_ok-let_stay.ensures.same.1 in
-    let t = step_from _ _ _ _ s c.args.sweep.now.counted.watched.most c.in_ok-begun.begun.items c.in_ok-starting.starting.items c.take_all-waiting.result.items (seen c.go_to.new.self) (seen c.lift_off.new.levels) _ _ c.in_ok-starting.ensures c.deref.ensures.value c.take_all-waiting.ensures.taken h c.in_ok-begun.ensures.levels c.in_ok-begun.ensures.same c.deref-2.ensures.value in
-    let o : AreDistinct c.deref-4.result.now = subst AreDistinct (sym c.deref-4.ensures.value) l.distinct in
-    let k : (v : ℕ) → has_number v c.deref-4.result.now ≡ has_number v (filter (rises c.args.sweep.now.levels) c.args.sweep.now.began.items) && eqb (get_or (seen c.lift_off.new.levels) v 0) c.args.sweep.now.levels.level = λ v. ap (has_number v) c.deref-4.ensures.value ∙ stay_is _ _ _ c.args.sweep.now s c.requires.kept _ _ l _ _ t v in
-    let settled : c.put_on.new.self ≡ record c.args.placed.now { levels = settled_at c.args.placed.now.levels (seen c.lift_off.new.levels) c.args.sweep.now.levels.level c.deref-4.result.now } = c.put_on.ensures ∙ ap (λ (ys : List ℕ). placed_at c.args.placed.now ys) (ap (λ (vs : List ℕ). all_at c.args.placed.now.levels vs c.args.sweep.now.levels.level) (c.deref-5.ensures.value ∙ sym c.deref-4.ensures.value) ∙ sym (settled_all_at c.args.placed.now.levels (seen c.lift_off.new.levels) c.args.sweep.now.levels.level c.deref-4.result.now (stay_here _ _ _ _ _ _ _ _ s t _ o k))) in
-    let x = stay_settled _ _ _ _ _ _ _ _ s t _ o k in
-    let met = rw c.in_ok-let_stay.ensures.counts at c.in_ok-leave_behind.ensures.seen in
-    let above_is : c.high-above.result ≡ high c.args.th.now.profile (group_of c.args.th.now.profile c.args.placed.now.graph.vertices (c.args.sweep.now.levels.level + 1)) = rw (c.group.ensures.value, c.requires.scale) at c.high-above.ensures.value in
-    rw (settled, c.take_all-waiting.ensures.left) (next_noting _ _ _ _ _ _ _ _ s t _ x c.high-above.result c.leave_behind.new.watched.counts.items c.part.new.watched.counts.items above_is met c.in_ok-part.ensures.seen)
-
-pub begin-requires-clause-sized : goal.begin-requires-clause-sized
-begin-requires-clause-sized g c κs within =
-    let s = c.requires.sweeping in
-    let l = c.in_ok-let_stay.ensures.stay in
-    let h = half_is _ _ _ c.args.sweep.now s c.requires.kept _ _ l c.go_to.new.self (c.args.sweep.now.levels.level + 1) c.go_to.ensures.seen c.in_ok-let_stay.ensures.same.1 in
-    let t = step_from _ _ _ _ s c.args.sweep.now.counted.watched.most c.in_ok-begun.begun.items c.in_ok-starting.starting.items c.take_all-waiting.result.items (seen c.go_to.new.self) (seen c.lift_off.new.levels) _ _ c.in_ok-starting.ensures c.deref.ensures.value c.take_all-waiting.ensures.taken h c.in_ok-begun.ensures.levels c.in_ok-begun.ensures.same c.deref-2.ensures.value in
-    let o : AreDistinct c.deref-4.result.now = subst AreDistinct (sym c.deref-4.ensures.value) l.distinct in
-    let k : (v : ℕ) → has_number v c.deref-4.result.now ≡ has_number v (filter (rises c.args.sweep.now.levels) c.args.sweep.now.began.items) && eqb (get_or (seen c.lift_off.new.levels) v 0) c.args.sweep.now.levels.level = λ v. ap (has_number v) c.deref-4.ensures.value ∙ stay_is _ _ _ c.args.sweep.now s c.requires.kept _ _ l _ _ t v in
-    let settled : c.put_on.new.self ≡ record c.args.placed.now { levels = settled_at c.args.placed.now.levels (seen c.lift_off.new.levels) c.args.sweep.now.levels.level c.deref-4.result.now } = c.put_on.ensures ∙ ap (λ (ys : List ℕ). placed_at c.args.placed.now ys) (ap (λ (vs : List ℕ). all_at c.args.placed.now.levels vs c.args.sweep.now.levels.level) (c.deref-5.ensures.value ∙ sym c.deref-4.ensures.value) ∙ sym (settled_all_at c.args.placed.now.levels (seen c.lift_off.new.levels) c.args.sweep.now.levels.level c.deref-4.result.now (stay_here _ _ _ _ _ _ _ _ s t _ o k))) in
-    rw settled (long _ _ _ _ _ _ _ _ s t)
-
-pub begin-requires-clause-risers : goal.begin-requires-clause-risers
-begin-requires-clause-risers g c κs within =
-    let s = c.requires.sweeping in
-    let l = c.in_ok-let_stay.ensures.stay in
-    let h = half_is _ _ _ c.args.sweep.now s c.requires.kept _ _ l c.go_to.new.self (c.args.sweep.now.levels.level + 1) c.go_to.ensures.seen c.in_ok-let_stay.ensures.same.1 in
-    let t = step_from _ _ _ _ s c.args.sweep.now.counted.watched.most c.in_ok-begun.begun.items c.in_ok-starting.starting.items c.take_all-waiting.result.items (seen c.go_to.new.self) (seen c.lift_off.new.levels) _ _ c.in_ok-starting.ensures c.deref.ensures.value c.take_all-waiting.ensures.taken h c.in_ok-begun.ensures.levels c.in_ok-begun.ensures.same c.deref-2.ensures.value in
-    let o : AreDistinct c.deref-4.result.now = subst AreDistinct (sym c.deref-4.ensures.value) l.distinct in
-    let k : (v : ℕ) → has_number v c.deref-4.result.now ≡ has_number v (filter (rises c.args.sweep.now.levels) c.args.sweep.now.began.items) && eqb (get_or (seen c.lift_off.new.levels) v 0) c.args.sweep.now.levels.level = λ v. ap (has_number v) c.deref-4.ensures.value ∙ stay_is _ _ _ c.args.sweep.now s c.requires.kept _ _ l _ _ t v in
-    let settled : c.put_on.new.self ≡ record c.args.placed.now { levels = settled_at c.args.placed.now.levels (seen c.lift_off.new.levels) c.args.sweep.now.levels.level c.deref-4.result.now } = c.put_on.ensures ∙ ap (λ (ys : List ℕ). placed_at c.args.placed.now ys) (ap (λ (vs : List ℕ). all_at c.args.placed.now.levels vs c.args.sweep.now.levels.level) (c.deref-5.ensures.value ∙ sym c.deref-4.ensures.value) ∙ sym (settled_all_at c.args.placed.now.levels (seen c.lift_off.new.levels) c.args.sweep.now.levels.level c.deref-4.result.now (stay_here _ _ _ _ _ _ _ _ s t _ o k))) in
-    let x = stay_settled _ _ _ _ _ _ _ _ s t _ o k in
-    rw (settled, c.deref-6.ensures.value) (are_beginners _ _ _ _ _ _ _ _ s t _ x c.in_ok-begun.ensures.distinct)
-
-pub begin-requires-clause-places : goal.begin-requires-clause-places
-begin-requires-clause-places g c κs within =
-    let s = c.requires.sweeping in
-    let l = c.in_ok-let_stay.ensures.stay in
-    let h = half_is _ _ _ c.args.sweep.now s c.requires.kept _ _ l c.go_to.new.self (c.args.sweep.now.levels.level + 1) c.go_to.ensures.seen c.in_ok-let_stay.ensures.same.1 in
-    let t = step_from _ _ _ _ s c.args.sweep.now.counted.watched.most c.in_ok-begun.begun.items c.in_ok-starting.starting.items c.take_all-waiting.result.items (seen c.go_to.new.self) (seen c.lift_off.new.levels) _ _ c.in_ok-starting.ensures c.deref.ensures.value c.take_all-waiting.ensures.taken h c.in_ok-begun.ensures.levels c.in_ok-begun.ensures.same c.deref-2.ensures.value in
-    let o : AreDistinct c.deref-4.result.now = subst AreDistinct (sym c.deref-4.ensures.value) l.distinct in
-    let k : (v : ℕ) → has_number v c.deref-4.result.now ≡ has_number v (filter (rises c.args.sweep.now.levels) c.args.sweep.now.began.items) && eqb (get_or (seen c.lift_off.new.levels) v 0) c.args.sweep.now.levels.level = λ v. ap (has_number v) c.deref-4.ensures.value ∙ stay_is _ _ _ c.args.sweep.now s c.requires.kept _ _ l _ _ t v in
-    let settled : c.put_on.new.self ≡ record c.args.placed.now { levels = settled_at c.args.placed.now.levels (seen c.lift_off.new.levels) c.args.sweep.now.levels.level c.deref-4.result.now } = c.put_on.ensures ∙ ap (λ (ys : List ℕ). placed_at c.args.placed.now ys) (ap (λ (vs : List ℕ). all_at c.args.placed.now.levels vs c.args.sweep.now.levels.level) (c.deref-5.ensures.value ∙ sym c.deref-4.ensures.value) ∙ sym (settled_all_at c.args.placed.now.levels (seen c.lift_off.new.levels) c.args.sweep.now.levels.level c.deref-4.result.now (stay_here _ _ _ _ _ _ _ _ s t _ o k))) in
-    let x = stay_settled _ _ _ _ _ _ _ _ s t _ o k in
-    let room : c.args.sweep.now.levels.level < top_level c.args.th.now.profile c.args.placed.now.graph.vertices = rw c.requires.scale at c.requires.room in
-    rw (settled, c.take_all-met.ensures.left) (places_on _ _ _ _ _ _ _ _ s t _ x room)
-
-pub begin-requires-clause-unlisted : goal.begin-requires-clause-unlisted
-begin-requires-clause-unlisted g c κs within =
-    let s = c.requires.sweeping in
-    let l = c.in_ok-let_stay.ensures.stay in
-    let h = half_is _ _ _ c.args.sweep.now s c.requires.kept _ _ l c.go_to.new.self (c.args.sweep.now.levels.level + 1) c.go_to.ensures.seen c.in_ok-let_stay.ensures.same.1 in
-    let t = step_from _ _ _ _ s c.args.sweep.now.counted.watched.most c.in_ok-begun.begun.items c.in_ok-starting.starting.items c.take_all-waiting.result.items (seen c.go_to.new.self) (seen c.lift_off.new.levels) _ _ c.in_ok-starting.ensures c.deref.ensures.value c.take_all-waiting.ensures.taken h c.in_ok-begun.ensures.levels c.in_ok-begun.ensures.same c.deref-2.ensures.value in
-    let o : AreDistinct c.deref-4.result.now = subst AreDistinct (sym c.deref-4.ensures.value) l.distinct in
-    let k : (v : ℕ) → has_number v c.deref-4.result.now ≡ has_number v (filter (rises c.args.sweep.now.levels) c.args.sweep.now.began.items) && eqb (get_or (seen c.lift_off.new.levels) v 0) c.args.sweep.now.levels.level = λ v. ap (has_number v) c.deref-4.ensures.value ∙ stay_is _ _ _ c.args.sweep.now s c.requires.kept _ _ l _ _ t v in
-    let settled : c.put_on.new.self ≡ record c.args.placed.now { levels = settled_at c.args.placed.now.levels (seen c.lift_off.new.levels) c.args.sweep.now.levels.level c.deref-4.result.now } = c.put_on.ensures ∙ ap (λ (ys : List ℕ). placed_at c.args.placed.now ys) (ap (λ (vs : List ℕ). all_at c.args.placed.now.levels vs c.args.sweep.now.levels.level) (c.deref-5.ensures.value ∙ sym c.deref-4.ensures.value) ∙ sym (settled_all_at c.args.placed.now.levels (seen c.lift_off.new.levels) c.args.sweep.now.levels.level c.deref-4.result.now (stay_here _ _ _ _ _ _ _ _ s t _ o k))) in
-    let x = stay_settled _ _ _ _ _ _ _ _ s t _ o k in
-    rw (settled, c.deref-6.ensures.value) (unlisted_seen _ _ _ _ _ _ _ _ s t _ x c.part.new.watched.counts.items c.come_up.new.counted.watched.counts.items (rw settled at c.in_ok-come_up.ensures.seen))
-
-pub returns-clause-sweeping : goal.returns-clause-sweeping
-returns-clause-sweeping g c =
-    let s = c.requires.sweeping in
-    let l = c.in_ok-let_stay.ensures.stay in
-    let h = half_is _ _ _ c.args.sweep.now s c.requires.kept _ _ l c.go_to.new.self (c.args.sweep.now.levels.level + 1) c.go_to.ensures.seen c.in_ok-let_stay.ensures.same.1 in
-    let t = step_from _ _ _ _ s c.args.sweep.now.counted.watched.most c.in_ok-begun.begun.items c.in_ok-starting.starting.items c.take_all-waiting.result.items (seen c.go_to.new.self) (seen c.lift_off.new.levels) _ _ c.in_ok-starting.ensures c.deref.ensures.value c.take_all-waiting.ensures.taken h c.in_ok-begun.ensures.levels c.in_ok-begun.ensures.same c.deref-2.ensures.value in
-    let o : AreDistinct c.deref-4.result.now = subst AreDistinct (sym c.deref-4.ensures.value) l.distinct in
-    let k : (v : ℕ) → has_number v c.deref-4.result.now ≡ has_number v (filter (rises c.args.sweep.now.levels) c.args.sweep.now.began.items) && eqb (get_or (seen c.lift_off.new.levels) v 0) c.args.sweep.now.levels.level = λ v. ap (has_number v) c.deref-4.ensures.value ∙ stay_is _ _ _ c.args.sweep.now s c.requires.kept _ _ l _ _ t v in
-    let settled : c.put_on.new.self ≡ record c.args.placed.now { levels = settled_at c.args.placed.now.levels (seen c.lift_off.new.levels) c.args.sweep.now.levels.level c.deref-4.result.now } = c.put_on.ensures ∙ ap (λ (ys : List ℕ). placed_at c.args.placed.now ys) (ap (λ (vs : List ℕ). all_at c.args.placed.now.levels vs c.args.sweep.now.levels.level) (c.deref-5.ensures.value ∙ sym c.deref-4.ensures.value) ∙ sym (settled_all_at c.args.placed.now.levels (seen c.lift_off.new.levels) c.args.sweep.now.levels.level c.deref-4.result.now (stay_here _ _ _ _ _ _ _ _ s t _ o k))) in
-    let x = stay_settled _ _ _ _ _ _ _ _ s t _ o k in
-    let n : (v : ℕ) → rises c.lift_off.new.levels v ≡ rises c.let_stay.new.levels v || has_number v c.in_ok-begun.begun.items = λ v. c.in_ok-begun.ensures.rises v ∙ ap (λ b. b || has_number v c.in_ok-begun.begun.items) (c.go_to.ensures.rises v) in
-    let met = rw c.in_ok-let_stay.ensures.counts at c.in_ok-leave_behind.ensures.seen in
-    let room : c.args.sweep.now.levels.level < top_level c.args.th.now.profile c.args.placed.now.graph.vertices = rw c.requires.scale at c.requires.room in
-    let most_is : c.args.sweep.now.counted.watched.most ≡ high c.args.th.now.profile (group_of c.args.th.now.profile c.args.placed.now.graph.vertices c.args.sweep.now.levels.level) = rw c.requires.scale at c.requires.most in
-    let above_is : c.high-above.result ≡ high c.args.th.now.profile (group_of c.args.th.now.profile c.args.placed.now.graph.vertices (c.args.sweep.now.levels.level + 1)) = rw (c.group.ensures.value, c.requires.scale) at c.high-above.ensures.value in
-    rw settled (subst (IsSweeping c.args.th.now.profile c.args.placed.now.graph (settled_at c.args.placed.now.levels (seen c.lift_off.new.levels) c.args.sweep.now.levels.level c.deref-4.result.now)) (sym (stepped_is _ _ _ c.args.sweep.now s c.requires.kept _ _ l _ _ t c.lift_off.new.levels n (record c.args.sweep.now { levels = c.lift_off.new.levels; counted = c.begin.new.counted; began = c.append.new.self; risen = c.extend_from_slice.new.self; meetings = c.begin.new.meetings; stay = c.let_stay.new.stay; first = c.movers.new.first }) refl (c.in_ok-begun.ensures.at ∙ c.go_to.ensures.level) c.in_ok-append.ensures.items (c.in_ok-extend_from_slice.ensures.items ∙ ap (λ vs. c.args.sweep.now.risen.items ++ vs) c.deref-7.ensures.value)))
-    (stepped _ _ _ _ _ _ _ _ s t _ x c.requires.graph room most_is c.high-above.result above_is c.leave_behind.new.watched.counts.items c.part.new.watched.counts.items c.come_up.new.counted.watched.counts.items c.begin.new.counted.watched.counts.items met c.in_ok-part.ensures.seen (rw settled at c.in_ok-come_up.ensures.seen) (rw (settled, c.deref-6.ensures.value) at c.in_ok-begin.ensures.begun)
-    c.come_up.new.counted.queue c.begin.new.counted.queue c.begin.new.meetings (distinct_filter (is_over c.args.sweep.now.counted.watched.counts.items c.args.sweep.now.counted.watched.most) (filter (rises c.args.sweep.now.levels) c.args.sweep.now.began.items) s.distinct) c.in_ok-begun.ensures.distinct
-    (rw (settled, c.take_all-waiting.ensures.left) at c.in_ok-come_up.ensures.noting) (rw settled at c.in_ok-begin.ensures.noting)
-    (c.in_ok-begin.ensures.places ∙ ap (λ (m : List (List Pair)). length m) c.take_all-met.ensures.left ∙ length-set c.args.sweep.now.meetings c.args.sweep.now.levels.level [])
-    (rw (settled, c.deref-6.ensures.value) at (c.in_ok-begin.ensures.meetings (λ v. has_number v c.args.sweep.now.risen.items) (rw (settled, c.take_all-met.ensures.left) (left_meetings _ _ _ _ _ _ _ _ s t _ x)) (λ v there. begun_fresh _ _ _ _ _ _ _ _ s t v (ap (has_number v) (sym c.deref-6.ensures.value) ∙ there))))))
-
-pub returns-clause-come : goal.returns-clause-come
-returns-clause-come g c =
-    let s = c.requires.sweeping in
-    let l = c.in_ok-let_stay.ensures.stay in
-    let h = half_is _ _ _ c.args.sweep.now s c.requires.kept _ _ l c.go_to.new.self (c.args.sweep.now.levels.level + 1) c.go_to.ensures.seen c.in_ok-let_stay.ensures.same.1 in
-    let t = step_from _ _ _ _ s c.args.sweep.now.counted.watched.most c.in_ok-begun.begun.items c.in_ok-starting.starting.items c.take_all-waiting.result.items (seen c.go_to.new.self) (seen c.lift_off.new.levels) _ _ c.in_ok-starting.ensures c.deref.ensures.value c.take_all-waiting.ensures.taken h c.in_ok-begun.ensures.levels c.in_ok-begun.ensures.same c.deref-2.ensures.value in
-    let o : AreDistinct c.deref-4.result.now = subst AreDistinct (sym c.deref-4.ensures.value) l.distinct in
-    let k : (v : ℕ) → has_number v c.deref-4.result.now ≡ has_number v (filter (rises c.args.sweep.now.levels) c.args.sweep.now.began.items) && eqb (get_or (seen c.lift_off.new.levels) v 0) c.args.sweep.now.levels.level = λ v. ap (has_number v) c.deref-4.ensures.value ∙ stay_is _ _ _ c.args.sweep.now s c.requires.kept _ _ l _ _ t v in
-    let settled : c.put_on.new.self ≡ record c.args.placed.now { levels = settled_at c.args.placed.now.levels (seen c.lift_off.new.levels) c.args.sweep.now.levels.level c.deref-4.result.now } = c.put_on.ensures ∙ ap (λ (ys : List ℕ). placed_at c.args.placed.now ys) (ap (λ (vs : List ℕ). all_at c.args.placed.now.levels vs c.args.sweep.now.levels.level) (c.deref-5.ensures.value ∙ sym c.deref-4.ensures.value) ∙ sym (settled_all_at c.args.placed.now.levels (seen c.lift_off.new.levels) c.args.sweep.now.levels.level c.deref-4.result.now (stay_here _ _ _ _ _ _ _ _ s t _ o k))) in
-    let x = stay_settled _ _ _ _ _ _ _ _ s t _ o k in
-    let n : (v : ℕ) → rises c.lift_off.new.levels v ≡ rises c.let_stay.new.levels v || has_number v c.in_ok-begun.begun.items = λ v. c.in_ok-begun.ensures.rises v ∙ ap (λ b. b || has_number v c.in_ok-begun.begun.items) (c.go_to.ensures.rises v) in
-    let met = rw c.in_ok-let_stay.ensures.counts at c.in_ok-leave_behind.ensures.seen in
-    let room : c.args.sweep.now.levels.level < top_level c.args.th.now.profile c.args.placed.now.graph.vertices = rw c.requires.scale at c.requires.room in
-    let most_is : c.args.sweep.now.counted.watched.most ≡ high c.args.th.now.profile (group_of c.args.th.now.profile c.args.placed.now.graph.vertices c.args.sweep.now.levels.level) = rw c.requires.scale at c.requires.most in
-    let above_is : c.high-above.result ≡ high c.args.th.now.profile (group_of c.args.th.now.profile c.args.placed.now.graph.vertices (c.args.sweep.now.levels.level + 1)) = rw (c.group.ensures.value, c.requires.scale) at c.high-above.ensures.value in
-    λ x0 s0 come. rw settled (subst (λ w. HaveCome c.args.th.now.profile c.args.placed.now.graph x0 (settled_at c.args.placed.now.levels (seen c.lift_off.new.levels) c.args.sweep.now.levels.level c.deref-4.result.now) w s0 c.begin.new.steps) (sym (stepped_is _ _ _ c.args.sweep.now s c.requires.kept _ _ l _ _ t c.lift_off.new.levels n (record c.args.sweep.now { levels = c.lift_off.new.levels; counted = c.begin.new.counted; began = c.append.new.self; risen = c.extend_from_slice.new.self; meetings = c.begin.new.meetings; stay = c.let_stay.new.stay; first = c.movers.new.first }) refl (c.in_ok-begun.ensures.at ∙ c.go_to.ensures.level) c.in_ok-append.ensures.items (c.in_ok-extend_from_slice.ensures.items ∙ ap (λ vs. c.args.sweep.now.risen.items ++ vs) c.deref-7.ensures.value)))
-    (have_come _ _ _ _ _ _ _ _ s t _ x c.requires.graph room most_is c.high-above.result above_is c.leave_behind.new.watched.counts.items c.part.new.watched.counts.items c.come_up.new.counted.watched.counts.items c.begin.new.counted.watched.counts.items met c.in_ok-part.ensures.seen (rw settled at c.in_ok-come_up.ensures.seen) (rw (settled, c.deref-6.ensures.value) at c.in_ok-begin.ensures.begun)
-    c.begin.new.counted.queue c.begin.new.meetings x0 s0 c.args.steps.now c.part.new.steps c.begin.new.steps (distinct_filter (is_over c.args.sweep.now.counted.watched.counts.items c.args.sweep.now.counted.watched.most) (filter (rises c.args.sweep.now.levels) c.args.sweep.now.began.items) s.distinct) c.in_ok-begun.ensures.distinct refl (c.in_ok-part.ensures.cost ∙ ap (λ n. c.args.steps.now + n) (stay_steps _ _ _ _ _ _ _ _ s t _ o k)) (rw (settled, c.deref-6.ensures.value) at c.in_ok-begin.ensures.cost)
-    come))
-
-pub returns-clause-kept : goal.returns-clause-kept
-returns-clause-kept g c =
-    let s = c.requires.sweeping in
-    let l = c.in_ok-let_stay.ensures.stay in
-    let h = half_is _ _ _ c.args.sweep.now s c.requires.kept _ _ l c.go_to.new.self (c.args.sweep.now.levels.level + 1) c.go_to.ensures.seen c.in_ok-let_stay.ensures.same.1 in
-    let t = step_from _ _ _ _ s c.args.sweep.now.counted.watched.most c.in_ok-begun.begun.items c.in_ok-starting.starting.items c.take_all-waiting.result.items (seen c.go_to.new.self) (seen c.lift_off.new.levels) _ _ c.in_ok-starting.ensures c.deref.ensures.value c.take_all-waiting.ensures.taken h c.in_ok-begun.ensures.levels c.in_ok-begun.ensures.same c.deref-2.ensures.value in
-    let n : (v : ℕ) → rises c.lift_off.new.levels v ≡ rises c.let_stay.new.levels v || has_number v c.in_ok-begun.begun.items = λ v. c.in_ok-begun.ensures.rises v ∙ ap (λ b. b || has_number v c.in_ok-begun.begun.items) (c.go_to.ensures.rises v) in
-    kept_on _ _ _ c.args.sweep.now s c.requires.kept _ _ l _ _ t c.lift_off.new.levels n c.let_stay.new.watched c.begin.new.counted.watched (record c.args.sweep.now { levels = c.lift_off.new.levels; counted = c.begin.new.counted; began = c.append.new.self; risen = c.extend_from_slice.new.self; meetings = c.begin.new.meetings; stay = c.let_stay.new.stay; first = c.movers.new.first }) c.in_ok-let_stay.ensures.counts c.in_ok-let_stay.ensures.most c.in_ok-let_stay.ensures.nobody
-    (watched_on _ _ _ c.in_ok-leave_behind.ensures.watched (watched_on _ _ _ c.in_ok-part.ensures.watched (watched_on _ _ _ c.in_ok-come_up.ensures.watched c.in_ok-begin.ensures.watched)))
-    refl refl c.in_ok-append.ensures.items (c.in_ok-extend_from_slice.ensures.items ∙ ap (λ vs. c.args.sweep.now.risen.items ++ vs) c.deref-7.ensures.value)
+pub returns-clause-running : goal.returns-clause-running
+returns-clause-running g c = λ x first run.
+    let most_is : c.high-most.result ≡ high c.args.th.now.profile (group_of c.args.th.now.profile c.args.graph.now.vertices c.args.sweep.now.levels.level) = level_limit c.args.th.now.profile c.args.th.now.vertices c.args.graph.now.vertices c.args.sweep.now.levels.level c.high-most.result c.group.result c.high-most.ensures.value c.group.ensures.value c.requires.scale in
+    let limit : HasLimit c.high-most.result c.args.sweep.now.ranges = limit_from c.args.th.now.profile c.args.th.now.vertices c.args.sweep.now.levels.level c.high-most.result c.group.result c.args.sweep.now.ranges c.high-most.ensures.value c.group.ensures.value c.requires.limit in
+    let room : c.args.sweep.now.levels.level < top_level c.args.th.now.profile c.args.graph.now.vertices = subst (λ n. c.args.sweep.now.levels.level < top_level c.args.th.now.profile n) c.requires.scale c.requires.room in
+    let tops : top_level c.args.th.now.profile c.args.graph.now.vertices < 65535 = subst (λ n. top_level c.args.th.now.profile n < 65535) c.requires.scale c.group.ensures.small in
+    let movers : c.deref-2.result.now ≡ filter (is_over (count_of c.take_waiting.new.self) c.high-most.result) (waits c.args.sweep.now.ranges c.args.sweep.now.levels.level) = begin_from (count_of c.take_waiting.new.self) c.high-most.result c.deref.result.now c.in_ok-waiting.waiting.items (waits c.args.sweep.now.ranges c.args.sweep.now.levels.level) c.in_ok-starting.starting.items c.deref-2.result.now c.deref-2.ensures.value c.in_ok-starting.ensures c.deref.ensures.value c.in_ok-waiting.ensures.waiting in
+    let bits : c.ranges-2.inside.layout.bits ≡ c.let_stay.new.self.bits = ap (λ (r : Cut). r.bits) c.ranges-2.view_is in
+    let parted : AllParted (step_at c.args.graph.now c.let_stay.new.levels c.let_stay.new.self.bits c.args.sweep.now.levels.level c.is_dealt-is_dealt.result) c.let_stay.new.self.parts c.part.new.self.parts = subst (λ b. AllParted (step_at c.args.graph.now c.let_stay.new.levels b c.args.sweep.now.levels.level c.is_dealt-is_dealt.result) c.let_stay.new.self.parts c.part.new.self.parts) bits c.in_ok-part.ensures.parted in
+    let bits4 : c.ranges-2.inside.layout.bits ≡ c.lift_off.new.self.bits = same_bits c.ranges-2.inside.layout.bits c.let_stay.new.self.bits c.part.new.self.bits c.lift_off.new.self.bits c.in_ok-begun.ensures.same.0 c.in_ok-part.ensures.same bits in
+    let above_is : c.high-above.result ≡ high c.args.th.now.profile (group_of c.args.th.now.profile c.args.graph.now.vertices (c.args.sweep.now.levels.level + 1)) = level_limit c.args.th.now.profile c.args.th.now.vertices c.args.graph.now.vertices (c.args.sweep.now.levels.level + 1) c.high-above.result c.group-2.result c.high-above.ensures.value c.group-2.ensures.value c.requires.scale in
+    let risen : AllRisen (step_at c.args.graph.now c.lift_off.new.levels c.lift_off.new.self.bits c.args.sweep.now.levels.level c.is_dealt-is_dealt_up.result) c.high-above.result c.lift_off.new.self.parts c.rise.new.self.parts = subst (λ b. AllRisen (step_at c.args.graph.now c.lift_off.new.levels b c.args.sweep.now.levels.level c.is_dealt-is_dealt_up.result) c.high-above.result c.lift_off.new.self.parts c.rise.new.self.parts) bits4 c.in_ok-rise.ensures.risen in
+    let paid : IsPaid c.args.graph.now x (sweeping_of c.lift_off.new.levels c.take_steps.new.self) first (c.args.steps.now + c.take_steps.result) = subst (λ n. IsPaid c.args.graph.now x (sweeping_of c.lift_off.new.levels c.take_steps.new.self) first (c.args.steps.now + n)) (sym c.take_steps.ensures.steps) (next_paid c.args.th.now.profile c.args.graph.now x c.args.sweep.now.levels c.args.sweep.now.ranges c.high-most.result run.order limit run.sweeping most_is c.vertices-n.ensures.graph c.vertices-n.ensures.small room tops c.take_waiting.new.self c.in_ok-waiting.ensures.took c.in_ok-waiting.ensures.same c.deref-2.result.now movers c.let_stay.new.levels c.let_stay.new.self c.in_ok-staying.ensures.stay c.in_ok-staying.ensures.same c.is_dealt-is_dealt.result c.part.new.self parted c.in_ok-part.ensures.told c.in_ok-part.ensures.same c.go_to.new.self c.go_to.ensures.level c.go_to.ensures.seen c.go_to.ensures.rises c.lift_off.new.levels c.lift_off.new.self c.in_ok-begun.ensures.lifted c.in_ok-begun.ensures.same c.high-above.result above_is c.is_dealt-is_dealt_up.result c.rise.new.self risen c.in_ok-rise.ensures.told c.in_ok-rise.ensures.same c.take_steps.new.self c.take_steps.ensures.rest c.take_steps.ensures.same first c.args.steps.now run.paid) in
+    record {
+      order = next_order c.args.th.now.profile c.args.graph.now c.requires.running.start c.args.sweep.now.levels c.args.sweep.now.ranges c.high-most.result c.requires.running.order limit c.requires.running.sweeping most_is c.vertices-n.ensures.graph c.vertices-n.ensures.small room tops c.take_waiting.new.self c.in_ok-waiting.ensures.took c.in_ok-waiting.ensures.same c.deref-2.result.now movers c.let_stay.new.levels c.let_stay.new.self c.in_ok-staying.ensures.stay c.in_ok-staying.ensures.same c.is_dealt-is_dealt.result c.part.new.self parted c.in_ok-part.ensures.told c.in_ok-part.ensures.same c.go_to.new.self c.go_to.ensures.level c.go_to.ensures.seen c.go_to.ensures.rises c.lift_off.new.levels c.lift_off.new.self c.in_ok-begun.ensures.lifted c.in_ok-begun.ensures.same c.high-above.result above_is c.is_dealt-is_dealt_up.result c.rise.new.self risen c.in_ok-rise.ensures.told c.in_ok-rise.ensures.same c.take_steps.new.self c.take_steps.ensures.rest c.take_steps.ensures.same;
+      sweeping = next_sweeping c.args.th.now.profile c.args.graph.now x c.args.sweep.now.levels c.args.sweep.now.ranges c.high-most.result run.order limit run.sweeping most_is c.vertices-n.ensures.graph c.vertices-n.ensures.small room tops c.take_waiting.new.self c.in_ok-waiting.ensures.took c.in_ok-waiting.ensures.same c.deref-2.result.now movers c.let_stay.new.levels c.let_stay.new.self c.in_ok-staying.ensures.stay c.in_ok-staying.ensures.same c.is_dealt-is_dealt.result c.part.new.self parted c.in_ok-part.ensures.told c.in_ok-part.ensures.same c.go_to.new.self c.go_to.ensures.level c.go_to.ensures.seen c.go_to.ensures.rises c.lift_off.new.levels c.lift_off.new.self c.in_ok-begun.ensures.lifted c.in_ok-begun.ensures.same c.high-above.result above_is c.is_dealt-is_dealt_up.result c.rise.new.self risen c.in_ok-rise.ensures.told c.in_ok-rise.ensures.same c.take_steps.new.self c.take_steps.ensures.rest c.take_steps.ensures.same;
+      paid = subst (λ n. IsPaid c.args.graph.now x (sweeping_of c.lift_off.new.levels c.take_steps.new.self) first n) (sym c.add.ensures) paid;
+    }

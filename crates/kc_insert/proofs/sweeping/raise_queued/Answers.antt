@@ -1,51 +1,72 @@
-use Rattle.std.proofs.Common.{ℕ, ◌≡◌, ◌<◌, false, [], filter, refl, ap, sym, ◌∙◌, arith}
+use Rattle.std.proofs.Common.{ℕ, List, ◌+◌, ◌<◌, length, ap, sym, ◌∙◌, subst, arith}
 use Rattle.kc_graph.specs.Numbers.{has_number}
-use Rattle.kc_graph.specs.Shape.{IsGraph}
+use Rattle.kc_levels.specs.LevelList.{IsCapped, IsRaised}
+use Rattle.kc_levels.specs.Moved.{is_moved}
 use Rattle.kc_levels.specs.Thresholds.{top_level}
-use Rattle.kc_insert.specs.private.Rising.{rises, seen}
-use Rattle.kc_insert.proofs.Climbing.{rises_listed, none_rises, kept_starts, starts, come_so_far}
-use Rattle.kc_insert.proofs.Staying.{nobody_rises}
-use Rattle.kc_insert.proofs.Sweeps.{come_on, sweeping_last}
+use Rattle.kc_adj.specs.Degrees.{degrees}
+use Rattle.kc_insert.specs.Effort.{effort}
+use Rattle.kc_insert.specs.private.LevelStep.{AreInOrder}
+use Rattle.kc_insert.specs.Ranges.{all_risen, Cut}
+use Rattle.kc_insert.proofs.Ending.{queues_long, queues_same, settled_order, some_range}
+use Rattle.kc_insert.proofs.Phases.{ends_began, ends_inside, ends_paid, ends_raised, ends_small, none_rises, starts_order, starts_paid, starts_sweeping}
 use Rattle.kc_insert.proofs.sweeping.raise_queued.Goals as goal
-
-pub go_on-requires-clause-kept : goal.go_on-requires-clause-kept
-go_on-requires-clause-kept g c =
-    let small : top_level c.args.th.now.profile c.args.placed.now.graph.vertices < 65535 = rw c.requires.scale at (let h : top_level c.args.th.now.profile c.args.th.now.vertices < 65535 = omega (arith, c.top-top.ensures.value, c.top-top.ensures.small) in h) in
-    let still = none_rises c.args.th.now.profile c.args.placed.now.graph.vertices c.args.placed.now.levels c.args.sweep.now.levels c.requires.levels c.levels-levels.ensures.sized c.requires.capped small in
-    let none : (v : ℕ) → rises c.go_to.new.self v ≡ false = λ v. c.go_to.ensures.rises v ∙ still v in
-    let same : seen c.go_to.new.self ≡ c.args.placed.now.levels = c.go_to.ensures.seen [] still ∙ sym (nobody_rises c.args.sweep.now.levels still) ∙ c.requires.levels in
-    kept_starts c.args.th.now.profile c.args.th.now.vertices c.args.placed.now.graph c.args.placed.now.levels (record c.args.sweep.now { levels = c.go_to.new.self; counted = record { watched = record { counts = c.args.sweep.now.counted.watched.counts; most = c.args.sweep.now.counted.watched.most; doubtful = c.clear.new.self }; queue = c.args.sweep.now.counted.queue } }) c.go_to.ensures.level same none c.levels-levels.ensures.sized c.requires.capped c.requires.nobody c.clear.ensures.items
 
 pub loop-sweep-init : goal.loop-sweep-init
 loop-sweep-init g c =
-    let small : top_level c.args.th.now.profile c.args.placed.now.graph.vertices < 65535 = rw c.requires.scale at (let h : top_level c.args.th.now.profile c.args.th.now.vertices < 65535 = omega (arith, c.top-top.ensures.value, c.top-top.ensures.small) in h) in
-    let still = none_rises c.args.th.now.profile c.args.placed.now.graph.vertices c.args.placed.now.levels c.args.sweep.now.levels c.requires.levels c.levels-levels.ensures.sized c.requires.capped small in
-    let none : (v : ℕ) → rises c.go_to.new.self v ≡ false = λ v. c.go_to.ensures.rises v ∙ still v in
-    let same : seen c.go_to.new.self ≡ c.args.placed.now.levels = c.go_to.ensures.seen [] still ∙ sym (nobody_rises c.args.sweep.now.levels still) ∙ c.requires.levels in
-    let s = starts c.args.th.now.profile c.args.th.now.vertices c.args.placed.now.graph c.args.placed.now.levels (record c.args.sweep.now { levels = c.go_to.new.self; counted = record { watched = record { counts = c.args.sweep.now.counted.watched.counts; most = c.args.sweep.now.counted.watched.most; doubtful = c.clear.new.self }; queue = c.args.sweep.now.counted.queue } }) c.go_to.ensures.level same none c.levels-levels.ensures.sized c.requires.capped c.requires.nobody c.requires.scale c.requires.queued c.requires.counted c.requires.meetings in
-    let r = come_so_far c.args.th.now.profile c.args.th.now.vertices c.args.placed.now.graph c.args.placed.now.levels (record c.args.sweep.now { levels = c.go_to.new.self; counted = record { watched = record { counts = c.args.sweep.now.counted.watched.counts; most = c.args.sweep.now.counted.watched.most; doubtful = c.clear.new.self }; queue = c.args.sweep.now.counted.queue } }) c.go_to.ensures.level same none c.levels-levels.ensures.sized c.requires.capped c.requires.nobody c.args.steps.now in (
-      refl,
-      c.go_on.ensures.within,
-      c.go_on.ensures.sweeping _ _ _ s,
-      come_on _ _ _ _ _ _ _ _ c.go_on.ensures.from c.go_on.ensures.same r,
-      c.go_on.ensures.kept,
+    let tops : top_level c.args.th.now.profile c.args.graph.now.vertices < 65535 = omega (arith, c.top-top.ensures.value, c.top-top.ensures.small, ap (top_level c.args.th.now.profile) c.requires.scale) in
+    let order = starts_order c.args.th.now.profile c.args.graph.now c.args.sweep.now.levels c.go_to.new.self c.args.sweep.now.ranges c.requires.quiet c.requires.sized c.requires.capped tops c.go_to.ensures.level c.go_to.ensures.rises c.go_to.ensures.seen in
+    let sweeping = starts_sweeping c.args.th.now.profile c.args.graph.now c.args.sweep.now.levels c.go_to.new.self c.args.sweep.now.ranges c.requires.quiet c.requires.sized c.requires.capped tops c.go_to.ensures.level c.go_to.ensures.rises c.go_to.ensures.seen c.requires.counted c.requires.queued in
+    let paid = starts_paid c.args.th.now.profile c.args.graph.now c.args.sweep.now.levels c.go_to.new.self c.args.sweep.now.ranges c.requires.quiet c.requires.sized c.requires.capped tops c.go_to.ensures.level c.go_to.ensures.rises c.go_to.ensures.seen c.requires.counted c.requires.queued c.args.steps.now in
+    let some = some_range c.args.th.now.profile c.args.graph.now c.go_to.new.self c.args.sweep.now.ranges order (omega (arith, c.vertices-n.ensures.positive, c.vertices-n.ensures.count)) in (
+      c.go_on.ensures.within (top_level c.args.th.now.profile c.args.graph.now.vertices + 1) some (queues_same c.args.th.now.profile c.args.graph.now c.go_to.new.self c.args.sweep.now.ranges order) (omega (arith, c.go_to.ensures.level)),
+      record {
+        order = c.go_on.ensures.order c.args.th.now.profile c.args.graph.now order;
+        sweeping = c.go_on.ensures.sweeping c.args.th.now.profile c.args.graph.now c.args.sweep.now.levels.stored order sweeping;
+        paid = c.go_on.ensures.paid c.args.th.now.profile c.args.graph.now c.args.sweep.now.levels.stored c.args.steps.now c.args.steps.now order paid;
+      },
     )
 
-pub loop-sweep-preserved : goal.loop-sweep-preserved
-loop-sweep-preserved g c = (
-  c.in_ok-rise_on.ensures.graph ∙ c.loop-sweep.invariant.0,
-  c.go_on-in-loop-sweep.ensures.within,
-  c.go_on-in-loop-sweep.ensures.sweeping _ _ _ (rw c.loop-sweep.invariant.0 at c.in_ok-rise_on.ensures.sweeping),
-  come_on _ _ _ _ _ _ _ _ c.go_on-in-loop-sweep.ensures.from c.go_on-in-loop-sweep.ensures.same (rw c.loop-sweep.invariant.0 at (c.in_ok-rise_on.ensures.come c.args.placed.now.levels c.args.steps.now (rw c.loop-sweep.invariant.0 c.loop-sweep.invariant.3))),
-  c.go_on-in-loop-sweep.ensures.kept,
-)
+pub go_on-requires-in-loop-sweep : goal.go_on-requires-in-loop-sweep
+go_on-requires-in-loop-sweep g c =
+    let i = c.in_ok-rise_on.ensures.running c.args.sweep.now.levels.stored c.args.steps.now c.loop-sweep.invariant.1 in
+    record { within = queues_long c.args.th.now.profile c.args.graph.now c.rise_on.new.sweep.levels c.rise_on.new.sweep.ranges c.rise_on.new.sweep.levels.level i.order (omega (arith, c.in_ok-rise_on.ensures.within, ap (top_level c.args.th.now.profile) c.requires.scale)) }
 
-pub settle_all-requires-clause-all : goal.settle_all-requires-clause-all
-settle_all-requires-clause-all g c = λ v.
-    sym (rises_listed c.loop-sweep.sweep c.loop-sweep.invariant.4 v) ∙ ap (has_number v) (sym (c.deref-3.ensures.value ∙ c.in_ok-who_rises.ensures ∙ ap (filter (rises c.loop-sweep.sweep.levels)) c.deref.ensures.value))
+pub loop-sweep-preserved : goal.loop-sweep-preserved
+loop-sweep-preserved g c =
+    let i = c.in_ok-rise_on.ensures.running c.args.sweep.now.levels.stored c.args.steps.now c.loop-sweep.invariant.1 in
+    let some = some_range c.args.th.now.profile c.args.graph.now c.rise_on.new.sweep.levels c.rise_on.new.sweep.ranges i.order (omega (arith, c.vertices-n.ensures.positive, c.vertices-n.ensures.count)) in (
+      c.go_on-in-loop-sweep.ensures.within (top_level c.args.th.now.profile c.args.graph.now.vertices + 1) some (queues_same c.args.th.now.profile c.args.graph.now c.rise_on.new.sweep.levels c.rise_on.new.sweep.ranges i.order) (omega (arith, c.in_ok-rise_on.ensures.within, ap (top_level c.args.th.now.profile) c.requires.scale)),
+      record {
+        order = c.go_on-in-loop-sweep.ensures.order c.args.th.now.profile c.args.graph.now i.order;
+        sweeping = c.go_on-in-loop-sweep.ensures.sweeping c.args.th.now.profile c.args.graph.now c.args.sweep.now.levels.stored i.order i.sweeping;
+        paid = c.go_on-in-loop-sweep.ensures.paid c.args.th.now.profile c.args.graph.now c.args.sweep.now.levels.stored c.args.steps.now c.rise_on.new.steps i.order i.paid;
+      },
+    )
+
+pub settle_all-requires-clause-small : goal.settle_all-requires-clause-small
+settle_all-requires-clause-small g c = λ v up. omega (arith, ends_small c.args.th.now.profile c.args.graph.now c.args.sweep.now.levels.stored c.loop-sweep.sweep.levels c.loop-sweep.sweep.ranges c.vertices-n.ensures.graph c.loop-sweep.invariant.1.order c.loop-sweep.invariant.1.sweeping v up, c.top-top.ensures.value, c.top-top.ensures.small, ap (top_level c.args.th.now.profile) c.requires.scale)
+
+pub settle_all-requires-clause-inside : goal.settle_all-requires-clause-inside
+settle_all-requires-clause-inside g c = ends_inside c.args.th.now.profile c.args.graph.now c.args.sweep.now.levels.stored c.loop-sweep.sweep.levels c.loop-sweep.sweep.ranges c.vertices-n.ensures.graph c.loop-sweep.invariant.1.order c.loop-sweep.invariant.1.sweeping
+
+pub settle_all-requires-clause-began : goal.settle_all-requires-clause-began
+settle_all-requires-clause-began g c = ends_began c.args.th.now.profile c.args.graph.now c.args.sweep.now.levels.stored c.loop-sweep.sweep.levels c.loop-sweep.sweep.ranges c.vertices-n.ensures.graph c.loop-sweep.invariant.1.order c.loop-sweep.invariant.1.sweeping
 
 pub returns-clause-raised : goal.returns-clause-raised
-returns-clause-raised g c =
-    let graph : IsGraph c.args.placed.now.graph = rw c.graph.ensures at c.vertices-n.ensures.graph in
-    rw c.put_all.ensures
-    (sweeping_last _ c.args.th.now.vertices _ _ _ _ _ _ graph c.requires.scale (omega (arith, c.top-top.ensures.value, c.loop-sweep-test.false)) c.loop-sweep.invariant.2 c.loop-sweep.invariant.3)
+returns-clause-raised g c = subst (λ (z : List ℕ). IsRaised c.args.th.now.profile c.args.graph.now c.args.sweep.now.levels.stored z) (sym c.settle_all.ensures.levels) (ends_raised c.args.th.now.profile c.args.graph.now c.args.sweep.now.levels.stored c.loop-sweep.sweep.levels c.loop-sweep.sweep.ranges c.vertices-n.ensures.graph c.loop-sweep.invariant.1.order c.loop-sweep.invariant.1.sweeping (omega (arith, c.top-top.ensures.value, c.loop-sweep-test.false, ap (top_level c.args.th.now.profile) c.requires.scale)))
+
+pub returns-clause-risen : goal.returns-clause-risen
+returns-clause-risen g c = λ v. ap (λ (r : Cut). has_number v (all_risen r)) c.settle_all.ensures.ranges ∙ c.loop-sweep.invariant.1.sweeping.rise.moved v ∙ ap (λ (z : List ℕ). is_moved c.args.sweep.now.levels.stored z v) (sym c.settle_all.ensures.levels)
+
+pub returns-clause-order : goal.returns-clause-order
+returns-clause-order g c =
+    let i = c.loop-sweep.invariant.1 in
+    let tops : top_level c.args.th.now.profile c.args.graph.now.vertices < 65535 = omega (arith, c.top-top.ensures.value, c.top-top.ensures.small, ap (top_level c.args.th.now.profile) c.requires.scale) in
+    let long = ap (λ (z : List ℕ). length z) c.settle_all.ensures.levels ∙ i.sweeping.placed.raising.sized in
+    let capped = subst (λ (z : List ℕ). IsCapped c.args.th.now.profile c.args.graph.now.vertices z) (sym c.settle_all.ensures.levels) i.sweeping.placed.raising.capped in
+    subst (λ (r : Cut). AreInOrder c.args.th.now.profile c.args.graph.now c.settle_all.new.self.levels r) (sym c.settle_all.ensures.ranges) (settled_order c.args.th.now.profile c.args.graph.now c.loop-sweep.sweep.levels c.settle_all.new.self.levels c.loop-sweep.sweep.ranges (none_rises c.args.th.now.profile c.args.graph.now.vertices c.settle_all.new.self.levels long capped tops) i.order)
+
+pub returns-clause-cost : goal.returns-clause-cost
+returns-clause-cost g c =
+    let i = c.loop-sweep.invariant.1 in
+    omega (arith, ends_paid c.args.th.now.profile c.args.graph.now c.args.sweep.now.levels.stored c.loop-sweep.sweep.levels c.loop-sweep.sweep.ranges c.vertices-n.ensures.graph i.order i.sweeping c.args.steps.now c.loop-sweep.steps i.paid, ap (λ (r : Cut). degrees c.args.graph.now (all_risen r) + length (all_risen r)) c.settle_all.ensures.ranges, ap (λ (z : List ℕ). effort c.args.graph.now c.args.sweep.now.levels.stored z c.args.graph.now.vertices) c.settle_all.ensures.levels)

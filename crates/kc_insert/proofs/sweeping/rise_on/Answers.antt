@@ -1,18 +1,40 @@
-use Rattle.std.proofs.Common.{sym, subst}
-use Rattle.kc_insert.specs.private.Sweeping.{HaveCome}
-use Rattle.kc_insert.proofs.Climbing.{began_inside}
+use Rattle.std.proofs.Common.{◌<◌, length, ap, sym, subst, arith}
+use Rattle.std.proofs.lemmas.List.{get_or_default}
+use Rattle.kc_levels.specs.Thresholds.{group_of, high, top_level}
+use Rattle.kc_insert.specs.declared.rising.RisingLevels.{RisingLevels}
+use Rattle.kc_insert.specs.declared.sweep.Sweep.{Sweep}
+use Rattle.kc_insert.specs.private.LevelStep.{AreInOrder, HasLimit, IsRunning, IsUnderWay}
+use Rattle.kc_insert.specs.Ranges.{no_part, Part}
+use Rattle.kc_insert.proofs.Anew.{can_look, looked_limit, looked_order, looked_running, looked_way}
 use Rattle.kc_insert.proofs.sweeping.rise_on.Goals as goal
 
-pub look_anew-requires-clause-inside : goal.look_anew-requires-clause-inside
-look_anew-requires-clause-inside g c = λ v there. rw c.requires.sweeping.sized (began_inside _ _ _ c.args.sweep.now c.requires.sweeping c.requires.kept v there)
+pub look_anew-requires-clause-can : goal.look_anew-requires-clause-can
+look_anew-requires-clause-can g c = can_look c.args.th.now.profile c.args.graph.now c.args.sweep.now.levels c.args.sweep.now.ranges c.requires.running.sweeping.placed.raising.sized c.requires.running.order
 
-pub rise_together-requires-clause-sweeping : goal.rise_together-requires-clause-sweeping
-rise_together-requires-clause-sweeping g c = rw c.in_ok-look_anew.ensures.same c.requires.sweeping
+pub rise_together-requires-clause-waiting : goal.rise_together-requires-clause-waiting
+rise_together-requires-clause-waiting g c = λ k d at.
+    let order : AreInOrder c.args.th.now.profile c.args.graph.now c.args.sweep.now.levels c.look_anew.new.self.ranges = looked_order c.args.th.now.profile c.args.graph.now c.args.sweep.now.levels _ c.args.sweep.now.ranges c.look_anew.new.self.ranges c.requires.running.order c.in_ok-look_anew.ensures.looked c.in_ok-look_anew.ensures.same.0 c.in_ok-look_anew.ensures.same.1 in
+    let room : c.args.sweep.now.levels.level < top_level c.args.th.now.profile c.args.graph.now.vertices = subst (λ n. c.args.sweep.now.levels.level < top_level c.args.th.now.profile n) c.requires.scale c.requires.room in
+    omega (arith, room, ap (λ (s : RisingLevels). s.level) c.in_ok-look_anew.ensures.levels, ap (λ (q : Part). length q.queue) (get_or_default c.look_anew.new.self.ranges.parts k d no_part at), order.shape.queues k at)
 
-pub returns-then-rise_together-clause-come : goal.returns-then-rise_together-clause-come
-returns-then-rise_together-clause-come g c = λ x0 s0 come.
-    c.rise_together.ensures.come x0 s0 c.args.steps.now (subst (λ w. HaveCome c.args.th.now.profile c.args.placed.now.graph x0 c.args.placed.now.levels w s0 c.args.steps.now) (sym c.in_ok-look_anew.ensures.same) come)
+pub rise_together-requires-clause-met : goal.rise_together-requires-clause-met
+rise_together-requires-clause-met g c = λ k d at.
+    let order : AreInOrder c.args.th.now.profile c.args.graph.now c.args.sweep.now.levels c.look_anew.new.self.ranges = looked_order c.args.th.now.profile c.args.graph.now c.args.sweep.now.levels _ c.args.sweep.now.ranges c.look_anew.new.self.ranges c.requires.running.order c.in_ok-look_anew.ensures.looked c.in_ok-look_anew.ensures.same.0 c.in_ok-look_anew.ensures.same.1 in
+    let room : c.args.sweep.now.levels.level < top_level c.args.th.now.profile c.args.graph.now.vertices = subst (λ n. c.args.sweep.now.levels.level < top_level c.args.th.now.profile n) c.requires.scale c.requires.room in
+    omega (arith, room, ap (λ (s : RisingLevels). s.level) c.in_ok-look_anew.ensures.levels, ap (λ (q : Part). length q.meetings) (get_or_default c.look_anew.new.self.ranges.parts k d no_part at), order.shape.meetings k at)
 
-pub returns-clause-come : goal.returns-clause-come
-returns-clause-come g c = λ x0 s0 come.
-    c.in_ok-raise_level.ensures.come x0 s0 (c.rise_together.ensures.come x0 s0 c.args.steps.now (subst (λ w. HaveCome c.args.th.now.profile c.args.placed.now.graph x0 c.args.placed.now.levels w s0 c.args.steps.now) (sym c.in_ok-look_anew.ensures.same) come))
+pub returns-then-rise_together-clause-running : goal.returns-then-rise_together-clause-running
+returns-then-rise_together-clause-running g c = λ x first run.
+    let limit : HasLimit (high c.args.th.now.profile (group_of c.args.th.now.profile c.args.th.now.vertices c.look_anew.new.self.levels.level)) c.look_anew.new.self.ranges = subst (λ (s : RisingLevels). HasLimit (high c.args.th.now.profile (group_of c.args.th.now.profile c.args.th.now.vertices s.level)) c.look_anew.new.self.ranges) (sym c.in_ok-look_anew.ensures.levels) (looked_limit c.args.th.now.profile c.args.graph.now c.args.sweep.now.levels _ c.args.sweep.now.ranges c.look_anew.new.self.ranges c.requires.running.order c.in_ok-look_anew.ensures.looked c.in_ok-look_anew.ensures.same.0 c.in_ok-look_anew.ensures.same.1) in
+    let on : IsRunning c.args.th.now.profile c.args.graph.now x first c.args.steps.now c.look_anew.new.self.levels c.look_anew.new.self.ranges = subst (λ (s : RisingLevels). IsRunning c.args.th.now.profile c.args.graph.now x first c.args.steps.now s c.look_anew.new.self.ranges) (sym c.in_ok-look_anew.ensures.levels) (looked_running c.args.th.now.profile c.args.graph.now c.args.sweep.now.levels _ c.args.sweep.now.ranges c.look_anew.new.self.ranges c.in_ok-look_anew.ensures.looked c.in_ok-look_anew.ensures.same.0 c.in_ok-look_anew.ensures.same.1 x first c.args.steps.now run) in
+    c.rise_together.ensures.running c.args.graph.now x first c.args.steps.now c.requires.scale c.vertices-n.ensures.graph limit on
+
+pub raise_level-requires-clause-running : goal.raise_level-requires-clause-running
+raise_level-requires-clause-running g c κs within =
+    let way : IsUnderWay c.args.th.now.profile c.args.graph.now c.look_anew.new.self.levels c.look_anew.new.self.ranges = subst (λ (s : RisingLevels). IsUnderWay c.args.th.now.profile c.args.graph.now s c.look_anew.new.self.ranges) (sym c.in_ok-look_anew.ensures.levels) (looked_way c.args.th.now.profile c.args.graph.now c.args.sweep.now.levels _ c.args.sweep.now.ranges c.look_anew.new.self.ranges c.in_ok-look_anew.ensures.looked c.in_ok-look_anew.ensures.same.0 c.in_ok-look_anew.ensures.same.1 c.requires.running) in
+    subst (λ (w : Sweep). IsUnderWay c.args.th.now.profile c.args.graph.now w.levels w.ranges) (sym (c.rise_together.ensures.stays c.if-rise_together.false)) way
+
+pub returns-clause-running : goal.returns-clause-running
+returns-clause-running g c = λ x first run.
+    let on : IsRunning c.args.th.now.profile c.args.graph.now x first c.args.steps.now c.look_anew.new.self.levels c.look_anew.new.self.ranges = subst (λ (s : RisingLevels). IsRunning c.args.th.now.profile c.args.graph.now x first c.args.steps.now s c.look_anew.new.self.ranges) (sym c.in_ok-look_anew.ensures.levels) (looked_running c.args.th.now.profile c.args.graph.now c.args.sweep.now.levels _ c.args.sweep.now.ranges c.look_anew.new.self.ranges c.in_ok-look_anew.ensures.looked c.in_ok-look_anew.ensures.same.0 c.in_ok-look_anew.ensures.same.1 x first c.args.steps.now run) in
+    c.in_ok-raise_level.ensures.running x first (subst (λ (w : Sweep). IsRunning c.args.th.now.profile c.args.graph.now x first c.args.steps.now w.levels w.ranges) (sym (c.rise_together.ensures.stays c.if-rise_together.false)) on)

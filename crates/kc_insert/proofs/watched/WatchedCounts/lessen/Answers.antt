@@ -1,12 +1,6 @@
-use Rattle.std.proofs.Common.{refl, arith}
-use Rattle.std.proofs.lemmas.List.{get_or_read}
-use Rattle.kc_insert.proofs.Watching.{watched_noted, watched_kept}
+use Rattle.std.proofs.Common.{refl}
+use Rattle.kc_insert.proofs.Watching.{watched_noted}
 use Rattle.kc_insert.proofs.watched.WatchedCounts.lessen.Goals as goal
 
 pub returns-in_ok-push-clause-watched : goal.returns-in_ok-push-clause-watched
-returns-in_ok-push-clause-watched c = watched_noted c.args.self.now _ c.args.v _ c.requires.vertex refl refl c.in_ok-push.ensures.items
-
-pub returns-else-count-self-clause-watched : goal.returns-else-count-self-clause-watched
-returns-else-count-self-clause-watched c =
-    let read = get_or_read c.args.self.now.counts.items c.args.v c.index.result.now c.requires.vertex c.index.ensures 0 in
-    watched_kept c.args.self.now _ c.args.v _ c.requires.vertex refl refl refl (λ few. omega (arith, few, read, c.if-count-self.false))
+returns-in_ok-push-clause-watched c = rw (← c.self.view_is) (watched_noted _ _ c.args.v _ (rw (← c.self.view_is) at c.requires.vertex) refl refl refl c.in_ok-push.ensures.items)

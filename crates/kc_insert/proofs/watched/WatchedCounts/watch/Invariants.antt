@@ -4,6 +4,7 @@ use Rattle.kc_insert.proofs.watched.WatchedCounts.watch.Given as goal
 
 abbrev pub invariant-loop-v : goal.invariant-loop-v
 invariant-loop-v l =
-    (l.self.counts.items ≡ l.initial.self.counts.items)
-    × (l.self.most ≡ l.most)
-    × (l.self.doubtful.items ≡ filter (is_few l.initial.self.counts.items l.most) (take l.v-index l.vertices))
+    (l.self-inside.first ≡ l.initial.self-inside.first)
+    × (l.self-inside.counts.items ≡ l.initial.self-inside.counts.items)
+    × (l.self-inside.most ≡ l.most)
+    × (l.self-inside.doubtful.items ≡ filter (is_few l.fn.self l.most) (take l.v-index l.vertices))

@@ -1,0 +1,125 @@
+-- The vertices of a range count afresh, one after another, and wait if they count more than their groups allow.
+use Rattle.std.proofs.Common.{ℕ, ◌+◌, ◌-◌, ◌≤◌, ◌<◌, ◌≡◌, ◌≢◌, ◌⊎◌, inl, inr, Bool, true, false, cond, ltb, eqb, not, ◌&&◌, List, [], ◌∷◌, ◌++◌, length, get_or, set, refl, ap, sym, ◌∙◌, arith}
+use Rattle.std.proofs.lemmas.Bool.{cases_eq, cases_Bool}
+use Rattle.std.proofs.lemmas.Bool.Decides.{nat_tests}
+use Rattle.std.proofs.lemmas.List.{length-set, set-get_or}
+use Rattle.kc_graph.specs.Numbers.{has_number}
+use Rattle.kc_levels.specs.declared.profile.Profile.{Profile}
+use Rattle.kc_levels.specs.Thresholds.{high, group_of}
+use Rattle.kc_insert.specs.private.Filed.{HasFollowed, HaveFiled}
+use Rattle.kc_insert.specs.private.Watched.{count_at}
+use Rattle.kc_insert.specs.Ranges.{IsHeld, Watch}
+use Rattle.kc_insert.proofs.Buckets.{placed, pushed_is, has_last, still_there, now_there}
+use Rattle.kc_insert.proofs.Watching.{count_here, count_other}
+
+-- one vertex follows its fresh count: the three ways of the code
+module _ (p : Profile) (n : ℕ) (y : List ℕ) (v own : ℕ) (old : Watch) (first : List (List ℕ)) where
+  abbrev filed : List (List ℕ)
+  filed = set first (get_or y v 0) (get_or first (get_or y v 0) [] ++ v ∷ [])
+
+  pub followed_same : count_at old v ≡ own → HasFollowed p n y v own old old first first
+  followed_same is = record {
+    counts = ap (λ ks. record old { counts = ks }) (sym (ap (λ k. set old.counts (v - old.first) k) (sym is) ∙ set-get_or old.counts (v - old.first) 0));
+    waits = sym (ap (λ b. cond (not b && ltb (high p (group_of p n (get_or y v 0))) own) filed first) (test (count_at old v) is));
+  }
+    where
+      test : (c : ℕ) → c ≡ own → eqb c own ≡ true
+      test c e = grind (arith, nat_tests, e)
+
+  pub followed_few : (new : Watch) → count_at old v ≢ own → own ≤ high p (group_of p n (get_or y v 0)) → new ≡ record old { counts = set old.counts (v - old.first) own } → HasFollowed p n y v own old new first first
+  followed_few new other few is = record {
+    counts = is;
+    waits = sym (ap (λ b. cond b filed first) (test (count_at old v) (high p (group_of p n (get_or y v 0))) few));
+  }
+    where
+      test : (c h : ℕ) → own ≤ h → not (eqb c own) && ltb h own ≡ false
+      test c h le = grind (arith, nat_tests, le)
+
+  pub followed_many : (new : Watch) (queue : List (List ℕ)) → count_at old v ≢ own → high p (group_of p n (get_or y v 0)) < own → new ≡ record old { counts = set old.counts (v - old.first) own } → queue ≡ filed → HasFollowed p n y v own old new first queue
+  followed_many new queue other many is waits = record {
+    counts = is;
+    waits = waits ∙ sym (ap (λ b. cond b filed first) (test (count_at old v) (high p (group_of p n (get_or y v 0))) other many));
+  }
+    where
+      test : (c h : ℕ) → c ≢ own → h < own → not (eqb c own) && ltb h own ≡ true
+      test c h ne lt = grind (arith, nat_tests, ne, lt)
+
+pub filed_first : (p : Profile) (n : ℕ) (y fresh : List ℕ) (a : Watch) (first : List (List ℕ)) → HaveFiled p n y fresh 0 a a first first
+filed_first p n y fresh a first = record {
+  watch = refl;
+  sized = refl;
+  counts = λ v from below. absurd (omega (arith, from, below));
+  later = λ v from. refl;
+  buckets = refl;
+  still = λ k u there. there;
+  only = λ k u there. inl there;
+  found = λ u from below ne many. absurd (omega (arith, from, below));
+}
+
+-- the step of a loop at place i, where v stands
+module _ (p : Profile) (n : ℕ) (y fresh : List ℕ) (i v : ℕ) (a b c : Watch) (first mid queue : List (List ℕ)) (is : v ≡ a.first + i) (at : i < length a.counts) (room : get_or y v 0 < length first) (s : HaveFiled p n y fresh i a b first mid) (t : HasFollowed p n y v (get_or fresh v 0) b c mid queue) where
+  same : b.first ≡ a.first
+  same = ap (λ (w : Watch). w.first) s.watch
+
+  held : IsHeld b v
+  held = record { from = omega (arith, is, same); below = omega (arith, is, at, same, s.sized) }
+
+  kept : c.first ≡ b.first
+  kept = ap (λ (w : Watch). w.first) t.counts
+
+  counts_are : c.counts ≡ set b.counts (v - b.first) (get_or fresh v 0)
+  counts_are = ap (λ (w : Watch). w.counts) t.counts
+
+  abbrev test : Bool
+  test = not (eqb (count_at b v) (get_or fresh v 0)) && ltb (high p (group_of p n (get_or y v 0))) (get_or fresh v 0)
+
+  was : count_at b v ≡ count_at a v
+  was = s.later v (omega (arith, is))
+
+  wide : get_or y v 0 < length mid
+  wide = omega (arith, room, s.buckets)
+
+  pub filed_next : HaveFiled p n y fresh (i + 1) a c first queue
+  filed_next = record {
+    watch = t.counts ∙ ap (λ (w : Watch). record w { counts = set b.counts (v - b.first) (get_or fresh v 0) }) s.watch ∙ ap (λ ks. record a { counts = ks }) (sym counts_are);
+    sized = ap length counts_are ∙ length-set b.counts (v - b.first) (get_or fresh v 0) ∙ s.sized;
+    counts = λ u from below. elim (cases_eq u v) [
+      | inl e ↦ rw e (count_here b c v (get_or fresh v 0) held kept counts_are)
+      | inr ne ↦ count_other b c v (get_or fresh v 0) held kept counts_are u (omega (arith, from, same)) ne ∙ s.counts u from (omega (arith, below, ne, is))
+    ];
+    later = λ u from. count_other b c v (get_or fresh v 0) held kept counts_are u (omega (arith, from, same)) (λ e. absurd (omega (arith, e, from, is))) ∙ s.later u (omega (arith, from));
+    buckets = elim (cases_Bool test) [
+      | inl yes_ ↦ ap length (waits yes_) ∙ length-set mid (get_or y v 0) (get_or mid (get_or y v 0) [] ++ v ∷ []) ∙ s.buckets
+      | inr no_ ↦ ap length (passes no_) ∙ s.buckets
+    ];
+    still = λ k u there. elim (cases_Bool test) [
+      | inl yes_ ↦ rw (waits yes_) (still_there mid (get_or y v 0) (v ∷ []) wide k u (s.still k u there))
+      | inr no_ ↦ rw (passes no_) (s.still k u there)
+    ];
+    only = λ k u there. elim (cases_Bool test) [
+      | inr no_ ↦ s.only k u (rw (passes no_) at there)
+      | inl yes_ ↦ placed mid (get_or y v 0) k (get_or mid (get_or y v 0) [] ++ v ∷ []) wide (λ xs. has_number u xs ≡ true → (has_number u (get_or first k []) ≡ true) ⊎ (IsHeld a u × (get_or y u 0 ≡ k)))
+          (λ here in_it. elim (pushed_is u v (get_or mid (get_or y v 0) []) in_it) [
+            | inl e ↦ inr (rw e (record { from = omega (arith, is); below = omega (arith, is, at) }), rw e (sym here))
+            | inr old ↦ s.only k u (rw here old)
+          ])
+          (λ other in_it. s.only k u in_it)
+          (rw (waits yes_) at there)
+    ];
+    found = λ u from below ne many. elim (cases_eq u v) [
+      | inl e ↦ rw e (rw (waits (yes_is (count_at b v) (high p (group_of p n (get_or y v 0))) (λ f. (rw e at ne) (sym was ∙ f)) (rw e at many))) (now_there mid (get_or y v 0) (v ∷ []) wide v (has_last v [])))
+      | inr off ↦ elim (cases_Bool test) [
+        | inl yes_ ↦ rw (waits yes_) (still_there mid (get_or y v 0) (v ∷ []) wide (get_or y u 0) u (s.found u from (omega (arith, below, off, is)) ne many))
+        | inr no_ ↦ rw (passes no_) (s.found u from (omega (arith, below, off, is)) ne many)
+      ]
+    ];
+  }
+    where
+      waits : test ≡ true → queue ≡ set mid (get_or y v 0) (get_or mid (get_or y v 0) [] ++ v ∷ [])
+      waits e = t.waits ∙ ap (λ b. cond b (set mid (get_or y v 0) (get_or mid (get_or y v 0) [] ++ v ∷ [])) mid) e
+
+      passes : test ≡ false → queue ≡ mid
+      passes e = t.waits ∙ ap (λ b. cond b (set mid (get_or y v 0) (get_or mid (get_or y v 0) [] ++ v ∷ [])) mid) e
+
+      yes_is : (c h : ℕ) → c ≢ get_or fresh v 0 → h < get_or fresh v 0 → not (eqb c (get_or fresh v 0)) && ltb h (get_or fresh v 0) ≡ true
+      yes_is c h ne lt = grind (arith, nat_tests, ne, lt)

@@ -1,0 +1,230 @@
+-- Lists of all ranges, one after another.
+use Rattle.std.proofs.Common.{ℕ, suc, zero, ◌+◌, ◌≤◌, ◌<◌, ◌≡◌, ◌≢◌, inl, inr, Bool, true, false, cond, eqb, ◌||◌, List, [], ◌∷◌, ◌++◌, length, get_or, map, filter, refl, ap, sym, ◌∙◌, arith}
+use Rattle.std.specs.List.{flat_map}
+use Rattle.std.proofs.lemmas.Bool.{cases_eq, cases_Bool, true≢false}
+use Rattle.std.proofs.lemmas.Bool.Decides.{nat_tests}
+use Rattle.std.proofs.lemmas.Grind.{flat_map-append}
+use Rattle.std.proofs.lemmas.List.{map-append}
+use Rattle.std.proofs.lemmas.List.Elements.{filter-append}
+use Rattle.kc_graph.specs.Numbers.{has_number}
+use Rattle.kc_graph.specs.Shape.{Pair, has_edge, same_edge}
+use Rattle.kc_graph.proofs.lemmas.Numbers.{has_number-append}
+use Rattle.kc_levels.specs.Following.{AreDistinct}
+use Rattle.kc_insert.specs.private.Meetings.{AreApart}
+use Rattle.kc_insert.specs.Ranges.{no_part, Part}
+use Rattle.kc_insert.specs.private.Telling.{times}
+use Rattle.kc_insert.proofs.Adding.{times-append, times_none, times_there}
+
+either : (a b : Bool) → a || b ≡ true → a ≡ false → b ≡ true
+either a b e f = grind (arith, nat_tests, e, f)
+
+-- a vertex of the lists is in one of them
+pub joined_in : (f : Part → List ℕ) (ps : List Part) (v : ℕ) → has_number v (flat_map f ps) ≡ true → (j : ℕ) × (j < length ps) × (has_number v (f (get_or ps j no_part)) ≡ true)
+joined_in f [] v there = absurd (true≢false (sym there))
+joined_in f (p ∷ ps) v there = elim (cases_Bool (has_number v (f p))) [
+  | inl here ↦ (0, omega arith, here)
+  | inr none ↦
+      let later = joined_in f ps v (either (has_number v (f p)) (has_number v (flat_map f ps)) (sym (has_number-append v (f p) (flat_map f ps)) ∙ there) none) in
+      (suc later.0, omega (arith, later.1), later.2)
+]
+
+pub joined_of : (f : Part → List ℕ) (ps : List Part) (v j : ℕ) → j < length ps → has_number v (f (get_or ps j no_part)) ≡ true → has_number v (flat_map f ps) ≡ true
+joined_of f [] v j h there = absurd (omega (arith, h))
+joined_of f (p ∷ ps) v zero h there = has_number-append v (f p) (flat_map f ps) ∙ ap (λ b. b || has_number v (flat_map f ps)) there
+joined_of f (p ∷ ps) v (suc j) h there = has_number-append v (f p) (flat_map f ps) ∙ right (has_number v (f p)) (has_number v (flat_map f ps)) (joined_of f ps v j (omega (arith, h)) there)
+  where
+    right : (a b : Bool) → b ≡ true → a || b ≡ true
+    right a b e = grind (arith, nat_tests, e)
+
+-- the same of pairs
+pub has_edge-append : (e : Pair) (xs ys : List Pair) → has_edge e (xs ++ ys) ≡ has_edge e xs || has_edge e ys
+has_edge-append e [] ys = refl
+has_edge-append e (f ∷ fs) ys = ap (λ b. same_edge e f || b) (has_edge-append e fs ys) ∙ assoc (same_edge e f) (has_edge e fs) (has_edge e ys)
+  where
+    assoc : (a b c : Bool) → a || (b || c) ≡ (a || b) || c
+    assoc true b c = refl
+    assoc false b c = refl
+
+pub pairs_in : (f : Part → List Pair) (ps : List Part) (e : Pair) → has_edge e (flat_map f ps) ≡ true → (j : ℕ) × (j < length ps) × (has_edge e (f (get_or ps j no_part)) ≡ true)
+pairs_in f [] e there = absurd (true≢false (sym there))
+pairs_in f (p ∷ ps) e there = elim (cases_Bool (has_edge e (f p))) [
+  | inl here ↦ (0, omega arith, here)
+  | inr none ↦
+      let later = pairs_in f ps e (either (has_edge e (f p)) (has_edge e (flat_map f ps)) (sym (has_edge-append e (f p) (flat_map f ps)) ∙ there) none) in
+      (suc later.0, omega (arith, later.1), later.2)
+]
+
+pub pairs_of : (f : Part → List Pair) (ps : List Part) (e : Pair) (j : ℕ) → j < length ps → has_edge e (f (get_or ps j no_part)) ≡ true → has_edge e (flat_map f ps) ≡ true
+pairs_of f [] e j h there = absurd (omega (arith, h))
+pairs_of f (p ∷ ps) e zero h there = has_edge-append e (f p) (flat_map f ps) ∙ ap (λ b. b || has_edge e (flat_map f ps)) there
+pairs_of f (p ∷ ps) e (suc j) h there = has_edge-append e (f p) (flat_map f ps) ∙ right (has_edge e (f p)) (has_edge e (flat_map f ps)) (pairs_of f ps e j (omega (arith, h)) there)
+  where
+    right : (a b : Bool) → b ≡ true → a || b ≡ true
+    right a b e = grind (arith, nat_tests, e)
+
+-- lists that are the same range by range
+pub joined_same : {A : Type 0} (f h : Part → List A) (qs ps : List Part) → length qs ≡ length ps → ((j : ℕ) → j < length ps → f (get_or qs j no_part) ≡ h (get_or ps j no_part)) → flat_map f qs ≡ flat_map h ps
+joined_same f h [] [] long each = refl
+joined_same f h [] (p ∷ ps) long each = absurd (omega (arith, long))
+joined_same f h (q ∷ qs) [] long each = absurd (omega (arith, long))
+joined_same f h (q ∷ qs) (p ∷ ps) long each =
+    ap (λ ys. ys ++ flat_map f qs) (each 0 (omega arith))
+    ∙ ap (λ ys. h p ++ ys) (joined_same f h qs ps (omega (arith, long)) (λ j at. each (suc j) (omega (arith, at))))
+
+-- rows of the lists, and ends of pairs
+pub joined_rows : {A B : Type 0} (row : A → List B) (f : Part → List A) (ps : List Part) → flat_map row (flat_map f ps) ≡ flat_map (λ p. flat_map row (f p)) ps
+joined_rows row f [] = refl
+joined_rows row f (p ∷ ps) = flat_map-append row (f p) (flat_map f ps) ∙ ap (λ ys. flat_map row (f p) ++ ys) (joined_rows row f ps)
+
+pub joined_ends : (end : Pair → ℕ) (test : Pair → Bool) (f : Part → List Pair) (ps : List Part) → map end (filter test (flat_map f ps)) ≡ flat_map (λ p. map end (filter test (f p))) ps
+joined_ends end test f [] = refl
+joined_ends end test f (p ∷ ps) =
+    ap (map end) (filter-append test (f p) (flat_map f ps))
+    ∙ map-append end (filter test (f p)) (filter test (flat_map f ps))
+    ∙ ap (λ ys. map end (filter test (f p)) ++ ys) (joined_ends end test f ps)
+
+-- two lists of each range
+pub has_joined : (v : ℕ) (f h : Part → List ℕ) (ps : List Part) → has_number v (flat_map (λ p. f p ++ h p) ps) ≡ has_number v (flat_map f ps) || has_number v (flat_map h ps)
+has_joined v f h [] = refl
+has_joined v f h (p ∷ ps) =
+    has_number-append v (f p ++ h p) (flat_map (λ q. f q ++ h q) ps)
+    ∙ ap (λ b. b || has_number v (flat_map (λ q. f q ++ h q) ps)) (has_number-append v (f p) (h p))
+    ∙ ap (λ b. (has_number v (f p) || has_number v (h p)) || b) (has_joined v f h ps)
+    ∙ swap (has_number v (f p)) (has_number v (h p)) (has_number v (flat_map f ps)) (has_number v (flat_map h ps))
+    ∙ ap (λ b. b || (has_number v (h p) || has_number v (flat_map h ps))) (sym (has_number-append v (f p) (flat_map f ps)))
+    ∙ ap (λ b. has_number v (flat_map f (p ∷ ps)) || b) (sym (has_number-append v (h p) (flat_map h ps)))
+  where
+    swap : (a b c d : Bool) → (a || b) || (c || d) ≡ (a || c) || (b || d)
+    swap a b c d = grind (arith, nat_tests)
+
+pub pairs_joined : (e : Pair) (f h : Part → List Pair) (ps : List Part) → has_edge e (flat_map (λ p. f p ++ h p) ps) ≡ has_edge e (flat_map f ps) || has_edge e (flat_map h ps)
+pairs_joined e f h [] = refl
+pairs_joined e f h (p ∷ ps) =
+    has_edge-append e (f p ++ h p) (flat_map (λ q. f q ++ h q) ps)
+    ∙ ap (λ b. b || has_edge e (flat_map (λ q. f q ++ h q) ps)) (has_edge-append e (f p) (h p))
+    ∙ ap (λ b. (has_edge e (f p) || has_edge e (h p)) || b) (pairs_joined e f h ps)
+    ∙ swap (has_edge e (f p)) (has_edge e (h p)) (has_edge e (flat_map f ps)) (has_edge e (flat_map h ps))
+    ∙ ap (λ b. b || (has_edge e (h p) || has_edge e (flat_map h ps))) (sym (has_edge-append e (f p) (flat_map f ps)))
+    ∙ ap (λ b. has_edge e (flat_map f (p ∷ ps)) || b) (sym (has_edge-append e (h p) (flat_map h ps)))
+  where
+    swap : (a b c d : Bool) → (a || b) || (c || d) ≡ (a || c) || (b || d)
+    swap a b c d = grind (arith, nat_tests)
+
+-- how often a number is in two lists of each range
+pub times_joined : (v : ℕ) (f h : Part → List ℕ) (ps : List Part) → times v (flat_map (λ p. f p ++ h p) ps) ≡ times v (flat_map f ps) + times v (flat_map h ps)
+times_joined v f h [] = refl
+times_joined v f h (p ∷ ps) = omega (
+  arith,
+  times-append v (f p ++ h p) (flat_map (λ q. f q ++ h q) ps),
+  times-append v (f p) (h p),
+  times-append v (f p) (flat_map f ps),
+  times-append v (h p) (flat_map h ps),
+  times_joined v f h ps,
+)
+
+-- no number is twice in a list of distinct numbers, and conversely
+pub distinct_times : (v : ℕ) (xs : List ℕ) → AreDistinct xs → times v xs ≤ 1
+distinct_times v [] once = omega arith
+distinct_times v (x ∷ xs) once = elim (cases_eq x v) [
+  | inl e ↦ omega (arith, ap (λ k. times k xs) e, times_none x xs once.0, small (eqb x v))
+  | inr ne ↦ omega (arith, distinct_times v xs once.1, ap {B = ℕ} (λ b. cond b 1 0) (off x v ne))
+]
+  where
+    small : (b : Bool) → cond b 1 0 ≤ 1
+    small true = omega arith
+    small false = omega arith
+
+    off : (a b : ℕ) → a ≢ b → eqb a b ≡ false
+    off a b ne = grind (arith, nat_tests, ne)
+
+pub times_distinct : (xs : List ℕ) → ((v : ℕ) → times v xs ≤ 1) → AreDistinct xs
+times_distinct [] once = record {}
+times_distinct (x ∷ xs) once = (
+  elim (cases_Bool (has_number x xs)) [
+    | inr none ↦ none
+    | inl there ↦ absurd (omega (arith, once x, times_there x xs there, ap {B = ℕ} (λ b. cond b 1 0) (on x)))
+  ],
+  times_distinct xs (λ v. omega (arith, once v)),
+)
+  where
+    on : (a : ℕ) → eqb a a ≡ true
+    on a = grind (arith, nat_tests)
+
+-- how often a pair is in a list
+abbrev pub copies : Pair → List Pair → ℕ
+copies e [] = 0
+copies e (f ∷ fs) = cond (same_edge e f) 1 0 + copies e fs
+
+pub copies-append : (e : Pair) (xs ys : List Pair) → copies e (xs ++ ys) ≡ copies e xs + copies e ys
+copies-append e [] ys = omega arith
+copies-append e (f ∷ fs) ys = omega (arith, copies-append e fs ys)
+
+pub copies_none : (e : Pair) (es : List Pair) → has_edge e es ≡ false → copies e es ≡ 0
+copies_none e [] none = refl
+copies_none e (f ∷ fs) none = omega (arith, ap {B = ℕ} (λ b. cond b 1 0) (first (same_edge e f) (has_edge e fs) none), copies_none e fs (second (same_edge e f) (has_edge e fs) none))
+  where
+    first : (a b : Bool) → a || b ≡ false → a ≡ false
+    first a b e = grind (arith, nat_tests, e)
+
+    second : (a b : Bool) → a || b ≡ false → b ≡ false
+    second a b e = grind (arith, nat_tests, e)
+
+pub copies_there : (e : Pair) (es : List Pair) → has_edge e es ≡ true → 1 ≤ copies e es
+copies_there e [] there = absurd (true≢false (sym there))
+copies_there e (f ∷ fs) there = elim (cases_Bool (same_edge e f)) [
+  | inl same ↦ omega (arith, ap {B = ℕ} (λ b. cond b 1 0) same)
+  | inr other ↦ omega (arith, copies_there e fs (either (same_edge e f) (has_edge e fs) there other))
+]
+
+pub apart_copies : (e : Pair) (es : List Pair) → AreApart es → copies e es ≤ 1
+apart_copies e [] apart = omega arith
+apart_copies e (f ∷ fs) apart = elim (cases_Bool (same_edge e f)) [
+  | inr other ↦ omega (arith, ap {B = ℕ} (λ b. cond b 1 0) other, apart_copies e fs apart.1)
+  | inl same ↦ omega (arith, ap {B = ℕ} (λ b. cond b 1 0) same, copies_none e fs (rest fs same ∙ apart.0))
+]
+  where
+    rest : (gs : List Pair) → same_edge e f ≡ true → has_edge e gs ≡ has_edge f gs
+    rest [] same = refl
+    rest (h ∷ hs) same = grind (arith, nat_tests, same, rest hs same)
+
+pub copies_apart : (es : List Pair) → ((e : Pair) → copies e es ≤ 1) → AreApart es
+copies_apart [] once = record {}
+copies_apart (f ∷ fs) once = (
+  elim (cases_Bool (has_edge f fs)) [
+    | inr none ↦ none
+    | inl there ↦ absurd (omega (arith, once f, copies_there f fs there, ap {B = ℕ} (λ b. cond b 1 0) (own f)))
+  ],
+  copies_apart fs (λ e. omega (arith, once e)),
+)
+  where
+    own : (e : Pair) → same_edge e e ≡ true
+    own e = grind (arith, nat_tests)
+
+pub copies_joined : (e : Pair) (f h : Part → List Pair) (ps : List Part) → copies e (flat_map (λ p. f p ++ h p) ps) ≡ copies e (flat_map f ps) + copies e (flat_map h ps)
+copies_joined e f h [] = refl
+copies_joined e f h (p ∷ ps) = omega (
+  arith,
+  copies-append e (f p ++ h p) (flat_map (λ q. f q ++ h q) ps),
+  copies-append e (f p) (h p),
+  copies-append e (f p) (flat_map f ps),
+  copies-append e (h p) (flat_map h ps),
+  copies_joined e f h ps,
+)
+
+-- pairs that are apart in all lists are apart in each
+pub copies_part : (e : Pair) (f : Part → List Pair) (ps : List Part) (j : ℕ) → j < length ps → copies e (f (get_or ps j no_part)) ≤ copies e (flat_map f ps)
+copies_part e f [] j at = absurd (omega (arith, at))
+copies_part e f (p ∷ ps) zero at = omega (arith, copies-append e (f p) (flat_map f ps))
+copies_part e f (p ∷ ps) (suc j) at = omega (arith, copies-append e (f p) (flat_map f ps), copies_part e f ps j (omega (arith, at)))
+
+pub apart_part : (f : Part → List Pair) (ps : List Part) (j : ℕ) → j < length ps → AreApart (flat_map f ps) → AreApart (f (get_or ps j no_part))
+apart_part f ps j at apart = copies_apart (f (get_or ps j no_part)) (λ e. omega (arith, copies_part e f ps j at, apart_copies e (flat_map f ps) apart))
+
+-- distinct numbers of all lists are distinct in each
+pub times_part_of : (v : ℕ) (f : Part → List ℕ) (ps : List Part) (j : ℕ) → j < length ps → times v (f (get_or ps j no_part)) ≤ times v (flat_map f ps)
+times_part_of v f [] j at = absurd (omega (arith, at))
+times_part_of v f (p ∷ ps) zero at = omega (arith, times-append v (f p) (flat_map f ps))
+times_part_of v f (p ∷ ps) (suc j) at = omega (arith, times-append v (f p) (flat_map f ps), times_part_of v f ps j (omega (arith, at)))
+
+pub distinct_part : (f : Part → List ℕ) (ps : List Part) (j : ℕ) → j < length ps → AreDistinct (flat_map f ps) → AreDistinct (f (get_or ps j no_part))
+distinct_part f ps j at once = times_distinct (f (get_or ps j no_part)) (λ v. omega (arith, times_part_of v f ps j at, distinct_times v (flat_map f ps) once))

@@ -1,0 +1,92 @@
+-- New ranges, one after another.
+use Rattle.std.proofs.Common.{ℕ, ◌+◌, ◌-◌, ◌≤◌, ◌<◌, ◌≡◌, inl, inr, List, [], ◌∷◌, ◌++◌, length, get_or, take, drop, replicate, refl, ap, sym, subst, ◌∙◌, arith}
+use Rattle.std.proofs.lemmas.Bool.{cases_eq}
+use Rattle.std.proofs.lemmas.List.{length-append, length-replicate, length-take-le, length-drop, get_or-take, get_or-drop}
+use Rattle.std.proofs.Math.ListN.{get_or-append}
+use Rattle.std.proofs.Math.Seq.{get_or-append_seam}
+use Rattle.kc_insert.specs.Ranges.{IsHeld, no_part, Part, range_of, Tell}
+use Rattle.kc_insert.specs.private.Ranges.{AreNew, new_part}
+use Rattle.kc_insert.specs.private.Watched.{count_at}
+
+-- the range at a place, of the vertices with these counts
+pub record IsMade (bits : ℕ) (counts : List ℕ) (levels ranges j : ℕ) (p : Part) : Type 0 where
+  pub value : p ≡ new_part levels ranges p.watch.first p.watch.counts
+  pub own : (v : ℕ) → IsHeld p.watch v → (v < length counts) × (range_of bits v ≡ j)
+  pub held : (v : ℕ) → v < length counts → range_of bits v ≡ j → IsHeld p.watch v
+  pub same : (v : ℕ) → IsHeld p.watch v → count_at p.watch v ≡ get_or counts v 0
+
+-- the first i ranges are made
+pub record IsMaking (bits : ℕ) (counts : List ℕ) (levels ranges i : ℕ) (items : List Part) (told : List Tell) : Type 0 where
+  pub long : length items ≡ i
+  pub tells : length told ≡ i
+  pub each : (j : ℕ) (d : Part) → j < i → IsMade bits counts levels ranges j (get_or items j d)
+  pub lists : (j : ℕ) (d : Tell) → j < i → get_or told j d ≡ record { all = []; lists = replicate ranges [] }
+
+pub making_first : (bits : ℕ) (counts : List ℕ) (levels ranges : ℕ) → IsMaking bits counts levels ranges 0 [] []
+making_first bits counts levels ranges = record {
+  long = refl;
+  tells = refl;
+  each = λ j d h. absurd (omega (arith, h));
+  lists = λ j d h. absurd (omega (arith, h));
+}
+
+-- the range of the vertices from `first` to `end`
+pub made : (bits : ℕ) (counts : List ℕ) (levels ranges j first end : ℕ) (part : List ℕ) (p : Part) → p ≡ new_part levels ranges first part → part ≡ take (end - first) (drop first counts) → first ≤ end → end ≤ length counts → ((v : ℕ) → v < length counts → range_of bits v ≡ j → (first ≤ v) × (v < end)) → ((v : ℕ) → first ≤ v → v < end → range_of bits v ≡ j) → IsMade bits counts levels ranges j p
+made bits counts levels ranges j first end part p is of order within inside own = rw is (record {
+  value = refl;
+  own = λ v held. (omega (arith, held.below, long, within), own v held.from (omega (arith, held.below, long)));
+  held = λ v h here. let it = inside v h here in record { from = it.0; below = omega (arith, it.0, it.1, long) };
+  same = λ v held.
+      ap (λ (xs : List ℕ). get_or xs (v - first) 0) of
+      ∙ get_or-take (end - first) (drop first counts) (v - first) 0 (omega (arith, held.from, held.below, long))
+      ∙ get_or-drop first counts (v - first) 0
+      ∙ ap (λ k. get_or counts k 0) (omega (arith, held.from));
+})
+  where
+    long : length part ≡ end - first
+    long = ap length of ∙ length-take-le (end - first) (drop first counts) (omega (arith, length-drop first counts, order, within))
+
+module _ (bits : ℕ) (counts : List ℕ) (levels ranges i : ℕ) (items : List Part) (told : List Tell) (s : IsMaking bits counts levels ranges i items told) where
+  pub making_next : (p : Part) (t : Tell) → IsMade bits counts levels ranges i p → t ≡ record { all = []; lists = replicate ranges [] } → IsMaking bits counts levels ranges (i + 1) (items ++ p ∷ []) (told ++ t ∷ [])
+  making_next p t one is = record {
+    long = omega (arith, length-append items (p ∷ []), s.long);
+    tells = omega (arith, length-append told (t ∷ []), s.tells);
+    each = λ j d h. elim (cases_eq j i) [
+      | inl e ↦ rw e (subst (IsMade bits counts levels ranges i) (sym (last items p i d s.long)) one)
+      | inr ne ↦ subst (IsMade bits counts levels ranges j) (sym (get_or-append items (p ∷ []) d j (omega (arith, h, ne, s.long)))) (s.each j d (omega (arith, h, ne)))
+    ];
+    lists = λ j d h. elim (cases_eq j i) [
+      | inl e ↦ rw e (last told t i d s.tells ∙ is)
+      | inr ne ↦ get_or-append told (t ∷ []) d j (omega (arith, h, ne, s.tells)) ∙ s.lists j d (omega (arith, h, ne))
+    ];
+  }
+    where
+      last : {A : Type 0} (xs : List A) (x : A) (k : ℕ) (d : A) → length xs ≡ k → get_or (xs ++ x ∷ []) k d ≡ x
+      last {A} xs x k d e = ap (λ m. get_or (xs ++ x ∷ []) m d) (sym e) ∙ get_or-append_seam xs x [] d
+
+pub making_last : (bits : ℕ) (counts : List ℕ) (levels ranges i : ℕ) (items : List Part) (told : List Tell) → ranges ≤ i → i ≤ ranges → ((v : ℕ) → v < length counts → range_of bits v < ranges) → IsMaking bits counts levels ranges i items told → AreNew bits counts levels (record { bits = bits; parts = items; told = told })
+making_last bits counts levels ranges i items told end within all s = record {
+  shape = refl;
+  cut = record {
+    vertex = λ v h. record { place = there v h; held = (s.each (range_of bits v) no_part (inside v h)).held v h refl };
+    own = λ j v h held. (s.each j no_part (omega (arith, h, s.long))).own v held;
+    queues = λ j h. ap (λ (p : Part). length p.queue) (of j no_part h) ∙ length-replicate levels [];
+    meetings = λ j h. ap (λ (p : Part). length p.meetings) (of j no_part h) ∙ length-replicate levels [];
+    tells = λ j h. ap (λ (p : Part). length p.tell.lists) (of j no_part h) ∙ length-replicate ranges [] ∙ count;
+    told = (s.tells ∙ sym s.long, λ j d h. ap (λ (t : Tell). length t.lists) (s.lists j d (omega (arith, h, s.long))) ∙ length-replicate ranges [] ∙ count);
+  };
+  counted = λ v h. (s.each (range_of bits v) no_part (inside v h)).same v ((s.each (range_of bits v) no_part (inside v h)).held v h refl);
+  each = λ j d h. (s.each j d (omega (arith, h, s.long))).value ∙ ap (λ k. new_part levels k (get_or items j d).watch.first (get_or items j d).watch.counts) count;
+}
+  where
+    count : ranges ≡ length items
+    count = omega (arith, end, within, s.long)
+
+    inside : (v : ℕ) → v < length counts → range_of bits v < i
+    inside v h = omega (arith, all v h, end)
+
+    there : (v : ℕ) → v < length counts → range_of bits v < length items
+    there v h = omega (arith, inside v h, s.long)
+
+    of : (j : ℕ) (d : Part) → j < length items → get_or items j d ≡ new_part levels ranges (get_or items j d).watch.first (get_or items j d).watch.counts
+    of j d h = (s.each j d (omega (arith, h, s.long))).value

@@ -1,0 +1,142 @@
+-- Vertices of a list count one more each, one after another.
+use Rattle.std.proofs.Common.{ℕ, ◌+◌, ◌-◌, ◌≤◌, ◌<◌, ◌≡◌, ◌≢◌, ◌⊎◌, inl, inr, true, false, cond, eqb, List, [], ◌∷◌, ◌++◌, length, get_or, set, take, add-one, refl, ap, sym, ◌∙◌, arith}
+use Rattle.std.proofs.lemmas.Bool.{cases_eq, cases_Bool}
+use Rattle.std.proofs.lemmas.Bool.Decides.{nat_tests}
+use Rattle.std.proofs.lemmas.List.{length-set}
+use Rattle.kc_graph.specs.Numbers.{has_number}
+use Rattle.kc_graph.proofs.lemmas.Numbers.{has_number_at, has_number-append}
+use Rattle.kc_insert.specs.private.Telling.{times}
+use Rattle.kc_insert.specs.private.Watched.{count_at}
+use Rattle.kc_insert.specs.Ranges.{IsHeld, Part}
+use Rattle.kc_insert.specs.private.Parts.{HaveMet}
+use Rattle.std.proofs.Math.Seq.{take-suc}
+use Rattle.kc_insert.proofs.Adding.{times-append, times_more, times_part}
+use Rattle.kc_insert.proofs.Buckets.{placed, pushed_is, still_there, now_there}
+use Rattle.kc_insert.proofs.Watching.{count_here, count_other, count_sized}
+
+pub met_none : (level most : ℕ) (p : Part) → HaveMet level most [] p p
+met_none level most p = record {
+  part = refl;
+  sized = refl;
+  more = λ v from. omega arith;
+  levels = refl;
+  still = λ k v there. there;
+  only = λ k v there. inl there;
+  noted = λ v held over. inl over;
+}
+
+-- first the vertices xs, then ys
+pub met_on : (level most : ℕ) (xs ys : List ℕ) (a b c : Part) → HaveMet level most xs a b → HaveMet level most ys b c → HaveMet level most (xs ++ ys) a c
+met_on level most xs ys a b c s t = record {
+  part = t.part ∙ ap (λ (p : Part). record p { watch = record p.watch { counts = c.watch.counts }; queue = c.queue }) s.part;
+  sized = t.sized ∙ s.sized;
+  more = λ v from. t.more v (omega (arith, from, first)) ∙ omega (arith, s.more v from, times-append v xs ys);
+  levels = t.levels ∙ s.levels;
+  still = λ k v there. t.still k v (s.still k v there);
+  only = λ k v there. elim (t.only k v there) [
+    | inr new ↦ inr (new.0, has_number-append v xs ys ∙ grind (arith, nat_tests, new.1))
+    | inl old ↦ elim (s.only k v old) [
+      | inl before ↦ inl before
+      | inr new ↦ inr (new.0, has_number-append v xs ys ∙ grind (arith, nat_tests, new.1))
+    ]
+  ];
+  noted = λ v held over. elim (t.noted v (record { from = omega (arith, held.from, first); below = omega (arith, held.below, first, s.sized) }) over) [
+    | inr there ↦ inr there
+    | inl was ↦ elim (s.noted v held was) [
+      | inl before ↦ inl before
+      | inr there ↦ inr (t.still level v there)
+    ]
+  ];
+}
+  where
+    first : b.watch.first ≡ a.watch.first
+    first = ap (λ (p : Part). p.watch.first) s.part
+
+-- v counts one more, and waits if it had `most`
+module _ (level most v : ℕ) (a b : Part) (held : IsHeld a.watch v) (room : level < length a.queue) (is : b ≡ record a { watch = record a.watch { counts = set a.watch.counts (v - a.watch.first) (count_at a.watch v + 1) }; queue = cond (eqb (count_at a.watch v) most) (set a.queue level (get_or a.queue level [] ++ v ∷ [])) a.queue }) where
+  counts : b.watch.counts ≡ set a.watch.counts (v - a.watch.first) (count_at a.watch v + 1)
+  counts = ap (λ (p : Part). p.watch.counts) is
+
+  first : b.watch.first ≡ a.watch.first
+  first = ap (λ (p : Part). p.watch.first) is
+
+  queue : b.queue ≡ cond (eqb (count_at a.watch v) most) (set a.queue level (get_or a.queue level [] ++ v ∷ [])) a.queue
+  queue = ap (λ (p : Part). p.queue) is
+
+  waits : eqb (count_at a.watch v) most ≡ true → b.queue ≡ set a.queue level (get_or a.queue level [] ++ v ∷ [])
+  waits e = queue ∙ ap (λ b. cond b (set a.queue level (get_or a.queue level [] ++ v ∷ [])) a.queue) e
+
+  passes : eqb (count_at a.watch v) most ≡ false → b.queue ≡ a.queue
+  passes e = queue ∙ ap (λ b. cond b (set a.queue level (get_or a.queue level [] ++ v ∷ [])) a.queue) e
+
+  itself : has_number v (v ∷ []) ≡ true
+  itself = grind (arith, nat_tests)
+
+  one : (u : ℕ) → times u (v ∷ []) ≡ cond (eqb v u) 1 0
+  one u = omega arith
+
+  pub met_one : HaveMet level most (v ∷ []) a b
+  met_one = record {
+    part = is ∙ refl_part;
+    sized = count_sized a.watch b.watch v (count_at a.watch v + 1) held first counts;
+    more = λ u from. elim (cases_eq u v) [
+      | inl e ↦ rw e (omega (arith, count_here a.watch b.watch v (count_at a.watch v + 1) held first counts, one_here))
+      | inr ne ↦ omega (arith, count_other a.watch b.watch v (count_at a.watch v + 1) held first counts u from ne, none u ne)
+    ];
+    levels = elim (cases_Bool (eqb (count_at a.watch v) most)) [
+      | inl e ↦ rw (waits e) (length-set a.queue level (get_or a.queue level [] ++ v ∷ []))
+      | inr e ↦ rw (passes e) refl
+    ];
+    still = λ k u there. elim (cases_Bool (eqb (count_at a.watch v) most)) [
+      | inl e ↦ rw (waits e) (still_there a.queue level (v ∷ []) room k u there)
+      | inr e ↦ rw (passes e) there
+    ];
+    only = λ k u there. elim (cases_Bool (eqb (count_at a.watch v) most)) [
+      | inr e ↦ inl (rw (passes e) at there)
+      | inl e ↦ placed a.queue level k (get_or a.queue level [] ++ v ∷ []) room (λ xs. has_number u xs ≡ true → (has_number u (get_or a.queue k []) ≡ true) ⊎ ((k ≡ level) × (has_number u (v ∷ []) ≡ true)))
+          (λ here in_it. elim (pushed_is u v (get_or a.queue level []) in_it) [
+            | inl same ↦ inr (here, ap (λ t. has_number t (v ∷ [])) same ∙ itself)
+            | inr old ↦ inl (rw here old)
+          ])
+          (λ other in_it. inl in_it)
+          (rw (waits e) at there)
+    ];
+    noted = λ u its over. elim (cases_eq u v) [
+      | inr ne ↦ inl (omega (arith, over, count_other a.watch b.watch v (count_at a.watch v + 1) held first counts u its.from ne))
+      | inl same ↦ elim (cases_eq (count_at a.watch v) most) [
+        | inr off ↦ inl (rw same (omega (arith, off, rw same at over, count_here a.watch b.watch v (count_at a.watch v + 1) held first counts)))
+        | inl on ↦ inr (rw (waits (grind (arith, nat_tests, on)), same) (now_there a.queue level (v ∷ []) room v itself))
+      ]
+    ];
+  }
+    where
+      refl_part : record a { watch = record a.watch { counts = set a.watch.counts (v - a.watch.first) (count_at a.watch v + 1) }; queue = cond (eqb (count_at a.watch v) most) (set a.queue level (get_or a.queue level [] ++ v ∷ [])) a.queue } ≡ record a { watch = record a.watch { counts = b.watch.counts }; queue = b.queue }
+      refl_part = ap (λ (p : Part). record a { watch = record a.watch { counts = p.watch.counts }; queue = p.queue }) (sym is)
+
+      one_here : times v (v ∷ []) ≡ 1
+      one_here = grind (arith, nat_tests)
+
+      none : (u : ℕ) → u ≢ v → times u (v ∷ []) ≡ 0
+      none u ne = grind (arith, nat_tests, ne)
+
+-- the step of a loop at place i
+module _ (level most i : ℕ) (xs : List ℕ) (a b : Part) (at : i < length xs) (held : (v : ℕ) → has_number v xs ≡ true → IsHeld a.watch v) (s : HaveMet level most (take i xs) a b) where
+  begun : b.watch.first ≡ a.watch.first
+  begun = ap (λ (p : Part). p.watch.first) s.part
+
+  was : IsHeld a.watch (get_or xs i 0)
+  was = held (get_or xs i 0) (has_number_at (get_or xs i 0) xs i at refl)
+
+  pub met_held : IsHeld b.watch (get_or xs i 0)
+  met_held = record { from = omega (arith, was.from, begun); below = omega (arith, was.below, begun, s.sized) }
+
+  pub met_small : (most_of : ℕ) → ((v : ℕ) → count_at a.watch v + times v xs ≤ most_of) → count_at b.watch (get_or xs i 0) < most_of
+  met_small most_of small =
+      let one : times (get_or xs i 0) (take (i + 1) xs) ≡ times (get_or xs i 0) (take i xs) + 1 = times_more (get_or xs i 0) i xs at ∙ grind (arith, nat_tests) in
+      omega (arith, one, s.more (get_or xs i 0) was.from, small (get_or xs i 0), times_part (get_or xs i 0) (i + 1) xs)
+
+  pub met_next : (c : Part) → level < length a.queue → c ≡ record b { watch = record b.watch { counts = set b.watch.counts (get_or xs i 0 - b.watch.first) (count_at b.watch (get_or xs i 0) + 1) }; queue = cond (eqb (count_at b.watch (get_or xs i 0)) most) (set b.queue level (get_or b.queue level [] ++ get_or xs i 0 ∷ [])) b.queue } → HaveMet level most (take (i + 1) xs) a c
+  met_next c room is = rw parts (met_on level most (take i xs) (get_or xs i 0 ∷ []) a b c s (met_one level most (get_or xs i 0) b c met_held (omega (arith, room, s.levels)) is))
+    where
+      parts : take (i + 1) xs ≡ take i xs ++ get_or xs i 0 ∷ []
+      parts = rw (add-one i) (take-suc xs i 0 at)

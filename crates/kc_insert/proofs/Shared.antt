@@ -1,0 +1,174 @@
+-- What is told is heard the same, dealt to the ranges or one list after another.
+use Rattle.std.proofs.Common.{ℕ, suc, ◌+◌, ◌≤◌, ◌<◌, ◌≡◌, inl, inr, Bool, true, cond, eqb, ◌&&◌, List, [], ◌∷◌, ◌++◌, length, get_or, take, drop, refl, ap, sym, subst, ◌∙◌, arith}
+use Rattle.std.specs.Prelude.{All}
+use Rattle.std.proofs.lemmas.Bool.{cases_lt}
+use Rattle.std.proofs.lemmas.Bool.Decides.{nat_tests}
+use Rattle.std.proofs.lemmas.List.{take_more, take-append-drop, append-nil}
+use Rattle.std.proofs.lemmas.List.Elements.{filter-append}
+use Rattle.std.proofs.lemmas.Grind.{flat_map-append}
+use Rattle.kc_graph.specs.Numbers.{has_number}
+use Rattle.kc_insert.specs.private.Parts.{CanHearLess, CanHearMore, HasHeardLess, HaveMet}
+use Rattle.kc_insert.specs.Ranges.{IsHeld, Part, range_of, Tell}
+use Rattle.kc_insert.specs.private.Sharing.{AreFew, AreTold, CanLessen, CanMeet, HearLess, HearMore, told_all}
+use Rattle.kc_insert.specs.private.Telling.{heard_by, in_range, times}
+use Rattle.kc_insert.specs.private.Watched.{count_at}
+use Rattle.kc_insert.proofs.Adding.{times-append, times-filter, times_some, times_there}
+use Rattle.kc_insert.proofs.Buckets.{has_number-filter}
+use Rattle.kc_insert.proofs.Direct.{heard_none}
+use Rattle.kc_insert.proofs.Meeting.{met_none, met_on}
+use Rattle.kc_insert.proofs.Watching.{watched_on}
+
+pub in_range_times : (bits v : ℕ) (xs : List ℕ) → times v (in_range bits (range_of bits v) xs) ≡ times v xs
+in_range_times bits v xs = times-filter v (λ u. eqb (range_of bits u) (range_of bits v)) xs ∙ whole (range_of bits v) (times v xs)
+  where
+    whole : (j k : ℕ) → cond (eqb j j) k 0 ≡ k
+    whole j k = grind (arith, nat_tests)
+
+pub in_range_has : (bits j v : ℕ) (xs : List ℕ) → has_number v (in_range bits j xs) ≡ true → (has_number v xs ≡ true) × (range_of bits v ≡ j)
+in_range_has bits j v xs there = split (has_number v xs) (range_of bits v) (sym (has_number-filter v (λ u. eqb (range_of bits u) j) xs) ∙ there)
+  where
+    split : (b : Bool) (k : ℕ) → b && eqb k j ≡ true → (b ≡ true) × (k ≡ j)
+    split b k e = (grind (arith, nat_tests, e), grind (arith, nat_tests, e))
+
+in_range_append : (bits j : ℕ) (xs ys : List ℕ) → in_range bits j (xs ++ ys) ≡ in_range bits j xs ++ in_range bits j ys
+in_range_append bits j xs ys = filter-append (λ u. eqb (range_of bits u) j) xs ys
+
+-- what a range hears of dealt lists is what is told of its vertices
+pub heard_is : (bits n j : ℕ) (told : List Tell) → j < n → All (λ (t : Tell). (k : ℕ) → k < n → get_or t.lists k [] ≡ in_range bits k t.all) told → heard_by j told ≡ in_range bits j (told_all told)
+heard_is bits n j [] at each = refl
+heard_is bits n j (t ∷ ts) at each =
+    ap (λ (xs : List ℕ). xs ++ heard_by j ts) (each 0 t (omega arith) j at)
+    ∙ ap (λ (xs : List ℕ). in_range bits j t.all ++ xs) (heard_is bits n j ts at (λ k d h. each (suc k) d (omega (arith, h))))
+    ∙ sym (in_range_append bits j t.all (told_all ts))
+
+-- the lists up to a place
+module _ (told : List Tell) (i : ℕ) (d : Tell) (at : i < length told) where
+  pub told_more : told_all (take (i + 1) told) ≡ told_all (take i told) ++ (get_or told i d).all
+  told_more = ap told_all (take_more told i d at) ∙ flat_map-append (λ (t : Tell). t.all) (take i told) (get_or told i d ∷ []) ∙ ap (λ (xs : List ℕ). told_all (take i told) ++ xs) (append-nil (get_or told i d).all)
+
+  pub told_part : (v : ℕ) → times v (told_all (take i told)) + times v (get_or told i d).all ≤ times v (told_all told)
+  told_part v = omega (arith, ap (times v) told_more ∙ times-append v (told_all (take i told)) (get_or told i d).all, ap (times v) whole ∙ times-append v (told_all (take (i + 1) told)) (told_all (drop (i + 1) told)))
+    where
+      whole : told_all told ≡ told_all (take (i + 1) told) ++ told_all (drop (i + 1) told)
+      whole = ap told_all (sym (take-append-drop (i + 1) told)) ∙ flat_map-append (λ (t : Tell). t.all) (take (i + 1) told) (drop (i + 1) told)
+
+  pub told_there : (v : ℕ) → has_number v (get_or told i d).all ≡ true → has_number v (told_all told) ≡ true
+  told_there v there = times_some v (told_all told) (omega (arith, times_there v (get_or told i d).all there, told_part v))
+
+-- one less each
+heard_then : (xs ys : List ℕ) (a b c : Part) → HasHeardLess xs a b → HasHeardLess ys b c → HasHeardLess (xs ++ ys) a c
+heard_then xs ys a b c s t = record {
+  part = t.part ∙ ap (λ (p : Part). record p { watch = c.watch }) s.part;
+  watched = watched_on a.watch b.watch c.watch s.watched t.watched;
+  less = λ v from. omega (arith, t.less v (omega (arith, from, s.watched.first)), s.less v from, times-append v xs ys);
+}
+
+pub hear_first : (bits : ℕ) (a : List Part) → HearLess bits [] a a
+hear_first bits a = record { sized = refl; each = λ j d h. heard_none (get_or a j d) }
+
+hear_both : (bits : ℕ) (xs ys : List ℕ) (a b c : List Part) → HearLess bits xs a b → HearLess bits ys b c → HearLess bits (xs ++ ys) a c
+hear_both bits xs ys a b c s t = record {
+  sized = t.sized ∙ s.sized;
+  each = λ j d h. subst (λ (zs : List ℕ). HasHeardLess zs (get_or a j d) (get_or c j d)) (sym (in_range_append bits j xs ys)) (heard_then (in_range bits j xs) (in_range bits j ys) (get_or a j d) (get_or b j d) (get_or c j d) (s.each j d h) (t.each j d (omega (arith, h, s.sized))));
+}
+
+module _ (bits : ℕ) (told : List Tell) (old : List Part) (can : CanLessen bits (told_all told) old) where
+  -- dealt
+  module _ (lists : AreTold bits true (length old) told) (i : ℕ) (at : i < length old) where
+    is : heard_by i told ≡ in_range bits i (told_all told)
+    is = heard_is bits (length old) i told at (lists.dealt refl)
+
+    pub can_hear : (d : Part) → CanHearLess told i (get_or old i d)
+    can_hear d = record {
+      lists = λ k t h. omega (arith, at, lists.sized k t h);
+      held = λ v there.
+          let in_it = in_range_has bits i v (told_all told) (ap (has_number v) (sym is) ∙ there) in
+          subst (λ j. IsHeld (get_or old j d).watch v) in_it.1 (can.held v d in_it.0).1;
+      enough = λ v. elim (cases_lt 0 (times v (heard_by i told))) [
+        | inr none ↦ omega (arith, none)
+        | inl some ↦
+            let in_it = in_range_has bits i v (told_all told) (times_some v (in_range bits i (told_all told)) (omega (arith, some, ap (times v) is))) in
+            subst (λ j. times v (heard_by i told) ≤ count_at (get_or old j d).watch v) in_it.1 (omega (arith, ap (times v) is, ap (λ j. times v (in_range bits j (told_all told))) (sym in_it.1) ∙ in_range_times bits v (told_all told), can.enough v d in_it.0))
+      ];
+    }
+
+    pub heard_dealt : (a b : Part) → HasHeardLess (heard_by i told) a b → HasHeardLess (in_range bits i (told_all told)) a b
+    heard_dealt a b s = subst (λ (xs : List ℕ). HasHeardLess xs a b) is s
+
+  -- one list after another
+  module _ (i : ℕ) (t : Tell) (at : i < length told) (new : List Part) (s : HearLess bits (told_all (take i told)) old new) where
+    pub next_held : (v : ℕ) (d : Part) → has_number v (get_or told i t).all ≡ true → (range_of bits v < length new) × IsHeld (get_or new (range_of bits v) d).watch v
+    next_held v d there =
+        let was = can.held v d (told_there told i t at v there) in
+        let now = s.each (range_of bits v) d was.0 in (
+          omega (arith, was.0, s.sized),
+          record { from = omega (arith, was.1.from, now.watched.first); below = omega (arith, was.1.below, now.watched.first, now.watched.sized) },
+        )
+
+    pub next_enough : (v : ℕ) (d : Part) → has_number v (get_or told i t).all ≡ true → times v (get_or told i t).all ≤ count_at (get_or new (range_of bits v) d).watch v
+    next_enough v d there =
+        let was = can.held v d (told_there told i t at v there) in
+        let now = s.each (range_of bits v) d was.0 in
+        omega (arith, now.less v was.1.from, in_range_times bits v (told_all (take i told)), told_part told i t at v, can.enough v d (told_there told i t at v there))
+
+    pub next_heard : (last : List Part) → HearLess bits (get_or told i t).all new last → HearLess bits (told_all (take (i + 1) told)) old last
+    next_heard last u = subst (λ (xs : List ℕ). HearLess bits xs old last) (sym (told_more told i t at)) (hear_both bits (told_all (take i told)) (get_or told i t).all old new last s u)
+
+-- one more each
+pub meet_first : (bits level most : ℕ) (a : List Part) → HearMore bits level most [] a a
+meet_first bits level most a = record { sized = refl; each = λ j d h. met_none level most (get_or a j d) }
+
+meet_both : (bits level most : ℕ) (xs ys : List ℕ) (a b c : List Part) → HearMore bits level most xs a b → HearMore bits level most ys b c → HearMore bits level most (xs ++ ys) a c
+meet_both bits level most xs ys a b c s t = record {
+  sized = t.sized ∙ s.sized;
+  each = λ j d h. subst (λ (zs : List ℕ). HaveMet level most zs (get_or a j d) (get_or c j d)) (sym (in_range_append bits j xs ys)) (met_on level most (in_range bits j xs) (in_range bits j ys) (get_or a j d) (get_or b j d) (get_or c j d) (s.each j d h) (t.each j d (omega (arith, h, s.sized))));
+}
+
+module _ (bits level : ℕ) (told : List Tell) (old : List Part) (can : CanMeet bits level (told_all told) old) where
+  -- dealt
+  module _ (lists : AreTold bits true (length old) told) (i : ℕ) (at : i < length old) where
+    same : heard_by i told ≡ in_range bits i (told_all told)
+    same = heard_is bits (length old) i told at (lists.dealt refl)
+
+    pub can_meet : AreFew old → (d : Part) → CanHearMore told i level (get_or old i d)
+    can_meet few d = record {
+      lists = λ k t h. omega (arith, at, lists.sized k t h);
+      held = λ v there.
+          let in_it = in_range_has bits i v (told_all told) (ap (has_number v) (sym same) ∙ there) in
+          subst (λ j. IsHeld (get_or old j d).watch v) in_it.1 (can.held v d in_it.0).1;
+      small = λ v. elim (cases_lt 0 (times v (heard_by i told))) [
+        | inr none ↦ omega (arith, none, few i d v at)
+        | inl some ↦
+            let in_it = in_range_has bits i v (told_all told) (times_some v (in_range bits i (told_all told)) (omega (arith, some, ap (times v) same))) in
+            subst (λ j. count_at (get_or old j d).watch v + times v (heard_by i told) ≤ 2147483648) in_it.1 (omega (arith, ap (times v) same, ap (λ j. times v (in_range bits j (told_all told))) (sym in_it.1) ∙ in_range_times bits v (told_all told), can.small v d in_it.0))
+      ];
+      room = can.room i d at;
+    }
+
+    pub met_dealt : (most : ℕ) (a b : Part) → HaveMet level most (heard_by i told) a b → HaveMet level most (in_range bits i (told_all told)) a b
+    met_dealt most a b s = subst (λ (xs : List ℕ). HaveMet level most xs a b) same s
+
+  -- one list after another
+  module _ (most i : ℕ) (t : Tell) (at : i < length told) (new : List Part) (s : HearMore bits level most (told_all (take i told)) old new) where
+    begun : (j : ℕ) (d : Part) → j < length old → (get_or new j d).watch.first ≡ (get_or old j d).watch.first
+    begun j d h = ap (λ (p : Part). p.watch.first) (s.each j d h).part
+
+    pub next_there : (v : ℕ) (d : Part) → has_number v (get_or told i t).all ≡ true → (range_of bits v < length new) × IsHeld (get_or new (range_of bits v) d).watch v
+    next_there v d there =
+        let was = can.held v d (told_there told i t at v there) in
+        let now = s.each (range_of bits v) d was.0 in (
+          omega (arith, was.0, s.sized),
+          record { from = omega (arith, was.1.from, begun (range_of bits v) d was.0); below = omega (arith, was.1.below, begun (range_of bits v) d was.0, now.sized) },
+        )
+
+    pub next_small : (v : ℕ) (d : Part) → has_number v (get_or told i t).all ≡ true → count_at (get_or new (range_of bits v) d).watch v + times v (get_or told i t).all ≤ 2147483648
+    next_small v d there =
+        let was = can.held v d (told_there told i t at v there) in
+        let now = s.each (range_of bits v) d was.0 in
+        omega (arith, now.more v was.1.from, in_range_times bits v (told_all (take i told)), told_part told i t at v, can.small v d (told_there told i t at v there))
+
+    pub next_room : (j : ℕ) (d : Part) → j < length new → level < length (get_or new j d).queue
+    next_room j d h = omega (arith, can.room j d (omega (arith, h, s.sized)), (s.each j d (omega (arith, h, s.sized))).levels)
+
+    pub next_met : (last : List Part) → HearMore bits level most (get_or told i t).all new last → HearMore bits level most (told_all (take (i + 1) told)) old last
+    next_met last u = subst (λ (xs : List ℕ). HearMore bits level most xs old last) (sym (told_more told i t at)) (meet_both bits level most (told_all (take i told)) (get_or told i t).all old new last s u)

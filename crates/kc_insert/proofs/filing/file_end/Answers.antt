@@ -1,0 +1,31 @@
+use Rattle.std.proofs.Common.{get_or, length, set, ap, sym, subst, ◌∙◌, arith}
+use Rattle.kc_insert.specs.private.Filed.{HasFollowed}
+use Rattle.kc_insert.specs.Ranges.{Cut, IsHeld, no_part, Part, range_of}
+use Rattle.kc_insert.proofs.Direct.{any_default}
+use Rattle.kc_insert.proofs.Filled.{end_filed}
+use Rattle.kc_insert.proofs.filing.file_end.Goals as goal
+
+pub follow_count-requires-clause-vertex : goal.follow_count-requires-clause-vertex
+follow_count-requires-clause-vertex c =
+    let d = c.index_mut-range.result.now in
+    let here = c.range.view_is ∙ c.index_mut-range.ensures.value ∙ ap (λ k. get_or c.ranges-2.inside.items.items k c.index_mut-range.result.now) c.range_of.ensures ∙ ap (λ (r : Cut). get_or r.parts (range_of r.bits c.args.v) c.index_mut-range.result.now) c.ranges-2.view_is in
+    let it = c.requires.can.cut.vertex c.args.v c.requires.vertex in
+    subst (λ (p : Part). IsHeld p.watch c.args.v) (sym (here ∙ any_default c.args.ranges.now.parts (range_of c.args.ranges.now.bits c.args.v) d no_part it.place)) it.held
+
+pub follow_count-requires-clause-room : goal.follow_count-requires-clause-room
+follow_count-requires-clause-room c =
+    let d = c.index_mut-range.result.now in
+    let here = c.range.view_is ∙ c.index_mut-range.ensures.value ∙ ap (λ k. get_or c.ranges-2.inside.items.items k c.index_mut-range.result.now) c.range_of.ensures ∙ ap (λ (r : Cut). get_or r.parts (range_of r.bits c.args.v) c.index_mut-range.result.now) c.ranges-2.view_is in
+    let it = c.requires.can.cut.vertex c.args.v c.requires.vertex in
+    let long = ap (λ (p : Part). length p.queue) (here ∙ any_default c.args.ranges.now.parts (range_of c.args.ranges.now.bits c.args.v) d no_part it.place) in
+    omega (arith, long, c.requires.can.cut.queues (range_of c.args.ranges.now.bits c.args.v) it.place, c.requires.can.levels.2 c.args.v (omega (arith, c.requires.vertex, c.requires.can.levels.1)))
+
+pub returns : goal.returns
+returns c =
+    let d = c.index_mut-range.result.now in
+    let here = c.range.view_is ∙ c.index_mut-range.ensures.value ∙ ap (λ k. get_or c.ranges-2.inside.items.items k c.index_mut-range.result.now) c.range_of.ensures ∙ ap (λ (r : Cut). get_or r.parts (range_of r.bits c.args.v) c.index_mut-range.result.now) c.ranges-2.view_is in
+    let b : Part = record { watch = c.follow_count.new.watched; queue = c.follow_count.new.queue; meetings = c.range.inside.meetings; began = c.range.inside.began.items; risen = c.range.inside.risen.items; stay = c.range.inside.stay.items; begun = c.range.inside.begun.items; tell = c.range.inside.told; steps = c.range.inside.steps; is_short = c.range.inside.is_short } in
+    end_filed c.args.fresh.now.profile c.args.fresh.now.vertices c.args.fresh.now.levels c.args.fresh.now.counts c.args.v c.args.ranges.now _ b c.follow_count.new.watched c.follow_count.new.queue d c.requires.can c.requires.vertex
+    (ap (λ (r : Cut). record r { parts = set r.parts c.range_of.result b }) c.ranges-2.view_is ∙ ap (λ k. record c.args.ranges.now { parts = set c.args.ranges.now.parts k b }) (c.range_of.ensures ∙ ap (λ (r : Cut). range_of r.bits c.args.v) c.ranges-2.view_is))
+    (ap (λ (p : Part). record p { watch = c.follow_count.new.watched; queue = c.follow_count.new.queue }) here)
+    (subst (λ (p : Part). HasFollowed c.args.fresh.now.profile c.args.fresh.now.vertices c.args.fresh.now.levels c.args.v (get_or c.args.fresh.now.counts c.args.v 0) p.watch c.follow_count.new.watched p.queue c.follow_count.new.queue) here c.in_ok-follow_count.ensures)

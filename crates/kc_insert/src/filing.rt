@@ -1,0 +1,262 @@
+//! How the counts of a sweep follow those of the graph, and which vertices wait when it begins.
+
+ghost use Rattle.std.specs.Prelude.{◌≡◌, ◌≢◌, ◌+◌, ◌<◌, ◌≤◌, ◌^◌, ℕ, false, All, OnOk, length, slice_index, slice_index_or};
+ghost use Rattle.kc_graph.specs.Numbers.{has_number};
+ghost use Rattle.kc_graph.specs.Shape.{neighbours_of};
+ghost use Rattle.kc_levels.specs.LevelList.{IsCapped};
+ghost use Rattle.kc_levels.specs.Thresholds.{top_level};
+ghost use Rattle.kc_insert.specs.private.Filed.{AreCopied, AreFiled, HasFollowedAll, HasFollowedOne, HaveFollowed, MayFile, MayFollow};
+ghost use Rattle.kc_insert.specs.Ranges.{IsHeld, IsIn};
+
+use crate::range::Range;
+use crate::ranges::Ranges;
+use crate::sharing::check;
+use crate::watched::WatchedCounts;
+use kc_adj::LevelLists;
+use kc_graph::{Edge, Graph};
+use kc_levels::{Levels, Move, Thresholds};
+use kc_rounds::{Gate, Rounds};
+use std::alloc::AllocError;
+use std::marker::Model;
+use std::thread;
+use std::thread::Threads;
+
+// From one edge for each so many vertices on, all vertices are looked at and not the ends of the edges.
+const LEAST_SHARE: usize = 4;
+
+/// What ranges follow when a phase begins. Contracts see it as a `Following`.
+#[derive(Drop)]
+pub struct Fresh<'a> {
+    /// The thresholds of the graph.
+    pub th: &'a Thresholds,
+    /// The level of each vertex.
+    pub levels: &'a Levels,
+    /// How many neighbours each vertex counts in the graph.
+    pub counts: &'a [u32],
+}
+
+impl<'a> Model for Fresh<'a> {
+    ghost use Rattle.kc_insert.specs.private.Filed.{Following};
+
+    ghost Value = { Following };
+
+    ghost view = { λ f. record { profile = f.th.now.profile; vertices = f.th.now.vertices; levels = f.levels.now; counts = f.counts.now } };
+}
+
+// v counts afresh, and waits on its level if it counted otherwise before and its group allows fewer. Fails only if
+// memory runs out.
+fn follow_count(
+    fresh: &Fresh<'_>,
+    v: u32,
+    watched: &mut WatchedCounts,
+    queue: &mut LevelLists<u32>,
+) -> Result<(), AllocError>
+    requires vertex { IsHeld watched.old v }
+    requires inside { (v < length fresh.now.levels) × (v < length fresh.now.counts) }
+    requires capped { slice_index fresh.now.levels v ≤ top_level fresh.now.profile fresh.now.vertices }
+    requires room { slice_index fresh.now.levels v < length queue.old }
+    ensures { OnOk result (HasFollowedOne fresh.now v watched.old watched.new queue.old queue.new) }
+{
+    let th = fresh.th;
+    let own = fresh.counts[v as usize];
+    if watched.count(v) == own {
+        return Ok(());
+    }
+    watched.set(v, own);
+    let level = fresh.levels.get(v);
+    if own > th.high(th.group(level)) {
+        queue.file(level, v)?;
+    }
+    Ok(())
+}
+
+// Each vertex of the range counts afresh, and waits on its level if it counted otherwise before and its group allows
+// fewer. Fails only if memory runs out.
+fn follow_counts(
+    fresh: &Fresh<'_>,
+    watched: &mut WatchedCounts,
+    queue: &mut LevelLists<u32>,
+) -> Result<(), AllocError>
+    requires inside { (v : ℕ) → IsHeld watched.old v → v < length fresh.now.counts }
+    requires few { length fresh.now.counts ≤ 2 ^ 24 }
+    requires levels { (length fresh.now.levels ≡ length fresh.now.counts) × (fresh.now.vertices ≡ length fresh.now.counts) × IsCapped fresh.now.profile fresh.now.vertices fresh.now.levels }
+    requires room { top_level fresh.now.profile fresh.now.vertices < length queue.old }
+    ensures { OnOk result (HaveFollowed fresh.now (length watched.old.counts) watched.old watched.new queue.old queue.new) }
+{
+    let first = watched.first();
+    let count = watched.counts().len();
+    for i in 0..count {
+        let v = first + i as u32;
+        follow_count(fresh, v, watched, queue)?;
+    }
+    Ok(())
+}
+
+// As `follow_count` says, for a vertex of one of the ranges.
+fn file_end(fresh: &Fresh<'_>, ranges: &mut Ranges, v: u32) -> Result<(), AllocError>
+    requires vertex { v < length fresh.now.counts }
+    requires can { MayFile fresh.now ranges.old }
+    ensures { OnOk result (AreFiled fresh.now (λ u. u ≢ v) ranges.old ranges.new) }
+{
+    let range = &mut ranges.items[ranges.layout.range_of(v)];
+    follow_count(fresh, v, &mut range.watched, &mut range.queue)?;
+    Ok(())
+}
+
+// As `file_end` says, for the lesser end of each edge.
+fn file_lesser_ends(
+    fresh: &Fresh<'_>,
+    ranges: &mut Ranges,
+    edges: &[Edge],
+) -> Result<(), AllocError>
+    requires inside { All (λ e. e.1 < length fresh.now.counts) edges.now }
+    requires can { MayFile fresh.now ranges.old }
+    ensures { OnOk result (AreFiled fresh.now (λ v. All (λ e. v ≢ e.0) edges.now) ranges.old ranges.new) }
+{
+    for e in edges {
+        file_end(fresh, ranges, e.a)?;
+    }
+    Ok(())
+}
+
+// As `file_end` says, for the greater end of each edge.
+fn file_greater_ends(
+    fresh: &Fresh<'_>,
+    ranges: &mut Ranges,
+    edges: &[Edge],
+) -> Result<(), AllocError>
+    requires inside { All (λ e. e.1 < length fresh.now.counts) edges.now }
+    requires can { MayFile fresh.now ranges.old }
+    ensures { OnOk result (AreFiled fresh.now (λ v. All (λ e. v ≢ e.1) edges.now) ranges.old ranges.new) }
+{
+    for e in edges {
+        file_end(fresh, ranges, e.b)?;
+    }
+    Ok(())
+}
+
+impl Range {
+    // As `follow_counts` says. If memory runs out the range is marked.
+    fn try_follow(&mut self, fresh: &Fresh<'_>)
+        requires { MayFollow fresh.now self.old }
+        ensures { self.new.is_short ≡ false → HasFollowedAll fresh.now self.old self.new }
+    {
+        if follow_counts(fresh, &mut self.watched, &mut self.queue).is_err() {
+            self.is_short = true;
+        }
+    }
+}
+
+// In each range all vertices count afresh, as `Range::try_follow` says.
+fn follow_each<R: Threads + Sync>(rt: &R, threads: usize, fresh: &Fresh<'_>, items: &mut [Range])
+    requires threads { 0 < threads }
+    requires ready { (i : ℕ) (d : _) → i < length items.old → MayFollow fresh.now (slice_index_or items.old i d) }
+    ensures { (i : ℕ) (d : _) → i < length items.old → (slice_index_or items.new i d).is_short ≡ false → HasFollowedAll fresh.now (slice_index_or items.old i d) (slice_index_or items.new i d) }
+{
+    thread::for_each_mut(
+        rt,
+        items,
+        threads,
+        &|_: usize, range: &mut Range|
+            requires { MayFollow fresh.now range.old }
+            ensures { range.new.is_short ≡ false → HasFollowedAll fresh.entry.now range.old range.new }
+        { range.try_follow(fresh) },
+    );
+}
+
+// In each range all vertices count afresh. Fails only if memory runs out.
+fn follow_all<R: Threads + Sync>(
+    rt: &R,
+    threads: usize,
+    fresh: &Fresh<'_>,
+    items: &mut [Range],
+) -> Result<(), AllocError>
+    requires threads { 0 < threads }
+    requires ready { (i : ℕ) (d : _) → i < length items.old → MayFollow fresh.now (slice_index_or items.old i d) }
+    ensures { OnOk result ((length items.new ≡ length items.old) × ((i : ℕ) (d : _) → i < length items.old → HasFollowedAll fresh.now (slice_index_or items.old i d) (slice_index_or items.new i d))) }
+{
+    follow_each(rt, threads, fresh, items);
+    check(items)?;
+    Ok(())
+}
+
+// All vertices count afresh, and each waits that counts otherwise than before and more than its group allows. Fails
+// only if memory runs out.
+fn file_all<R: Threads + Sync>(
+    rt: &R,
+    threads: usize,
+    fresh: &Fresh<'_>,
+    ranges: &mut Ranges,
+) -> Result<(), AllocError>
+    requires threads { 0 < threads }
+    requires can { MayFile fresh.now ranges.old }
+    ensures { OnOk result (AreFiled fresh.now (λ v. v ≢ v) ranges.old ranges.new) }
+{
+    follow_all(rt, threads, fresh, &mut ranges.items)?;
+    Ok(())
+}
+
+/// Copies the fresh counts of the ends of the edges. An end whose count changed, and is more than its group allows, is
+/// filed once, by its level. If there is an edge for every fourth vertex or more, looks at all vertices, by threads if
+/// there are ranges. Fails only if memory runs out.
+pub fn file_ends<R: Threads + Sync, G: Gate + Sync>(
+    rounds: &Rounds<R, G>,
+    fresh: &Fresh<'_>,
+    ranges: &mut Ranges,
+    edges: &[Edge],
+) -> Result<(), AllocError>
+    requires inside { All (λ e. e.1 < length fresh.now.counts) edges.now }
+    requires can { MayFile fresh.now ranges.old }
+    ensures { OnOk result (AreFiled fresh.now (λ v. All (λ e. (v ≢ e.0) × (v ≢ e.1)) edges.now) ranges.old ranges.new) }
+{
+    if edges.len() < fresh.counts.len() / LEAST_SHARE {
+        file_lesser_ends(fresh, ranges, edges)?;
+        file_greater_ends(fresh, ranges, edges)?;
+        return Ok(());
+    }
+    let threads = if ranges.items.len() > 1 {
+        rounds.workers() as usize
+    } else {
+        1
+    };
+    file_all(rounds.runtime(), threads, fresh, ranges)?;
+    Ok(())
+}
+
+/// Copies the counts of the ends of the edges.
+pub fn copy_ends(ranges: &mut Ranges, fresh: &[u32], edges: &[Edge])
+    requires vertices { (v : ℕ) → v < length fresh.now → IsIn ranges.old v }
+    requires inside { All (λ e. e.1 < length fresh.now) edges.now }
+    ensures { AreCopied fresh.now (λ v. All (λ e. (v ≢ e.0) × (v ≢ e.1)) edges.now) ranges.old ranges.new }
+{
+    for e in edges {
+        ranges.set(e.a, fresh[e.a as usize]);
+        ranges.set(e.b, fresh[e.b as usize]);
+    }
+}
+
+// Copies the counts of v and of its neighbours.
+fn copy_row(ranges: &mut Ranges, fresh: &[u32], graph: &Graph, v: u32)
+    requires vertices { (v : ℕ) → v < length fresh.now → IsIn ranges.old v }
+    requires scale { length fresh.now ≡ graph.now.vertices }
+    requires vertex { v < graph.now.vertices }
+    ensures { AreCopied fresh.now (λ u. (u ≢ v) × (has_number u (neighbours_of v graph.now.edges) ≡ false)) ranges.old ranges.new }
+{
+    let _n = graph.vertices();
+    ranges.set(v, fresh[v as usize]);
+    for w in graph.neighbours(v) {
+        ranges.set(*w, fresh[*w as usize]);
+    }
+}
+
+/// Copies the counts of the vertices that moved, and of their neighbours.
+pub fn copy_rows(ranges: &mut Ranges, fresh: &[u32], graph: &Graph, moves: &[Move])
+    requires vertices { (v : ℕ) → v < length fresh.now → IsIn ranges.old v }
+    requires scale { length fresh.now ≡ graph.now.vertices }
+    requires inside { All (λ m. m.vertex < graph.now.vertices) moves.now }
+    ensures { AreCopied fresh.now (λ u. All (λ m. (u ≢ m.vertex) × (has_number u (neighbours_of m.vertex graph.now.edges) ≡ false)) moves.now) ranges.old ranges.new }
+{
+    for m in moves {
+        copy_row(ranges, fresh, graph, m.vertex);
+    }
+}

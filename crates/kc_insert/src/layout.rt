@@ -1,0 +1,119 @@
+//! How the vertices are cut into ranges.
+
+ghost use Rattle.std.specs.Prelude.{◌≡◌, ◌*◌, ◌^◌, ◌<◌, ◌≤◌, ℕ};
+
+// The most vertices of a range, as a power of two, while there are fewer than `MOST_RANGES`.
+const WIDEST: u32 = 16;
+
+// The most bits of a vertex.
+const MOST_BITS: u32 = 24;
+
+// The fewest ranges of a graph that has more than one.
+const FEWEST_RANGES: u32 = 4;
+
+// The most ranges.
+const MOST_RANGES: u32 = 64;
+
+// The fewest vertices that are cut.
+const LEAST_CUT: u32 = 32_768;
+
+// The fewest vertices, to begin or to stay, for which threads are made. To make four takes as long as to go through the
+// rows of some thousand vertices.
+const LEAST_SHARED: usize = 16_384;
+
+/// How the vertices are cut into ranges of 2 ^ `bits` that follow each other, and when threads share a pass over the
+/// ranges.
+#[derive(Clone, Copy, Debug, PartialEq, Eq)]
+pub struct Layout {
+    /// The number of vertices of a range as a power of two, 0 to 24.
+    pub(crate) bits: u32,
+    // The fewest vertices, to begin or to stay, for which threads share a pass.
+    least_shared: usize,
+    ghost small: { bits ≤ 24 },
+}
+
+impl Layout {
+    ghost use Rattle.kc_insert.specs.Ranges.{range_of};
+
+    /// Ranges of 2 ^ `bits` vertices, 0 to 24.
+    pub fn new(bits: u32, least_shared: usize) -> Self
+        requires { bits ≤ 24 }
+    {
+        Layout { bits, least_shared }
+    }
+
+    /// One range for fewer than 32,768 vertices; else 4 to 64 of at most 65,536 vertices, or of more from 4,194,304 on.
+    pub fn of(n: u32) -> Self {
+        let mut bits = 0;
+        if n < LEAST_CUT {
+            return Layout::new(MOST_BITS, LEAST_SHARED);
+        }
+        while bits < WIDEST && n >> (bits + 1) >= FEWEST_RANGES {
+            bits += 1;
+        }
+        while bits < MOST_BITS && n >> bits >= MOST_RANGES {
+            bits += 1;
+        }
+        Layout::new(bits, LEAST_SHARED)
+    }
+
+    /// The number of ranges of n vertices.
+    pub(crate) fn ranges(self, n: u32) -> usize
+        ensures inside { (v : ℕ) → v < n → range_of self.bits v < result }
+        ensures each { (j : ℕ) → j < result → j * 2 ^ self.bits < n }
+    {
+        if n == 0 {
+            0
+        } else {
+            ((n - 1) >> self.bits) as usize + 1
+        }
+    }
+
+    /// The range of v.
+    pub(crate) fn range_of(self, v: u32) -> usize
+        ensures { result ≡ range_of self.bits v }
+    {
+        (v >> self.bits) as usize
+    }
+
+    /// The first vertex of a range.
+    pub(crate) fn first_of(self, range: usize) -> u32
+        requires { range * 2 ^ self.bits < 2 ^ 32 }
+        ensures { result ≡ range * 2 ^ self.bits }
+    {
+        (range as u32) << self.bits
+    }
+
+    /// The end of a range of n vertices: the vertex after its last one.
+    pub(crate) fn end_of(self, range: usize, n: u32) -> u32
+        requires some { range * 2 ^ self.bits < n }
+        requires few { n ≤ 2 ^ 24 }
+        ensures within { result ≤ n }
+        ensures from { range * 2 ^ self.bits ≤ result }
+        ensures inside { (v : ℕ) → v < n → range_of self.bits v ≡ range → (range * 2 ^ self.bits ≤ v) × (v < result) }
+        ensures own { (v : ℕ) → range * 2 ^ self.bits ≤ v → v < result → range_of self.bits v ≡ range }
+    {
+        let next = self.first_of(range + 1);
+        if next < n { next } else { n }
+    }
+
+    /// Whether threads share a pass over `count` vertices.
+    pub(crate) fn is_shared(self, count: usize) -> bool {
+        count >= self.least_shared
+    }
+
+    /// The number of threads that share a pass over `count` vertices, at most `workers`: one for each half of
+    /// `least_shared`.
+    pub(crate) fn threads(self, count: usize, workers: u32) -> usize
+        requires { 1 ≤ workers }
+        ensures some { 0 < result }
+        ensures few { result ≤ workers }
+    {
+        if self.is_shared(count) {
+            let share = (self.least_shared / 2).max(1);
+            (count / share).min(workers as usize).max(1)
+        } else {
+            1
+        }
+    }
+}

@@ -1,0 +1,57 @@
+//! The start of an insertion phase: its edges are linked.
+
+ghost use Rattle.std.specs.Prelude.{◌≡◌, ◌+◌, ◌*◌, ◌≤◌, OnOk, length};
+ghost use Rattle.kc_graph.specs.Shape.{EdgesFrom, with_edges};
+ghost use Rattle.kc_graph.specs.Changes.{AllAbsent, CanAdd};
+
+use kc_adj::{LevelAdj, Steps};
+use kc_graph::{Edge, MAX_EDGES};
+use kc_rounds::{Gate, Rounds};
+use std::alloc::{AllocError, Global};
+use std::sync::ledger::Ledger;
+use std::thread::Threads;
+
+// The least number of edges whose halves are worth a sort, so that the row of each vertex is gone through once.
+const LEAST_TOGETHER: usize = 8_192;
+
+// Links the edges, one after another. Levels stay.
+fn link_each<L: Ledger>(
+    alloc: Global,
+    adj: &mut LevelAdj,
+    added: &[Edge],
+    steps: &mut Steps<L>,
+) -> Result<(), AllocError>
+    requires addable { CanAdd adj.old.graph added.now }
+    ensures value { OnOk result (adj.new ≡ record adj.old { graph = with_edges adj.old.graph added.now }) }
+    ensures cost { OnOk result (steps.new ≡ steps.old + 3 * length added.now) }
+{
+    for e in added {
+        adj.link(alloc, *e, steps)?;
+    }
+    Ok(())
+}
+
+/// Links the edges, which ascend, and many of them by the workers of `rounds`. Levels stay. Counts 3 steps for each
+/// edge.
+///
+/// Fails only if memory runs out; the graph is then unspecified.
+pub fn link_edges<R: Threads + Sync, G: Gate + Sync, L: Ledger>(
+    rounds: &Rounds<R, G>,
+    alloc: Global,
+    adj: &mut LevelAdj,
+    added: &[Edge],
+    steps: &mut Steps<L>,
+) -> Result<(), AllocError>
+    requires ascending { EdgesFrom adj.old.graph.vertices 0 0 added.now }
+    requires absent { AllAbsent adj.old.graph added.now }
+    requires room { length adj.old.graph.edges + length added.now ≤ MAX_EDGES }
+    ensures value { OnOk result (adj.new ≡ record adj.old { graph = with_edges adj.old.graph added.now }) }
+    ensures cost { OnOk result (steps.new ≡ steps.old + 3 * length added.now) }
+{
+    if added.len() < LEAST_TOGETHER {
+        link_each(alloc, adj, added, steps)?;
+        return Ok(());
+    }
+    adj.link_all(rounds.runtime(), alloc, rounds.workers(), added, steps)?;
+    Ok(())
+}

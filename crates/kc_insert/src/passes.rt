@@ -1,0 +1,301 @@
+//! The two passes of a step over the rows of a range. One is over vertices that stay on the level, the other over
+//! vertices that begin to rise from it.
+
+ghost use Rattle.std.specs.Prelude.{◌≡◌, ◌+◌, ◌*◌, ◌++◌, ◌∷◌, ◌<◌, ◌≤◌, ◌^◌, ◌⊎◌, ℕ, [], false, true, IfOk, OnOk, cond, count_by, filter, length, slice_index, slice_index_or, slice_set, take};
+ghost use Rattle.std.specs.List.{flat_map};
+ghost use Rattle.kc_graph.specs.Numbers.{has_number};
+ghost use Rattle.kc_graph.specs.Shape.{has_edge, neighbours_of};
+ghost use Rattle.kc_adj.specs.Degrees.{degrees};
+ghost use Rattle.kc_insert.specs.private.Crossing.{above_near, count_above, HaveBegun, HaveMeetings, is_above, left_at, met_by, next_near, rising_near, with_levels};
+ghost use Rattle.kc_insert.specs.private.Parts.{CanPart, CanRise, HasParted, HasRisen, HaveRisen};
+ghost use Rattle.kc_insert.specs.private.Rising.{rises, seen};
+ghost use Rattle.kc_insert.specs.private.Telling.{AreDealtAnew, times};
+ghost use Rattle.kc_insert.specs.Ranges.{IsHeld, range_of};
+ghost use Rattle.kc_insert.specs.private.Watched.{count_at, StayWatched};
+
+use crate::layout::Layout;
+use crate::meetings::Meeting;
+use crate::range::Range;
+use crate::rising::{RISING, RisingLevels};
+use crate::telling::Told;
+use crate::watched::WatchedCounts;
+use kc_adj::{LevelLists, put_where};
+use kc_graph::Graph;
+use std::alloc::{AllocError, Global};
+use std::marker::Model;
+
+/// A step of a sweep, from a level to the next, as all ranges see it. Contracts see it as a `Crossing`.
+#[derive(Drop)]
+pub struct Step<'a> {
+    /// The graph.
+    pub graph: &'a Graph,
+    /// The levels by now.
+    pub levels: &'a RisingLevels,
+    /// How the vertices are cut.
+    pub layout: Layout,
+    /// The level that the step is from.
+    pub level: u16,
+    /// Whether the lists are dealt by range.
+    pub is_dealt: bool,
+}
+
+impl<'a> Model for Step<'a> {
+    ghost use Rattle.std.specs.Prelude.{◌≡◌, ◌<◌, length};
+    ghost use Rattle.kc_graph.specs.Shape.{IsGraph};
+    ghost use Rattle.kc_insert.specs.private.Crossing.{Crossing, IsCrossing};
+
+    ghost Value = { Crossing };
+
+    ghost view = { λ s. record { graph = s.graph.now; levels = s.levels.now; bits = s.layout.bits; level = s.level; is_dealt = s.is_dealt } };
+
+    ghost invariant = { λ s. IsCrossing (record { graph = s.graph.now; levels = s.levels.now; bits = s.layout.bits; level = s.level; is_dealt = s.is_dealt }) };
+}
+
+// Puts w and x at `end`; returns `end + 2` if `holds`, else `end`. There is no branch, since a processor couldn't
+// predict it.
+fn put_both_where(items: &mut Vec<u32>, end: usize, w: u32, x: u32, holds: bool) -> usize
+    requires { end + 1 < length items.old.items }
+    ensures written { items.new.items ≡ slice_set (slice_set items.old.items end w) (end + 1) x }
+    ensures items { take result items.new.items ≡ cond holds (take end items.old.items ++ w ∷ x ∷ []) (take end items.old.items) }
+    ensures length { length items.new.items ≡ length items.old.items }
+    ensures end { result ≤ end + 2 }
+{
+    items[end] = w;
+    items[end + 1] = x;
+    end + 2 * usize::from(holds)
+}
+
+// The neighbours in the row that rise, at the front of `found`; returns how many.
+fn rising_of(step: &Step<'_>, row: &[u32], found: &mut Vec<u32>) -> Result<usize, AllocError>
+    requires { (w : ℕ) → has_number w row.now ≡ true → w < step.now.graph.vertices }
+    ensures found { IfOk result (λ count. take count found.new.items ≡ filter (rises step.now.levels) row.now) }
+    ensures inside { IfOk result (λ count. count ≤ length found.new.items) }
+{
+    if found.len() < row.len() {
+        found.resize(row.len(), 0)?;
+    }
+    let levels = step.levels;
+    let mut end = 0;
+    for w in row {
+        end = put_where(found, end, *w, levels.rises(*w));
+    }
+    Ok(end)
+}
+
+// The neighbours in the row that stand above the level and don't rise, each with its level, at the front of `found`.
+// Returns where they end, and how many neighbours are above the level or rise.
+fn above_of(step: &Step<'_>, row: &[u32], found: &mut Vec<u32>) -> Result<(usize, u32), AllocError>
+    requires inside { (w : ℕ) → has_number w row.now ≡ true → w < step.now.graph.vertices }
+    requires small { length row.now < 2 ^ 24 }
+    ensures found { IfOk result (λ r. take r.0 found.new.items ≡ with_levels step.now.levels.stored (filter (is_above step.now) row.now)) }
+    ensures within { IfOk result (λ r. r.0 ≤ length found.new.items) }
+    ensures above { IfOk result (λ r. r.1 ≡ count_by (λ w. count_above step.now w) row.now) }
+{
+    if found.len() < 2 * row.len() {
+        found.resize(2 * row.len(), 0)?;
+    }
+    let level = step.level;
+    let now = step.levels.stored.as_slice();
+    let mut above = 0;
+    let mut end = 0;
+    for w in row {
+        let stood = now[*w as usize];
+        above += u32::from(stood > level);
+        end = put_both_where(
+            found,
+            end,
+            *w,
+            u32::from(stood),
+            (stood > level) & (stood < RISING),
+        );
+    }
+    Ok((end, above))
+}
+
+// Each vertex that stays tells it to its neighbours that rise on. Returns how many neighbours there are. Fails only if
+// memory runs out.
+fn tell_parting(
+    step: &Step<'_>,
+    stay: &[u32],
+    row: &mut Vec<u32>,
+    told: &mut Told,
+) -> Result<usize, AllocError>
+    requires vertices { (v : ℕ) → has_number v stay.now ≡ true → v < step.now.graph.vertices }
+    requires few { length stay.now ≤ 2 ^ 24 }
+    ensures told { OnOk result (told.new ≡ record told.old { all = told.old.all ++ flat_map (rising_near step.now) stay.now }) }
+    ensures steps { IfOk result (λ steps. (steps ≡ degrees step.now.graph stay.now) × (steps ≤ 2 ^ 24 * length stay.now)) }
+{
+    let graph = step.graph;
+    let mut steps = 0;
+    for i in 0..stay.len() {
+        let v = graph.in_turn(stay, i);
+        let near = graph.neighbours(v);
+        steps += near.len();
+        let count = rising_of(step, near, row)?;
+        told.tell_all(&row[..count])?;
+    }
+    Ok(steps)
+}
+
+// For each meeting on the level: if the riser goes on and the other stays, the riser counts one less. Fails only if
+// memory runs out.
+fn leave_behind(
+    step: &Step<'_>,
+    met: &[Meeting],
+    watched: &mut WatchedCounts,
+) -> Result<(), AllocError>
+    requires held { (v w : ℕ) → has_edge (v, w) met.now ≡ true → (v < step.now.graph.vertices) × (w < step.now.graph.vertices) × IsHeld watched.old v }
+    requires enough { (v : ℕ) → times v (left_at step.now met.now) ≤ count_at watched.old v }
+    ensures less { OnOk result ((v : ℕ) → watched.old.first ≤ v → count_at watched.new v + times v (left_at step.now met.now) ≡ count_at watched.old v) }
+    ensures watched { OnOk result (StayWatched watched.old watched.new) }
+{
+    let levels = step.levels;
+    let level = step.level;
+    for m in met {
+        if levels.rises(m.riser) && levels.get(m.other) == level {
+            watched.lessen(m.riser)?;
+        }
+    }
+    Ok(())
+}
+
+// For each meeting on the next level: if the riser came up, it tells it to the other. Fails only if memory runs out.
+fn come_up(step: &Step<'_>, meetings: &[Meeting], told: &mut Told) -> Result<(), AllocError>
+    requires inside { (v w : ℕ) → has_edge (v, w) meetings.now ≡ true → v < step.now.graph.vertices }
+    ensures { OnOk result (told.new ≡ record told.old { all = told.old.all ++ met_by step.now meetings.now }) }
+{
+    let levels = step.levels;
+    for m in meetings {
+        if levels.rises(m.riser) {
+            told.tell(m.other)?;
+        }
+    }
+    Ok(())
+}
+
+// v begins to rise, and tells it to its neighbours on the next level. It is to meet all neighbours that stand above the
+// level and don't rise. These are in `above`, each with its level. Fails only if memory runs out.
+fn file_above(
+    step: &Step<'_>,
+    v: u32,
+    above: &[u32],
+    told: &mut Told,
+    meetings: &mut LevelLists<Meeting>,
+) -> Result<(), AllocError>
+    requires vertex { v < step.now.graph.vertices }
+    requires above { above.now ≡ with_levels step.now.levels.stored (above_near step.now v) }
+    requires places { (w : ℕ) → is_above step.now w ≡ true → slice_index step.now.levels.stored w < length meetings.old }
+    ensures told { OnOk result (told.new ≡ record told.old { all = told.old.all ++ next_near step.now v }) }
+    ensures meetings { OnOk result (HaveMeetings step.now (v ∷ []) meetings.old meetings.new) }
+{
+    let next = step.level + 1;
+    for i in 0..above.len() / 2 {
+        let w = above[2 * i];
+        let stood = above[2 * i + 1] as u16;
+        if stood == next {
+            told.tell(w)?;
+        }
+        meetings.file(stood, Meeting { riser: v, other: w })?;
+    }
+    Ok(())
+}
+
+// Each vertex of the list begins to rise, and tells it to its neighbours on the next level. It is to meet all
+// neighbours that stand above the level and don't rise, and counts afresh. Returns how many neighbours there are. Fails
+// only if memory runs out.
+fn begin_each(
+    step: &Step<'_>,
+    begun: &[u32],
+    row: &mut Vec<u32>,
+    told: &mut Told,
+    meetings: &mut LevelLists<Meeting>,
+    watched: &mut WatchedCounts,
+) -> Result<usize, AllocError>
+    requires vertices { (v : ℕ) → has_number v begun.now ≡ true → (v < step.now.graph.vertices) × IsHeld watched.old v }
+    requires few { length begun.now ≤ 2 ^ 24 }
+    requires places { (w : ℕ) → is_above step.now w ≡ true → slice_index step.now.levels.stored w < length meetings.old }
+    ensures told { OnOk result (told.new ≡ record told.old { all = told.old.all ++ flat_map (next_near step.now) begun.now }) }
+    ensures meetings { OnOk result (HaveMeetings step.now begun.now meetings.old meetings.new) }
+    ensures counts { OnOk result (HaveBegun step.now begun.now watched.old watched.new) }
+    ensures steps { IfOk result (λ steps. (steps ≡ degrees step.now.graph begun.now) × (steps ≤ 2 ^ 24 * length begun.now)) }
+{
+    let graph = step.graph;
+    let mut steps = 0;
+    for i in 0..begun.len() {
+        let v = graph.in_turn(begun, i);
+        let near = graph.neighbours(v);
+        steps += near.len();
+        let (end, above) = above_of(step, near, row)?;
+        file_above(step, v, &row[..end], told, meetings)?;
+        watched.put(v, above)?;
+    }
+    Ok(steps)
+}
+
+impl Range {
+    /// Each vertex that stays tells it to its neighbours that rise on. Fails only if memory runs out.
+    pub fn part(&mut self, step: &Step<'_>) -> Result<(), AllocError>
+        requires { CanPart step.now self.old }
+        ensures part { OnOk result (self.new ≡ record self.old { tell = self.new.tell; steps = self.old.steps + degrees step.now.graph self.old.stay }) }
+        ensures told { OnOk result (self.new.tell.all ≡ flat_map (rising_near step.now) self.old.stay) }
+        ensures lists { OnOk result (length self.new.tell.lists ≡ length self.old.tell.lists) }
+        ensures dealt { OnOk result (step.now.is_dealt ≡ true → AreDealtAnew step.now.bits self.old.tell self.new.tell) }
+    {
+        self.told.clear();
+        self.steps += tell_parting(step, &self.stay, &mut self.row, &mut self.told)?;
+        if step.is_dealt {
+            self.told.deal(step.layout)?;
+        }
+        Ok(())
+    }
+
+    /// As `part`. If memory runs out the range is marked.
+    pub fn try_part(&mut self, step: &Step<'_>)
+        requires { CanPart step.now self.old }
+        ensures { self.new.is_short ≡ false → HasParted step.now self.old self.new }
+    {
+        if self.part(step).is_err() {
+            self.is_short = true;
+        }
+    }
+
+    /// Vertices that go on count the neighbours that stay no more, and vertices that begin count afresh. All of them
+    /// tell it to the neighbours that stood on the next level. Fails only if memory runs out.
+    pub fn rise(&mut self, alloc: Global, step: &Step<'_>) -> Result<(), AllocError>
+        requires { CanRise step.now self.old }
+        ensures part { OnOk result (self.new ≡ record self.old { watch = self.new.watch; meetings = self.new.meetings; began = self.old.began ++ self.old.begun; risen = self.old.risen ++ self.old.begun; begun = []; tell = self.new.tell; steps = self.old.steps + degrees step.now.graph self.old.begun }) }
+        ensures told { OnOk result (self.new.tell.all ≡ met_by step.now (slice_index_or self.old.meetings (step.now.level + 1) []) ++ flat_map (next_near step.now) self.old.begun) }
+        ensures lists { OnOk result (length self.new.tell.lists ≡ length self.old.tell.lists) }
+        ensures dealt { OnOk result (step.now.is_dealt ≡ true → AreDealtAnew step.now.bits self.old.tell self.new.tell) }
+        ensures risen { OnOk result (HaveRisen step.now self.old self.new) }
+    {
+        self.told.clear();
+        let met = self.meetings.take_all(alloc, step.level);
+        leave_behind(step, &met, &mut self.watched)?;
+        come_up(step, self.meetings.on(step.level + 1), &mut self.told)?;
+        self.steps += begin_each(
+            step,
+            &self.begun,
+            &mut self.row,
+            &mut self.told,
+            &mut self.meetings,
+            &mut self.watched,
+        )?;
+        self.risen.extend_from_slice(&self.begun)?;
+        self.began.append(&mut self.begun)?;
+        if step.is_dealt {
+            self.told.deal(step.layout)?;
+        }
+        Ok(())
+    }
+
+    /// As `rise`. If memory runs out the range is marked.
+    pub fn try_rise(&mut self, alloc: Global, step: &Step<'_>)
+        requires { CanRise step.now self.old }
+        ensures { self.new.is_short ≡ false → HasRisen step.now self.old self.new }
+    {
+        if self.rise(alloc, step).is_err() {
+            self.is_short = true;
+        }
+    }
+}

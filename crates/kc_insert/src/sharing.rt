@@ -1,0 +1,248 @@
+//! Passes over all ranges: each range by a thread of its own if there is much to do.
+
+ghost use Rattle.std.specs.Prelude.{◌≡◌, ◌+◌, ◌<◌, ℕ, false, All, OnOk, length, slice_index_or};
+ghost use Rattle.kc_insert.specs.private.Parts.{CanHearLess, CanHearMore, CanPart, CanRise, HasHeardLess, HasParted, HasRisen, HaveMet};
+ghost use Rattle.kc_insert.specs.private.Sharing.{AllParted, AllRisen, AreFew, AreTold, CanLessen, CanMeet, CanPartAll, CanRiseAll, HearLess, HearMore, told_all};
+ghost use Rattle.kc_insert.specs.private.Telling.{heard_by};
+
+use crate::layout::Layout;
+use crate::passes::Step;
+use crate::range::Range;
+use crate::telling::Told;
+use std::alloc::{AllocError, Global};
+use std::thread::Threads;
+use std::{mem, thread};
+
+/// Fails if memory ran out in a pass.
+pub fn check(items: &[Range]) -> Result<(), AllocError>
+    ensures { OnOk result (All (λ p. p.is_short ≡ false) items.now) }
+{
+    for range in items {
+        if range.is_short {
+            return Err(AllocError);
+        }
+    }
+    Ok(())
+}
+
+/// In each range the vertices that stay tell it to their neighbours that rise on.
+pub fn part_each<R: Threads + Sync>(rt: &R, threads: usize, step: &Step<'_>, items: &mut [Range])
+    requires threads { 0 < threads }
+    requires ready { (i : ℕ) (d : _) → i < length items.old → CanPart step.now (slice_index_or items.old i d) }
+    ensures { (i : ℕ) (d : _) → i < length items.old → (slice_index_or items.new i d).is_short ≡ false → HasParted step.now (slice_index_or items.old i d) (slice_index_or items.new i d) }
+{
+    thread::for_each_mut(
+        rt,
+        items,
+        threads,
+        &|_: usize, range: &mut Range|
+            requires { CanPart step.now range.old }
+            ensures { range.new.is_short ≡ false → HasParted step.entry.now range.old range.new }
+        { range.try_part(step) },
+    );
+}
+
+/// In each range vertices go on or begin, and tell it to the neighbours that stood on the next level.
+pub fn rise_each<R: Threads + Sync>(
+    rt: &R,
+    alloc: Global,
+    threads: usize,
+    step: &Step<'_>,
+    items: &mut [Range],
+)
+    requires threads { 0 < threads }
+    requires ready { (i : ℕ) (d : _) → i < length items.old → CanRise step.now (slice_index_or items.old i d) }
+    ensures { (i : ℕ) (d : _) → i < length items.old → (slice_index_or items.new i d).is_short ≡ false → HasRisen step.now (slice_index_or items.old i d) (slice_index_or items.new i d) }
+{
+    thread::for_each_mut(
+        rt,
+        items,
+        threads,
+        &|_: usize, range: &mut Range|
+            requires { CanRise step.now range.old }
+            ensures { range.new.is_short ≡ false → HasRisen step.entry.now range.old range.new }
+        { range.try_rise(alloc, step) },
+    );
+}
+
+/// Each range hears its lists: the vertices on them count one less.
+pub fn hear_less_each<R: Threads + Sync>(rt: &R, threads: usize, told: &[Told], items: &mut [Range])
+    requires threads { 0 < threads }
+    requires ready { (i : ℕ) (d : _) → i < length items.old → CanHearLess told.now i (slice_index_or items.old i d) }
+    ensures { (i : ℕ) (d : _) → i < length items.old → (slice_index_or items.new i d).is_short ≡ false → HasHeardLess (heard_by i told.now) (slice_index_or items.old i d) (slice_index_or items.new i d) }
+{
+    thread::for_each_mut(
+        rt,
+        items,
+        threads,
+        &|own: usize, range: &mut Range|
+            requires { CanHearLess told.now own range.old }
+            ensures { range.new.is_short ≡ false → HasHeardLess (heard_by own told.entry.now) range.old range.new }
+        { range.try_hear_less(told, own) },
+    );
+}
+
+/// Each range hears its lists: the vertices on them, all on the level, count one more. They wait there if they then
+/// count more than `most`.
+pub fn hear_more_each<R: Threads + Sync>(
+    rt: &R,
+    threads: usize,
+    told: &[Told],
+    level: u16,
+    most: u32,
+    items: &mut [Range],
+)
+    requires threads { 0 < threads }
+    requires ready { (i : ℕ) (d : _) → i < length items.old → CanHearMore told.now i level (slice_index_or items.old i d) }
+    ensures { (i : ℕ) (d : _) → i < length items.old → (slice_index_or items.new i d).is_short ≡ false → HaveMet level most (heard_by i told.now) (slice_index_or items.old i d) (slice_index_or items.new i d) }
+{
+    thread::for_each_mut(
+        rt,
+        items,
+        threads,
+        &|own: usize, range: &mut Range|
+            requires { CanHearMore told.now own level range.old }
+            ensures { range.new.is_short ≡ false → HaveMet level most (heard_by own told.entry.now) range.old range.new }
+        { range.try_hear_more(told, own, level, most) },
+    );
+}
+
+/// What each range told is put into the list of its place, where all ranges can hear it.
+pub fn collect(items: &mut [Range], told: &mut [Told])
+    requires { length told.old ≡ length items.old }
+    ensures items { (i : ℕ) (d e : _) → i < length items.old → slice_index_or items.new i d ≡ record (slice_index_or items.old i d) { tell = slice_index_or told.old i e } }
+    ensures told { (i : ℕ) (d e : _) → i < length items.old → slice_index_or told.new i e ≡ (slice_index_or items.old i d).tell }
+{
+    for i in 0..items.len() {
+        let range = &mut items[i];
+        mem::swap(&mut range.told, &mut told[i]);
+    }
+}
+
+/// Each vertex of the list counts one less for each time that it is there. Fails only if memory runs out.
+pub fn hear_less_all(layout: Layout, told: &[u32], items: &mut [Range]) -> Result<(), AllocError>
+    requires { CanLessen layout.bits told.now items.old }
+    ensures { OnOk result (HearLess layout.bits told.now items.old items.new) }
+{
+    for v in told {
+        let range = &mut items[layout.range_of(*v)];
+        range.watched.lessen(*v)?;
+    }
+    Ok(())
+}
+
+/// Each vertex of the list, all on the level, counts one more for each time that it is there. It waits on the level if
+/// it then counts more than `most`. Fails only if memory runs out.
+pub fn hear_more_all(
+    layout: Layout,
+    level: u16,
+    most: u32,
+    told: &[u32],
+    items: &mut [Range],
+) -> Result<(), AllocError>
+    requires { CanMeet layout.bits level told.now items.old }
+    ensures { OnOk result (HearMore layout.bits level most told.now items.old items.new) }
+{
+    for v in told {
+        let range = &mut items[layout.range_of(*v)];
+        range.meet(level, most, *v)?;
+    }
+    Ok(())
+}
+
+/// The vertices on the lists count one less for each time. If the lists are dealt, each range hears its own; else the
+/// caller hears one list after another. Fails only if memory runs out.
+pub fn hear_less<R: Threads + Sync>(
+    rt: &R,
+    threads: usize,
+    layout: Layout,
+    is_dealt: bool,
+    told: &[Told],
+    items: &mut [Range],
+) -> Result<(), AllocError>
+    requires threads { 0 < threads }
+    requires lists { AreTold layout.bits is_dealt (length items.old) told.now }
+    requires ready { CanLessen layout.bits (told_all told.now) items.old }
+    ensures { OnOk result (HearLess layout.bits (told_all told.now) items.old items.new) }
+{
+    if is_dealt {
+        hear_less_each(rt, threads, told, items);
+        check(items)?;
+        return Ok(());
+    }
+    for i in 0..told.len() {
+        hear_less_all(layout, told[i].all(), items)?;
+    }
+    Ok(())
+}
+
+/// The vertices on the lists, all on the level, count one more for each time. They wait on the level if they then count
+/// more than `most`. The lists are heard as in `hear_less`. Fails only if memory runs out.
+pub fn hear_more<R: Threads + Sync>(
+    rt: &R,
+    threads: usize,
+    step: &Step<'_>,
+    most: u32,
+    told: &[Told],
+    items: &mut [Range],
+) -> Result<(), AllocError>
+    requires threads { 0 < threads }
+    requires lists { AreTold step.now.bits step.now.is_dealt (length items.old) told.now }
+    requires ready { CanMeet step.now.bits (step.now.level + 1) (told_all told.now) items.old }
+    requires few { AreFew items.old }
+    ensures { OnOk result (HearMore step.now.bits (step.now.level + 1) most (told_all told.now) items.old items.new) }
+{
+    let layout = step.layout;
+    let next = step.level + 1;
+    if step.is_dealt {
+        hear_more_each(rt, threads, told, next, most, items);
+        check(items)?;
+        return Ok(());
+    }
+    for i in 0..told.len() {
+        hear_more_all(layout, next, most, told[i].all(), items)?;
+    }
+    Ok(())
+}
+
+/// In all ranges the vertices that stay are counted no more by those that rise on. Fails only if memory runs out.
+pub fn part_all<R: Threads + Sync>(
+    rt: &R,
+    threads: usize,
+    step: &Step<'_>,
+    told: &mut [Told],
+    items: &mut [Range],
+) -> Result<(), AllocError>
+    requires threads { 0 < threads }
+    requires ready { CanPartAll step.now items.old told.old }
+    ensures parted { OnOk result (AllParted step.now items.old items.new) }
+    ensures told { OnOk result (All (λ t. length t.lists ≡ length items.old) told.new) }
+{
+    part_each(rt, threads, step, items);
+    check(items)?;
+    collect(items, told);
+    hear_less(rt, threads, step.layout, step.is_dealt, told, items)?;
+    Ok(())
+}
+
+/// In all ranges vertices go on or begin, and those on the next level hear of them. Fails only if memory runs out.
+pub fn rise_all<R: Threads + Sync>(
+    rt: &R,
+    alloc: Global,
+    threads: usize,
+    step: &Step<'_>,
+    most: u32,
+    told: &mut [Told],
+    items: &mut [Range],
+) -> Result<(), AllocError>
+    requires threads { 0 < threads }
+    requires ready { CanRiseAll step.now items.old told.old }
+    ensures risen { OnOk result (AllRisen step.now most items.old items.new) }
+    ensures told { OnOk result (All (λ t. length t.lists ≡ length items.old) told.new) }
+{
+    rise_each(rt, alloc, threads, step, items);
+    check(items)?;
+    collect(items, told);
+    hear_more(rt, threads, step, most, told, items)?;
+    Ok(())
+}
