@@ -1,8 +1,9 @@
 //! How long updates of eight clients take through an intake to a server that only drains.
 //!
-//! With no word on the command line each client submits a few items, and what was drained is printed but no time. With any word they
-//! submit a million together, and the nanoseconds that this took are printed too: from when the first client may begin until the server
-//! has the last update and the clients have ended. Items are made before, and batches aren't kept.
+//! With no word on the command line each client submits a few items, and what was drained is printed but no time. With
+//! any word they submit a million together, and the nanoseconds that this took are printed too. The time begins when
+//! the first client may begin, and ends when the server has the last update and the clients have ended. Items are made
+//! before, and batches aren't kept.
 #![tactic(auto)]
 
 use anyhow::ensure;
@@ -35,7 +36,8 @@ fn make_script(alloc: Global, random: &mut Random, count: u32) -> Result<Vec<Ite
     Ok(script)
 }
 
-// How many updates a server drained of clients that submit `each` items, and the time that this took. Fails unless these are all updates.
+// How many updates a server drained of clients that submit `each` items, and the time that this took. Fails unless
+// these are all updates.
 fn time_updates<R: Threads + Wait + Sync + Clock>(
     rt: &R,
     alloc: Global,

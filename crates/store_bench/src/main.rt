@@ -1,8 +1,8 @@
 //! How long reads of a store take, beside plain loads from memory, and how long a writer takes to move levels.
 //!
-//! With no word on the command line it takes every measurement once on a few vertices, and prints what was measured but no times.
-//! With any word it measures stores of several sizes, and prints a line for each measurement: what it is, the number of
-//! vertices, how many loads, reads or moves it had, and the nanoseconds that they took together.
+//! With no word on the command line it takes every measurement once on a few vertices, and prints what was measured but
+//! no times. With any word it measures stores of several sizes, and prints a line for each measurement. The line says
+//! what was measured, on how many vertices, how many loads, reads or moves there were, and their nanoseconds together.
 //!
 //! `plans` makes the phases that are shown, `showing` shows them, `reading` reads, and `measuring` takes the times.
 #![tactic(auto)]

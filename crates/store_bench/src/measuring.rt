@@ -81,7 +81,7 @@ fn time_writer<R: Clock>(
     Ok((shown, start.elapsed(rt)?))
 }
 
-// What the levels that the readers read come to: 1 for each of their reads.
+// Whether each reader's levels add up to this number of reads: all levels are 1.
 fn read_ones(readers: &[Reader], reads: u64) -> bool {
     readers.iter().all(|reader| reader.sum == reads)
 }
@@ -225,7 +225,8 @@ fn print_beside<R: Threads + Sync + Clock + Print>(
     Ok(())
 }
 
-// What is shown of n vertices, and what is read meanwhile: the plans, and the vertices in the order in which each reader takes them.
+// What is shown of n vertices, and what is read meanwhile: the plans, and the vertices in the order in which each
+// reader takes them.
 #[derive(Drop)]
 struct Work<'a> {
     // The number of vertices, for which the plans are.

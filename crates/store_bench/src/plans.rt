@@ -20,7 +20,8 @@ fn ones(alloc: Global, n: u32) -> Result<Levels, AllocError>
     Ok(levels)
 }
 
-// The plan of a phase of this number: all vertices rise to level 1 in phases of an odd number, and fall to level 0 in the others.
+// The plan of a phase of this number. In phases of an odd number all vertices rise to level 1, in the others they fall
+// to level 0.
 fn plan(
     alloc: Global,
     phase: u32,
@@ -40,8 +41,8 @@ fn plan(
     }
 }
 
-/// The plans of the phases 1 to `count` of n vertices that begin on level 0: all rise to level 1, and fall to level 0 again,
-/// each vertex in a group of its own. There is no edge.
+/// Returns the plans of the phases 1 to `count` of n vertices that begin on level 0. All vertices rise to level 1 and
+/// fall to level 0 by turns, each in a group of its own. There is no edge.
 pub fn make_plans(alloc: Global, n: u32, count: u32) -> Result<Vec<PhasePlan>, AllocError>
     requires { (1 ≤ n) × (n ≤ MAX_VERTICES) }
     ensures formed { IfOk result (λ plans. All (IsWellFormed n) plans.items) }

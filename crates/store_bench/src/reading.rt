@@ -33,7 +33,7 @@ fn sum_of(words: &[u64], order: &[u32]) -> u64 {
     sum
 }
 
-/// Loads the words of the vertices in this order in a thread for each of the sums, which is what they come to.
+/// Loads the words of the vertices in this order, in a thread for each of the sums. Sets each sum to the sum of the words.
 pub fn run_loads<R: Threads + Sync>(rt: &R, words: &[u64], order: &[u32], sums: &mut [u64])
     requires some { 0 < length sums.old }
 {
@@ -46,7 +46,7 @@ pub fn run_loads<R: Threads + Sync>(rt: &R, words: &[u64], order: &[u32], sums: 
     );
 }
 
-/// Who reads.
+/// A thread's reader.
 #[derive(Drop)]
 pub struct Reader {
     // Reads the store for which it was made.
@@ -62,7 +62,8 @@ impl Reader {
         requires vertices { n ≡ store.now.vertices }
         ensures { self.new.pass.table ≡ self.old.pass.table }
     {
-        // A sum of its own, since readers lie side by side, and a processor that writes takes the memory from the others.
+        // A sum of its own: readers lie side by side in memory, and a processor that writes takes the line from the
+        // others.
         let mut sum = 0u64;
         for v in order {
             if *v < n {

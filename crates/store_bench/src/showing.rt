@@ -1,4 +1,5 @@
-//! How a writer shows a plan in a store: whether its phase may begin, and then each group is marked, published and cleared.
+//! How a writer shows a plan in a store: it looks whether the phase may begin, and then each group is marked, published
+//! and cleared.
 ghost use Rattle.std.specs.Prelude.{◌≡◌, ◌+◌, ◌<◌, ◌≤◌, [], length, All};
 ghost use Rattle.std.specs.Bool.{OnTrue};
 ghost use Rattle.kc_groups.specs.WellFormed.{IsWellFormed};
@@ -109,8 +110,8 @@ fn are_current(store: &Store, writer: &mut Writer, n: u32, plan: &PhasePlan) -> 
     true
 }
 
-/// Whether the phase of a plan is the next one, `phase + 1`, and its moves are from the levels at the end of the history, so that it
-/// may begin.
+/// Returns whether the phase of a plan may begin. It may if it is the next one, `phase + 1`, and its moves are from the
+/// levels at the end of the history.
 pub fn may_begin(store: &Store, writer: &mut Writer, n: u32, phase: u32, plan: &PhasePlan) -> bool
     requires table { writer.old.table ≡ store.now.table }
     requires vertices { (n ≡ store.now.vertices) × (writer.old.state.vertices ≡ n) }

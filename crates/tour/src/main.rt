@@ -1,5 +1,5 @@
-//! A first program over the library: a service of five vertices, three batches, and two readers in threads of their own that ask while
-//! the batches are applied.
+//! A first program over the library: a service of five vertices, and three batches. Two readers ask, in threads of
+//! their own, while the batches are applied.
 #![tactic(auto)]
 
 // That other threads may use the runtime, which the closures of threads ask.
@@ -35,8 +35,8 @@ const BATCHES: [&[Item]; 3] = [
 // How often a thread looks for the others at most.
 const TURNS: u32 = 100_000_000;
 
-// How far batches and readers are, so that each reader asks at least once between two batches. A program needs no such thing: readers
-// ask when they like. Here it makes what is printed the same each time.
+// How far batches and readers are, so that each reader asks at least once between two batches. Other programs don't
+// need it, since readers ask when they like. Here it makes what is printed the same each time.
 #[derive(Drop)]
 struct Pace {
     // How many batches were applied.
