@@ -6,15 +6,15 @@ ghost use Rattle.kc_groups.specs.WellFormed.{IsWellFormed};
 ghost use Rattle.store_bench.specs.private.Showing.{ArePlans, IsFresh};
 
 use crate::plans::make_plans;
-use crate::reading::{Reader, by_chance, make_readers, read_ones, run_loads, run_readers};
+use crate::reading::{Reader, by_chance, make_readers, run_loads, run_readers};
 use crate::showing::{mark, may_begin, show, show_all, show_next};
 use anyhow::ensure;
 use kc_groups::PhasePlan;
 use kc_store::{Store, Writer};
 use std::alloc::Global;
+use std::thread;
 use std::thread::Threads;
 use std::time::{Clock, Duration, Instant};
-use std::{io, thread};
 
 /// How much is measured: the number of vertices, how many reads a reader has, and how many plans a writer shows.
 #[derive(Clone, Copy)]
@@ -49,26 +49,28 @@ fn time_readers<R: Threads + Sync + Clock>(
     rt: &R,
     order: &[u32],
     readers: &mut [Reader<'_>],
-) -> io::Result<Duration> {
+) -> anyhow::Result<Duration> {
     let start = Instant::now(rt)?;
     run_readers(rt, order, readers);
-    start.elapsed(rt)
+    Ok(start.elapsed(rt)?)
 }
 
-// Shows the plans, and says whether each could begin and how long it took.
+// The writer shows the plans, and this is the time that it takes.
 fn time_writer<R: Clock>(
     rt: &R,
     store: &Store,
     writer: &mut Writer,
     n: u32,
     plans: &[PhasePlan],
-) -> io::Result<(bool, Duration)>
+) -> anyhow::Result<Duration>
     requires fresh { IsFresh n store.now writer.old }
     requires formed { All (IsWellFormed n) plans.now }
 {
     let start = Instant::now(rt)?;
     let shown = show_all(store, writer, n, plans);
-    Ok((shown, start.elapsed(rt)?))
+    let time = start.elapsed(rt)?;
+    ensure!(shown, "a plan can't begin");
+    Ok(time)
 }
 
 impl<'a, R: Threads + Sync + Clock + Print> Bench<'a, R> {
@@ -77,7 +79,11 @@ impl<'a, R: Threads + Sync + Clock + Print> Bench<'a, R> {
     fn print(&self, what: &str, threads: u32, count: u64, time: Duration) -> anyhow::Result<()> {
         let rt = self.rt;
         if self.timed {
-            println!(rt; "{what} {threads} {} {count} {}", self.vertices, time.as_nanos())?;
+            println!(rt;
+                "{what} {threads} {} {count} {}",
+                self.vertices,
+                time.as_nanos()
+            )?;
         } else {
             println!(rt; "{what} {threads} {} {count}", self.vertices)?;
         }
@@ -92,14 +98,15 @@ impl<'a, R: Threads + Sync + Clock + Print> Bench<'a, R> {
 
     // The threads load, and this is the time that it takes. All words are 1.
     fn time_loads(&self, words: &[u64], sums: &mut [u64]) -> anyhow::Result<Duration> {
-        let loads = self.order.len() as u64;
         let start = Instant::now(self.rt)?;
         run_loads(self.rt, words, self.order, sums);
         let time = start.elapsed(self.rt)?;
-        ensure!(
-            sums.iter().all(|sum| *sum == loads),
-            "a load from memory was wrong"
-        );
+        for sum in sums.iter() {
+            ensure!(
+                *sum == self.order.len() as u64,
+                "a load from memory was wrong"
+            );
+        }
         Ok(time)
     }
 
@@ -114,10 +121,9 @@ impl<'a, R: Threads + Sync + Clock + Print> Bench<'a, R> {
     // The readers read, and this is the time that it takes. All levels are 1.
     fn time_ones(&self, readers: &mut [Reader<'_>]) -> anyhow::Result<Duration> {
         let time = time_readers(self.rt, self.order, readers)?;
-        ensure!(
-            read_ones(readers, self.order.len() as u64),
-            "a read was wrong"
-        );
+        for reader in readers.iter() {
+            ensure!(reader.sum == self.order.len() as u64, "a read was wrong");
+        }
         Ok(time)
     }
 
@@ -161,7 +167,7 @@ impl<'a, R: Threads + Sync + Clock + Print> Bench<'a, R> {
         store: &Store,
         writer: &mut Writer,
         readers: &mut [Reader<'_>],
-    ) -> (io::Result<(bool, Duration)>, io::Result<Duration>)
+    ) -> (anyhow::Result<Duration>, anyhow::Result<Duration>)
         requires fresh { IsFresh self.now.vertices store.now writer.old }
         requires plans { ArePlans self.now.vertices self.now.plans.now }
     {
@@ -184,11 +190,10 @@ impl<'a, R: Threads + Sync + Clock + Print> Bench<'a, R> {
         let mut readers = make_readers(self.alloc, store, writer, count)?;
         let (written, read) = self.side_by_side(store, writer, readers.as_mut_slice());
         drop(readers);
-        let (read, (shown, work)) = (read?, written?);
-        ensure!(shown, "a plan can't begin");
+        let (written, read) = (written?, read?);
         self.print_each("beside", count, read)?;
         let moves = u64::from(self.vertices).saturating_mul(self.plans.len() as u64);
-        self.print("writer", count, moves, work)
+        self.print("writer", count, moves, written)
     }
 
     // A mark, a publication and a clearing of each vertex by a writer alone, and the time that they take.
@@ -237,21 +242,15 @@ impl<'a, R: Threads + Sync + Clock + Print> Bench<'a, R> {
         self.print("moves", 1, u64::from(self.vertices), time?)
     }
 
-    // Prints the measurements for `count` threads that load, or readers, at once.
-    fn print_for(&self, count: u32) -> anyhow::Result<()>
-        requires plans { ArePlans self.now.vertices self.now.plans.now }
-    {
-        self.print_plain(count)?;
-        self.print_alone(count)?;
-        self.print_beside(count)
-    }
-
     // Prints the measurements of loads, reads and moves.
     fn print_reads(&self) -> anyhow::Result<()>
         requires plans { ArePlans self.now.vertices self.now.plans.now }
     {
-        self.print_for(1)?;
-        self.print_for(8)?;
+        for count in [1, 8] {
+            self.print_plain(count)?;
+            self.print_alone(count)?;
+            self.print_beside(count)?;
+        }
         self.print_moves()
     }
 
@@ -267,9 +266,10 @@ impl<'a, R: Threads + Sync + Clock + Print> Bench<'a, R> {
     // Opens a store, and this is the time that it takes.
     fn time_opening(&self) -> anyhow::Result<Duration> {
         let start = Instant::now(self.rt)?;
-        let opened = Store::open(self.alloc, self.vertices, 0)?;
+        let (store, writer) = Store::open(self.alloc, self.vertices, 0)?;
         let time = start.elapsed(self.rt);
-        drop(opened);
+        drop(writer);
+        drop(store);
         Ok(time?)
     }
 

@@ -68,8 +68,8 @@ fn sum_of_levels(store: &Store, pass: &mut Pass, order: &[u32]) -> u64
 pub struct Reader<'a> {
     store: &'a Store,
     pass: Pass,
-    // The sum of the levels that were read.
-    sum: u64,
+    /// The sum of the levels that were read.
+    pub sum: u64,
     ghost of: { pass.table ≡ store.now.table },
 }
 
@@ -119,9 +119,4 @@ pub fn run_readers<R: Threads + Sync>(rt: &R, order: &[u32], readers: &mut [Read
         MOST_THREADS,
         &|_, reader: &mut Reader<'_>| { reader.read_all(order) },
     );
-}
-
-/// Returns whether the levels that each reader read add up to this number of reads. They do if all levels are 1.
-pub fn read_ones(readers: &[Reader<'_>], reads: u64) -> bool {
-    readers.iter().all(|reader| reader.sum == reads)
 }
