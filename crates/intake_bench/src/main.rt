@@ -81,10 +81,7 @@ fn time_updates<R: Threads + Wait + Sync + Clock>(
     let mut senders = make_senders(alloc, &intake, clients, each)?;
     let mut server = Server::new(alloc, &intake, drainer, false, 0)?;
     let count = CLIENTS as usize * each as usize;
-    let time = time_exchange(rt, &mut server, senders.as_mut_slice(), count);
-    drop(server);
-    drop(senders);
-    time
+    time_exchange(rt, &mut server, senders.as_mut_slice(), count)
 }
 
 // Returns whether a word is on the command line after the program's name.

@@ -44,15 +44,25 @@ struct Bench<'a, R> {
     ghost few: { vertices ≤ MAX_VERTICES },
 }
 
+// The time now.
+fn now(rt: &impl Clock) -> anyhow::Result<Instant> {
+    Ok(Instant::now(rt)?)
+}
+
+// The time that has passed since then.
+fn since(rt: &impl Clock, start: Instant) -> anyhow::Result<Duration> {
+    Ok(start.elapsed(rt)?)
+}
+
 // The readers read, and this is the time that it takes.
 fn time_readers<R: Threads + Sync + Clock>(
     rt: &R,
     order: &[u32],
     readers: &mut [Reader<'_>],
 ) -> anyhow::Result<Duration> {
-    let start = Instant::now(rt)?;
+    let start = now(rt)?;
     run_readers(rt, order, readers);
-    Ok(start.elapsed(rt)?)
+    since(rt, start)
 }
 
 // The writer shows the plans, and this is the time that it takes.
@@ -66,9 +76,9 @@ fn time_writer<R: Clock>(
     requires fresh { IsFresh n store.now writer.old }
     requires formed { All (IsWellFormed n) plans.now }
 {
-    let start = Instant::now(rt)?;
+    let start = now(rt)?;
     let shown = show_all(store, writer, n, plans);
-    let time = start.elapsed(rt)?;
+    let time = since(rt, start)?;
     ensure!(shown, "a plan can't begin");
     Ok(time)
 }
@@ -98,9 +108,9 @@ impl<'a, R: Threads + Sync + Clock + Print> Bench<'a, R> {
 
     // The threads load, and this is the time that it takes. All words are 1.
     fn time_loads(&self, words: &[u64], sums: &mut [u64]) -> anyhow::Result<Duration> {
-        let start = Instant::now(self.rt)?;
+        let start = now(self.rt)?;
         run_loads(self.rt, words, self.order, sums);
-        let time = start.elapsed(self.rt)?;
+        let time = since(self.rt, start)?;
         for sum in sums.iter() {
             ensure!(
                 *sum == self.order.len() as u64,
@@ -204,9 +214,9 @@ impl<'a, R: Threads + Sync + Clock + Print> Bench<'a, R> {
         let first = &self.plans[0];
         let may = may_begin(store, writer, self.vertices, 0, first);
         ensure!(may, "the first plan can't begin");
-        let start = Instant::now(self.rt)?;
+        let start = now(self.rt)?;
         show(store, writer, first, self.vertices);
-        Ok(start.elapsed(self.rt)?)
+        since(self.rt, start)
     }
 
     // Reads of a store by `count` readers at once, while no writer works.
@@ -256,21 +266,21 @@ impl<'a, R: Threads + Sync + Clock + Print> Bench<'a, R> {
 
     // Zeroes as much memory as a store has, and this is the time that it takes.
     fn time_zeroing(&self) -> anyhow::Result<Duration> {
-        let start = Instant::now(self.rt)?;
+        let start = now(self.rt)?;
         let words = vec![in self.alloc; 0u64; 3 * self.vertices as usize + 1]?;
-        let time = start.elapsed(self.rt);
+        let time = since(self.rt, start);
         drop(words);
-        Ok(time?)
+        time
     }
 
     // Opens a store, and this is the time that it takes.
     fn time_opening(&self) -> anyhow::Result<Duration> {
-        let start = Instant::now(self.rt)?;
+        let start = now(self.rt)?;
         let (store, writer) = Store::open(self.alloc, self.vertices, 0)?;
-        let time = start.elapsed(self.rt);
+        let time = since(self.rt, start);
         drop(writer);
         drop(store);
-        Ok(time?)
+        time
     }
 
     // Prints what it takes to open a store, and before it to zero as much memory as it has.

@@ -160,8 +160,8 @@ fn apply_each<R: Threads + Sync + Print>(
 
 // Prints what the level of each vertex says of its coreness, and the coreness itself.
 fn print_bounds(rt: &impl Print, reader: &mut Reader, coreness: &[u32]) -> anyhow::Result<()> {
-    for v in 0..VERTICES {
-        let (Some(bounds), Some(coreness)) = (reader.bounds(v), coreness.get(v as usize)) else {
+    for (v, coreness) in (0..VERTICES).zip(coreness) {
+        let Some(bounds) = reader.bounds(v) else {
             bail!("there is no such vertex");
         };
         println!(rt;
@@ -183,33 +183,28 @@ fn read_both<R: Threads + Sync>(
     first.and(second)
 }
 
-// Applies the batches while the readers ask.
-fn apply_beside<R: Threads + Sync + Print>(
+// The readers ask while the batches are applied.
+fn run_beside<R: Threads + Sync + Print>(
     rt: &R,
     service: &mut Service<'_, R>,
     one: &mut Watch,
     other: &mut Watch,
-) -> anyhow::Result<()> {
-    let pace = Pace {
-        applied: AtomicU64::new(0),
-        asked: AtomicU64::new(0),
-    };
-    let (seen, applied) = thread::join_mut(
+    pace: &Pace,
+) -> (Result<(), AllocError>, anyhow::Result<()>) {
+    thread::join_mut(
         rt,
         &mut ||
             requires { IsSync R.row }
-        { read_both(rt, one, other, &pace) },
+        { read_both(rt, one, other, pace) },
         &mut ||
             requires { IsSync R.row }
         {
-            let outcome = apply_each(rt, service, &pace);
+            let outcome = apply_each(rt, service, pace);
             // The readers end, also after a fault.
             pace.applied.store(BATCHES.len() as u64, SeqCst);
             outcome
         },
-    );
-    applied?;
-    Ok(seen?)
+    )
 }
 
 // Applies the batches beside the readers, and prints what the readers saw, and the bounds.
@@ -219,7 +214,13 @@ fn run_with<R: Threads + Sync + Print>(
     one: &mut Watch,
     other: &mut Watch,
 ) -> anyhow::Result<()> {
-    apply_beside(rt, service, one, other)?;
+    let pace = Pace {
+        applied: AtomicU64::new(0),
+        asked: AtomicU64::new(0),
+    };
+    let (seen, applied) = run_beside(rt, service, one, other, &pace);
+    applied?;
+    seen?;
     one.print(rt)?;
     other.print(rt)?;
     let coreness = service.coreness()?;
