@@ -6,8 +6,11 @@
 //! before, and batches aren't kept.
 #![tactic(auto)]
 
+ghost use Rattle.std.specs.Prelude.{◌≡◌, [], All};
+
 use anyhow::ensure;
 use kc_graph::Item;
+use kc_intake::{Client, Intake};
 use std::alloc::{AllocError, Global};
 use std::env;
 use std::rt::Env;
@@ -36,44 +39,68 @@ fn make_script(alloc: Global, random: &mut Random, count: u32) -> Result<Vec<Ite
     Ok(script)
 }
 
-// How many updates a server drained of clients that submit `each` items, and the time that this took. Fails unless
-// these are all updates.
+// Senders of these clients, each with a script of `each` insertions.
+fn make_senders<'a>(
+    alloc: Global,
+    intake: &'a Intake,
+    clients: Vec<Client>,
+    each: u32,
+) -> Result<Vec<Sender<'a>>, AllocError>
+    requires { All (λ client. (client.intake ≡ intake.now) × (client.sent ≡ [])) clients.items }
+{
+    let mut random = Random::new(31);
+    let mut senders = Vec::new(alloc);
+    for client in clients {
+        let script = make_script(alloc, &mut random, each)?;
+        senders.push(Sender::new(intake, client, script))?;
+    }
+    Ok(senders)
+}
+
+// The time in which a server drains `count` updates of the senders. Fails unless these are all updates.
+fn time_exchange<R: Threads + Wait + Sync + Clock>(
+    rt: &R,
+    server: &mut Server<'_>,
+    senders: &mut [Sender<'_>],
+    count: usize,
+) -> anyhow::Result<Duration> {
+    let start = Instant::now(rt)?;
+    exchange(rt, server, count, senders)?;
+    let time = start.elapsed(rt)?;
+    ensure!(server.drained() == count, "not every update was drained");
+    Ok(time)
+}
+
+// The time in which a server drains all updates of clients that submit `each` items.
 fn time_updates<R: Threads + Wait + Sync + Clock>(
     rt: &R,
     alloc: Global,
     each: u32,
-) -> anyhow::Result<(usize, Duration)> {
+) -> anyhow::Result<Duration> {
     let (intake, drainer, clients) = open(alloc, CAPACITY, CLIENTS)?;
-    let mut random = Random::new(31);
-    let mut senders = Vec::with_capacity(alloc, clients.len())?;
-    for client in clients {
-        let script = make_script(alloc, &mut random, each)?;
-        senders.push(Sender::new(&intake, client, script))?;
-    }
+    let mut senders = make_senders(alloc, &intake, clients, each)?;
     let mut server = Server::new(alloc, &intake, drainer, false, 0)?;
     let count = CLIENTS as usize * each as usize;
-    let start = Instant::now(rt)?;
-    exchange(rt, &mut server, count, senders.as_mut_slice())?;
-    let time = start.elapsed(rt)?;
-    ensure!(server.drained() == count, "not every update was drained");
-    Ok((server.drained(), time))
+    time_exchange(rt, &mut server, senders.as_mut_slice(), count)
 }
 
-// A word is on the command line after the program's name.
+// Returns whether a word is on the command line after the program's name.
 fn has_word(rt: &(impl Env + AllocGlobal)) -> anyhow::Result<bool> {
-    let mut words = env::args(rt)?;
-    let _name = words.next();
-    Ok(words.next().is_some())
+    Ok(env::args(rt)?.len() > 1)
 }
 
 fn main(rt: HostRuntime) -> anyhow::Result<()> {
-    if !has_word(&rt)? {
-        let (updates, _time) = time_updates(&rt, rt.alloc(), 100)?;
+    let timed = has_word(&rt)?;
+    let each = if timed { 125_000 } else { 100 };
+    let time = time_updates(&rt, rt.alloc(), each)?;
+    let updates = CLIENTS * each;
+    if timed {
+        println!(rt;
+            "clients {CLIENTS} updates {updates} nanoseconds {}",
+            time.as_nanos()
+        )?;
+    } else {
         println!(rt; "clients {CLIENTS} updates {updates}")?;
-        return Ok(());
     }
-    let (updates, time) = time_updates(&rt, rt.alloc(), 125_000)?;
-    let nanoseconds = time.as_nanos();
-    println!(rt; "clients {CLIENTS} updates {updates} nanoseconds {nanoseconds}")?;
     Ok(())
 }

@@ -18,11 +18,9 @@ use measuring::{Sizes, print_opening, print_reads};
 use std::env;
 use std::rt::Env;
 
-// A word is on the command line after the program's name.
+// Returns whether a word is on the command line after the program's name.
 fn has_word(rt: &(impl Env + AllocGlobal)) -> anyhow::Result<bool> {
-    let mut words = env::args(rt)?;
-    let _name = words.next();
-    Ok(words.next().is_some())
+    Ok(env::args(rt)?.len() > 1)
 }
 
 fn main(rt: HostRuntime) -> anyhow::Result<()> {

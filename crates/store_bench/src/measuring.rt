@@ -1,9 +1,9 @@
 //! Loads of an array, reads of a store and moves in it are timed, and each measurement is printed in a line.
-ghost use Rattle.std.specs.Prelude.{◌≡◌, ◌≤◌, ◌<◌, All, length};
+ghost use Rattle.std.specs.Prelude.{◌≡◌, ◌≤◌, All};
 ghost use Rattle.std.specs.Thread.{IsSync};
 ghost use Rattle.kc_graph.specs.declared.limits.TheConstants.{MAX_VERTICES};
 ghost use Rattle.kc_groups.specs.WellFormed.{IsWellFormed};
-ghost use Rattle.kc_store.specs.Showing.{IsIdle};
+ghost use Rattle.store_bench.specs.private.Showing.{ArePlans, IsFresh};
 
 use crate::plans::make_plans;
 use crate::reading::{Reader, by_chance, make_readers, run_loads, run_readers};
@@ -12,9 +12,9 @@ use anyhow::ensure;
 use kc_groups::PhasePlan;
 use kc_store::{Store, Writer};
 use std::alloc::Global;
+use std::thread;
 use std::thread::Threads;
 use std::time::{Clock, Duration, Instant};
-use std::{io, thread};
 
 /// How much is measured: the number of vertices, how many reads a reader has, and how many plans a writer shows.
 #[derive(Clone, Copy)]
@@ -27,261 +27,268 @@ pub struct Sizes {
     pub plans: u32,
 }
 
-// How lines are printed: with or without times, and the number of vertices.
-#[derive(Clone, Copy)]
-struct Rows {
-    // The number of vertices that each row tells.
+// What is read and shown, and how it is printed.
+#[derive(Drop)]
+struct Bench<'a, R> {
+    rt: &'a R,
+    alloc: Global,
+    // The number of vertices.
     vertices: u32,
-    // Whether rows tell times.
+    // Whether lines tell times.
     timed: bool,
+    // The vertices that each reader takes, in order.
+    order: &'a [u32],
+    // The phases that are shown, in order.
+    plans: &'a [PhasePlan],
+    ghost some: { 1 ≤ vertices },
+    ghost few: { vertices ≤ MAX_VERTICES },
 }
 
-impl Rows {
-    fn print(&self, rt: &impl Print, name: &str, count: u64, time: Duration) -> io::Result<()> {
-        if self.timed {
-            return println!(rt; "{name} {} {count} {}", self.vertices, time.as_nanos());
-        }
-        println!(rt; "{name} {} {count}", self.vertices)
-    }
+// The time now.
+fn now(rt: &impl Clock) -> anyhow::Result<Instant> {
+    Ok(Instant::now(rt)?)
+}
+
+// The time that has passed since then.
+fn since(rt: &impl Clock, start: Instant) -> anyhow::Result<Duration> {
+    Ok(start.elapsed(rt)?)
 }
 
 // The readers read, and this is the time that it takes.
 fn time_readers<R: Threads + Sync + Clock>(
     rt: &R,
-    store: &Store,
-    n: u32,
     order: &[u32],
-    readers: &mut [Reader],
-) -> io::Result<Duration>
-    requires vertices { n ≡ store.now.vertices }
-    requires table { All (λ r. r.pass.table ≡ store.now.table) readers.old }
-    requires some { 0 < length readers.old }
-{
-    let start = Instant::now(rt)?;
-    run_readers(rt, store, n, order, readers);
-    start.elapsed(rt)
+    readers: &mut [Reader<'_>],
+) -> anyhow::Result<Duration> {
+    let start = now(rt)?;
+    run_readers(rt, order, readers);
+    since(rt, start)
 }
 
-// Shows the plans, and says whether each could begin and how long it took.
+// The writer shows the plans, and this is the time that it takes.
 fn time_writer<R: Clock>(
     rt: &R,
     store: &Store,
     writer: &mut Writer,
     n: u32,
     plans: &[PhasePlan],
-) -> io::Result<(bool, Duration)>
-    requires table { writer.old.table ≡ store.now.table }
-    requires vertices { (n ≡ store.now.vertices) × (writer.old.state.vertices ≡ n) }
-    requires idle { IsIdle writer.old.state }
-    requires phase { writer.old.state.phase ≡ 0 }
+) -> anyhow::Result<Duration>
+    requires fresh { IsFresh n store.now writer.old }
     requires formed { All (IsWellFormed n) plans.now }
 {
-    let start = Instant::now(rt)?;
+    let start = now(rt)?;
     let shown = show_all(store, writer, n, plans);
-    Ok((shown, start.elapsed(rt)?))
-}
-
-// Whether each reader's levels add up to this number of reads: all levels are 1.
-fn read_ones(readers: &[Reader], reads: u64) -> bool {
-    readers.iter().all(|reader| reader.sum == reads)
-}
-
-// Loads from an array of as many words as a store has, by `count` threads at once.
-fn print_plain<R: Threads + Sync + Clock + Print>(
-    rt: &R,
-    alloc: Global,
-    rows: Rows,
-    order: &[u32],
-    count: u32,
-) -> anyhow::Result<()>
-    requires vertices { rows.vertices ≤ MAX_VERTICES }
-    requires some { 0 < count }
-{
-    let words = vec![in alloc; 1u64; 3 * rows.vertices as usize + 1]?;
-    let mut sums = vec![in alloc; 0u64; count as usize]?;
-    let loads = order.len() as u64;
-    let start = Instant::now(rt)?;
-    run_loads(rt, words.as_slice(), order, sums.as_mut_slice());
-    let time = start.elapsed(rt)?;
-    ensure!(
-        sums.iter().all(|sum| *sum == loads),
-        "a load from memory was wrong"
-    );
-    let name = format!(in alloc; "plain {count}")?;
-    rows.print(
-        rt,
-        name.as_str(),
-        u64::from(count).saturating_mul(loads),
-        time,
-    )?;
-    Ok(())
-}
-
-// Reads of a store of which all moves are cleared: one load each.
-fn print_at_rest<R: Threads + Sync + Clock + Print>(
-    rt: &R,
-    alloc: Global,
-    rows: Rows,
-    order: &[u32],
-    first: &PhasePlan,
-    count: u32,
-) -> anyhow::Result<()>
-    requires vertices { (1 ≤ rows.vertices) × (rows.vertices ≤ MAX_VERTICES) }
-    requires formed { IsWellFormed rows.vertices first.now }
-    requires some { 0 < count }
-{
-    let n = rows.vertices;
-    let (store, mut writer) = Store::open(alloc, n, 0)?;
-    let shown = show_next(&store, &mut writer, n, 0, first);
-    ensure!(shown, "the first plan can't begin");
-    let mut readers = make_readers(alloc, &store, &mut writer, count)?;
-    let time = time_readers(rt, &store, n, order, readers.as_mut_slice())?;
-    ensure!(
-        read_ones(readers.as_slice(), order.len() as u64),
-        "a read at rest was wrong"
-    );
-    let name = format!(in alloc; "rest {count}")?;
-    rows.print(
-        rt,
-        name.as_str(),
-        u64::from(count).saturating_mul(order.len() as u64),
-        time,
-    )?;
-    Ok(())
-}
-
-// Reads of a store of which all moves of the second plan are marked and no group is published: three loads each.
-fn print_marked<R: Threads + Sync + Clock + Print>(
-    rt: &R,
-    alloc: Global,
-    rows: Rows,
-    order: &[u32],
-    plans: &[PhasePlan],
-    count: u32,
-) -> anyhow::Result<()>
-    requires vertices { (1 ≤ rows.vertices) × (rows.vertices ≤ MAX_VERTICES) }
-    requires formed { All (IsWellFormed rows.vertices) plans.now }
-    requires two { 2 ≤ length plans.now }
-    requires some { 0 < count }
-{
-    let n = rows.vertices;
-    let (first, second) = (&plans[0], &plans[1]);
-    let (store, mut writer) = Store::open(alloc, n, 0)?;
-    let shown = show_next(&store, &mut writer, n, 0, first);
-    ensure!(shown, "the first plan can't begin");
-    let may = may_begin(&store, &mut writer, n, 1, second);
-    ensure!(may, "the second plan can't begin");
-    mark(&store, &mut writer, second, n);
-    let mut readers = make_readers(alloc, &store, &mut writer, count)?;
-    let time = time_readers(rt, &store, n, order, readers.as_mut_slice())?;
-    ensure!(
-        read_ones(readers.as_slice(), order.len() as u64),
-        "a read of a marked move was wrong"
-    );
-    let name = format!(in alloc; "marked {count}")?;
-    rows.print(
-        rt,
-        name.as_str(),
-        u64::from(count).saturating_mul(order.len() as u64),
-        time,
-    )?;
-    Ok(())
-}
-
-// Reads beside a writer that shows one plan after another, and the writer's work: whether it lasted as long.
-fn print_beside<R: Threads + Sync + Clock + Print>(
-    rt: &R,
-    alloc: Global,
-    rows: Rows,
-    order: &[u32],
-    plans: &[PhasePlan],
-    count: u32,
-) -> anyhow::Result<()>
-    requires vertices { (1 ≤ rows.vertices) × (rows.vertices ≤ MAX_VERTICES) }
-    requires formed { All (IsWellFormed rows.vertices) plans.now }
-    requires some { 0 < count }
-{
-    let n = rows.vertices;
-    let (store, mut writer) = Store::open(alloc, n, 0)?;
-    let mut readers = make_readers(alloc, &store, &mut writer, count)?;
-    let todo = Work { n, plans, order };
-    let (written, read) = side_by_side(rt, &store, &mut writer, &todo, readers.as_mut_slice());
-    let (shown, work) = written?;
+    let time = since(rt, start)?;
     ensure!(shown, "a plan can't begin");
-    let name = format!(in alloc; "beside {count}")?;
-    rows.print(
-        rt,
-        name.as_str(),
-        u64::from(count).saturating_mul(order.len() as u64),
-        read?,
-    )?;
-    let name = format!(in alloc; "writer {count}")?;
-    rows.print(
-        rt,
-        name.as_str(),
-        u64::from(n).saturating_mul(plans.len() as u64),
-        work,
-    )?;
-    Ok(())
+    Ok(time)
 }
 
-// What is shown of n vertices, and what is read meanwhile: the plans, and the vertices in the order in which each
-// reader takes them.
-#[derive(Drop)]
-struct Work<'a> {
-    // The number of vertices, for which the plans are.
-    n: u32,
-    // The phases that are shown, in order.
-    plans: &'a [PhasePlan],
-    // The vertices that each reader takes, in order.
-    order: &'a [u32],
-}
+impl<'a, R: Threads + Sync + Clock + Print> Bench<'a, R> {
+    // Prints what was measured and by how many threads at once. Then how many loads, reads or moves there were, and the
+    // time that they took together.
+    fn print(&self, what: &str, threads: u32, count: u64, time: Duration) -> anyhow::Result<()> {
+        let rt = self.rt;
+        if self.timed {
+            println!(rt;
+                "{what} {threads} {} {count} {}",
+                self.vertices,
+                time.as_nanos()
+            )?;
+        } else {
+            println!(rt; "{what} {threads} {} {count}", self.vertices)?;
+        }
+        Ok(())
+    }
 
-// The writer shows the plans while the readers read.
-fn side_by_side<R: Threads + Sync + Clock>(
-    rt: &R,
-    store: &Store,
-    writer: &mut Writer,
-    work: &Work<'_>,
-    readers: &mut [Reader],
-) -> (io::Result<(bool, Duration)>, io::Result<Duration>)
-    requires table { writer.old.table ≡ store.now.table }
-    requires vertices { (work.now.n ≡ store.now.vertices) × (writer.old.state.vertices ≡ work.now.n) }
-    requires idle { IsIdle writer.old.state }
-    requires phase { writer.old.state.phase ≡ 0 }
-    requires formed { All (IsWellFormed work.now.n) work.now.plans.now }
-    requires readers { All (λ r. r.pass.table ≡ store.now.table) readers.old }
-    requires some { 0 < length readers.old }
-{
-    let n = work.n;
-    let (plans, order) = (work.plans, work.order);
-    thread::join_mut(
-        rt,
-        &mut || time_writer(rt, store, writer, n, plans),
-        &mut ||
-            requires { IsSync R.row × (n ≡ store.now.vertices) × All (λ r. r.pass.table ≡ store.now.table) readers.now × (0 < length readers.now) }
-        { time_readers(rt, store, n, order, readers) },
-    )
-}
+    // Prints the same of `threads` threads of which each takes the vertices in order.
+    fn print_each(&self, what: &str, threads: u32, time: Duration) -> anyhow::Result<()> {
+        let count = u64::from(threads).saturating_mul(self.order.len() as u64);
+        self.print(what, threads, count, time)
+    }
 
-// A mark, a publication and a clearing of each vertex by a writer alone.
-fn print_moves<R: Clock + Print>(
-    rt: &R,
-    alloc: Global,
-    rows: Rows,
-    first: &PhasePlan,
-) -> anyhow::Result<()>
-    requires vertices { (1 ≤ rows.vertices) × (rows.vertices ≤ MAX_VERTICES) }
-    requires formed { IsWellFormed rows.vertices first.now }
-{
-    let n = rows.vertices;
-    let (store, mut writer) = Store::open(alloc, n, 0)?;
-    let may = may_begin(&store, &mut writer, n, 0, first);
-    ensure!(may, "the first plan can't begin");
-    let start = Instant::now(rt)?;
-    show(&store, &mut writer, first, n);
-    rows.print(rt, "moves 1", u64::from(n), start.elapsed(rt)?)?;
-    Ok(())
+    // The threads load, and this is the time that it takes. All words are 1.
+    fn time_loads(&self, words: &[u64], sums: &mut [u64]) -> anyhow::Result<Duration> {
+        let start = now(self.rt)?;
+        run_loads(self.rt, words, self.order, sums);
+        let time = since(self.rt, start)?;
+        for sum in sums.iter() {
+            ensure!(
+                *sum == self.order.len() as u64,
+                "a load from memory was wrong"
+            );
+        }
+        Ok(time)
+    }
+
+    // Loads from an array of as many words as a store has, by `count` threads at once.
+    fn print_plain(&self, count: u32) -> anyhow::Result<()> {
+        let words = vec![in self.alloc; 1u64; 3 * self.vertices as usize + 1]?;
+        let mut sums = vec![in self.alloc; 0u64; count as usize]?;
+        let time = self.time_loads(words.as_slice(), sums.as_mut_slice())?;
+        self.print_each("plain", count, time)
+    }
+
+    // The readers read, and this is the time that it takes. All levels are 1.
+    fn time_ones(&self, readers: &mut [Reader<'_>]) -> anyhow::Result<Duration> {
+        let time = time_readers(self.rt, self.order, readers)?;
+        for reader in readers.iter() {
+            ensure!(reader.sum == self.order.len() as u64, "a read was wrong");
+        }
+        Ok(time)
+    }
+
+    // Reads of a store with all vertices on level 1, by `count` readers at once.
+    fn print_ones(
+        &self,
+        what: &str,
+        store: &Store,
+        writer: &mut Writer,
+        count: u32,
+    ) -> anyhow::Result<()>
+        requires { writer.old.table ≡ store.now.table }
+        ensures { writer.new ≡ writer.old }
+    {
+        let mut readers = make_readers(self.alloc, store, writer, count)?;
+        let time = self.time_ones(readers.as_mut_slice());
+        drop(readers);
+        self.print_each(what, count, time?)
+    }
+
+    // Reads of a store of which all moves are cleared: one load each. Then all moves of the second plan are marked, no
+    // group is published, and a read has three loads.
+    fn print_both(&self, store: &Store, writer: &mut Writer, count: u32) -> anyhow::Result<()>
+        requires fresh { IsFresh self.now.vertices store.now writer.old }
+        requires plans { ArePlans self.now.vertices self.now.plans.now }
+    {
+        let n = self.vertices;
+        let (first, second) = (&self.plans[0], &self.plans[1]);
+        let shown = show_next(store, writer, n, 0, first);
+        ensure!(shown, "the first plan can't begin");
+        self.print_ones("rest", store, writer, count)?;
+        let may = may_begin(store, writer, n, 1, second);
+        ensure!(may, "the second plan can't begin");
+        mark(store, writer, second, n);
+        self.print_ones("marked", store, writer, count)
+    }
+
+    // The writer shows the plans while the readers read.
+    fn side_by_side(
+        &self,
+        store: &Store,
+        writer: &mut Writer,
+        readers: &mut [Reader<'_>],
+    ) -> (anyhow::Result<Duration>, anyhow::Result<Duration>)
+        requires fresh { IsFresh self.now.vertices store.now writer.old }
+        requires plans { ArePlans self.now.vertices self.now.plans.now }
+    {
+        let (rt, n) = (self.rt, self.vertices);
+        let (plans, order) = (self.plans, self.order);
+        thread::join_mut(
+            rt,
+            &mut || time_writer(rt, store, writer, n, plans),
+            &mut ||
+                requires { IsSync R.row }
+            { time_readers(rt, order, readers) },
+        )
+    }
+
+    // Reads beside a writer that shows one plan after another, and the writer's work: whether it lasted as long.
+    fn print_work(&self, store: &Store, writer: &mut Writer, count: u32) -> anyhow::Result<()>
+        requires fresh { IsFresh self.now.vertices store.now writer.old }
+        requires plans { ArePlans self.now.vertices self.now.plans.now }
+    {
+        let mut readers = make_readers(self.alloc, store, writer, count)?;
+        let (written, read) = self.side_by_side(store, writer, readers.as_mut_slice());
+        drop(readers);
+        let (written, read) = (written?, read?);
+        self.print_each("beside", count, read)?;
+        let moves = u64::from(self.vertices).saturating_mul(self.plans.len() as u64);
+        self.print("writer", count, moves, written)
+    }
+
+    // A mark, a publication and a clearing of each vertex by a writer alone, and the time that they take.
+    fn time_moves(&self, store: &Store, writer: &mut Writer) -> anyhow::Result<Duration>
+        requires fresh { IsFresh self.now.vertices store.now writer.old }
+        requires plans { ArePlans self.now.vertices self.now.plans.now }
+    {
+        let first = &self.plans[0];
+        let may = may_begin(store, writer, self.vertices, 0, first);
+        ensure!(may, "the first plan can't begin");
+        let start = now(self.rt)?;
+        show(store, writer, first, self.vertices);
+        since(self.rt, start)
+    }
+
+    // Reads of a store by `count` readers at once, while no writer works.
+    fn print_alone(&self, count: u32) -> anyhow::Result<()>
+        requires plans { ArePlans self.now.vertices self.now.plans.now }
+    {
+        let (store, mut writer) = Store::open(self.alloc, self.vertices, 0)?;
+        let printed = self.print_both(&store, &mut writer, count);
+        drop(writer);
+        drop(store);
+        printed
+    }
+
+    // Reads of a store by `count` readers at once, while a writer works.
+    fn print_beside(&self, count: u32) -> anyhow::Result<()>
+        requires plans { ArePlans self.now.vertices self.now.plans.now }
+    {
+        let (store, mut writer) = Store::open(self.alloc, self.vertices, 0)?;
+        let printed = self.print_work(&store, &mut writer, count);
+        drop(writer);
+        drop(store);
+        printed
+    }
+
+    // The work of a writer alone.
+    fn print_moves(&self) -> anyhow::Result<()>
+        requires plans { ArePlans self.now.vertices self.now.plans.now }
+    {
+        let (store, mut writer) = Store::open(self.alloc, self.vertices, 0)?;
+        let time = self.time_moves(&store, &mut writer);
+        drop(writer);
+        drop(store);
+        self.print("moves", 1, u64::from(self.vertices), time?)
+    }
+
+    // Prints the measurements of loads, reads and moves.
+    fn print_reads(&self) -> anyhow::Result<()>
+        requires plans { ArePlans self.now.vertices self.now.plans.now }
+    {
+        for count in [1, 8] {
+            self.print_plain(count)?;
+            self.print_alone(count)?;
+            self.print_beside(count)?;
+        }
+        self.print_moves()
+    }
+
+    // Zeroes as much memory as a store has, and this is the time that it takes.
+    fn time_zeroing(&self) -> anyhow::Result<Duration> {
+        let start = now(self.rt)?;
+        let words = vec![in self.alloc; 0u64; 3 * self.vertices as usize + 1]?;
+        let time = since(self.rt, start);
+        drop(words);
+        time
+    }
+
+    // Opens a store, and this is the time that it takes.
+    fn time_opening(&self) -> anyhow::Result<Duration> {
+        let start = now(self.rt)?;
+        let (store, writer) = Store::open(self.alloc, self.vertices, 0)?;
+        let time = since(self.rt, start);
+        drop(writer);
+        drop(store);
+        time
+    }
+
+    // Prints what it takes to open a store, and before it to zero as much memory as it has.
+    fn print_opening(&self) -> anyhow::Result<()> {
+        let words = 3 * u64::from(self.vertices) + 1;
+        self.print("zeroed", 1, words, self.time_zeroing()?)?;
+        self.print("opened", 1, words, self.time_opening()?)
+    }
 }
 
 /// Prints the measurements of loads, reads and moves.
@@ -294,56 +301,35 @@ pub fn print_reads<R: Threads + Sync + Clock + Print>(
     requires vertices { (1 ≤ sizes.vertices) × (sizes.vertices ≤ MAX_VERTICES) }
     requires plans { 2 ≤ sizes.plans }
 {
-    let rows = Rows {
+    let order = by_chance(alloc, sizes.vertices, sizes.reads)?;
+    let plans = make_plans(alloc, sizes.vertices, sizes.plans)?;
+    let bench = Bench {
+        rt,
+        alloc,
         vertices: sizes.vertices,
         timed,
+        order: order.as_slice(),
+        plans: plans.as_slice(),
     };
-    let order = by_chance(alloc, sizes.vertices, sizes.reads)?;
-    let order = order.as_slice();
-    let plans = make_plans(alloc, sizes.vertices, sizes.plans)?;
-    let plans = plans.as_slice();
-    print_for(rt, alloc, rows, order, plans, 1)?;
-    print_for(rt, alloc, rows, order, plans, 8)?;
-    print_moves(rt, alloc, rows, &plans[0])
-}
-
-// Prints the measurements for `count` threads that load, or readers, at once.
-fn print_for<R: Threads + Sync + Clock + Print>(
-    rt: &R,
-    alloc: Global,
-    rows: Rows,
-    order: &[u32],
-    plans: &[PhasePlan],
-    count: u32,
-) -> anyhow::Result<()>
-    requires vertices { (1 ≤ rows.vertices) × (rows.vertices ≤ MAX_VERTICES) }
-    requires formed { All (IsWellFormed rows.vertices) plans.now }
-    requires two { 2 ≤ length plans.now }
-    requires some { 0 < count }
-{
-    print_plain(rt, alloc, rows, order, count)?;
-    print_at_rest(rt, alloc, rows, order, &plans[0], count)?;
-    print_marked(rt, alloc, rows, order, plans, count)?;
-    print_beside(rt, alloc, rows, order, plans, count)
+    bench.print_reads()
 }
 
 /// Prints what it takes to open a store, and before it to zero as much memory as it has.
-pub fn print_opening<R: Clock + Print>(
+pub fn print_opening<R: Threads + Sync + Clock + Print>(
     rt: &R,
     alloc: Global,
-    n: u32,
+    vertices: u32,
     timed: bool,
 ) -> anyhow::Result<()>
-    requires { (1 ≤ n) × (n ≤ MAX_VERTICES) }
+    requires { (1 ≤ vertices) × (vertices ≤ MAX_VERTICES) }
 {
-    let rows = Rows { vertices: n, timed };
-    let start = Instant::now(rt)?;
-    let words = vec![in alloc; 0u64; 3 * n as usize + 1]?;
-    let time = start.elapsed(rt)?;
-    rows.print(rt, "zeroed 1", words.len() as u64, time)?;
-    drop(words);
-    let start = Instant::now(rt)?;
-    let _opened = Store::open(alloc, n, 0)?;
-    rows.print(rt, "opened 1", 3 * u64::from(n) + 1, start.elapsed(rt)?)?;
-    Ok(())
+    let bench = Bench {
+        rt,
+        alloc,
+        vertices,
+        timed,
+        order: &[],
+        plans: &[],
+    };
+    bench.print_opening()
 }

@@ -1,10 +1,13 @@
 //! Loads and reads of vertices in an order by chance.
-ghost use Rattle.std.specs.Prelude.{◌≡◌, ◌≤◌, ◌<◌, All, IfOk, length};
+ghost use Rattle.std.specs.Prelude.{◌≡◌, ◌≤◌};
 
 use kc_store::{Pass, Store, Writer};
 use std::alloc::{AllocError, Global};
 use std::thread;
 use std::thread::Threads;
+
+// The most threads that load or read at once.
+const MOST_THREADS: usize = 64;
 
 /// Vertices below n, by chance and the same each time.
 pub fn by_chance(alloc: Global, n: u32, count: u32) -> Result<Vec<u32>, AllocError>
@@ -33,85 +36,87 @@ fn sum_of(words: &[u64], order: &[u32]) -> u64 {
     sum
 }
 
-/// Loads the words of the vertices in this order, in a thread for each of the sums. Sets each sum to the sum of the words.
-pub fn run_loads<R: Threads + Sync>(rt: &R, words: &[u64], order: &[u32], sums: &mut [u64])
-    requires some { 0 < length sums.old }
-{
-    let threads = sums.len();
+/// Loads the words of the vertices in this order, in a thread for each of the sums. Sets each sum to the sum of the
+/// words.
+pub fn run_loads<R: Threads + Sync>(rt: &R, words: &[u64], order: &[u32], sums: &mut [u64]) {
     thread::for_each_mut(
         rt,
         sums,
-        threads,
+        MOST_THREADS,
         &|_, sum: &mut u64| { *sum = sum_of(words, order) },
     );
 }
 
+// The sum of the levels of the vertices in this order.
+fn sum_of_levels(store: &Store, pass: &mut Pass, order: &[u32]) -> u64
+    requires { pass.old.table ≡ store.now.table }
+    ensures { pass.new.table ≡ pass.old.table }
+{
+    let n = store.vertices();
+    let mut sum = 0u64;
+    for v in order {
+        if *v < n {
+            let level = store.read(pass, *v);
+            sum = sum.wrapping_add(u64::from(level));
+        }
+    }
+    sum
+}
+
 /// A thread's reader.
 #[derive(Drop)]
-pub struct Reader {
-    // Reads the store for which it was made.
+pub struct Reader<'a> {
+    store: &'a Store,
     pass: Pass,
     /// The sum of the levels that were read.
     pub sum: u64,
+    ghost of: { pass.table ≡ store.now.table },
 }
 
-impl Reader {
-    // Reads the levels of the vertices in this order.
-    fn read_all(&mut self, store: &Store, n: u32, order: &[u32])
-        requires table { self.old.pass.table ≡ store.now.table }
-        requires vertices { n ≡ store.now.vertices }
-        ensures { self.new.pass.table ≡ self.old.pass.table }
+impl<'a> Reader<'a> {
+    // Makes a reader that has read nothing, and has seen the writer's history.
+    fn new(store: &'a Store, writer: &mut Writer) -> Reader<'a>
+        requires { writer.old.table ≡ store.now.table }
+        ensures { writer.new ≡ writer.old }
     {
-        // A sum of its own: readers lie side by side in memory, and a processor that writes takes the line from the
-        // others.
-        let mut sum = 0u64;
-        for v in order {
-            if *v < n {
-                let level = store.read(&mut self.pass, *v);
-                sum = sum.wrapping_add(u64::from(level));
-            }
+        Reader {
+            store,
+            pass: writer.pass(store),
+            sum: 0,
         }
-        self.sum = sum;
+    }
+
+    // Reads the levels of the vertices in this order.
+    fn read_all(&mut self, order: &[u32]) {
+        // The sum is set once: readers lie side by side in memory, and a processor that writes takes the line from the
+        // others.
+        self.sum = sum_of_levels(self.store, &mut self.pass, order);
     }
 }
 
-/// Readers that have read nothing, and have seen the writer's history.
-pub fn make_readers(
+/// Makes readers that have read nothing, and have seen the writer's history.
+pub fn make_readers<'a>(
     alloc: Global,
-    store: &Store,
+    store: &'a Store,
     writer: &mut Writer,
     count: u32,
-) -> Result<Vec<Reader>, AllocError>
+) -> Result<Vec<Reader<'a>>, AllocError>
     requires { writer.old.table ≡ store.now.table }
-    ensures same { writer.new ≡ writer.old }
-    ensures readers { IfOk result (λ rs. All (λ r. r.pass.table ≡ store.now.table) rs.items) }
-    ensures count { IfOk result (λ rs. length rs.items ≡ count) }
+    ensures { writer.new ≡ writer.old }
 {
     let mut readers = Vec::new(alloc);
     for _turn in 0..count {
-        let pass = writer.pass(store);
-        readers.push(Reader { pass, sum: 0 })?;
+        readers.push(Reader::new(store, writer))?;
     }
     Ok(readers)
 }
 
 /// Each of the readers reads in a thread of its own.
-pub fn run_readers<R: Threads + Sync>(
-    rt: &R,
-    store: &Store,
-    n: u32,
-    order: &[u32],
-    readers: &mut [Reader],
-)
-    requires vertices { n ≡ store.now.vertices }
-    requires table { All (λ r. r.pass.table ≡ store.now.table) readers.old }
-    requires some { 0 < length readers.old }
-{
-    let threads = readers.len();
+pub fn run_readers<R: Threads + Sync>(rt: &R, order: &[u32], readers: &mut [Reader<'_>]) {
     thread::for_each_mut(
         rt,
         readers,
-        threads,
-        &|_, reader: &mut Reader| { reader.read_all(store, n, order) },
+        MOST_THREADS,
+        &|_, reader: &mut Reader<'_>| { reader.read_all(order) },
     );
 }

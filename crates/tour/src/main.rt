@@ -129,6 +129,17 @@ fn print_moves(rt: &impl Print, applied: &Applied) -> io::Result<()> {
     Ok(())
 }
 
+// Applies a batch, and prints what it did.
+fn apply<R: Threads + Sync + Print>(
+    rt: &R,
+    service: &mut Service<'_, R>,
+    items: &[Item],
+) -> anyhow::Result<()> {
+    let applied = service.apply(items)?;
+    print_moves(rt, &applied)?;
+    Ok(())
+}
+
 // Applies the batches one after another, and prints what each did. Between two batches each reader asks.
 fn apply_each<R: Threads + Sync + Print>(
     rt: &R,
@@ -139,8 +150,7 @@ fn apply_each<R: Threads + Sync + Print>(
     let mut times = readers;
     pace.wait(times)?;
     for items in BATCHES {
-        let applied = service.apply(items)?;
-        print_moves(rt, &applied)?;
+        apply(rt, service, items)?;
         pace.applied.fetch_add(1, SeqCst);
         times = times.saturating_add(readers);
         pace.wait(times)?;
@@ -148,24 +158,8 @@ fn apply_each<R: Threads + Sync + Print>(
     Ok(())
 }
 
-// The same, after which the readers end, also after a fault.
-fn apply_all<R: Threads + Sync + Print>(
-    rt: &R,
-    service: &mut Service<'_, R>,
-    pace: &Pace,
-) -> anyhow::Result<()> {
-    let outcome = apply_each(rt, service, pace);
-    pace.applied.store(BATCHES.len() as u64, SeqCst);
-    outcome
-}
-
 // Prints what the level of each vertex says of its coreness, and the coreness itself.
-fn print_bounds<R: Threads + Sync + Print>(
-    rt: &R,
-    service: &mut Service<'_, R>,
-) -> anyhow::Result<()> {
-    let coreness = service.coreness()?;
-    let mut reader = service.reader()?;
+fn print_bounds(rt: &impl Print, reader: &mut Reader, coreness: &[u32]) -> anyhow::Result<()> {
     for (v, coreness) in (0..VERTICES).zip(coreness) {
         let Some(bounds) = reader.bounds(v) else {
             bail!("there is no such vertex");
@@ -176,25 +170,6 @@ fn print_bounds<R: Threads + Sync + Print>(
         )?;
     }
     Ok(())
-}
-
-// Applies the batches beside the readers, and prints what the readers saw, and the bounds.
-fn run<R: Threads + Sync + Print>(
-    rt: &R,
-    service: &mut Service<'_, R>,
-    one: &mut Watch,
-    other: &mut Watch,
-) -> anyhow::Result<()> {
-    let pace = Pace {
-        applied: AtomicU64::new(0),
-        asked: AtomicU64::new(0),
-    };
-    let (seen, applied) = run_beside(rt, service, one, other, &pace);
-    applied?;
-    seen?;
-    one.print(rt)?;
-    other.print(rt)?;
-    print_bounds(rt, service)
 }
 
 // Both readers ask, each in a thread of its own if one can be made.
@@ -223,15 +198,51 @@ fn run_beside<R: Threads + Sync + Print>(
         { read_both(rt, one, other, pace) },
         &mut ||
             requires { IsSync R.row }
-        { apply_all(rt, service, pace) },
+        {
+            let outcome = apply_each(rt, service, pace);
+            // The readers end, also after a fault.
+            pace.applied.store(BATCHES.len() as u64, SeqCst);
+            outcome
+        },
     )
 }
 
-fn main(rt: HostRuntime) -> anyhow::Result<()> {
-    let alloc = rt.alloc();
-    let mut service = Service::open(&rt, alloc, Options::for_vertices(VERTICES))?;
+// Applies the batches beside the readers, and prints what the readers saw, and the bounds.
+fn run_with<R: Threads + Sync + Print>(
+    rt: &R,
+    service: &mut Service<'_, R>,
+    one: &mut Watch,
+    other: &mut Watch,
+) -> anyhow::Result<()> {
+    let pace = Pace {
+        applied: AtomicU64::new(0),
+        asked: AtomicU64::new(0),
+    };
+    let (seen, applied) = run_beside(rt, service, one, other, &pace);
+    applied?;
+    seen?;
+    one.print(rt)?;
+    other.print(rt)?;
+    let coreness = service.coreness()?;
+    print_bounds(rt, &mut one.reader, coreness.as_slice())
+}
+
+// Opens the two readers, and runs with them.
+fn run<R: Threads + Sync + Print>(
+    rt: &R,
+    alloc: Global,
+    service: &mut Service<'_, R>,
+) -> anyhow::Result<()> {
     let [first, second] = WATCHED;
-    let mut one = Watch::open(alloc, &mut service, first)?;
-    let mut other = Watch::open(alloc, &mut service, second)?;
-    run(&rt, &mut service, &mut one, &mut other)
+    let mut one = Watch::open(alloc, service, first)?;
+    let mut other = Watch::open(alloc, service, second)?;
+    run_with(rt, service, &mut one, &mut other)
+}
+
+fn main(rt: HostRuntime) -> anyhow::Result<()> {
+    let mut service = Service::open(&rt, rt.alloc(), Options::for_vertices(VERTICES))?;
+    let outcome = run(&rt, rt.alloc(), &mut service);
+    // Without this call the service would end here too, but the check of `main` would take minutes.
+    drop(service);
+    outcome
 }
