@@ -6,7 +6,7 @@ ghost use Rattle.kc_session.specs.States.{IsOpen};
 ghost use Rattle.kc_session.specs.private.States.{IsBatchFor};
 ghost use Rattle.kc_session.specs.Faults.{FaultCause};
 ghost use Rattle.kc_session.specs.private.Faults.{StepCause};
-ghost use Rattle.kc_session.specs.private.Running.{is_last_batch, RunsBatches, RunsStep};
+ghost use Rattle.kc_session.specs.private.Running.{is_last_batch, RunsAll, RunsOne, batches_for};
 
 use crate::applying::{Outcome, apply};
 use crate::context::SessionContext;
@@ -35,7 +35,7 @@ fn run_batch<R: Threads + Sync, K: Sink, G: Gate + Sync>(
     requires some { IsEnd next → ⊥ }
     requires few { counts.batches < 2 ^ 32 - 1 }
     requires fewer { counts.refused ≤ counts.batches }
-    ensures step { RunsStep reporter.old.report next watched.old.engine.state watched.new.engine.state (K.taken sink.old) (K.taken sink.new) counts (shown_to watched.old.audience) (shown_to watched.new.audience) result }
+    ensures step { RunsOne reporter.old.report next watched.old watched.new (K.taken sink.old) (K.taken sink.new) counts result }
     ensures report { reporter.new.report ≡ reporter.old.report }
     ensures store { store_of watched.new.audience ≡ store_of watched.old.audience }
     ensures abreast { OnOk result (IsAbreast watched.new.audience watched.new.engine.state) }
@@ -108,7 +108,7 @@ pub fn run_batches<R: Threads + Sync, S: Source, K: Sink, G: Gate + Sync>(
     requires abreast { IsAbreast watched.old.audience watched.old.engine.state }
     requires open { IsOpen watched.old.engine }
     requires vertices { watched.old.engine.state.graph.vertices ≡ context.now.n }
-    ensures text { RunsBatches report watched.old.engine.state watched.new.engine.state (batches_left (record { n = context.now.n; profile = context.now.profile; item_limit = MAX_ITEMS }) reader.old (S.left src.old)) (K.taken sink.old) (K.taken sink.new) (shown_to watched.old.audience) (shown_to watched.new.audience) result }
+    ensures text { RunsAll report watched.old watched.new (batches_for context.now.n context.now.profile reader.old (S.left src.old)) (K.taken sink.old) (K.taken sink.new) result }
     ensures store { store_of watched.new.audience ≡ store_of watched.old.audience }
     ensures abreast { OnOk result (IsAbreast watched.new.audience watched.new.engine.state) }
     ensures open { OnOk result (IsOpen watched.new.engine) }

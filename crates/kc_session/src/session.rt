@@ -12,8 +12,8 @@ ghost use Rattle.kc_session.specs.declared.audience.Audience.TheVariants.{Nobody
 ghost use Rattle.kc_session.specs.Faults.{FaultCause};
 ghost use Rattle.kc_session.specs.ReaderLines.{reader_lines};
 ghost use Rattle.kc_session.specs.private.AskLists.{IsAskList};
-ghost use Rattle.kc_session.specs.private.Running.{RunsBatches};
-ghost use Rattle.kc_session.specs.SessionText.{session_text, body_text, WritesSession};
+ghost use Rattle.kc_session.specs.private.Running.{RunsAll, WritesBody, batches_for, header_for};
+ghost use Rattle.kc_session.specs.SessionText.{session_text, WritesSession};
 ghost use Rattle.kc_session.specs.States.{start, IsOpen};
 
 use crate::agent::Agent;
@@ -78,7 +78,7 @@ fn run_told<R: Threads + Sync, S: Source, K: Sink, G: Gate + Sync>(
     requires abreast { IsAbreast watched.old.audience watched.old.engine.state }
     requires open { IsOpen watched.old.engine }
     requires vertices { watched.old.engine.state.graph.vertices ≡ context.now.n }
-    ensures text { RunsBatches Report.Lines watched.old.engine.state watched.new.engine.state (batches_left (record { n = context.now.n; profile = context.now.profile; item_limit = MAX_ITEMS }) reader.old (S.left src.old)) (K.taken sink.old) (K.taken sink.new) (shown_to watched.old.audience) (shown_to watched.new.audience) result }
+    ensures text { RunsAll Report.Lines watched.old watched.new (batches_for context.now.n context.now.profile reader.old (S.left src.old)) (K.taken sink.old) (K.taken sink.new) result }
     ensures store { store_of watched.new.audience ≡ store_of watched.old.audience }
     ensures abreast { OnOk result (IsAbreast watched.new.audience watched.new.engine.state) }
     ensures open { OnOk result (IsOpen watched.new.engine) }
@@ -106,7 +106,7 @@ fn side_by_side<R: Threads + Sync, S: Source + Send, K: Sink + Send, G: Gate + S
     requires open { IsOpen watched.old.engine }
     requires vertices { watched.old.engine.state.graph.vertices ≡ context.now.n }
     requires agents { All (λ a. (a.store ≡ askers.old.store.now) × (a.has_run ≡ false)) askers.old.agents.items }
-    ensures text { RunsBatches Report.Lines watched.old.engine.state watched.new.engine.state (batches_left (record { n = context.now.n; profile = context.now.profile; item_limit = MAX_ITEMS }) reader.old (S.left src.old)) (K.taken sink.old) (K.taken sink.new) (shown_to watched.old.audience) (shown_to watched.new.audience) result }
+    ensures text { RunsAll Report.Lines watched.old watched.new (batches_for context.now.n context.now.profile reader.old (S.left src.old)) (K.taken sink.old) (K.taken sink.new) result }
     ensures store { store_of watched.new.audience ≡ store_of watched.old.audience }
     ensures abreast { OnOk result (IsAbreast watched.new.audience watched.new.engine.state) }
     ensures open { OnOk result (IsOpen watched.new.engine) }
@@ -175,7 +175,7 @@ fn run_opened<'a, R: Threads + Sync, S: Source + Send, K: Sink + Send, G: Gate +
     requires open { IsOpen watched.old.engine }
     requires start { watched.old.engine.state ≡ start context.now.profile context.now.n }
     requires asks { IsAskList context.now.n opened.asks }
-    ensures text { WritesSession body_text (record { profile = context.now.profile; n = context.now.n; asks = opened.entry.asks }) (batches_left (record { n = context.now.n; profile = context.now.profile; item_limit = MAX_ITEMS }) reader (S.left src.old)) (K.taken sink.old) (K.taken sink.new) result }
+    ensures text { WritesBody (header_for context.now.n context.now.profile opened.entry.asks) reader (S.left src.old) (K.taken sink.old) (K.taken sink.new) result }
     ensures cause { FaultCause (S.faults src.old) (S.faults src.new) (K.faults sink.old) (K.faults sink.new) result }
 {
     let alloc = context.alloc;
@@ -210,7 +210,7 @@ fn run_beside_readers<R: Threads + Sync, S: Source + Send, K: Sink + Send, G: Ga
     sink: &mut K,
 ) -> Result<Ended, SessionFault>
     requires asks { IsAskList context.now.n asks }
-    ensures text { WritesSession body_text (record { profile = context.now.profile; n = context.now.n; asks = asks }) (batches_left (record { n = context.now.n; profile = context.now.profile; item_limit = MAX_ITEMS }) reader (S.left src.old)) (K.taken sink.old) (K.taken sink.new) result }
+    ensures text { WritesBody (header_for context.now.n context.now.profile asks) reader (S.left src.old) (K.taken sink.old) (K.taken sink.new) result }
     ensures cause { FaultCause (S.faults src.old) (S.faults src.new) (K.faults sink.old) (K.faults sink.new) result }
 {
     let alloc = context.alloc;
@@ -239,7 +239,7 @@ fn run_alone<R: Threads + Sync, S: Source, K: Sink, G: Gate + Sync>(
     requires nobody { watched.old.audience ≡ Nobody }
     requires open { IsOpen watched.old.engine }
     requires start { watched.old.engine.state ≡ start context.now.profile context.now.n }
-    ensures text { WritesSession body_text (record { profile = context.now.profile; n = context.now.n; asks = [] }) (batches_left (record { n = context.now.n; profile = context.now.profile; item_limit = MAX_ITEMS }) reader.old (S.left src.old)) (K.taken sink.old) (K.taken sink.new) result }
+    ensures text { WritesBody (header_for context.now.n context.now.profile []) reader.old (S.left src.old) (K.taken sink.old) (K.taken sink.new) result }
     ensures cause { FaultCause (S.faults src.old) (S.faults src.new) (K.faults sink.old) (K.faults sink.new) result }
 {
     let counts = run_batches(context, watched, reader, src, sink, Report::Lines)?;
@@ -257,7 +257,7 @@ fn run_without_readers<R: Threads + Sync, S: Source, K: Sink, G: Gate + Sync>(
     src: &mut S,
     sink: &mut K,
 ) -> Result<Ended, SessionFault>
-    ensures text { WritesSession body_text (record { profile = context.now.profile; n = context.now.n; asks = [] }) (batches_left (record { n = context.now.n; profile = context.now.profile; item_limit = MAX_ITEMS }) reader (S.left src.old)) (K.taken sink.old) (K.taken sink.new) result }
+    ensures text { WritesBody (header_for context.now.n context.now.profile []) reader (S.left src.old) (K.taken sink.old) (K.taken sink.new) result }
     ensures cause { FaultCause (S.faults src.old) (S.faults src.new) (K.faults sink.old) (K.faults sink.new) result }
 {
     let mut reader = reader;

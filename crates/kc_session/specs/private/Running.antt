@@ -1,6 +1,13 @@
 -- The result of batches, and the text written for them, after they were run or a fault came.
 use Rattle.std.specs.Prelude.{ℕ, ◌≡◌, ◌+◌, true, false, Bool, List, Option, Some, None, Result, Ok, Err}
 use Rattle.kc_text.specs.Writing.{IsPrefix}
+use Rattle.kc_text.specs.Reading.{Reading}
+use Rattle.kc_graph.specs.declared.limits.TheConstants.{MAX_ITEMS}
+use Rattle.kc_levels.specs.declared.profile.Profile.{Profile}
+use Rattle.kc_batch.specs.Batches.{batches_left}
+use Rattle.kc_batch.specs.BatchInputs.{rules_of}
+use Rattle.kc_batch.specs.HeaderShape.{HeaderShape}
+use Rattle.kc_batch.specs.declared.ask.Ask.{Ask}
 use Rattle.std.specs.Io.KnownBytes.{append_known}
 use Rattle.kc_batch.specs.declared.batch.Next.{Next}
 use Rattle.kc_batch.specs.declared.batch.Next.TheVariants.{Refused}
@@ -9,11 +16,14 @@ use Rattle.kc_history.specs.declared.entries.Entry.{Entry}
 use Rattle.kc_groups.specs.Entries.{entries_in}
 use Rattle.kc_engine.specs.States.{State}
 use Rattle.kc_session.specs.declared.counts.Counts.{Counts}
+use Rattle.kc_session.specs.declared.ended.Ended.{Ended}
 use Rattle.kc_session.specs.declared.fault.SessionFault.{SessionFault}
 use Rattle.kc_session.specs.declared.report.Report.{Report}
-use Rattle.kc_session.specs.private.Audiences.{longer}
+use Rattle.kc_session.specs.declared.watched.Watched.{Watched}
+use Rattle.kc_session.specs.private.Audiences.{longer, shown_to}
 use Rattle.kc_session.specs.private.Counts.{counts_of, counted}
 use Rattle.kc_session.specs.RunText.{step_text, batch_lines}
+use Rattle.kc_session.specs.SessionText.{body_text, WritesSession}
 use Rattle.kc_session.specs.States.{Step, IsStep, AreSteps, last_state, history_of}
 use Rattle.kc_session.specs.Running.{WroteSomeBatches}
 
@@ -39,6 +49,10 @@ abbrev pub RunsStep : Report → Next → State → State → Option (List ℕ) 
 RunsStep report b s t before now old h i (Ok new) = RanStep report b s t before now old new h i
 RunsStep report b s t before now old h i (Err _) = WroteSome report (old.batches + 1) b s before now
 
+-- what a batch did to an engine beside its audience (`RunsStep`)
+abbrev pub RunsOne : Report → Next → Watched → Watched → Option (List ℕ) → Option (List ℕ) → Counts → Result Counts SessionFault → Type 0
+RunsOne report b w x before now old result = RunsStep report b w.engine.state x.engine.state before now old (shown_to w.audience) (shown_to x.audience) result
+
 -- no batch follows one that is refused for the input limit
 abbrev pub is_last_batch : Next → Bool
 is_last_batch (Refused line InputLimit) = true
@@ -60,3 +74,19 @@ abbrev pub RunsBatches : Report → State → State → Option (List Next) → O
 RunsBatches report s t None before now h i result = Unit {0}
 RunsBatches report s t (Some batches) before now h i (Ok counts) = RanBatches report s t batches before now h i counts
 RunsBatches report s t (Some batches) before now h i (Err _) = WroteSomeBatches report s batches before now
+
+-- what batches did to an engine beside its audience (`RunsBatches`)
+abbrev pub RunsAll : Report → Watched → Watched → Option (List Next) → Option (List ℕ) → Option (List ℕ) → Result Counts SessionFault → Type 0
+RunsAll report w x batches before now result = RunsBatches report w.engine.state x.engine.state batches before now (shown_to w.audience) (shown_to x.audience) result
+
+-- the batches of the lines that a reader has still to give, for a graph of n vertices
+abbrev pub batches_for : ℕ → Profile → Reading → Option (List ℕ) → Option (List Next)
+batches_for n profile r left = batches_left (record { n = n; profile = profile; item_limit = MAX_ITEMS }) r left
+
+-- the header of a graph of n vertices with these asks
+abbrev pub header_for : ℕ → Profile → List Ask → HeaderShape
+header_for n profile asks = record { profile = profile; n = n; asks = asks }
+
+-- the text of a session after its head was written (`WritesSession`)
+abbrev pub WritesBody : HeaderShape → Reading → Option (List ℕ) → Option (List ℕ) → Option (List ℕ) → Result Ended SessionFault → Type 0
+WritesBody header r left before now result = WritesSession body_text header (batches_left (rules_of header MAX_ITEMS) r left) before now result
