@@ -242,7 +242,7 @@ fn run<R: Threads + Sync + Print>(
 fn main(rt: HostRuntime) -> anyhow::Result<()> {
     let mut service = Service::open(&rt, rt.alloc(), Options::for_vertices(VERTICES))?;
     let outcome = run(&rt, rt.alloc(), &mut service);
-    // Without this call the service would end here too, but the check of `main` would take minutes.
+    // A call, since a service that ends with its scope is dear to prove.
     drop(service);
     outcome
 }
