@@ -1,11 +1,10 @@
 // Sources and sinks, in memory and of std, and lines that are sent. Expected values were worked out by hand.
 ghost use Rattle.std.specs.Prelude.{◌≤◌, IfOk};
 
-use crate::tests::support::{Bench, Lines, check, sink_of};
-use crate::tests::text::tell;
+use crate::tests::support::{Bench, check, put, put_end, reader_of, sink_of};
+use crate::tests::text::put_answer;
 use kc_text::{
-    Failed, LineBuf, LineReader, MemSink, NullSink, SendFault, Sink, Source, StdSink, StdSource,
-    fill_named, put_all,
+    Failed, LineBuf, MemSink, NullSink, Sink, Source, StdSink, StdSource, fill_named, put_all,
 };
 use std::io;
 use std::io::{Read, Write};
@@ -21,21 +20,28 @@ const SINKS: &[((u32, u32), &[u32], &str, &str)] = &[
     ((0, 1), &[], "FFFFF", ""),
 ];
 
+// Puts the answers of a sink to five writes.
+fn put_writes(rt: &impl Bench, out: &mut Vec<u8>, sink: &mut MemSink) {
+    for _ in 0..5 {
+        let answer = match sink.write(b"abc") {
+            Ok(count) => b'0' + count as u8,
+            Err(Failed) => b'F',
+        };
+        put(rt, out, &[answer]);
+    }
+}
+
 #[test]
 fn sinks_in_memory(rt: HostRuntime) {
     for ((capacity, piece), failing, answers, want) in SINKS {
         assert!(rt; *piece > 0);
         let mut sink = MemSink::new(rt.alloc(), *capacity, *piece, failing).expect(&rt, "memory");
         let mut got = Vec::new(rt.alloc());
-        for _ in 0..5 {
-            let answer = match sink.write(b"abc") {
-                Ok(count) => b'0' + count as u8,
-                Err(Failed) => b'F',
-            };
-            got.push(answer).expect(&rt, "memory");
-        }
+        put_writes(&rt, &mut got, &mut sink);
         check(&rt, "five writes", &got, answers);
+        drop(got);
         check(&rt, answers, sink.bytes(), want);
+        drop(sink);
     }
 }
 
@@ -115,14 +121,18 @@ fn reads_no_more_at_the_end(rt: HostRuntime) {
     // The device reports an end, and gives more if it is read once more.
     let resumed = Device::new(&rt, &[Call::Most(1), Call::Most(0), Call::Most(1)]);
     let mut source = StdSource::new(resumed);
-    let mut reader = LineReader::new(rt.alloc(), 8, 20).expect(&rt, "memory");
-    let mut out = Lines::new(&rt);
+    let mut reader = reader_of(&rt, (8, 20));
+    let mut out = Vec::new(rt.alloc());
     for _ in 0..3 {
-        tell(&rt, &mut reader, &mut source, &mut out);
+        let given = reader.next_line(rt.alloc(), &mut source);
+        put_answer(&rt, &mut out, &mut reader, given);
     }
-    check(&rt, "a, an end and more", &out.done(&rt), "1:a\n2.\n2.\n");
+    drop(reader);
+    check(&rt, "a, an end and more", &out, "1:a\n2.\n2.\n");
+    drop(out);
     let mut buf = [0u8; 1];
     assert!(rt; source.read(&mut buf) == Ok(1) && buf[0] == b'a');
+    drop(source);
 }
 
 #[test]
@@ -169,24 +179,34 @@ fn many_bytes(rt: &impl Bench, count: u32) -> Vec<u8> {
     bytes
 }
 
+// Returns what a source of std gives in ten reads of 100,000 bytes.
+fn read_large(rt: &impl Bench, bytes: &[u8]) -> Vec<u8> {
+    let mut source = StdSource::new(bytes);
+    let mut buf = vec![in rt.alloc(); 0u8; 100_000].expect(rt, "memory");
+    let mut got = Vec::new(rt.alloc());
+    for _ in 0..10 {
+        assert!(rt; buf.len() == 100_000);
+        let count = source.read(&mut buf).expect(rt, "a read");
+        put(rt, &mut got, &buf[..count]);
+    }
+    drop(buf);
+    got
+}
+
+// Returns whether a device that takes 5,000 bytes a call takes all of a large write.
+fn is_taken_whole(rt: &impl Bench, bytes: &[u8]) -> bool {
+    let mut narrow = Device::new(rt, &[Call::Most(5000); 30]);
+    put_all(&mut StdSink::new(&mut narrow), bytes).expect(rt, "writes");
+    narrow.taken.as_slice() == bytes
+}
+
 // No byte of a large read or write is lost, whatever part of it std takes or gives.
 #[test]
 fn large_reads_and_writes(rt: HostRuntime) {
     let bytes = many_bytes(&rt, 200 * 1024);
-    let mut source = StdSource::new(bytes.as_slice());
-    let mut buf = vec![in rt.alloc(); 0u8; 100_000].expect(&rt, "memory");
-    let mut got = Vec::new(rt.alloc());
-    for _ in 0..10 {
-        assert!(rt; buf.len() == 100_000);
-        let count = source.read(&mut buf).expect(&rt, "a read");
-        got.extend_from_slice(&buf[..count]).expect(&rt, "memory");
-    }
-    assert!(rt; got == bytes);
-
-    let bytes = many_bytes(&rt, 100 * 1024);
-    let mut narrow = Device::new(&rt, &[Call::Most(5000); 30]);
-    put_all(&mut StdSink::new(&mut narrow), &bytes).expect(&rt, "writes");
-    assert!(rt; narrow.taken == bytes);
+    assert!(rt; read_large(&rt, &bytes) == bytes);
+    drop(bytes);
+    assert!(rt; is_taken_whole(&rt, &many_bytes(&rt, 100 * 1024)));
 }
 
 // Pieces and failing calls; then the answers to two sends of `v 4294967295` and `w`, and what was taken.
@@ -197,23 +217,25 @@ const SENDS: &[(u32, &[u32], &str, &str)] = &[
     (1000, &[2], "of", "v 4294967295\n"),
 ];
 
+// Puts the answers to two sends.
+fn put_sends(rt: &impl Bench, out: &mut Vec<u8>, line: &mut LineBuf, sink: &mut MemSink) {
+    fill_named(rt.alloc(), line, b"v ", 4294967295).expect(rt, "memory");
+    put_end(rt, out, line.send(rt.alloc(), sink));
+    line.text(rt.alloc(), b"w").expect(rt, "memory");
+    put_end(rt, out, line.send(rt.alloc(), sink));
+}
+
 #[test]
 fn sends_lines(rt: HostRuntime) {
     for (piece, failing, answers, want) in SENDS {
         let mut sink = sink_of(&rt, *piece, failing);
         let mut line = LineBuf::new(rt.alloc());
         let mut got = Vec::new(rt.alloc());
-        fill_named(rt.alloc(), &mut line, b"v ", 4294967295).expect(&rt, "memory");
-        for word in [b"w", b"x"] {
-            let answer = match line.send(rt.alloc(), &mut sink) {
-                Ok(()) => b'o',
-                Err(SendFault::WriteFault) => b'f',
-                Err(SendFault::Memory(_)) => b'm',
-            };
-            got.push(answer).expect(&rt, "memory");
-            line.text(rt.alloc(), word).expect(&rt, "memory");
-        }
+        put_sends(&rt, &mut got, &mut line, &mut sink);
+        drop(line);
         check(&rt, "two sends", &got, answers);
+        drop(got);
         check(&rt, answers, sink.bytes(), want);
+        drop(sink);
     }
 }
