@@ -10,29 +10,33 @@ use kc_levels::Profile;
 // Limits of a line, of the input and of the items of a batch.
 type Limits = (u32, u32, u32);
 
-// Those of the program.
+// The limits of the program.
 const USUAL: Limits = (LIMITS.0, LIMITS.1, 1_048_576);
 
-// Puts a header: its number of vertices, and each ask as its times and vertices.
-fn put_header(rt: &impl Bench, out: &mut Vec<u8>, header: &Header) {
-    put_number(rt, out, b"", header.n);
-    for ask in header.asks.as_slice() {
-        put_number(rt, out, b" ask ", ask.times);
-        for v in ask.vertices.as_slice() {
-            put_number(rt, out, b",", *v);
-        }
+// Puts an ask: its times and vertices.
+fn put_ask(rt: &impl Bench, out: &mut Vec<u8>, ask: &Ask) {
+    put_number(rt, out, b" ask ", ask.times);
+    for v in ask.vertices.as_slice() {
+        put_number(rt, out, b",", *v);
     }
 }
 
+// Puts a header: its number of vertices, and each ask.
+fn put_header(rt: &impl Bench, out: &mut Vec<u8>, header: &Header) {
+    put_number(rt, out, b"", header.n);
+    for ask in header.asks.as_slice() {
+        put_ask(rt, out, ask);
+    }
+}
+
+// A number of vertices and a profile.
+type Shape = (u32, Profile);
+
 // Puts a line with the answer of a read: the header, or `!` and the line at which it is refused. A read fault is `?`.
-// Returns the header's number of vertices and its profile.
-fn put_read(
-    rt: &impl Bench,
-    out: &mut Vec<u8>,
-    read: Result<Header, HeaderFault>,
-) -> Option<(u32, Profile)> {
-    let shape = read.as_ref().ok().map(|header| (header.n, header.profile));
-    match read {
+// Returns the shape of the header.
+fn put_read(rt: &impl Bench, out: &mut Vec<u8>, got: Result<Header, HeaderFault>) -> Option<Shape> {
+    let shape = got.as_ref().ok().map(|header| (header.n, header.profile));
+    match got {
         Ok(header) => put_header(rt, out, &header),
         Err(HeaderFault::Refused { line }) => put_number(rt, out, b"!", line),
         Err(HeaderFault::ReadFault) => put(rt, out, b"?"),
@@ -75,17 +79,12 @@ fn put_next(rt: &impl Bench, out: &mut Vec<u8>, next: Result<Next, BatchFault>) 
     goes_on
 }
 
-// Puts up to four batches of a graph with n vertices.
-fn put_batches(
-    rt: &impl Bench,
-    out: &mut Vec<u8>,
-    input: &mut Input,
-    (n, profile): (u32, Profile),
-    item_limit: u32,
-) {
+// Puts up to four batches, of which each may have `most` items.
+fn put_batches(rt: &impl Bench, out: &mut Vec<u8>, input: &mut Input, shape: Shape, most: u32) {
+    let (n, profile) = shape;
     for _ in 0..4 {
         let (reader, source) = (&mut input.reader, &mut input.source);
-        let next = next_batch(rt.alloc(), reader, source, n, profile, item_limit);
+        let next = next_batch(rt.alloc(), reader, source, n, profile, most);
         if !put_next(rt, out, next) {
             break;
         }
@@ -104,24 +103,31 @@ fn told(rt: &impl Bench, text: &[u8], piece: u32, failing: &[u32], limits: Limit
     out
 }
 
-// Checks inputs that begin with `before` and end with the first side of a row. The second side is the answer.
+fn told_of(rt: &impl Bench, parts: &[&str], piece: u32) -> Vec<u8> {
+    told(rt, &joined(rt, parts), piece, &[], USUAL)
+}
+
+// Checks inputs that begin with `before`. A row is the answer and how they go on, with `|` between them.
 fn check_rows(rt: &impl Bench, before: &'static str, rows: &[&'static str], piece: u32) {
     for row in rows {
-        let (text, want) = sides(rt, row);
-        let whole = joined(rt, &[before, text]);
-        check(rt, text, &told(rt, &whole, piece, &[], USUAL), want);
+        let (want, texts) = sides(rt, row);
+        for text in texts.split('|') {
+            check(rt, text, &told_of(rt, &[before, text], piece), want);
+        }
     }
 }
 
 const WHOLE: &[&str] = &[
-    "kcore 1\r\nvertices 3\r\nbatch\r\n# Undirected graph\r\n# FromNodeId\tToNodeId\r\n0\t1\r\n1\t0\r\n1\t2\r\n2\t1\r\nend\r\n => 3\n10 +0,1 +1,0 +1,2 +2,1\n.\n",
-    "kcore 1\nvertices 5\nbatch\n+ 0 1\n- 0 1\n+ 2 2\nend\nbatch\nend\n => 5\n7 +0,1 -0,1 +2,2\n9\n.\n",
-    "kcore 1\nvertices 3\nbatch\n0 1\nend\nbatch\n1 2\n0 2\n1 3\nend\nbatch\n1 2\nend\n => 3\n5 +0,1\n9 bad-vertex\n13 +1,2\n.\n",
-    "kcore 1\nvertices 2\nbatch\n0 1\n => 2\n5 truncated\n.\n",
-    " => !1\n",
-    "kcore 1\nvertices 0\n => !2\n",
-    "kcore 1\nvertices 1 => 1\n.\n",
-    "kcore 1\nvertices 1\nask 2 0\n => 1 ask 2,0\n.\n",
+    "3\n10 +0,1 +1,0 +1,2 +2,1\n.\n => kcore 1\r\nvertices 3\r\nbatch\r\n# Undirected graph\r\n\
+        # FromNodeId\tToNodeId\r\n0\t1\r\n1\t0\r\n1\t2\r\n2\t1\r\nend\r\n",
+    "5\n7 +0,1 -0,1 +2,2\n9\n.\n => kcore 1\nvertices 5\nbatch\n+ 0 1\n- 0 1\n+ 2 2\nend\nbatch\nend\n",
+    "3\n5 +0,1\n9 bad-vertex\n13 +1,2\n.\n => \
+        kcore 1\nvertices 3\nbatch\n0 1\nend\nbatch\n1 2\n0 2\n1 3\nend\nbatch\n1 2\nend\n",
+    "2\n5 truncated\n.\n => kcore 1\nvertices 2\nbatch\n0 1\n",
+    "!1\n => ",
+    "!2\n => kcore 1\nvertices 0\n",
+    "1\n.\n => kcore 1\nvertices 1",
+    "1 ask 2,0\n.\n => kcore 1\nvertices 1\nask 2 0\n",
 ];
 
 #[test]
@@ -132,27 +138,26 @@ fn whole_inputs(rt: HostRuntime) {
 }
 
 const HEADERS: &[&str] = &[
-    "#\n kcore\t1\n\nvertices 0000000002\n ask  65536 1\nask 1 0 1 0\n => 2 ask 65536,1 ask 1,0,1,0\n.\n",
-    "kcore 1\n => !2\n",
-    "kcore 01\nvertices 1\n => !1\n",
-    "kcore 02\nvertices 1\n => !1\n",
-    "kcore 3\nvertices 1\n => !1\n",
-    "kcore 1\nvertices 16777216\n => 16777216\n.\n",
-    "kcore 1\nvertices 16777217\n => !2\n",
-    "kcore 1\nvertices 5\nask 65537 0\n => !3\n",
-    "kcore 1\nvertices 5\nask 0 0\n => !3\n",
-    "kcore 1\nvertices 5\nask 1 5\n => !3\n",
-    "kcore 1\nvertices 5\nask 1\n => !3\n",
-    "kcore 1\nvertices 5\nask 1 0\nask 1 0 x\n => !4\n",
-    "kcore 1\nvertices 5\nbatch\nend\nask 1 0\nend\n => 5\n4\n5 bad-line\n.\n",
+    "2 ask 65536,1 ask 1,0,1,0\n.\n => #\n kcore\t1\n\nvertices 0000000002\n ask  65536 1\nask 1 0 1 0\n",
+    "!2\n => kcore 1\n|kcore 1\nvertices 16777217\n",
+    "!1\n => kcore 01\nvertices 1\n|kcore 02\nvertices 1\n|kcore 3\nvertices 1\n",
+    "16777216\n.\n => kcore 1\nvertices 16777216\n",
+    "!3\n => kcore 1\nvertices 5\nask 65537 0\n|kcore 1\nvertices 5\nask 0 0\n|kcore 1\nvertices 5\nask 1 5\n|\
+        kcore 1\nvertices 5\nask 1\n",
+    "!4\n => kcore 1\nvertices 5\nask 1 0\nask 1 0 x\n",
+    "5\n4\n5 bad-line\n.\n => kcore 1\nvertices 5\nbatch\nend\nask 1 0\nend\n",
 ];
 
 const HEAD: &str = "kcore 1\nvertices 5\n";
 
-// Returns the answer to a header with this many asks.
 fn told_of_asks(rt: &impl Bench, count: u32) -> Vec<u8> {
-    let text = repeated(rt, HEAD, "ask 1 0\n", count, "");
-    told(rt, &text, 1000, &[], USUAL)
+    told(
+        rt,
+        &repeated(rt, HEAD, "ask 1 0\n", count, ""),
+        1000,
+        &[],
+        USUAL,
+    )
 }
 
 #[test]
@@ -166,15 +171,12 @@ fn headers_and_asks(rt: HostRuntime) {
 
 // Batches after `HEAD`.
 const BATCHES: &[&str] = &[
-    "batch\nbatch\nend\n => 5\n4 bad-line\n.\n",
-    "end\nend\n => 5\n3 bad-line\n4 bad-line\n.\n",
-    "0 1\nbatch\nend\nbatch\nend\n => 5\n3 bad-line\n7\n.\n",
-    "batch\n+ 0\nend\n => 5\n4 bad-line\n.\n",
-    "batch\n+ 0 1 2\nend\n => 5\n4 bad-line\n.\n",
-    "batch\n+ 0 4294967296\nend\n => 5\n4 bad-line\n.\n",
-    "batch\n0 00000000001\nend\n => 5\n4 bad-line\n.\n",
-    "batch\n+ 0 4294967295\n1\nend\n => 5\n4 bad-vertex\n.\n",
-    "batch\n0 1\n- 5 0 => 5\n5 bad-vertex\n.\n",
+    "5\n4 bad-line\n.\n => batch\nbatch\nend\n|batch\n+ 0\nend\n|batch\n+ 0 1 2\nend\n|batch\n+ 0 4294967296\nend\n|\
+        batch\n0 00000000001\nend\n",
+    "5\n3 bad-line\n4 bad-line\n.\n => end\nend\n",
+    "5\n3 bad-line\n7\n.\n => 0 1\nbatch\nend\nbatch\nend\n",
+    "5\n4 bad-vertex\n.\n => batch\n+ 0 4294967295\n1\nend\n",
+    "5\n5 bad-vertex\n.\n => batch\n0 1\n- 5 0",
 ];
 
 #[test]
@@ -202,8 +204,7 @@ fn cut_inputs(rt: HostRuntime) {
     for row in CUT {
         let (line, want) = sides(&rt, row);
         let (before, _) = text.split_once(line).expect(&rt, "the line");
-        let got = told(&rt, before.as_bytes(), 3, &[], USUAL);
-        check(&rt, line, &got, want);
+        check(&rt, line, &told_of(&rt, &[before], 3), want);
     }
 }
 
@@ -278,8 +279,7 @@ const LIMITED: &[(Limits, &str)] = &[
 
 // Returns the answer to a comment of a `#` and this many zeros, at the program's limits.
 fn told_of_comment(rt: &impl Bench, zeros: u32) -> Vec<u8> {
-    let before = "kcore 1\nvertices 5\nbatch\n#";
-    let text = repeated(rt, before, "0", zeros, "\nend\n");
+    let text = repeated(rt, "kcore 1\nvertices 5\nbatch\n#", "0", zeros, "\nend\n");
     told(rt, &text, 1000, &[], USUAL)
 }
 
@@ -296,20 +296,21 @@ fn limits_of_lines_and_items(rt: HostRuntime) {
     check(&rt, "65,537 bytes", &got, "5\n4 line-long\n.\n");
 }
 
-// The call of the source that fails, if it gives 7 bytes a call.
-const FAILING: &[(u32, &str)] = &[
-    (1, "?\n"),
-    (4, "?\n"),
-    (5, "3\n?\n"),
-    (6, "3\n5 +0,1\n?\n"),
-    (7, "3\n5 +0,1\n.\n"),
+// The call that fails, of a source that gives 7 bytes a call.
+const FAILING: &[(&[u32], &str)] = &[
+    (&[1], "?\n"),
+    (&[4], "?\n"),
+    (&[5], "3\n?\n"),
+    (&[6], "3\n5 +0,1\n?\n"),
+    (&[7], "3\n5 +0,1\n.\n"),
 ];
+
+const SHORT: &str = "kcore 1\nvertices 3\nbatch\n0 1\nend\n";
 
 #[test]
 fn read_faults(rt: HostRuntime) {
-    let text = b"kcore 1\nvertices 3\nbatch\n0 1\nend\n";
-    for (call, want) in FAILING {
-        let got = told(&rt, text, 7, &[*call], USUAL);
+    for (failing, want) in FAILING {
+        let got = told(&rt, SHORT.as_bytes(), 7, failing, USUAL);
         check(&rt, "a failing source", &got, want);
     }
 }

@@ -48,7 +48,6 @@ fn said(rt: &impl Bench, read: Result<Certificate, CertFault>) -> Vec<u8>
     out
 }
 
-// Returns the answer to a text.
 fn told(rt: &impl Bench, text: &[u8], piece: u32, failing: &[u32], limits: (u32, u32)) -> Vec<u8> {
     let mut input = input_of(rt, text, piece, failing, limits);
     let read = read_certificate(rt.alloc(), &mut input.reader, &mut input.source);
@@ -72,20 +71,16 @@ const WHOLE: &[&str] = &[
             level 0 5\nlevel 1 5\nlevel 2 5\nlevel 3 5\nend\n => certified 4 of 6",
     "kcore-cert 1\nprofile 1\nvertices 1\nedges 0\nlevel 0 0\nend\n => certified 1 of 0",
     // Comments, empty lines, tabs, leading zeros, carriage returns, and no last line feed.
-    "# batch 2 refused line 9 bad-vertex\r\n\r\nkcore-cert\t1\r\n profile  1 \r\nvertices 002\r\nedges 1\r\nedge 0 0000000001\r\n\
-            #\nlevel 00 1\r\nlevel 1 1\r\nend\r\n# more\r\n => certified 2 of 1",
+    "# batch 2 refused line 9 bad-vertex\r\n\r\nkcore-cert\t1\r\n profile  1 \r\nvertices 002\r\n\
+            edges 1\r\nedge 0 0000000001\r\n#\nlevel 00 1\r\nlevel 1 1\r\nend\r\n# more\r\n => certified 2 of 1",
     "kcore-cert 1\nprofile 1\nvertices 2\nedges 0\nlevel 0 0\nlevel 1 0\nend => certified 2 of 0",
 ];
 
 // Checks the answer to a text in pieces of some sizes.
 fn check_whole(rt: &impl Bench, text: &str, want: &str) {
     for piece in [1, 7, 1000] {
-        check(
-            rt,
-            text,
-            &told(rt, text.as_bytes(), piece, &[], LIMITS),
-            want,
-        );
+        let got = told(rt, text.as_bytes(), piece, &[], LIMITS);
+        check(rt, text, &got, want);
     }
 }
 
@@ -119,12 +114,15 @@ const MISFITS: &[(&str, &str, &str)] = &[
     ("end\n", "end\nend\n", "13 bad-line"),
 ];
 
+fn told_of_change(rt: &impl Bench, old: &str, new: &str) -> Vec<u8> {
+    let (before, after) = PATH.split_once(old).expect(rt, "the line");
+    told(rt, &joined(rt, &[before, new, after]), 9, &[], LIMITS)
+}
+
 #[test]
 fn misfits(rt: HostRuntime) {
     for (old, new, want) in MISFITS {
-        let (before, after) = PATH.split_once(*old).expect(&rt, "the line");
-        let text = joined(&rt, &[before, new, after]);
-        check(&rt, new, &told(&rt, &text, 9, &[], LIMITS), want);
+        check(&rt, new, &told_of_change(&rt, old, new), want);
     }
 }
 
@@ -141,25 +139,26 @@ const LIMITED: &[((u32, u32), &str)] = &[
     ((100, 0), "1 input-limit"),
 ];
 
-// Returns whether a text is refused at this line, since it ends before its `end`.
-fn is_truncated(rt: &impl Bench, text: &[u8], line: u32) -> bool {
+// Returns whether the path is refused at this line if it is cut before it, where there is more.
+fn is_truncated(rt: &impl Bench, start: usize, line: u32) -> bool {
+    let path = PATH.as_bytes();
+    assert!(rt; start < path.len());
     let mut want = Vec::new(rt.alloc());
     put_number(rt, &mut want, b"", line);
     put(rt, &mut want, b" truncated");
-    told(rt, text, 1000, &[], LIMITS) == want
+    told(rt, &path[..start], 1000, &[], LIMITS) == want
 }
 
 #[test]
 fn cut_certificates(rt: HostRuntime) {
-    let path = PATH.as_bytes();
     let mut line = 0u32;
     for start in STARTS {
         line = line.saturating_add(1);
-        assert!(rt; *start <= path.len() && path[*start..].contains(&b'\n'));
-        assert!(rt; is_truncated(&rt, &path[..*start], line));
+        assert!(rt; is_truncated(&rt, *start, line));
     }
     for (limits, want) in LIMITED {
-        check(&rt, want, &told(&rt, path, 5, &[], *limits), want);
+        let got = told(&rt, PATH.as_bytes(), 5, &[], *limits);
+        check(&rt, want, &got, want);
     }
 }
 
@@ -171,20 +170,13 @@ fn failing_source(rt: HostRuntime) {
     }
 }
 
-// Writes the certificate of the path.
-fn write_path(
-    rt: &impl Bench,
-    sink: &mut MemSink,
-    profile: Profile,
-    items: &[u16],
-) -> Result<(), SendFault> {
+type Written = Result<(), SendFault>;
+
+fn write_path(rt: &impl Bench, sink: &mut MemSink, profile: Profile, items: &[u16]) -> Written {
     let graph = graph_of(rt.alloc(), 5, &[(0, 1), (1, 2)]).expect(rt, "memory");
     let levels = levels_of(rt.alloc(), items).expect(rt, "memory");
     assert!(rt; items.len() == 5);
-    let written = write_certificate(rt.alloc(), sink, profile, &graph, &levels);
-    drop(levels);
-    drop(graph);
-    written
+    write_certificate(rt.alloc(), sink, profile, &graph, &levels)
 }
 
 // Checks the certificate of the path with this profile and these levels, whatever pieces a sink takes.
@@ -202,16 +194,19 @@ fn written_certificates(rt: HostRuntime) {
     check_written(&rt, Profile::Two, &[1, 2, 1, 0, 0], FINE_PATH);
 }
 
+// Returns whether the certificate of the path is cut before this call, and the sink took this text.
+fn is_cut(rt: &impl Bench, call: u32, text: &[u8]) -> bool {
+    let mut sink = sink_of(rt, 2000, &[call]);
+    let answer = write_path(rt, &mut sink, Profile::One, &[1, 1, 1, 0, 0]);
+    matches!(answer, Err(SendFault::WriteFault)) && sink.bytes() == text
+}
+
 // Each line is one call of a sink that takes it whole: if a call fails, the lines before it were taken.
 #[test]
 fn each_line_is_one_call(rt: HostRuntime) {
     let mut call = 0u32;
     for start in STARTS {
         call = call.saturating_add(1);
-        let mut sink = sink_of(&rt, 2000, &[call]);
-        let answer = write_path(&rt, &mut sink, Profile::One, &[1, 1, 1, 0, 0]);
-        assert!(rt; matches!(answer, Err(SendFault::WriteFault)));
-        assert!(rt; *start <= PATH.len() && sink.bytes() == &PATH.as_bytes()[..*start]);
-        drop(sink);
+        assert!(rt; *start <= PATH.len() && is_cut(&rt, call, &PATH.as_bytes()[..*start]));
     }
 }

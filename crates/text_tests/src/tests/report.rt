@@ -41,13 +41,10 @@ const NONE: Estimate = Estimate {
     hi: 0,
 };
 
-// Writes a batch without a phase.
 fn write_added(rt: &impl Bench, buf: &mut LineBuf, sink: &mut MemSink) -> Result<(), SendFault> {
     let cleaned = cleaned_of(rt, &[(0, 1)], &[(0, 2), (3, 4)]);
     assert!(rt; cleaned.removed.len() < 9 && cleaned.added.len() < 9);
-    let written = write_batch(rt.alloc(), buf, sink, 1, &cleaned, &[]);
-    drop(cleaned);
-    written
+    write_batch(rt.alloc(), buf, sink, 1, &cleaned, &[])
 }
 
 // Makes the calls that write a run, and puts how each ends.
@@ -98,28 +95,26 @@ fn without(rt: &impl Bench, line: u32, ends: &str) -> Vec<u8> {
     left
 }
 
+// Returns whether a run of which a call fails is written without its line. No call is call 0.
+fn is_run(rt: &impl Bench, piece: u32, failing: u32, ends: &str) -> bool {
+    told_of_run(rt, piece, &[failing]) == without(rt, failing, ends)
+}
+
 #[test]
 fn lines_of_a_run(rt: HostRuntime) {
     for piece in [1, 7, 1000] {
-        assert!(rt; told_of_run(&rt, piece, &[]) == without(&rt, 0, "ooooo"));
+        assert!(rt; is_run(&rt, piece, 0, "ooooo"));
     }
 }
 
-// The failing call, and how the calls of a run end. Call 2 is the second of the head. There is no call 7.
-const FAILING: &[(u32, &str)] = &[
-    (2, "foooo"),
-    (3, "ofooo"),
-    (4, "oofoo"),
-    (5, "ooofo"),
-    (6, "oooof"),
-    (7, "ooooo"),
-];
-
-// Each line is one call of a sink that takes it whole: if a call but the first fails, its line alone is gone.
+// Each line is one call of a sink that takes it whole: if a call but the first fails, its line alone is gone. Call 2 is
+// the second of the head. There is no call 7.
 #[test]
 fn each_line_is_one_call(rt: HostRuntime) {
-    for (failing, ends) in FAILING {
-        assert!(rt; told_of_run(&rt, 2000, &[*failing]) == without(&rt, *failing, ends));
+    let mut failing = 1u32;
+    for ends in "foooo ofooo oofoo ooofo oooof ooooo".split(' ') {
+        failing = failing.saturating_add(1);
+        assert!(rt; is_run(&rt, 2000, failing, ends));
     }
 }
 
@@ -160,54 +155,48 @@ fn write_exact(rt: &impl Bench, buf: &mut LineBuf, sink: &mut MemSink) -> Result
 
 const EXACT: &str = "# batch 2 refused line 9 bad-vertex\n\
     kcore-exact 1\nvertices 5\n\
-    vertex 3 coreness 3 low 1 est 2 high 4\n\
-    vertex 4 coreness 0 low 0 est 0 high 0\n\
-    end\no";
+    vertex 3 coreness 3 low 1 est 2 high 4\nvertex 4 coreness 0 low 0 est 0 high 0\nend\no";
+
+fn told_of_exact(rt: &impl Bench, piece: u32) -> Vec<u8> {
+    let mut sink = sink_of(rt, piece, &[]);
+    let mut buf = LineBuf::new(rt.alloc());
+    let answer = write_exact(rt, &mut buf, &mut sink);
+    drop(buf);
+    taken(rt, sink, answer)
+}
 
 #[test]
 fn lines_of_an_exact_text(rt: HostRuntime) {
     for piece in [1, 7, 1000] {
-        let mut sink = sink_of(&rt, piece, &[]);
-        let mut buf = LineBuf::new(rt.alloc());
-        let answer = write_exact(&rt, &mut buf, &mut sink);
-        drop(buf);
-        check(&rt, "an exact text", &taken(&rt, sink, answer), EXACT);
+        check(&rt, "an exact text", &told_of_exact(&rt, piece), EXACT);
     }
 }
 
-// Replies of a vertex and a level.
-fn replies_of(rt: &impl Bench) -> Vec<Reply> {
+// Makes four calls that write readers, and puts how each ends. The second reader has no reply.
+fn put_readers(rt: &impl Bench, ends: &mut Vec<u8>, sink: &mut MemSink) {
     let mut replies = Vec::new(rt.alloc());
     for (vertex, level) in [(4294967295, 65535), (0, 7), (0, 0)] {
         replies.push(Reply { vertex, level }).expect(rt, "memory");
     }
-    replies
-}
-
-// Makes four calls that write readers, and puts how each ends. The second reader has no reply.
-fn put_readers(rt: &impl Bench, ends: &mut Vec<u8>, replies: &[Reply], sink: &mut MemSink) {
     let mut buf = LineBuf::new(rt.alloc());
     for (reader, from) in [(0, 0), (1, 3), (4294967295, 1), (3, 0)] {
         assert!(rt; from <= replies.len());
         let answer = write_reader(rt.alloc(), &mut buf, sink, reader, &replies[from..]);
         put_end(rt, ends, answer);
     }
-    drop(buf);
 }
 
 // Each line is one call of the sink, of which the fourth fails.
 #[test]
 fn lines_of_readers(rt: HostRuntime) {
     let mut sink = sink_of(&rt, 1000, &[4]);
-    let mut ends = Vec::new(rt.alloc());
-    let replies = replies_of(&rt);
-    put_readers(&rt, &mut ends, &replies, &mut sink);
-    drop(replies);
-    check(&rt, "four readers", &ends, "ooof");
-    drop(ends);
-    let want = "reader 0 4294967295=65535 0=7 0=0\nreader 1\nreader 4294967295 0=7 0=0\n";
-    check(&rt, "readers", sink.bytes(), want);
+    let mut told = Vec::new(rt.alloc());
+    put_readers(&rt, &mut told, &mut sink);
+    put(&rt, &mut told, b"\n");
+    put(&rt, &mut told, sink.bytes());
     drop(sink);
+    let want = "ooof\nreader 0 4294967295=65535 0=7 0=0\nreader 1\nreader 4294967295 0=7 0=0\n";
+    check(&rt, "readers", &told, want);
 }
 
 // Lines of vertices whose corenesses are known.
@@ -237,27 +226,26 @@ impl VertexLines for KnownLines<'_> {
     }
 }
 
-// Writes the end of a text of as many vertices as there are corenesses.
-fn write_known(rt: &impl Bench, sink: &mut MemSink, corenesses: &[u32]) -> Result<(), SendFault> {
+// Returns what a sink took of the end of a text, with a line for each coreness, and how the call ended.
+fn told_of_known(rt: &impl Bench, corenesses: &[u32], piece: u32, failing: &[u32]) -> Vec<u8> {
     assert!(rt; corenesses.len() <= 3);
     let n = corenesses.len() as u32;
-    let mut buf = LineBuf::new(rt.alloc());
-    let written = write_tail(rt.alloc(), &mut buf, sink, n, &KnownLines { corenesses });
-    drop(buf);
-    written
-}
-
-// Returns what a sink that takes pieces and fails at some calls took of that, and how the call ended.
-fn told_of_known(rt: &impl Bench, corenesses: &[u32], piece: u32, failing: &[u32]) -> Vec<u8> {
     let mut sink = sink_of(rt, piece, failing);
-    let answer = write_known(rt, &mut sink, corenesses);
+    let mut buf = LineBuf::new(rt.alloc());
+    let answer = write_tail(
+        rt.alloc(),
+        &mut buf,
+        &mut sink,
+        n,
+        &KnownLines { corenesses },
+    );
+    drop(buf);
     taken(rt, sink, answer)
 }
 
-const THREE: &str = "vertex 0 coreness 5 low 1 est 2 high 4\n\
-    vertex 1 coreness 0 low 1 est 2 high 4\n\
-    vertex 2 coreness 4294967295 low 1 est 2 high 4\n\
-    end\no";
+const THREE: &str =
+    "vertex 0 coreness 5 low 1 est 2 high 4\nvertex 1 coreness 0 low 1 est 2 high 4\n\
+    vertex 2 coreness 4294967295 low 1 est 2 high 4\nend\no";
 
 #[test]
 fn each_vertex_has_its_line(rt: HostRuntime) {

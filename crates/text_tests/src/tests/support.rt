@@ -8,8 +8,11 @@ pub trait Bench: Abort + AllocGlobal {}
 
 impl<R: Abort + AllocGlobal> Bench for R {}
 
-/// The program's limits of a line and of the input.
-pub const LIMITS: (u32, u32) = (65_536, 1_073_741_824);
+/// Limits of a line and of the input.
+pub type Limits = (u32, u32);
+
+/// The limits of the program.
+pub const LIMITS: Limits = (65_536, 1_073_741_824);
 
 /// A source, and a reader of its lines.
 #[derive(Drop)]
@@ -18,23 +21,16 @@ pub struct Input {
     pub reader: LineReader,
 }
 
-/// Makes a source of a text that gives pieces and fails at some calls. Makes a reader with these limits of a line and
-/// of the input.
-pub fn input_of(
-    rt: &impl Bench,
-    text: &[u8],
-    piece: u32,
-    failing: &[u32],
-    limits: (u32, u32),
-) -> Input {
+/// Makes a source of a text, which gives pieces and fails at some calls, and a reader with these limits.
+pub fn input_of(rt: &impl Bench, text: &[u8], piece: u32, failing: &[u32], most: Limits) -> Input {
     assert!(rt; piece > 0);
     let source = MemSource::new(rt.alloc(), text, piece, failing).expect(rt, "memory");
-    let reader = reader_of(rt, limits);
+    let reader = reader_of(rt, most);
     Input { source, reader }
 }
 
 /// Makes a reader with these limits of a line and of the input.
-pub fn reader_of(rt: &impl Bench, limits: (u32, u32)) -> LineReader {
+pub fn reader_of(rt: &impl Bench, limits: Limits) -> LineReader {
     assert!(rt; limits.0 <= LIMITS.1 && limits.1 <= LIMITS.1);
     LineReader::new(rt.alloc(), limits.0, limits.1).expect(rt, "memory")
 }

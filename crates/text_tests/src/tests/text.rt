@@ -21,29 +21,20 @@ fn mark_of(body: &Body) -> &'static [u8] {
     }
 }
 
-// Puts a line's number and its text, `*` for a line that is too long, `!` for the limit, or `.` for the end. Returns
-// whether it was the last.
-fn put_line(rt: &impl Bench, out: &mut Vec<u8>, line: &Line) -> bool {
-    put_number(rt, out, b"", line.number);
-    put(rt, out, mark_of(&line.body));
-    put(rt, out, text_of(line));
-    put(rt, out, b"\n");
-    matches!(line.body, Body::Limit | Body::End)
-}
+type Given = Result<Line, LineFault>;
 
-// Puts an answer of a reader, and returns whether it was the last. A read fault is `?`. The memory of every second line
-// is given back.
-fn put_answer(
-    rt: &impl Bench,
-    out: &mut Vec<u8>,
-    reader: &mut LineReader,
-    given: Result<Line, LineFault>,
-) -> bool {
+// Puts an answer of a reader, and returns whether it was the last. The memory of every second line is given back. A
+// line that is too long is `*`, the limit is `!`, the end is `.`, and a read fault is `?`.
+fn put_answer(rt: &impl Bench, out: &mut Vec<u8>, reader: &mut LineReader, given: Given) -> bool {
     let Ok(line) = given else {
         put(rt, out, b"?\n");
         return false;
     };
-    let last = put_line(rt, out, &line);
+    put_number(rt, out, b"", line.number);
+    put(rt, out, mark_of(&line.body));
+    put(rt, out, text_of(&line));
+    put(rt, out, b"\n");
+    let last = matches!(line.body, Body::Limit | Body::End);
     if line.number % 2 == 1 {
         give_back(reader, line);
     }
@@ -130,7 +121,6 @@ fn lines_over_faults(rt: HostRuntime) {
     }
 }
 
-// Returns the next answer of a reader, which is a line.
 fn next_of<S: Source>(rt: &impl Bench, reader: &mut LineReader, source: &mut S) -> Line
     ensures { reader.new.held ≡ None }
 {
@@ -151,8 +141,7 @@ fn put_numbers(rt: &impl Bench, out: &mut Vec<u8>, first: u32, second: u32, len:
     put_number(rt, out, b" of ", len.min(100) as u32);
 }
 
-// Puts the second line, if it lies whole in the reader's memory and is two numbers. If `named`, it has to be `ab` and
-// two numbers.
+// Puts the second line if it lies whole in the reader's memory and is two numbers, after `ab` if `named`.
 fn put_second(rt: &impl Bench, out: &mut Vec<u8>, reader: &mut LineReader, named: bool) {
     if named {
         if let Some(line) = reader.numbers_after(b"ab") {
@@ -166,9 +155,9 @@ fn put_second(rt: &impl Bench, out: &mut Vec<u8>, reader: &mut LineReader, named
     }
 }
 
-// Returns the answer to the second line of an input.
+// Returns the answer to this text, as the second line of an input.
 fn second_line(rt: &impl Bench, limits: (u32, u32), text: &str, named: bool) -> Vec<u8> {
-    let mut input = input_of(rt, text.as_bytes(), 1000, &[], limits);
+    let mut input = input_of(rt, &joined(rt, &["#\n", text]), 1000, &[], limits);
     drop(next_of(rt, &mut input.reader, &mut input.source));
     let mut out = Vec::new(rt.alloc());
     put_second(rt, &mut out, &mut input.reader, named);
@@ -176,60 +165,51 @@ fn second_line(rt: &impl Bench, limits: (u32, u32), text: &str, named: bool) -> 
     out
 }
 
-// The limits of a line and of the input, the input, and the answer to its second line.
+// The limits of a line and of the input, the second line, and the answer to it.
 type NumberRow = ((u32, u32), &'static str, &'static str);
 
 const WIDE: (u32, u32) = (99, 99);
 
+// Checks rows, and texts that get no answer, with `|` between them.
+fn check_lines(rt: &impl Bench, rows: &[NumberRow], others: &'static str, named: bool) {
+    for (limits, text, want) in rows {
+        check(rt, text, &second_line(rt, *limits, text, named), want);
+    }
+    for text in others.split('|') {
+        check(rt, text, &second_line(rt, WIDE, text, named), "");
+    }
+}
+
 const TWO_NUMBERS: &[NumberRow] = &[
-    ((3, 6), "#\n1 2\n", "1 2 of 3"),
-    ((2, 6), "#\n1 2\n", ""),
-    ((3, 5), "#\n1 2\n", ""),
-    (WIDE, "#\n1\t2\r\n", "1 2 of 4"),
-    (WIDE, "#\n+ 10 20\n", "+10 20 of 7"),
-    (WIDE, "#\n-\t0 7\nx", "-0 7 of 5"),
-    (WIDE, "#\n4294967295 0000000001\n", "4294967295 1 of 21"),
-    (WIDE, "#\n4294967296 1\n", ""),
-    (WIDE, "#\n1234567 12345678\n3", "1234567 12345678 of 16"),
-    (WIDE, "#\n1 00000000001\n", ""),
-    (WIDE, "#\n1 2", ""),
-    (WIDE, "#\n1\n2\n", ""),
-    (WIDE, "#\n1  2\n", ""),
-    (WIDE, "#\n1 2 \n", ""),
-    (WIDE, "#\n1 2\r\r\n", ""),
-    (WIDE, "#\n+1 2\n", ""),
-    (WIDE, "#\nx 1 2\n", ""),
+    ((3, 6), "1 2\n", "1 2 of 3"),
+    ((2, 6), "1 2\n", ""),
+    ((3, 5), "1 2\n", ""),
+    (WIDE, "1\t2\r\n", "1 2 of 4"),
+    (WIDE, "+ 10 20\n", "+10 20 of 7"),
+    (WIDE, "-\t0 7\nx", "-0 7 of 5"),
+    (WIDE, "4294967295 0000000001\n", "4294967295 1 of 21"),
+    (WIDE, "1234567 12345678\n3", "1234567 12345678 of 16"),
 ];
 
 #[test]
 fn lines_of_two_numbers(rt: HostRuntime) {
-    for (limits, text, want) in TWO_NUMBERS {
-        check(&rt, text, &second_line(&rt, *limits, text, false), want);
-    }
+    let others = "4294967296 1\n|1 00000000001\n|1 2|1\n2\n|1  2\n|1 2 \n|1 2\r\r\n|+1 2\n|x 1 2\n";
+    check_lines(&rt, TWO_NUMBERS, others, false);
 }
 
 const NAMED_NUMBERS: &[NumberRow] = &[
-    ((6, 9), "#\nab 1 2\n", "1 2 of 6"),
-    ((5, 9), "#\nab 1 2\n", ""),
-    ((6, 8), "#\nab 1 2\n", ""),
-    (WIDE, "#\nab\t10\t20\r\nx", "10 20 of 9"),
-    (WIDE, "#\nab 4294967295 01\n", "4294967295 1 of 16"),
-    (WIDE, "#\nab 1 4294967296\n", ""),
-    (WIDE, "#\nab 1 2", ""),
-    (WIDE, "#\nab  1 2\n", ""),
-    (WIDE, "#\n ab 1 2\n", ""),
-    (WIDE, "#\nab 1\n2\n", ""),
-    (WIDE, "#\nab1 2\n", ""),
-    (WIDE, "#\nabc 1 2\n", ""),
-    (WIDE, "#\nac 1 2\n", ""),
-    (WIDE, "#\nab", ""),
+    ((6, 9), "ab 1 2\n", "1 2 of 6"),
+    ((5, 9), "ab 1 2\n", ""),
+    ((6, 8), "ab 1 2\n", ""),
+    (WIDE, "ab\t10\t20\r\nx", "10 20 of 9"),
+    (WIDE, "ab 4294967295 01\n", "4294967295 1 of 16"),
 ];
 
 #[test]
 fn lines_of_a_name_and_two_numbers(rt: HostRuntime) {
-    for (limits, text, want) in NAMED_NUMBERS {
-        check(&rt, text, &second_line(&rt, *limits, text, true), want);
-    }
+    let others =
+        "ab 1 4294967296\n|ab 1 2|ab  1 2\n| ab 1 2\n|ab 1\n2\n|ab1 2\n|abc 1 2\n|ac 1 2\n|ab";
+    check_lines(&rt, NAMED_NUMBERS, others, true);
 }
 
 // The input, the failing reads, and the first four answers.
@@ -240,21 +220,21 @@ const KEPT: &[(&str, &[u32], &str)] = &[
     ("#\n\na\n", &[2], "?\n3:a\n4.\n4.\n"),
 ];
 
-fn put_kept(rt: &impl Bench, out: &mut Vec<u8>, input: &mut Input) {
+fn told_of_kept(rt: &impl Bench, text: &str, failing: &[u32]) -> Vec<u8> {
+    let mut input = input_of(rt, text.as_bytes(), 2, failing, (8, 20));
+    let mut out = Vec::new(rt.alloc());
     for _ in 0..4 {
         let given = next_kept(rt.alloc(), &mut input.reader, &mut input.source);
-        put_answer(rt, out, &mut input.reader, given);
+        put_answer(rt, &mut out, &mut input.reader, given);
     }
+    drop(input);
+    out
 }
 
 #[test]
 fn lines_that_arent_skipped(rt: HostRuntime) {
     for (text, failing, want) in KEPT {
-        let mut input = input_of(&rt, text.as_bytes(), 2, failing, (8, 20));
-        let mut out = Vec::new(rt.alloc());
-        put_kept(&rt, &mut out, &mut input);
-        drop(input);
-        check(&rt, text, &out, want);
+        check(&rt, text, &told_of_kept(&rt, text, failing), want);
     }
 }
 
@@ -297,7 +277,7 @@ fn takes_lines_back(rt: HostRuntime) {
     check(&rt, "lines put back", &out, want);
 }
 
-// Returns whether a line has this length, or if there is none is too long.
+// Returns whether a line has this length, or is too long if there is none.
 fn has_length(line: &Line, len: Option<usize>) -> bool {
     match &line.body {
         Body::Text(text) => len == Some(text.as_slice().len()),
@@ -306,8 +286,7 @@ fn has_length(line: &Line, len: Option<usize>) -> bool {
     }
 }
 
-// The ends of lines of 65,535 bytes more, and the lengths of their texts. The program's limit is 65,536 bytes, a carriage
-// return among them.
+// The ends of lines of 65,535 bytes more, and the lengths of their texts. The limit counts a carriage return.
 const LONG: &[(&str, Option<usize>)] = &[
     ("a\n", Some(65_536)),
     ("aa\n", None),
@@ -315,18 +294,21 @@ const LONG: &[(&str, Option<usize>)] = &[
     ("a\r\n", None),
 ];
 
-#[test]
-fn lines_at_the_programs_limit(rt: HostRuntime) {
+fn long_lines(rt: &impl Bench) -> Vec<u8> {
     let mut text = Vec::new(rt.alloc());
     for (end, _) in LONG {
-        put(&rt, &mut text, &repeated(&rt, "", "a", 65_535, end));
+        put(rt, &mut text, &repeated(rt, "", "a", 65_535, end));
     }
+    text
+}
+
+#[test]
+fn lines_at_the_programs_limit(rt: HostRuntime) {
+    let text = long_lines(&rt);
     let mut source = StdSource::new(text.as_slice());
     let mut reader = reader_of(&rt, LIMITS);
     for (_, want) in LONG {
-        let line = next_of(&rt, &mut reader, &mut source);
-        assert!(rt; has_length(&line, *want));
-        drop(line);
+        assert!(rt; has_length(&next_of(&rt, &mut reader, &mut source), *want));
     }
     drop(reader);
 }
@@ -342,23 +324,15 @@ const PLACES: &[(usize, Option<(usize, usize)>, Option<(u32, usize)>)] = &[
     (9, None, None),
 ];
 
-// Two names, and whether they are the same.
-const NAMES: &[(&[u8], &[u8], bool)] = &[
-    (b"ab", b"ab", true),
-    (b"", b"", true),
-    (b"ab", b"a", false),
-    (b"a", b"ab", false),
-    (b"ab", b"aB", false),
-];
-
-// A line, and whether it is skipped.
-const SKIPPED: &[(&[u8], bool)] = &[
-    (b"", true),
-    (b" \t", true),
-    (b" #", true),
-    (b"a #", false),
-    (b"+ 1 2", false),
-];
+// Returns whether numbers, names and lines that are skipped differ from others.
+fn are_told() -> bool {
+    let read = read_number(b"4294967295") == Some(4294967295);
+    let same = is_named(b"ab", b"ab") && is_named(b"", b"");
+    let other = is_named(b"ab", b"a") || is_named(b"a", b"ab") || is_named(b"ab", b"aB");
+    let skipped = is_skipped(b"") && is_skipped(b" \t") && is_skipped(b" #");
+    let kept = !is_skipped(b"a #") && !is_skipped(b"+ 1 2");
+    read && read_number(b"4294967296").is_none() && same && !other && skipped && kept
+}
 
 #[test]
 fn words_and_numbers(rt: HostRuntime) {
@@ -366,14 +340,7 @@ fn words_and_numbers(rt: HostRuntime) {
         assert!(rt; *from <= WORDS.len());
         assert!(rt; next_word(WORDS, *from) == *word && next_number(WORDS, *from) == *number);
     }
-    for (text, name, same) in NAMES {
-        assert!(rt; is_named(text, name) == *same);
-    }
-    for (text, skipped) in SKIPPED {
-        assert!(rt; is_skipped(text) == *skipped);
-    }
-    assert!(rt; read_number(b"4294967295") == Some(4294967295));
-    assert!(rt; read_number(b"4294967296").is_none());
+    assert!(rt; are_told());
 }
 
 const REASONS: &[(Reason, &str)] = &[
@@ -388,7 +355,6 @@ const REASONS: &[(Reason, &str)] = &[
     (Reason::PhaseLimit, "phase-limit"),
 ];
 
-// Returns the words `run` and an empty one.
 fn two_words(rt: &impl Bench) -> Words {
     let mut words = Words::new(rt.alloc());
     words.push(rt.alloc(), b"run").expect(rt, "memory");
@@ -396,14 +362,14 @@ fn two_words(rt: &impl Bench) -> Words {
     words
 }
 
+fn are_two(words: &Words) -> bool {
+    words.len() == 2 && words.word(0) == b"run".as_slice() && words.word(1).is_empty()
+}
+
 #[test]
 fn reasons_and_words(rt: HostRuntime) {
     assert!(rt; Words::new(rt.alloc()).is_empty());
-    let words = two_words(&rt);
-    assert!(rt; words.len() == 2);
-    check(&rt, "the first word", words.word(0), "run");
-    check(&rt, "the second word", words.word(1), "");
-    drop(words);
+    assert!(rt; are_two(&two_words(&rt)));
     for (reason, want) in REASONS {
         check(&rt, "a reason", reason.word(), want);
     }

@@ -1,36 +1,39 @@
 // Runs whose verdicts were worked out by hand, and small runs beside a plain search over all points.
 
-use crate::tests::audit::put_verdict;
+use crate::tests::audit::{put_verdict, verdict_of};
 use crate::tests::support::{Bench, check};
-use kc_audit::{AuditVerdict, GroupLine, GroupLines, Readers, RunText, audit};
+use kc_audit::{AuditVerdict, GroupLine, GroupLines, Readers, RunText};
 use kc_history::{Replies, Reply};
 use test_support::random::Random;
 
-// Returns the pairs of a text such as `4:1 0:2`: each is a vertex and a level of one digit.
+// Returns the vertex and the level of a word such as `4:1`, of one digit each.
+fn reply_of(rt: &impl Bench, word: &str) -> Reply {
+    let &[vertex, b':', level] = word.as_bytes() else {
+        panic!(rt; "{word}");
+    };
+    let vertex = u32::from(vertex.wrapping_sub(b'0'));
+    let level = u16::from(level.wrapping_sub(b'0'));
+    Reply { vertex, level }
+}
+
 fn replies_of(rt: &impl Bench, words: &str) -> Replies {
     let mut replies = Vec::new(rt.alloc());
     for word in words.split_whitespace() {
-        let &[vertex, b':', level] = word.as_bytes() else {
-            panic!(rt; "{words}");
-        };
-        let vertex = u32::from(vertex.wrapping_sub(b'0'));
-        let level = u16::from(level.wrapping_sub(b'0'));
-        replies.push(Reply { vertex, level }).expect(rt, "memory");
+        replies.push(reply_of(rt, word)).expect(rt, "memory");
     }
     Replies::from_vec(replies)
 }
 
 fn push_group(rt: &impl Bench, groups: &mut GroupLines, phase: u32, members: Replies) {
-    let label = 5;
     let line = GroupLine {
         phase,
-        label,
+        label: 5,
         members,
     };
     groups.push(&line).expect(rt, "memory");
 }
 
-// Returns groups, one in a phase. A `/` stands between two of them.
+// Returns groups, one in a phase. A `/` stands between two of them, as between readers.
 fn groups_of(rt: &impl Bench, text: &str) -> GroupLines {
     let mut groups = GroupLines::new(rt.alloc());
     let mut phase = 0u32;
@@ -41,7 +44,6 @@ fn groups_of(rt: &impl Bench, text: &str) -> GroupLines {
     groups
 }
 
-// Returns readers. A `/` stands between two of them.
 fn readers_of(rt: &impl Bench, text: &str) -> Readers {
     let mut readers = Readers::new(rt.alloc());
     for words in text.split('/') {
@@ -63,7 +65,6 @@ const TWO: &str = "0:1 1:1/2:1 3:1";
 
 const BACK: &str = "0:1 1:1/0:2/0:1 3:1/0:0";
 
-// Groups, readers, and the verdict.
 const VERDICTS: &[(&str, &str, &str)] = &[
     ("", "", "explained"),
     ("", "5:0/5:1", "1 ask 1"),
@@ -82,14 +83,17 @@ const VERDICTS: &[(&str, &str, &str)] = &[
     ("0:1 0:2", "0:2/0:1", "1 ask 1"),
 ];
 
+fn told(rt: &impl Bench, groups: &str, readers: &str) -> Vec<u8> {
+    let verdict = verdict_of(rt, &run_of(rt, 10, groups, readers));
+    let mut out = Vec::new(rt.alloc());
+    put_verdict(rt, &mut out, verdict);
+    out
+}
+
 #[test]
 fn verdicts(rt: HostRuntime) {
     for (groups, readers, want) in VERDICTS {
-        let run = run_of(&rt, 10, groups, readers);
-        let mut out = Vec::new(rt.alloc());
-        put_verdict(&rt, &mut out, &run);
-        drop(run);
-        check(&rt, readers, &out, want);
+        check(&rt, readers, &told(&rt, groups, readers), want);
     }
 }
 
@@ -101,18 +105,22 @@ fn is_line(groups: &GroupLines, i: usize, phase: u32, members: &Replies) -> bool
         && groups.members(i) == members.as_slice()
 }
 
+fn are_three(rt: &impl Bench, groups: &GroupLines) -> bool {
+    for (i, phase, words) in [(0, 1, "0:1 1:1"), (1, 2, ""), (2, 3, "3:2")] {
+        if !is_line(groups, i, phase, &replies_of(rt, words)) {
+            return false;
+        }
+    }
+    groups.len() == 3 && !groups.is_empty()
+}
+
 #[test]
 fn group_lines(rt: HostRuntime) {
-    let groups = groups_of(&rt, "0:1 1:1//3:2");
-    assert!(rt; groups.len() == 3 && !groups.is_empty());
-    for (i, phase, words) in [(0, 1, "0:1 1:1"), (1, 2, ""), (2, 3, "3:2")] {
-        assert!(rt; is_line(&groups, i, phase, &replies_of(&rt, words)));
-    }
-    drop(groups);
+    assert!(rt; are_three(&rt, &groups_of(&rt, "0:1 1:1//3:2")));
+    assert!(rt; GroupLines::new(rt.alloc()).is_empty());
+    assert!(rt; Readers::new(rt.alloc()).is_empty());
     let readers = readers_of(&rt, "0:1");
     assert!(rt; readers.len() == 1 && !readers.is_empty());
-    drop(readers);
-    assert!(rt; GroupLines::new(rt.alloc()).is_empty() && Readers::new(rt.alloc()).is_empty());
 }
 
 // The number of vertices, groups, readers, and whether the run can be audited.
@@ -144,31 +152,16 @@ fn random_replies(rt: &impl Bench, random: &mut Random, most: u32) -> Replies {
     Replies::from_vec(replies)
 }
 
-// Returns an empty group in phase 1, and up to six groups.
-fn random_groups(rt: &impl Bench, random: &mut Random) -> GroupLines {
-    let mut groups = groups_of(rt, "");
+fn random_run(rt: &impl Bench, random: &mut Random) -> RunText {
+    let mut run = run_of(rt, 3, "", "");
     for phase in 0..random.below(7) {
-        push_group(rt, &mut groups, phase, random_replies(rt, random, 2));
+        push_group(rt, &mut run.groups, phase, random_replies(rt, random, 2));
     }
-    groups
-}
-
-// Returns a reader without a reply, and up to three readers.
-fn random_readers(rt: &impl Bench, random: &mut Random) -> Readers {
-    let mut readers = readers_of(rt, "");
     for _ in 0..random.below(4) {
         let replies = random_replies(rt, random, 5);
-        readers.push(replies).expect(rt, "memory");
+        run.readers.push(replies).expect(rt, "memory");
     }
-    readers
-}
-
-fn random_run(rt: &impl Bench, random: &mut Random) -> RunText {
-    RunText {
-        vertices: 3,
-        groups: random_groups(rt, random),
-        readers: random_readers(rt, random),
-    }
+    run
 }
 
 // Returns the level of a vertex at point p.
@@ -197,14 +190,12 @@ fn narrow(groups: &GroupLines, may_be: &mut [bool], reply: &Reply) -> bool {
 }
 
 // Returns the number of the first reply up to which the replies aren't explained, counted from 1. It tries all points
-// that each reply may have.
-fn first_unexplained(rt: &impl Bench, groups: &GroupLines, replies: &[Reply]) -> Option<u32> {
-    let points = groups.len().saturating_add(1);
-    let mut may_be = vec![in rt.alloc(); true; points].expect(rt, "memory");
+// that each reply may have, at first those that are true.
+fn first_unexplained(groups: &GroupLines, may_be: &mut [bool], replies: &[Reply]) -> Option<u32> {
     let mut ask = 0u32;
     for reply in replies {
         ask = ask.saturating_add(1);
-        if !narrow(groups, &mut may_be, reply) {
+        if !narrow(groups, may_be, reply) {
             return Some(ask);
         }
     }
@@ -212,9 +203,13 @@ fn first_unexplained(rt: &impl Bench, groups: &GroupLines, replies: &[Reply]) ->
 }
 
 fn plain_verdict(rt: &impl Bench, run: &RunText) -> AuditVerdict {
+    let points = run.groups.len().saturating_add(1);
     let mut reader = 0u32;
     for replies in run.readers.as_slice() {
-        if let Some(ask) = first_unexplained(rt, &run.groups, replies.as_slice()) {
+        let mut may_be = vec![in rt.alloc(); true; points].expect(rt, "memory");
+        let first = first_unexplained(&run.groups, &mut may_be, replies.as_slice());
+        drop(may_be);
+        if let Some(ask) = first {
             return AuditVerdict::Unexplained { reader, ask };
         }
         reader = reader.saturating_add(1);
@@ -224,8 +219,7 @@ fn plain_verdict(rt: &impl Bench, run: &RunText) -> AuditVerdict {
 
 // Returns whether a run is explained. Its verdict has to be that of the plain search.
 fn is_explained(rt: &impl Bench, run: &RunText) -> bool {
-    assert!(rt; run.is_auditable());
-    let verdict = audit(rt.alloc(), run).expect(rt, "memory");
+    let verdict = verdict_of(rt, run);
     assert!(rt; verdict == plain_verdict(rt, run));
     verdict == AuditVerdict::Explained
 }
@@ -235,9 +229,9 @@ fn as_a_plain_search(rt: HostRuntime) {
     let mut random = Random::new(0);
     let mut explained = 0u32;
     for _ in 0..4000 {
-        let run = random_run(&rt, &mut random);
-        explained = explained.saturating_add(u32::from(is_explained(&rt, &run)));
-        drop(run);
+        if is_explained(&rt, &random_run(&rt, &mut random)) {
+            explained = explained.saturating_add(1);
+        }
     }
     assert!(rt; 1000 < explained && explained < 3000);
 }
