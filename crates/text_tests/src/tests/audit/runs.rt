@@ -105,22 +105,22 @@ fn is_line(groups: &GroupLines, i: usize, phase: u32, members: &Replies) -> bool
         && groups.members(i) == members.as_slice()
 }
 
-fn are_three(rt: &impl Bench, groups: &GroupLines) -> bool {
+// Returns whether a run has the groups of `0:1 1:1//3:2` and one reader.
+fn has_three_and_one(rt: &impl Bench, run: &RunText) -> bool {
+    let (groups, readers) = (&run.groups, &run.readers);
     for (i, phase, words) in [(0, 1, "0:1 1:1"), (1, 2, ""), (2, 3, "3:2")] {
         if !is_line(groups, i, phase, &replies_of(rt, words)) {
             return false;
         }
     }
-    groups.len() == 3 && !groups.is_empty()
+    groups.len() == 3 && !groups.is_empty() && readers.len() == 1 && !readers.is_empty()
 }
 
 #[test]
 fn group_lines(rt: HostRuntime) {
-    assert!(rt; are_three(&rt, &groups_of(&rt, "0:1 1:1//3:2")));
+    assert!(rt; has_three_and_one(&rt, &run_of(&rt, 10, "0:1 1:1//3:2", "0:1")));
     assert!(rt; GroupLines::new(rt.alloc()).is_empty());
     assert!(rt; Readers::new(rt.alloc()).is_empty());
-    let readers = readers_of(&rt, "0:1");
-    assert!(rt; readers.len() == 1 && !readers.is_empty());
 }
 
 // The number of vertices, groups, readers, and whether the run can be audited.
