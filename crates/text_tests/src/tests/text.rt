@@ -5,8 +5,8 @@ use crate::tests::support::{
     Bench, Input, LIMITS, check, input_of, joined, put, put_number, reader_of, repeated,
 };
 use kc_text::{
-    Body, Line, LineFault, LineReader, Reason, Sign, Source, StdSource, Words, give_back, is_named,
-    is_skipped, next_kept, next_number, next_word, read_number, text_of,
+    Body, Line, LineFault, LineReader, MemSource, Reason, Sign, Source, StdSource, Words,
+    give_back, is_named, is_skipped, next_kept, next_number, next_word, read_number, text_of,
 };
 
 // Sources and sinks.
@@ -269,7 +269,9 @@ fn line_of(number: u32, body: Body) -> Line {
 
 #[test]
 fn takes_lines_back(rt: HostRuntime) {
-    let mut input = input_of(&rt, b"a\nb\n", 1, &[], (8, 20));
+    let source = MemSource::new(rt.alloc(), b"a\nb\n", 1, &[]).expect(&rt, "memory");
+    let reader = LineReader::new(rt.alloc(), 8, 20).expect(&rt, "memory");
+    let mut input = Input { source, reader };
     let mut out = Vec::new(rt.alloc());
     put_back(&rt, &mut out, &mut input);
     drop(input);
