@@ -1,6 +1,6 @@
-// Inputs and sinks in memory, and texts that are put together to be compared. Each fits, or the test ends.
+// Inputs, sinks and texts in memory. Each fits, or the test ends.
 
-use kc_text::{LineBuf, LineReader, MemSink, MemSource, Reason};
+use kc_text::{LineReader, MemSink, MemSource, Reason, SendFault};
 use std::process::Abort;
 
 /// The means of a test: memory, and the right to end itself.
@@ -8,8 +8,11 @@ pub trait Bench: Abort + AllocGlobal {}
 
 impl<R: Abort + AllocGlobal> Bench for R {}
 
-/// The program's limits of a line and of the input.
-pub const LIMITS: (u32, u32) = (65_536, 1_073_741_824);
+/// Limits of a line and of the input.
+pub type Limits = (u32, u32);
+
+/// The limits of the program.
+pub const LIMITS: Limits = (65_536, 1_073_741_824);
 
 /// A source, and a reader of its lines.
 #[derive(Drop)]
@@ -18,20 +21,18 @@ pub struct Input {
     pub reader: LineReader,
 }
 
-/// Makes a source of a text that gives pieces and fails at some calls. Makes a reader with these limits of a line and
-/// of the input.
-pub fn input_of(
-    rt: &impl Bench,
-    text: &[u8],
-    piece: u32,
-    failing: &[u32],
-    limits: (u32, u32),
-) -> Input {
-    assert!(rt; piece > 0 && limits.0 <= LIMITS.1 && limits.1 <= LIMITS.1);
-    Input {
-        source: MemSource::new(rt.alloc(), text, piece, failing).expect(rt, "memory"),
-        reader: LineReader::new(rt.alloc(), limits.0, limits.1).expect(rt, "memory"),
-    }
+/// Makes a source of a text, which gives pieces and fails at some calls, and a reader with these limits.
+pub fn input_of(rt: &impl Bench, text: &[u8], piece: u32, failing: &[u32], most: Limits) -> Input {
+    assert!(rt; piece > 0);
+    let source = MemSource::new(rt.alloc(), text, piece, failing).expect(rt, "memory");
+    let reader = reader_of(rt, most);
+    Input { source, reader }
+}
+
+/// Makes a reader with these limits of a line and of the input.
+pub fn reader_of(rt: &impl Bench, limits: Limits) -> LineReader {
+    assert!(rt; limits.0 <= LIMITS.1 && limits.1 <= LIMITS.1);
+    LineReader::new(rt.alloc(), limits.0, limits.1).expect(rt, "memory")
 }
 
 /// Returns a sink of at most 2,000 bytes that takes pieces and fails at some calls.
@@ -40,62 +41,31 @@ pub fn sink_of(rt: &impl Bench, piece: u32, failing: &[u32]) -> MemSink {
     MemSink::new(rt.alloc(), 2000, piece, failing).expect(rt, "memory")
 }
 
-/// A text that is put together.
-#[derive(Drop)]
-pub struct Lines {
-    // The last line, which has no end yet.
-    line: LineBuf,
-    // The lines before it.
-    sink: MemSink,
+/// Puts bytes at the end of a text.
+pub fn put(rt: &impl Bench, text: &mut Vec<u8>, part: &[u8]) {
+    text.extend_from_slice(part).expect(rt, "memory");
 }
 
-impl Lines {
-    pub fn new(rt: &impl Bench) -> Self {
-        Lines {
-            line: LineBuf::new(rt.alloc()),
-            sink: sink_of(rt, 2000, &[]),
-        }
-    }
+/// Puts bytes and a number at the end of a text.
+pub fn put_number(rt: &impl Bench, text: &mut Vec<u8>, part: &[u8], number: u32) {
+    let digits = format!(in rt.alloc(); "{number}").expect(rt, "memory");
+    put(rt, text, part);
+    put(rt, text, digits.as_bytes());
+}
 
-    /// Appends to the last line.
-    pub fn text(&mut self, rt: &impl Bench, text: &[u8]) {
-        self.line.text(rt.alloc(), text).expect(rt, "memory");
-    }
+/// Puts the first line that doesn't fit, with the reason.
+pub fn put_refused(rt: &impl Bench, text: &mut Vec<u8>, line: u32, reason: Reason) {
+    put_number(rt, text, b"", line);
+    put(rt, text, b" ");
+    put(rt, text, reason.word());
+}
 
-    /// Appends to the last line.
-    pub fn number(&mut self, rt: &impl Bench, number: u32) {
-        self.line.number(rt.alloc(), number).expect(rt, "memory");
-    }
-
-    /// Appends a text and a number to the last line.
-    pub fn field(&mut self, rt: &impl Bench, name: &[u8], number: u32) {
-        self.text(rt, name);
-        self.number(rt, number);
-    }
-
-    /// Appends the first line that doesn't fit, with the reason.
-    pub fn refused(&mut self, rt: &impl Bench, line: u32, reason: Reason) {
-        self.number(rt, line);
-        self.text(rt, b" ");
-        self.text(rt, reason.word());
-    }
-
-    /// Ends the last line.
-    pub fn end(&mut self, rt: &impl Bench) {
-        self.line
-            .send(rt.alloc(), &mut self.sink)
-            .expect(rt, "room");
-    }
-
-    /// Appends a text that ends the last line.
-    pub fn line(&mut self, rt: &impl Bench, text: &[u8]) {
-        self.text(rt, text);
-        self.end(rt);
-    }
-
-    /// Returns the lines that have ended.
-    pub fn done(&self, rt: &impl Bench) -> Vec<u8> {
-        Vec::from_slice(rt.alloc(), self.sink.bytes()).expect(rt, "memory")
+/// Puts how a write ended: `o`, or `f` for a write fault.
+pub fn put_end(rt: &impl Bench, text: &mut Vec<u8>, answer: Result<(), SendFault>) {
+    match answer {
+        Ok(()) => put(rt, text, b"o"),
+        Err(SendFault::WriteFault) => put(rt, text, b"f"),
+        Err(SendFault::Memory(_)) => put(rt, text, b"m"),
     }
 }
 
@@ -103,8 +73,18 @@ impl Lines {
 pub fn joined(rt: &impl Bench, parts: &[&str]) -> Vec<u8> {
     let mut all = Vec::new(rt.alloc());
     for part in parts {
-        all.extend_from_slice(part.as_bytes()).expect(rt, "memory");
+        put(rt, &mut all, part.as_bytes());
     }
+    all
+}
+
+/// Returns a text, a part `count` times over, and another text.
+pub fn repeated(rt: &impl Bench, before: &str, part: &str, count: u32, after: &str) -> Vec<u8> {
+    let mut all = joined(rt, &[before]);
+    for _ in 0..count {
+        put(rt, &mut all, part.as_bytes());
+    }
+    put(rt, &mut all, after.as_bytes());
     all
 }
 

@@ -1,25 +1,25 @@
 // Runs whose verdicts were worked out by hand, and small runs beside a plain search over all points.
 
-use crate::tests::audit::tell;
-use crate::tests::support::{Bench, Lines, check};
-use kc_audit::{AuditVerdict, GroupLine, GroupLines, Readers, RunText, audit};
+use crate::tests::audit::{put_verdict, verdict_of};
+use crate::tests::support::{Bench, check};
+use kc_audit::{AuditVerdict, GroupLine, GroupLines, Readers, RunText};
 use kc_history::{Replies, Reply};
 use test_support::random::Random;
 
-// Returns a vertex and a level, of one digit each, as `4:1`.
-fn reply_of(word: &str) -> Reply {
-    let bytes = word.as_bytes();
-    let digit = |at: usize| bytes.get(at).map_or(0, |b| b.wrapping_sub(b'0'));
-    Reply {
-        vertex: u32::from(digit(0)),
-        level: u16::from(digit(2)),
-    }
+// Returns the vertex and the level of a word such as `4:1`, of one digit each.
+fn reply_of(rt: &impl Bench, word: &str) -> Reply {
+    let &[vertex, b':', level] = word.as_bytes() else {
+        panic!(rt; "{word}");
+    };
+    let vertex = u32::from(vertex.wrapping_sub(b'0'));
+    let level = u16::from(level.wrapping_sub(b'0'));
+    Reply { vertex, level }
 }
 
 fn replies_of(rt: &impl Bench, words: &str) -> Replies {
     let mut replies = Vec::new(rt.alloc());
     for word in words.split_whitespace() {
-        replies.push(reply_of(word)).expect(rt, "memory");
+        replies.push(reply_of(rt, word)).expect(rt, "memory");
     }
     Replies::from_vec(replies)
 }
@@ -33,22 +33,31 @@ fn push_group(rt: &impl Bench, groups: &mut GroupLines, phase: u32, members: Rep
     groups.push(&line).expect(rt, "memory");
 }
 
-// Returns a run of ten vertices with these groups, one in a phase, and these readers. A `/` stands between two of them.
-fn run_of(rt: &impl Bench, groups: &str, readers: &str) -> RunText {
-    let mut run = RunText {
-        vertices: 10,
-        groups: GroupLines::new(rt.alloc()),
-        readers: Readers::new(rt.alloc()),
-    };
+// Returns groups, one in a phase. A `/` stands between two of them, as between readers.
+fn groups_of(rt: &impl Bench, text: &str) -> GroupLines {
+    let mut groups = GroupLines::new(rt.alloc());
     let mut phase = 0u32;
-    for words in groups.split('/') {
+    for words in text.split('/') {
         phase = phase.saturating_add(1);
-        push_group(rt, &mut run.groups, phase, replies_of(rt, words));
+        push_group(rt, &mut groups, phase, replies_of(rt, words));
     }
-    for words in readers.split('/') {
-        run.readers.push(replies_of(rt, words)).expect(rt, "memory");
+    groups
+}
+
+fn readers_of(rt: &impl Bench, text: &str) -> Readers {
+    let mut readers = Readers::new(rt.alloc());
+    for words in text.split('/') {
+        readers.push(replies_of(rt, words)).expect(rt, "memory");
     }
-    run
+    readers
+}
+
+fn run_of(rt: &impl Bench, vertices: u32, groups: &str, readers: &str) -> RunText {
+    RunText {
+        vertices,
+        groups: groups_of(rt, groups),
+        readers: readers_of(rt, readers),
+    }
 }
 
 // Two groups, and four that move vertex 0 up and down.
@@ -56,36 +65,39 @@ const TWO: &str = "0:1 1:1/2:1 3:1";
 
 const BACK: &str = "0:1 1:1/0:2/0:1 3:1/0:0";
 
-// Groups, readers, and the verdict.
 const VERDICTS: &[(&str, &str, &str)] = &[
-    ("", "", "explained\n"),
-    ("", "5:0/5:1", "1 ask 1\n"),
-    (TWO, "0:1 1:0", "0 ask 2\n"),
-    (TWO, "0:0 3:0 1:1 3:1", "explained\n"),
-    (TWO, "0:0 1:1", "explained\n"),
-    (TWO, "0:0 0:0 1:1 2:0 2:1 0:1", "explained\n"),
-    (TWO, "2:1 0:0", "0 ask 2\n"),
-    (TWO, "4:0 5:0 4:1", "0 ask 3\n"),
-    (TWO, "0:2", "0 ask 1\n"),
-    (TWO, "1:1 1:1//3:1 1:0/9:9", "2 ask 2\n"),
-    (BACK, "0:0 0:1 0:2 0:1 0:0", "explained\n"),
-    (BACK, "0:0 0:2 3:0 0:0 0:1", "0 ask 5\n"),
-    (BACK, "3:1 0:2", "0 ask 2\n"),
-    (BACK, "0:2/0:2 3:0/3:1/0:2 0:2 0:1 3:0", "3 ask 4\n"),
-    ("0:1 0:2", "0:2/0:1", "1 ask 1\n"),
+    ("", "", "explained"),
+    ("", "5:0/5:1", "1 ask 1"),
+    (TWO, "0:1 1:0", "0 ask 2"),
+    (TWO, "0:0 3:0 1:1 3:1", "explained"),
+    (TWO, "0:0 1:1", "explained"),
+    (TWO, "0:0 0:0 1:1 2:0 2:1 0:1", "explained"),
+    (TWO, "2:1 0:0", "0 ask 2"),
+    (TWO, "4:0 5:0 4:1", "0 ask 3"),
+    (TWO, "0:2", "0 ask 1"),
+    (TWO, "1:1 1:1//3:1 1:0/9:9", "2 ask 2"),
+    (BACK, "0:0 0:1 0:2 0:1 0:0", "explained"),
+    (BACK, "0:0 0:2 3:0 0:0 0:1", "0 ask 5"),
+    (BACK, "3:1 0:2", "0 ask 2"),
+    (BACK, "0:2/0:2 3:0/3:1/0:2 0:2 0:1 3:0", "3 ask 4"),
+    ("0:1 0:2", "0:2/0:1", "1 ask 1"),
 ];
+
+fn told(rt: &impl Bench, groups: &str, readers: &str) -> Vec<u8> {
+    let verdict = verdict_of(rt, &run_of(rt, 10, groups, readers));
+    let mut out = Vec::new(rt.alloc());
+    put_verdict(rt, &mut out, verdict);
+    out
+}
 
 #[test]
 fn verdicts(rt: HostRuntime) {
     for (groups, readers, want) in VERDICTS {
-        let mut out = Lines::new(&rt);
-        tell(&rt, &mut out, &run_of(&rt, groups, readers));
-        out.end(&rt);
-        check(&rt, readers, &out.done(&rt), want);
+        check(&rt, readers, &told(&rt, groups, readers), want);
     }
 }
 
-// Returns whether line i of the groups has this phase, this label and these members.
+// Returns whether line i of the groups has this phase, the label 5 and these members.
 fn is_line(groups: &GroupLines, i: usize, phase: u32, members: &Replies) -> bool {
     i < groups.len()
         && groups.phase(i) == phase
@@ -93,15 +105,22 @@ fn is_line(groups: &GroupLines, i: usize, phase: u32, members: &Replies) -> bool
         && groups.members(i) == members.as_slice()
 }
 
+// Returns whether a run has the groups of `0:1 1:1//3:2` and one reader.
+fn has_three_and_one(rt: &impl Bench, run: &RunText) -> bool {
+    let (groups, readers) = (&run.groups, &run.readers);
+    for (i, phase, words) in [(0, 1, "0:1 1:1"), (1, 2, ""), (2, 3, "3:2")] {
+        if !is_line(groups, i, phase, &replies_of(rt, words)) {
+            return false;
+        }
+    }
+    groups.len() == 3 && !groups.is_empty() && readers.len() == 1 && !readers.is_empty()
+}
+
 #[test]
 fn group_lines(rt: HostRuntime) {
-    let run = run_of(&rt, "0:1 1:1//3:2", "0:1");
-    assert!(rt; run.groups.len() == 3 && !run.groups.is_empty());
-    assert!(rt; run.readers.len() == 1 && !run.readers.is_empty());
-    assert!(rt; GroupLines::new(rt.alloc()).is_empty() && Readers::new(rt.alloc()).is_empty());
-    for (i, phase, words) in [(0, 1, "0:1 1:1"), (1, 2, ""), (2, 3, "3:2")] {
-        assert!(rt; is_line(&run.groups, i, phase, &replies_of(&rt, words)));
-    }
+    assert!(rt; has_three_and_one(&rt, &run_of(&rt, 10, "0:1 1:1//3:2", "0:1")));
+    assert!(rt; GroupLines::new(rt.alloc()).is_empty());
+    assert!(rt; Readers::new(rt.alloc()).is_empty());
 }
 
 // The number of vertices, groups, readers, and whether the run can be audited.
@@ -118,9 +137,7 @@ const RUNS: &[(u32, &str, &str, bool)] = &[
 #[test]
 fn auditable_runs(rt: HostRuntime) {
     for (vertices, groups, readers, want) in RUNS {
-        let mut run = run_of(&rt, groups, readers);
-        run.vertices = *vertices;
-        assert!(rt; run.is_auditable() == *want);
+        assert!(rt; run_of(&rt, *vertices, groups, readers).is_auditable() == *want);
     }
 }
 
@@ -128,25 +145,21 @@ fn auditable_runs(rt: HostRuntime) {
 fn random_replies(rt: &impl Bench, random: &mut Random, most: u32) -> Replies {
     let mut replies = Vec::new(rt.alloc());
     for _ in 0..random.below(most.saturating_add(1)) {
-        let reply = Reply {
-            vertex: random.below(3),
-            level: random.below(3) as u16,
-        };
-        replies.push(reply).expect(rt, "memory");
+        let vertex = random.below(3);
+        let level = random.below(3) as u16;
+        replies.push(Reply { vertex, level }).expect(rt, "memory");
     }
     Replies::from_vec(replies)
 }
 
 fn random_run(rt: &impl Bench, random: &mut Random) -> RunText {
-    let mut run = run_of(rt, "", "");
-    run.vertices = 3;
+    let mut run = run_of(rt, 3, "", "");
     for phase in 0..random.below(7) {
         push_group(rt, &mut run.groups, phase, random_replies(rt, random, 2));
     }
     for _ in 0..random.below(4) {
-        run.readers
-            .push(random_replies(rt, random, 5))
-            .expect(rt, "memory");
+        let replies = random_replies(rt, random, 5);
+        run.readers.push(replies).expect(rt, "memory");
     }
     run
 }
@@ -164,22 +177,25 @@ fn level_at(groups: &GroupLines, p: usize, vertex: u32) -> u16 {
     level
 }
 
+// Keeps the points that a reply may have after those of the reply before it. Returns whether there are some.
+fn narrow(groups: &GroupLines, may_be: &mut [bool], reply: &Reply) -> bool {
+    let mut before = false;
+    let mut some = false;
+    for p in 0..may_be.len() {
+        before |= may_be[p];
+        may_be[p] = before && level_at(groups, p, reply.vertex) == reply.level;
+        some |= may_be[p];
+    }
+    some
+}
+
 // Returns the number of the first reply up to which the replies aren't explained, counted from 1. It tries all points
-// that each reply may have.
-fn first_unexplained(rt: &impl Bench, groups: &GroupLines, replies: &[Reply]) -> Option<u32> {
-    let points = groups.len().saturating_add(1);
-    let mut may_be = vec![in rt.alloc(); true; points].expect(rt, "memory");
+// that each reply may have, at first those that are true.
+fn first_unexplained(groups: &GroupLines, may_be: &mut [bool], replies: &[Reply]) -> Option<u32> {
     let mut ask = 0u32;
     for reply in replies {
         ask = ask.saturating_add(1);
-        let mut before = false;
-        let mut some = false;
-        for (p, here) in may_be.iter_mut().enumerate() {
-            before |= *here;
-            *here = before && level_at(groups, p, reply.vertex) == reply.level;
-            some |= *here;
-        }
-        if !some {
+        if !narrow(groups, may_be, reply) {
             return Some(ask);
         }
     }
@@ -187,9 +203,13 @@ fn first_unexplained(rt: &impl Bench, groups: &GroupLines, replies: &[Reply]) ->
 }
 
 fn plain_verdict(rt: &impl Bench, run: &RunText) -> AuditVerdict {
+    let points = run.groups.len().saturating_add(1);
     let mut reader = 0u32;
     for replies in run.readers.as_slice() {
-        if let Some(ask) = first_unexplained(rt, &run.groups, replies.as_slice()) {
+        let mut may_be = vec![in rt.alloc(); true; points].expect(rt, "memory");
+        let first = first_unexplained(&run.groups, &mut may_be, replies.as_slice());
+        drop(may_be);
+        if let Some(ask) = first {
             return AuditVerdict::Unexplained { reader, ask };
         }
         reader = reader.saturating_add(1);
@@ -197,16 +217,19 @@ fn plain_verdict(rt: &impl Bench, run: &RunText) -> AuditVerdict {
     AuditVerdict::Explained
 }
 
+// Returns whether a run is explained. Its verdict has to be that of the plain search.
+fn is_explained(rt: &impl Bench, run: &RunText) -> bool {
+    let verdict = verdict_of(rt, run);
+    assert!(rt; verdict == plain_verdict(rt, run));
+    verdict == AuditVerdict::Explained
+}
+
 #[test]
 fn as_a_plain_search(rt: HostRuntime) {
     let mut random = Random::new(0);
     let mut explained = 0u32;
     for _ in 0..4000 {
-        let run = random_run(&rt, &mut random);
-        assert!(rt; run.is_auditable());
-        let verdict = audit(rt.alloc(), &run).expect(&rt, "memory");
-        assert!(rt; verdict == plain_verdict(&rt, &run));
-        if verdict == AuditVerdict::Explained {
+        if is_explained(&rt, &random_run(&rt, &mut random)) {
             explained = explained.saturating_add(1);
         }
     }

@@ -1,50 +1,52 @@
 // Sources and sinks, in memory and of std, and lines that are sent. Expected values were worked out by hand.
 ghost use Rattle.std.specs.Prelude.{◌≤◌, IfOk};
 
-use crate::tests::support::{Bench, Lines, check, sink_of};
-use crate::tests::text::tell;
+use crate::tests::support::{Bench, check, put, put_end, put_number, reader_of, sink_of};
+use crate::tests::text::put_answer;
 use kc_text::{
-    Failed, LineBuf, LineReader, MemSink, NullSink, SendFault, Sink, Source, StdSink, StdSource,
-    fill_named, put_all,
+    Failed, LineBuf, MemSink, NullSink, Sink, Source, StdSink, StdSource, fill_named, put_all,
 };
 use std::io;
 use std::io::{Read, Write};
 
-// The capacity, the most of a call, and the failing calls; then the answers to five writes of three bytes, and what was
-// taken.
-const SINKS: &[((u32, u32), &[u32], &str, &str)] = &[
-    ((99, 99), &[], "33333", "abcabcabcabcabc"),
-    ((99, 2), &[5], "2222F", "abababab"),
-    ((20, 1), &[2], "1F111", "aaaa"),
-    ((5, 2), &[], "221FF", "ababa"),
-    ((2, 1), &[1, 3], "F1F1F", "aa"),
-    ((0, 1), &[], "FFFFF", ""),
+// The capacity, the most of a call and the failing calls; the answers to five writes of `abc`, and what was taken.
+const SINKS: &[((u32, u32), &[u32], &str)] = &[
+    ((99, 99), &[], "33333 abcabcabcabcabc"),
+    ((99, 2), &[5], "2222F abababab"),
+    ((20, 1), &[2], "1F111 aaaa"),
+    ((5, 2), &[], "221FF ababa"),
+    ((2, 1), &[1, 3], "F1F1F aa"),
+    ((0, 1), &[], "FFFFF "),
 ];
+
+// Returns the answers of a sink to five writes, and what it took.
+fn told_of_writes(rt: &impl Bench, capacity: u32, piece: u32, failing: &[u32]) -> Vec<u8> {
+    assert!(rt; piece > 0);
+    let mut sink = MemSink::new(rt.alloc(), capacity, piece, failing).expect(rt, "memory");
+    let mut out = Vec::new(rt.alloc());
+    for _ in 0..5 {
+        match sink.write(b"abc") {
+            Ok(count) => put_number(rt, &mut out, b"", count as u32),
+            Err(Failed) => put(rt, &mut out, b"F"),
+        }
+    }
+    put(rt, &mut out, b" ");
+    put(rt, &mut out, sink.bytes());
+    out
+}
 
 #[test]
 fn sinks_in_memory(rt: HostRuntime) {
-    for ((capacity, piece), failing, answers, want) in SINKS {
-        assert!(rt; *piece > 0);
-        let mut sink = MemSink::new(rt.alloc(), *capacity, *piece, failing).expect(&rt, "memory");
-        let mut got = Vec::new(rt.alloc());
-        for _ in 0..5 {
-            let answer = match sink.write(b"abc") {
-                Ok(count) => b'0' + count as u8,
-                Err(Failed) => b'F',
-            };
-            got.push(answer).expect(&rt, "memory");
-        }
-        check(&rt, "five writes", &got, answers);
-        check(&rt, answers, sink.bytes(), want);
+    for ((capacity, piece), failing, want) in SINKS {
+        let got = told_of_writes(&rt, *capacity, *piece, failing);
+        check(&rt, "five writes", &got, want);
     }
 }
 
 // The outcome of a call of a device.
 #[derive(Clone, Copy)]
 enum Call {
-    // A signal interrupts it.
     Interrupted,
-    // It fails.
     Failed,
     // It gives or takes at most this many bytes.
     Most(usize),
@@ -106,21 +108,25 @@ impl Write for Device {
     }
 }
 
-const GONE: &[Call] = &[Call::Failed; 2];
-
-const HINDERED: &[Call] = &[Call::Interrupted; 5];
+// Returns the answers of a reader to three calls.
+fn three_lines<S: Source>(rt: &impl Bench, source: &mut S) -> Vec<u8> {
+    let mut reader = reader_of(rt, (8, 20));
+    let mut out = Vec::new(rt.alloc());
+    for _ in 0..3 {
+        let given = reader.next_line(rt.alloc(), source);
+        put_answer(rt, &mut out, &mut reader, given);
+    }
+    drop(reader);
+    out
+}
 
 #[test]
 fn reads_no_more_at_the_end(rt: HostRuntime) {
     // The device reports an end, and gives more if it is read once more.
     let resumed = Device::new(&rt, &[Call::Most(1), Call::Most(0), Call::Most(1)]);
     let mut source = StdSource::new(resumed);
-    let mut reader = LineReader::new(rt.alloc(), 8, 20).expect(&rt, "memory");
-    let mut out = Lines::new(&rt);
-    for _ in 0..3 {
-        tell(&rt, &mut reader, &mut source, &mut out);
-    }
-    check(&rt, "a, an end and more", &out.done(&rt), "1:a\n2.\n2.\n");
+    let got = three_lines(&rt, &mut source);
+    check(&rt, "a, an end and more", &got, "1:a\n2.\n2.\n");
     let mut buf = [0u8; 1];
     assert!(rt; source.read(&mut buf) == Ok(1) && buf[0] == b'a');
 }
@@ -128,8 +134,8 @@ fn reads_no_more_at_the_end(rt: HostRuntime) {
 #[test]
 fn interrupted_calls_are_made_again(rt: HostRuntime) {
     let mut buf = [0u8; 3];
-    assert!(rt; StdSource::new(Device::new(&rt, HINDERED)).read(&mut buf) == Ok(3));
-    assert!(rt; StdSink::new(Device::new(&rt, HINDERED)).write(b"ab") == Ok(2));
+    assert!(rt; StdSource::new(Device::new(&rt, &[Call::Interrupted; 5])).read(&mut buf) == Ok(3));
+    assert!(rt; StdSink::new(Device::new(&rt, &[Call::Interrupted; 5])).write(b"ab") == Ok(2));
 }
 
 #[test]
@@ -139,7 +145,7 @@ fn ends_of_std(rt: HostRuntime) {
     for (count, want) in [(2, b"ab"), (1, b"cb"), (0, b"cb")] {
         assert!(rt; source.read(&mut buf) == Ok(count) && buf == *want);
     }
-    assert!(rt; StdSource::new(Device::new(&rt, GONE)).read(&mut buf) == Err(Failed));
+    assert!(rt; StdSource::new(Device::new(&rt, &[Call::Failed; 2])).read(&mut buf) == Err(Failed));
 }
 
 #[test]
@@ -156,7 +162,7 @@ fn refused_writes_of_std(rt: HostRuntime) {
     let mut buf = [0u8; 2];
     let mut full = StdSink::new(buf.as_mut_slice());
     assert!(rt; full.write(b"xyz") == Ok(2) && full.write(b"z") == Err(Failed));
-    let mut gone = StdSink::new(Device::new(&rt, GONE));
+    let mut gone = StdSink::new(Device::new(&rt, &[Call::Failed; 2]));
     assert!(rt; gone.write(b"z") == Err(Failed) && gone.flush() == Err(Failed));
 }
 
@@ -169,51 +175,66 @@ fn many_bytes(rt: &impl Bench, count: u32) -> Vec<u8> {
     bytes
 }
 
+// Returns what a source of std gives in ten reads of 100,000 bytes.
+fn read_large(rt: &impl Bench, bytes: &[u8]) -> Vec<u8> {
+    let mut source = StdSource::new(bytes);
+    let mut buf = vec![in rt.alloc(); 0u8; 100_000].expect(rt, "memory");
+    let mut got = Vec::new(rt.alloc());
+    for _ in 0..10 {
+        assert!(rt; buf.len() == 100_000);
+        let count = source.read(&mut buf).expect(rt, "a read");
+        put(rt, &mut got, &buf[..count]);
+    }
+    drop(buf);
+    got
+}
+
+// Returns whether a device that takes 5,000 bytes a call takes all of a large write.
+fn is_taken_whole(rt: &impl Bench, bytes: &[u8]) -> bool {
+    let mut narrow = Device::new(rt, &[Call::Most(5000); 30]);
+    put_all(&mut StdSink::new(&mut narrow), bytes).expect(rt, "writes");
+    narrow.taken.as_slice() == bytes
+}
+
 // No byte of a large read or write is lost, whatever part of it std takes or gives.
 #[test]
 fn large_reads_and_writes(rt: HostRuntime) {
     let bytes = many_bytes(&rt, 200 * 1024);
-    let mut source = StdSource::new(bytes.as_slice());
-    let mut buf = vec![in rt.alloc(); 0u8; 100_000].expect(&rt, "memory");
-    let mut got = Vec::new(rt.alloc());
-    for _ in 0..10 {
-        assert!(rt; buf.len() == 100_000);
-        let count = source.read(&mut buf).expect(&rt, "a read");
-        got.extend_from_slice(&buf[..count]).expect(&rt, "memory");
-    }
-    assert!(rt; got == bytes);
-
-    let bytes = many_bytes(&rt, 100 * 1024);
-    let mut narrow = Device::new(&rt, &[Call::Most(5000); 30]);
-    put_all(&mut StdSink::new(&mut narrow), &bytes).expect(&rt, "writes");
-    assert!(rt; narrow.taken == bytes);
+    assert!(rt; read_large(&rt, &bytes) == bytes);
+    drop(bytes);
+    assert!(rt; is_taken_whole(&rt, &many_bytes(&rt, 100 * 1024)));
 }
 
 // Pieces and failing calls; then the answers to two sends of `v 4294967295` and `w`, and what was taken.
-const SENDS: &[(u32, &[u32], &str, &str)] = &[
-    (1000, &[], "oo", "v 4294967295\nw\n"),
-    (1, &[], "oo", "v 4294967295\nw\n"),
-    (5, &[3], "fo", "v 42949672w\n"),
-    (1000, &[2], "of", "v 4294967295\n"),
+const SENDS: &[(u32, &[u32], &str)] = &[
+    (1000, &[], "oo v 4294967295\nw\n"),
+    (1, &[], "oo v 4294967295\nw\n"),
+    (5, &[3], "fo v 42949672w\n"),
+    (1000, &[2], "of v 4294967295\n"),
 ];
+
+fn put_sends(rt: &impl Bench, out: &mut Vec<u8>, line: &mut LineBuf, sink: &mut MemSink) {
+    fill_named(rt.alloc(), line, b"v ", 4294967295).expect(rt, "memory");
+    put_end(rt, out, line.send(rt.alloc(), sink));
+    line.text(rt.alloc(), b"w").expect(rt, "memory");
+    put_end(rt, out, line.send(rt.alloc(), sink));
+}
+
+// Returns the answers of a sink to two sends, and what it took.
+fn told_of_sends(rt: &impl Bench, piece: u32, failing: &[u32]) -> Vec<u8> {
+    let mut sink = sink_of(rt, piece, failing);
+    let mut line = LineBuf::new(rt.alloc());
+    let mut out = Vec::new(rt.alloc());
+    put_sends(rt, &mut out, &mut line, &mut sink);
+    drop(line);
+    put(rt, &mut out, b" ");
+    put(rt, &mut out, sink.bytes());
+    out
+}
 
 #[test]
 fn sends_lines(rt: HostRuntime) {
-    for (piece, failing, answers, want) in SENDS {
-        let mut sink = sink_of(&rt, *piece, failing);
-        let mut line = LineBuf::new(rt.alloc());
-        let mut got = Vec::new(rt.alloc());
-        fill_named(rt.alloc(), &mut line, b"v ", 4294967295).expect(&rt, "memory");
-        for word in [b"w", b"x"] {
-            let answer = match line.send(rt.alloc(), &mut sink) {
-                Ok(()) => b'o',
-                Err(SendFault::WriteFault) => b'f',
-                Err(SendFault::Memory(_)) => b'm',
-            };
-            got.push(answer).expect(&rt, "memory");
-            line.text(rt.alloc(), word).expect(&rt, "memory");
-        }
-        check(&rt, "two sends", &got, answers);
-        check(&rt, answers, sink.bytes(), want);
+    for (piece, failing, want) in SENDS {
+        check(&rt, "two sends", &told_of_sends(&rt, *piece, failing), want);
     }
 }
