@@ -101,6 +101,7 @@ fn changed<L: Ledger>(rt: &impl Bench, changes: &str, steps: &mut Steps<L>) -> L
     for change in words.as_slice() {
         apply(rt, &mut adj, *change, steps);
     }
+    drop(words);
     assert!(rt; adj.graph().vertices() == 5);
     adj
 }
@@ -112,8 +113,9 @@ fn check_changes<L: Ledger>(rt: &impl Bench, blank: Blank)
     let th = thresholds(rt, Profile::One, 5);
     for (number, row) in CHANGES.iter().enumerate() {
         let adj = changed(rt, row.0, &mut steps);
-        check_row(rt, number, has_row(&adj, &th, row));
+        let holds = has_row(&adj, &th, row);
         drop(adj);
+        check_row(rt, number, holds);
     }
 }
 
@@ -224,12 +226,14 @@ fn check_lifted<R: Bench, L: Ledger>(rt: &R, n: u32, blank: Blank)
     let mut steps = Steps::<L>::new(blank);
     let new = raised(rt, n);
     let one_by_one = lifted(rt, n, &new, &mut steps);
+    let mut same = true;
     for workers in [0, 1, 64] {
         let together = lifted_by(rt, workers, n, &new, &mut steps);
-        assert!(rt; have_same_counts(&together, &one_by_one));
+        same &= have_same_counts(&together, &one_by_one);
         drop(together);
     }
     drop(one_by_one);
+    assert!(rt; same);
 }
 
 #[test]
@@ -261,8 +265,9 @@ fn check_link<L: Ledger>(rt: &impl Bench, blank: Blank)
     let mut steps = Steps::<L>::new(blank);
     let mut adj = LevelAdj::new(rt.alloc(), 5).expect(rt, "memory");
     let linked = adj.link(rt.alloc(), Edge { a: 1, b: 3 }, &mut steps);
-    assert!(rt; has_link(&adj, linked.is_ok() as u32));
+    let whole = has_link(&adj, linked.is_ok() as u32);
     drop(adj);
+    assert!(rt; whole);
 }
 
 #[test]
@@ -283,24 +288,39 @@ fn are_next(lists: &LevelLists<u32>) -> bool {
     true
 }
 
+// Returns whether there are lists up to level 200, all without items.
+fn are_empty(lists: &LevelLists<u32>) -> bool {
+    lists.count() == 201 && lists.next(0) == 201
+}
+
+// Files an item on a level.
+fn file(rt: &impl Bench, lists: &mut LevelLists<u32>, level: u16) {
+    assert!(rt; level < lists.count());
+    lists.file(level, u32::from(level) + 1).expect(rt, "memory");
+}
+
+// Returns whether items are found by level, before those of level 70 are taken out and afterwards.
+fn are_found(alloc: Global, lists: &mut LevelLists<u32>) -> bool {
+    if lists.count() != 201 || !are_next(lists) || lists.on(70) != [71u32, 71].as_slice() {
+        return false;
+    }
+    let taken = lists.take_all(alloc, 70);
+    taken.as_slice() == [71u32, 71].as_slice() && lists.count() == 201 && lists.next(4) == 200
+}
+
 // Lists are made up to a level, and levels without items are passed over, also past the levels that share a mark.
 #[test]
 fn items_by_level(rt: HostRuntime) {
     let mut lists = LevelLists::new(rt.alloc(), 1).expect(&rt, "memory");
     lists.reach(rt.alloc(), 200).expect(&rt, "memory");
-    assert!(rt; lists.count() == 201 && lists.next(0) == 201);
+    let fresh = are_empty(&lists);
     for level in [70u16, 3, 200, 70] {
-        assert!(rt; level < lists.count());
-        lists
-            .file(level, u32::from(level) + 1)
-            .expect(&rt, "memory");
+        file(&rt, &mut lists, level);
     }
     lists.reach(rt.alloc(), 130).expect(&rt, "memory");
-    assert!(rt; lists.count() == 201 && are_next(&lists));
-    assert!(rt; lists.on(70) == [71u32, 71].as_slice());
-    assert!(rt; lists.take_all(rt.alloc(), 70).as_slice() == [71u32, 71].as_slice());
-    assert!(rt; lists.count() == 201 && lists.next(4) == 200);
+    let found = are_found(rt.alloc(), &mut lists);
     lists.clear(rt.alloc());
-    assert!(rt; lists.count() == 201 && lists.next(0) == 201);
+    let cleared = are_empty(&lists);
     drop(lists);
+    assert!(rt; fresh && found && cleared);
 }

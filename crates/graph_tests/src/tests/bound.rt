@@ -27,8 +27,9 @@ fn corenesses(rt: &impl Bench, graph: &Graph) -> Vec<u32> {
 fn small_graphs(rt: HostRuntime) {
     for (pairs, want) in GRAPHS {
         let graph = small_graph(&rt, count_of(&rt, want.len()), pairs);
-        assert!(rt; corenesses(&rt, &graph).as_slice() == *want);
+        let answers = corenesses(&rt, &graph);
         drop(graph);
+        assert!(rt; answers.as_slice() == *want);
     }
 }
 
@@ -84,14 +85,28 @@ fn is_near(graph: &Graph, levels: &Levels, th: &Thresholds, v: u32, coreness: u3
         && coreness <= 3 * estimate.est
 }
 
+// Returns whether that holds at each vertex.
+fn are_near(graph: &Graph, levels: &Levels, th: &Thresholds, corenesses: &[u32]) -> bool
+    requires scale { th.now.vertices ≡ graph.now.vertices }
+{
+    for v in 0..graph.vertices() {
+        match corenesses.get(v as usize) {
+            Some(coreness) if is_near(graph, levels, th, v, *coreness) => {}
+            _ => return false,
+        }
+    }
+    true
+}
+
 // Checks both invariants at each vertex, and its level beside its coreness.
 fn check_point(rt: &impl Bench, graph: &Graph, levels: &Levels) {
+    assert!(rt; graph.vertices() == VERTICES);
     let th = thresholds(rt, Profile::One, VERTICES);
     let corenesses = corenesses(rt, graph);
-    assert!(rt; graph.vertices() == VERTICES && corenesses.len() == VERTICES as usize);
-    for v in 0..VERTICES {
-        assert!(rt; is_near(graph, levels, &th, v, corenesses[v as usize]));
-    }
+    let near = are_near(graph, levels, &th, &corenesses);
+    drop(corenesses);
+    drop(th);
+    assert!(rt; near);
 }
 
 // Lets an edge come in, or leave.
@@ -110,10 +125,12 @@ fn change(rt: &impl Bench, graph: &mut Graph, add: bool, a: u32, b: u32) {
 // Makes the change of an entry.
 fn enter(rt: &impl Bench, graph: &mut Graph, levels: &mut Levels, entry: &Change) {
     let (add, pairs, moves) = entry;
-    let (pairs, moves) = (pairs_of(rt, pairs), pairs_of(rt, moves));
+    let pairs = pairs_of(rt, pairs);
     for (a, b) in pairs.as_slice() {
         change(rt, graph, *add, *a, *b);
     }
+    drop(pairs);
+    let moves = pairs_of(rt, moves);
     for (v, level) in moves.as_slice() {
         assert!(rt; (*v as usize) < levels.as_slice().len() && *level < 65536);
         levels.set(*v, *level as u16);

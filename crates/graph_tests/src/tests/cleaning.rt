@@ -13,15 +13,7 @@ use test_support::random::Random;
 // - the items of the batch, each an insertion +, a deletion - or an isolation x of its second vertex;
 // - the edges that the batch removes, and those that it adds;
 // - the numbers of loops, repeats and idle items.
-type Row = (
-    &'static str,
-    &'static str,
-    &'static str,
-    &'static str,
-    (u32, u32, u32),
-);
-
-const BATCHES: &[Row] = &[
+const BATCHES: &[(&str, &str, &str, &str, (u32, u32, u32))] = &[
     // No items.
     ("01", "", "", "", (0, 0, 0)),
     // Loops alone.
@@ -94,20 +86,32 @@ fn small_edges(rt: &impl Bench, text: &str) -> Vec<Edge> {
     edges(rt, 5, &pairs)
 }
 
-// Returns what the batch of a row comes to.
+// Returns what cleaning gives for the batch of a row.
 fn cleaned_row(rt: &impl Bench, pairs: &str, batch: &str) -> Cleaned {
     let graph = small_graph(rt, 5, pairs);
     let items = items_of(rt, batch);
     cleaned(rt, None, &graph, &items)
 }
 
+// Returns whether cleaning gave the edges and counts of a row.
+fn has_row(
+    rt: &impl Bench,
+    cleaned: &Cleaned,
+    removed: &str,
+    added: &str,
+    counts: (u32, u32, u32),
+) -> bool {
+    let (removed, added) = (small_edges(rt, removed), small_edges(rt, added));
+    has_given(cleaned, &removed, &added, counts)
+}
+
 #[test]
 fn batches_come_to_this(rt: HostRuntime) {
     for (pairs, batch, removed, added, counts) in BATCHES {
         let cleaned = cleaned_row(&rt, pairs, batch);
-        let (removed, added) = (small_edges(&rt, removed), small_edges(&rt, added));
-        assert!(rt; has_given(&cleaned, &removed, &added, *counts), "{batch}");
+        let holds = has_row(&rt, &cleaned, removed, added, *counts);
         drop(cleaned);
+        assert!(rt; holds, "{batch}");
     }
 }
 
@@ -203,15 +207,29 @@ fn random_graph(rt: &impl Bench, random: &mut Random) -> Graph {
     graph(rt, 5, &pairs)
 }
 
-// Returns items on five vertices. Half of them insert, and an eighth isolate if they may.
-fn random_items(rt: &impl Bench, random: &mut Random, count: u32, may_isolate: bool) -> Vec<Item> {
+// Returns items between vertices below n. Each is drawn by a die from 0 on, and half of the sides insert. One side may
+// isolate, and the others delete.
+fn drawn_items(
+    rt: &impl Bench,
+    random: &mut Random,
+    n: u32,
+    count: u32,
+    sides: u32,
+    isolates: Option<u32>,
+) -> Vec<Item>
+    requires some { 0 < n }
+    requires sides { 0 < sides }
+{
     let mut items = Vec::new(rt.alloc());
     for _ in 0..count {
-        let (u, v) = (random.below(5), random.below(5));
-        let item = match random.below(8) {
-            0..4 => Insert { u, v },
-            4 if may_isolate => Isolate { v },
-            _ => Delete { u, v },
+        let (u, v) = (random.below(n), random.below(n));
+        let side = random.below(sides);
+        let item = if side < sides / 2 {
+            Insert { u, v }
+        } else if isolates == Some(side) {
+            Isolate { v }
+        } else {
+            Delete { u, v }
         };
         items.push(item).expect(rt, "memory");
     }
@@ -223,9 +241,10 @@ fn comes_to_what_the_definition_says(rt: HostRuntime) {
     let mut random = Random::new(1);
     for round in 0..100 {
         let graph = random_graph(&rt, &mut random);
-        let items = random_items(&rt, &mut random, round.min(40), true);
-        assert!(rt; comes_to(&rt, None, &graph, &items));
+        let items = drawn_items(&rt, &mut random, 5, round.min(40), 8, Some(4));
+        let same = comes_to(&rt, None, &graph, &items);
         drop(graph);
+        assert!(rt; same);
     }
 }
 
@@ -233,13 +252,15 @@ fn comes_to_what_the_definition_says(rt: HostRuntime) {
 #[test]
 fn one_worker_and_many_come_to_the_same(rt: HostRuntime) {
     let mut random = Random::new(2);
-    for (count, may_isolate) in [(40, false), (90_000, false), (90_000, true)] {
+    for (count, isolates) in [(40, None), (90_000, None), (90_000, Some(4))] {
         let graph = random_graph(&rt, &mut random);
-        let items = random_items(&rt, &mut random, count, may_isolate);
+        let items = drawn_items(&rt, &mut random, 5, count, 8, isolates);
+        let mut same = true;
         for workers in [0, 1, 2, 64] {
-            assert!(rt; comes_to(&rt, Some(workers), &graph, &items));
+            same &= comes_to(&rt, Some(workers), &graph, &items);
         }
         drop(graph);
+        assert!(rt; same);
     }
 }
 
@@ -250,23 +271,6 @@ fn path(rt: &impl Bench, n: u32) -> Vec<(u32, u32)> {
         pairs.push((v - 1, v)).expect(rt, "memory");
     }
     pairs
-}
-
-// Returns insertions and deletions between vertices below n.
-fn drawn_items(rt: &impl Bench, random: &mut Random, n: u32, count: u32) -> Vec<Item>
-    requires { 0 < n }
-{
-    let mut items = Vec::new(rt.alloc());
-    for _ in 0..count {
-        let (u, v) = (random.below(n), random.below(n));
-        let item = if random.below(2) == 0 {
-            Insert { u, v }
-        } else {
-            Delete { u, v }
-        };
-        items.push(item).expect(rt, "memory");
-    }
-    items
 }
 
 // Returns whether cleaning by these workers gives what the walk gave, but for the idle isolation.
@@ -292,15 +296,16 @@ fn sorted_keys_come_to_what_a_walk_does(rt: HostRuntime) {
     let mut random = Random::new(3);
     for (n, count) in [(12u32, 1_000), (12, 3_000), (300, 3_000), (5_000, 66_000)] {
         assert!(rt; n > 1);
-        let graph = graph(&rt, n, &path(&rt, n - 1));
-        let mut items = drawn_items(&rt, &mut random, n - 1, count);
+        let mut items = drawn_items(&rt, &mut random, n - 1, count, 2, None);
         let before = items.len();
         items.push(Isolate { v: n - 1 }).expect(&rt, "memory");
+        let graph = graph(&rt, n, &path(&rt, n - 1));
         let walked = cleaned(&rt, None, &graph, &items);
-        assert!(rt; is_as_walked(&rt, 1, &graph, &items[..before], &walked));
-        assert!(rt; is_as_walked(&rt, 2, &graph, &items[..before], &walked));
+        let alone = is_as_walked(&rt, 1, &graph, &items[..before], &walked);
+        let shared = is_as_walked(&rt, 2, &graph, &items[..before], &walked);
         drop(walked);
         drop(graph);
+        assert!(rt; alone && shared);
     }
 }
 
@@ -314,7 +319,8 @@ fn large_star_is_isolated(rt: HostRuntime) {
     let star = graph(&rt, 66_001, &pairs);
     let removed = edges(&rt, 66_001, &pairs);
     let cleaned = cleaned(&rt, None, &star, &[Isolate { v: 0 }]);
-    assert!(rt; has_given(&cleaned, &removed, &[], (0, 0, 0)));
-    drop(cleaned);
     drop(star);
+    let given = has_given(&cleaned, &removed, &[], (0, 0, 0));
+    drop(cleaned);
+    assert!(rt; given);
 }

@@ -59,9 +59,9 @@ fn falls_once<R: Bench, G: Gate + Sync, L: Ledger>(
         rt, "memory",
     );
     drop(removed);
-    assert!(rt; adj.graph().vertices() == n);
     let led = has_led(rt, adj, th, false, moves.as_slice(), plain);
     drop(moves);
+    assert!(rt; adj.graph().vertices() == n);
     led
 }
 
@@ -85,10 +85,12 @@ fn leave_counted<R: Bench, G: Gate + Sync, L: Ledger>(
         .as_slice()
         .to_vec(rt.alloc())
         .expect(rt, "memory");
+    let mut led = true;
     for batch in batches {
-        assert!(rt; falls_once(rounds, th, adj, work, batch, &mut steps, &mut plain));
+        led &= falls_once(rounds, th, adj, work, batch, &mut steps, &mut plain);
     }
     drop(plain);
+    assert!(rt; led);
 }
 
 // Lets batches leave one after another, by 1 to 64 workers with one workspace. Each gives the levels of the plain body.
@@ -163,10 +165,11 @@ fn check<R: Bench>(
 ) {
     let mut adj = empty(rt, count_of(rt, levels.len()));
     come_in(rt, &OpenGate, 3, &mut adj, &[pairs]);
-    assert!(rt; adj.levels().as_slice() == levels);
+    let begun = adj.levels().as_slice() == levels;
     let count = fall_alone::<R, Brand>(rt, Blank::new(1), &mut adj, removed);
-    assert!(rt; adj.levels().as_slice() == want && count == moves);
+    let ended = adj.levels().as_slice() == want;
     drop(adj);
+    assert!(rt; begun && ended && count == moves);
 }
 
 #[test]

@@ -127,6 +127,8 @@ fn as_peeled_plainly_and_half_as_dense_as_any(rt: HostRuntime) {
         let graph = graph(&rt, n, &pairs);
         let (rows, dense) = (rows_of(&rt, &graph), dense_of(&rt, &graph));
         drop(graph);
-        assert!(rt; is_dense(&rows, n, &dense));
+        let holds = is_dense(&rows, n, &dense);
+        drop(dense);
+        assert!(rt; holds);
     }
 }

@@ -63,13 +63,11 @@ fn comes_and_leaves(
 fn edges_in_and_out(rt: HostRuntime) {
     for (n, pairs, (a, b), v, without, with) in GRAPHS {
         let mut graph = small_graph(&rt, *n, pairs);
-        assert!(rt; 3 * graph.edge_count() as usize == pairs.len() + 1);
+        let chars = 3 * graph.edge_count() as usize;
         let e = Edge { a: *a, b: *b };
-        assert!(rt;
-            comes_and_leaves(&rt, &mut graph, e, *v, without, with),
-            "{pairs}"
-        );
+        let holds = comes_and_leaves(&rt, &mut graph, e, *v, without, with);
         drop(graph);
+        assert!(rt; holds && chars == pairs.len() + 1, "{pairs}");
     }
 }
 
@@ -117,13 +115,15 @@ fn take_out<R: Bench>(rt: &R, workers: u32, graph: &mut Graph, pairs: &[(u32, u3
 fn edges_come_and_leave_together(rt: HostRuntime) {
     let pairs: Pairs = &[(0, 1), (0, 3), (0, 4), (1, 2), (2, 3)];
     let mut graph = graph(&rt, 5, &[(0, 2), (1, 3)]);
+    let mut same = true;
     for workers in [0, 1, 3, 64] {
         put_in(&rt, workers, &mut graph, pairs);
-        assert!(rt; has_rows(&graph, &AFTER, 7));
+        same &= has_rows(&graph, &AFTER, 7);
         take_out(&rt, workers.max(1), &mut graph, pairs);
-        assert!(rt; has_rows(&graph, &BEFORE, 2));
+        same &= has_rows(&graph, &BEFORE, 2);
     }
     drop(graph);
+    assert!(rt; same);
 }
 
 // Returns all pairs of vertices below 1000 that are at most 40 apart.
@@ -164,15 +164,17 @@ fn any_number_of_threads(rt: HostRuntime) {
     let near = near_pairs(&rt);
     let (before, after) = (graph(&rt, 1000, FAR), near_and_far(&rt));
     let mut graph = graph(&rt, 1000, FAR);
+    let mut same = true;
     for workers in [1, 2, 4, 64] {
         put_in(&rt, workers, &mut graph, &near);
-        assert!(rt; have_same_rows(&graph, &after));
+        same &= have_same_rows(&graph, &after);
         take_out(&rt, workers, &mut graph, &near);
-        assert!(rt; have_same_rows(&graph, &before));
+        same &= have_same_rows(&graph, &before);
     }
     drop(graph);
     drop(before);
     drop(after);
+    assert!(rt; same);
 }
 
 // 3,000 numbers of two digits of 12 bits, which are dealt to buckets, and others, which are sorted in place.

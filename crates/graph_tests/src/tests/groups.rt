@@ -78,25 +78,20 @@ fn plan_lacking<R: Bench>(
 }
 
 // Returns the plan of a phase from the levels, whose edges the graph has.
-fn plan_having(rt: &impl Bench, graph: &Graph, case: &Case<'_>, edges: &[Edge]) -> PhasePlan
-    requires before { length case.now.before.now ≡ graph.now.vertices }
-    requires after { length case.now.after.now ≡ graph.now.vertices }
-    requires ascending { EdgesFrom graph.now.vertices 0 0 edges.now }
-{
-    let (before, after) = (levels(rt, case.before), levels(rt, case.after));
-    assert!(rt; are_present(graph, edges));
-    assert!(rt; !case.add || is_below(&before, &after));
-    assert!(rt; case.add || is_below(&after, &before));
-    plan_phase(rt.alloc(), 7, case.add, edges, &before, &after, graph).expect(rt, "memory")
-}
-
-// Returns the graph of a phase with its edges.
-fn whole_graph(rt: &impl Bench, n: u32, case: &Case<'_>) -> Graph
-    ensures { result.vertices ≡ n }
+fn plan_having(rt: &impl Bench, n: u32, case: &Case<'_>, edges: &[Edge]) -> PhasePlan
+    requires before { length case.now.before.now ≡ n }
+    requires after { length case.now.after.now ≡ n }
+    requires ascending { EdgesFrom n 0 0 edges.now }
 {
     let mut pairs = case.others.to_vec(rt.alloc()).expect(rt, "memory");
     pairs.extend_from_slice(case.edges).expect(rt, "memory");
-    graph(rt, n, &pairs)
+    let graph = graph(rt, n, &pairs);
+    drop(pairs);
+    let (before, after) = (levels(rt, case.before), levels(rt, case.after));
+    assert!(rt; are_present(&graph, edges));
+    assert!(rt; !case.add || is_below(&before, &after));
+    assert!(rt; case.add || is_below(&after, &before));
+    plan_phase(rt.alloc(), 7, case.add, edges, &before, &after, &graph).expect(rt, "memory")
 }
 
 // A line of what a plan says: the label of an entry, and three numbers. An entry's first line has its phase and its
@@ -159,10 +154,13 @@ fn said_plainly(rt: &impl Bench, case: &Case<'_>) -> Vec<Line> {
         let label = label_of(case.labels, *a).min(label_of(case.labels, *b));
         put(rt, &mut lines, label, *a, *b, NONE);
     }
+    lines.sort_by_key(|line: &Line| line.0).expect(rt, "memory");
     lines
-        .sort_by_key(|line: &Line| line.0)
-        .expect(rt, "memory");
-    lines
+}
+
+// Returns whether a plan says what it has to.
+fn says(rt: &impl Bench, plan: &PhasePlan, case: &Case<'_>) -> bool {
+    said(rt, plan).as_slice() == said_plainly(rt, case).as_slice()
 }
 
 // Spreads the lesser label of each pair to both ends, if both move. Returns whether a label changed.
@@ -211,42 +209,6 @@ fn labels_plainly(
     labels
 }
 
-// Returns what the plan of `plan_lacking` says.
-fn said_lacking<R: Bench>(
-    planners: &Planners<'_, R>,
-    n: u32,
-    case: &Case<'_>,
-    edges: &[Edge],
-    work: &mut GroupWork,
-) -> Vec<Line>
-    requires before { length case.now.before.now ≡ n }
-    requires after { length case.now.after.now ≡ n }
-    requires ascending { EdgesFrom n 0 0 edges.now }
-    requires clean { work.old ≡ clean n }
-    ensures clean { work.new ≡ clean n }
-{
-    let graph = graph(planners.rt, n, case.others);
-    let plan = plan_lacking(planners, case, edges, &graph, work);
-    drop(graph);
-    let lines = said(planners.rt, &plan);
-    drop(plan);
-    lines
-}
-
-// Returns what the plan of `plan_having` says.
-fn said_having(rt: &impl Bench, n: u32, case: &Case<'_>, edges: &[Edge]) -> Vec<Line>
-    requires before { length case.now.before.now ≡ n }
-    requires after { length case.now.after.now ≡ n }
-    requires ascending { EdgesFrom n 0 0 edges.now }
-{
-    let graph = whole_graph(rt, n, case);
-    let plan = plan_having(rt, &graph, case, edges);
-    drop(graph);
-    let lines = said(rt, &plan);
-    drop(plan);
-    lines
-}
-
 // Checks that the plans of a phase say what the plain one does.
 fn check<R: Bench>(planners: &Planners<'_, R>, n: u32, case: &Case<'_>, work: &mut GroupWork)
     requires clean { work.old ≡ clean n }
@@ -254,14 +216,20 @@ fn check<R: Bench>(planners: &Planners<'_, R>, n: u32, case: &Case<'_>, work: &m
 {
     let rt = planners.rt;
     assert!(rt; case.before.len() == n as usize && case.after.len() == n as usize);
-    let want = said_plainly(rt, case);
     let edges = edges(rt, n, case.edges);
-    assert!(rt; said_lacking(planners, n, case, &edges, work).as_slice() == want.as_slice());
+    let graph = graph(rt, n, case.others);
+    let plan = plan_lacking(planners, case, &edges, &graph, work);
+    drop(graph);
+    let same = says(rt, &plan, case);
+    drop(plan);
+    assert!(rt; same);
     if planners.workers <= 1 {
-        assert!(rt; said_having(rt, n, case, &edges).as_slice() == want.as_slice());
+        let plan = plan_having(rt, n, case, &edges);
+        let same = says(rt, &plan, case);
+        drop(plan);
+        assert!(rt; same);
     }
     drop(edges);
-    drop(want);
 }
 
 // Checks phases of n vertices, one after another, with one workspace.
@@ -368,7 +336,7 @@ fn an_edge_between_vertices_that_stay_is_quiet(rt: HostRuntime) {
     assert!(rt; said_plainly(&rt, &STAYING).as_slice() == STAYING_LINES);
 }
 
-// Returns the label of each of 70 vertices: two at the end of a run of levels that are compared at once, and two others.
+// Returns the labels of 70 vertices, of which four move in two groups.
 fn labels_far_apart(rt: &impl Bench) -> Vec<u32> {
     let mut labels = Vec::new(rt.alloc());
     for v in 0..70u32 {

@@ -55,9 +55,9 @@ fn rises_once<R: Bench, G: Gate + Sync, L: Ledger>(
     assert!(rt; adj.graph().edge_count() as usize + added.len() <= MAX_EDGES as usize);
     let moves = insert_phase(rounds, rt.alloc(), th, adj, work, &added, steps).expect(rt, "memory");
     drop(added);
-    assert!(rt; adj.graph().vertices() == n);
     let led = has_led(rt, adj, th, true, moves.as_slice(), plain);
     drop(moves);
+    assert!(rt; adj.graph().vertices() == n);
     led
 }
 
@@ -81,10 +81,12 @@ fn come_in_counted<R: Bench, G: Gate + Sync, L: Ledger>(
         .as_slice()
         .to_vec(rt.alloc())
         .expect(rt, "memory");
+    let mut led = true;
     for batch in batches {
-        assert!(rt; rises_once(rounds, th, adj, work, batch, &mut steps, &mut plain));
+        led &= rises_once(rounds, th, adj, work, batch, &mut steps, &mut plain);
     }
     drop(plain);
+    assert!(rt; led);
 }
 
 // Does what `come_in` does, with the vertices cut as by this layout.
@@ -143,9 +145,10 @@ fn rise_alone<R: Bench, G: Gate + Sync, L: Ledger>(
 fn check<R: Bench, G: Gate + Sync>(rt: &R, gate: &G, pairs: &[(u32, u32)], want: &[u16]) {
     let mut adj = empty(rt, count_of(rt, want.len()));
     let moves = rise_alone::<R, G, Brand>(rt, Blank::new(1), gate, &mut adj, pairs);
-    assert!(rt; adj.levels().as_slice() == want);
-    assert!(rt; moves as usize == want.iter().filter(|level| **level > 0).count());
+    let same = adj.levels().as_slice() == want;
     drop(adj);
+    let count = want.iter().filter(|level| **level > 0).count();
+    assert!(rt; same && moves as usize == count);
 }
 
 // Batches, and the levels after them.
@@ -170,8 +173,9 @@ fn small_graphs(rt: HostRuntime) {
         for workers in [1, 3, 64] {
             let mut adj = empty(&rt, count_of(&rt, want.len()));
             come_in(&rt, &OpenGate, workers, &mut adj, batches);
-            assert!(rt; adj.levels().as_slice() == *want);
+            let same = adj.levels().as_slice() == *want;
             drop(adj);
+            assert!(rt; same);
         }
     }
 }

@@ -42,18 +42,6 @@ fn coloured(rt: &impl Bench, orientation: &Orientation) -> Vec<u32> {
     colour(rt.alloc(), orientation).expect(rt, "memory")
 }
 
-// Returns whether the vertices below n have these out-neighbours.
-fn has_outs(orientation: &Orientation, n: u32, outs: &[&[u32]]) -> bool
-    requires { length orientation.now.levels ≡ n }
-{
-    for v in 0..n {
-        if outs.get(v as usize) != Some(&orientation.out(v)) {
-            return false;
-        }
-    }
-    true
-}
-
 #[test]
 fn small_graphs(rt: HostRuntime) {
     for (pairs, items, outs, want) in GRAPHS {
@@ -61,9 +49,13 @@ fn small_graphs(rt: HostRuntime) {
         let graph = small_graph(&rt, n, pairs);
         let orientation = oriented(&rt, &graph, &levels(&rt, items));
         drop(graph);
-        assert!(rt; has_outs(&orientation, n, outs));
-        assert!(rt; coloured(&rt, &orientation).as_slice() == *want);
+        let mut same = true;
+        for v in 0..n {
+            same &= outs.get(v as usize) == Some(&orientation.out(v));
+        }
+        let colours = coloured(&rt, &orientation);
         drop(orientation);
+        assert!(rt; same && colours.as_slice() == *want);
     }
 }
 
@@ -98,28 +90,19 @@ fn is_least_free(out: &[u32], colours: &[u32], own: u32) -> bool {
         && !out.iter().any(|w| has_colour(colours, *w, own))
 }
 
-// Returns whether each vertex has the out-neighbours of the definition.
-fn are_oriented(graph: &Graph, levels: &Levels, orientation: &Orientation) -> bool
+// Returns whether each vertex has the out-neighbours and the colour of the definitions.
+fn is_as_defined(graph: &Graph, levels: &Levels, orientation: &Orientation, colours: &[u32]) -> bool
     requires sized { length levels.now ≡ graph.now.vertices }
     requires same { length orientation.now.levels ≡ graph.now.vertices }
 {
-    for v in 0..graph.vertices() {
-        if !is_oriented(graph, levels, orientation, v) {
-            return false;
-        }
-    }
-    true
-}
-
-// Returns whether the colours of the vertices below n are the least free ones.
-fn are_least_free(orientation: &Orientation, n: u32, colours: &[u32]) -> bool
-    requires { length orientation.now.levels ≡ n }
-{
+    let n = graph.vertices();
     if colours.len() != n as usize {
         return false;
     }
     for v in 0..n {
-        if !is_least_free(orientation.out(v), colours, colours[v as usize]) {
+        if !is_oriented(graph, levels, orientation, v)
+            || !is_least_free(orientation.out(v), colours, colours[v as usize])
+        {
             return false;
         }
     }
@@ -149,9 +132,10 @@ fn small_graphs_by_the_definition(rt: HostRuntime) {
         let graph = graph(&rt, n, &pairs);
         let levels = drawn_levels(&rt, &mut random, n);
         let orientation = oriented(&rt, &graph, &levels);
-        assert!(rt; are_oriented(&graph, &levels, &orientation));
-        drop(graph);
-        assert!(rt; are_least_free(&orientation, n, &coloured(&rt, &orientation)));
+        let colours = coloured(&rt, &orientation);
+        let same = is_as_defined(&graph, &levels, &orientation, &colours);
         drop(orientation);
+        drop(graph);
+        assert!(rt; same);
     }
 }

@@ -108,8 +108,8 @@ pub fn empty(rt: &impl Bench, n: u32) -> LevelAdj {
     LevelAdj::new(rt.alloc(), n).expect(rt, "memory")
 }
 
-// Makes a change: + adds an edge, - removes it, ^ lifts a vertex to a level, r lifts it by one level, v lowers it to a
-// level.
+// Makes a change. The sign + adds an edge, and - removes it. The sign ^ lifts a vertex to a level, r lifts it by one
+// level, and v lowers it to a level.
 pub fn apply<L: Ledger>(
     rt: &impl Bench,
     adj: &mut LevelAdj,
