@@ -7,20 +7,17 @@ ghost use Rattle.kc_levels.specs.LevelList.{MeetsLower, IsCapped};
 ghost use Rattle.kc_delete.specs.Working.{IsReady};
 
 use super::drawing::{all_pairs, dealt, drawn_pairs};
-use super::insert::{WORKERS, come_in, empty};
-use super::plainly::{are_moves, count_of, settle_plainly};
-use super::support;
-use super::support::levelled;
+use super::insert::{WORKERS, come_in};
+use super::plainly::{has_led, settle_plainly};
+use super::support::{
+    Bench, FOUR, Pairs, STAR, count_of, edges, empty, graph, levelled, thresholds,
+};
 use kc_adj::{LevelAdj, Steps};
 use kc_delete::{DeletionWork, delete_phase, delete_rounds};
-use kc_graph::MAX_VERTICES;
-use kc_levels::{Moves, Profile, Thresholds, check_lower};
+use kc_levels::{Profile, Thresholds, check_lower};
 use kc_rounds::{Gate, OpenGate, Rounds};
-use std::alloc::Global;
 use std::marker::Brand;
-use std::process::Abort;
 use std::sync::ledger::{Blank, Ledger};
-use std::thread::Threads;
 use test_support::gates::Holding;
 use test_support::graphs::are_present;
 use test_support::random::Random;
@@ -39,16 +36,16 @@ fn can_fall(adj: &LevelAdj, th: &Thresholds) -> bool
     true
 }
 
-// Runs one phase, with a workspace that is kept.
-fn leave_once<R: Threads + Sync + Abort, G: Gate + Sync, L: Ledger>(
+// Runs one phase, with a workspace that is kept. Returns whether it gave the levels of the plain body, and its moves.
+fn falls_once<R: Bench, G: Gate + Sync, L: Ledger>(
     rounds: &Rounds<R, G>,
-    alloc: Global,
     th: &Thresholds,
     adj: &mut LevelAdj,
     work: &mut DeletionWork,
     pairs: &[(u32, u32)],
     steps: &mut Steps<L>,
-) -> Moves
+    plain: &mut Vec<u16>,
+) -> bool
     requires scale { th.now.vertices ≡ adj.old.graph.vertices }
     requires ready { IsReady adj.old work.old }
     ensures scale { th.now.vertices ≡ adj.new.graph.vertices }
@@ -56,168 +53,149 @@ fn leave_once<R: Threads + Sync + Abort, G: Gate + Sync, L: Ledger>(
 {
     let rt = rounds.runtime();
     let n = adj.graph().vertices();
-    let removed = support::edges(rt, alloc, n, pairs);
+    let removed = edges(rt, n, pairs);
     assert!(rt; are_present(adj.graph(), &removed) && can_fall(adj, th));
-    let moves = delete_phase(rounds, alloc, th, adj, work, &removed, steps).expect(rt, "memory");
+    let moves = delete_phase(rounds, rt.alloc(), th, adj, work, &removed, steps).expect(
+        rt, "memory",
+    );
+    drop(removed);
+    let led = has_led(rt, adj, th, false, moves.as_slice(), plain);
+    drop(moves);
     assert!(rt; adj.graph().vertices() == n);
-    moves
+    led
 }
 
-// Does what `leave` does, with a counter of its own.
-fn leave_counted<R: Threads + Sync + Abort, G: Gate + Sync, L: Ledger>(
-    rt: &R,
-    alloc: Global,
+// Does what `leave` does, with a workspace that is ready and a counter of its own.
+fn leave_counted<R: Bench, G: Gate + Sync, L: Ledger>(
+    rounds: &Rounds<R, G>,
     blank: Blank,
-    gate: &G,
-    workers: u32,
+    th: &Thresholds,
     adj: &mut LevelAdj,
+    work: &mut DeletionWork,
     batches: &[&[(u32, u32)]],
 )
-    requires name { blank.name ≡ L.name }
-    requires parts { blank.parts ≡ L.parts }
-    requires some { 0 < L.parts }
+    requires scale { th.now.vertices ≡ adj.old.graph.vertices }
+    requires ready { IsReady adj.old work.old }
+    requires ledger { (blank.name ≡ L.name) × (blank.parts ≡ L.parts) × (0 < L.parts) }
 {
-    assert!(rt; 1 <= workers && workers <= 64);
-    let rounds = Rounds::new(rt, alloc, gate, workers);
-    let n = adj.graph().vertices();
-    let th = Thresholds::new(alloc, Profile::One, n).expect(rt, "memory");
-    let mut work = DeletionWork::new(alloc, adj).expect(rt, "memory");
+    let rt = rounds.runtime();
     let mut steps = Steps::<L>::new(blank);
-    let mut plain = adj.levels().as_slice().to_vec(alloc).expect(rt, "memory");
+    let mut plain = adj
+        .levels()
+        .as_slice()
+        .to_vec(rt.alloc())
+        .expect(rt, "memory");
+    let mut led = true;
     for batch in batches {
-        let moves = leave_once(&rounds, alloc, &th, adj, &mut work, batch, &mut steps);
-        let before = plain.as_slice().to_vec(alloc).expect(rt, "memory");
-        settle_plainly(rt, alloc, adj.graph(), &th, false, &mut plain);
-        assert!(rt; adj.levels().as_slice() == plain.as_slice());
-        assert!(rt; are_moves(moves.as_slice(), n, &before, &plain));
+        led &= falls_once(rounds, th, adj, work, batch, &mut steps, &mut plain);
     }
+    drop(plain);
+    assert!(rt; led);
 }
 
 // Lets batches leave one after another, by 1 to 64 workers with one workspace. Each gives the levels of the plain body.
-fn leave<R: Threads + Sync + Abort, G: Gate + Sync>(
+fn leave<R: Bench, G: Gate + Sync>(
     rt: &R,
-    alloc: Global,
     gate: &G,
     workers: u32,
     adj: &mut LevelAdj,
     batches: &[&[(u32, u32)]],
 ) {
-    leave_counted::<R, G, Brand>(rt, alloc, Blank::new(1), gate, workers, adj, batches);
+    assert!(rt; 1 <= workers && workers <= 64);
+    let th = thresholds(rt, Profile::One, adj.graph().vertices());
+    let mut work = DeletionWork::new(rt.alloc(), adj).expect(rt, "memory");
+    let rounds = Rounds::new(rt, rt.alloc(), gate, workers);
+    leave_counted::<R, G, Brand>(&rounds, Blank::new(1), &th, adj, &mut work, batches);
+    drop(work);
 }
 
 // Runs a phase with a workspace of its own. Returns the number of vertices that it moves.
-fn leave_alone<R: Threads + Sync + Abort, G: Gate + Sync, L: Ledger>(
+fn fall_alone<R: Bench, L: Ledger>(
     rt: &R,
-    alloc: Global,
     blank: Blank,
-    gate: &G,
     adj: &mut LevelAdj,
     pairs: &[(u32, u32)],
 ) -> u32
-    requires name { blank.name ≡ L.name }
-    requires parts { blank.parts ≡ L.parts }
-    requires some { 0 < L.parts }
+    requires ledger { (blank.name ≡ L.name) × (blank.parts ≡ L.parts) × (0 < L.parts) }
 {
     let n = adj.graph().vertices();
-    let th = Thresholds::new(alloc, Profile::One, n).expect(rt, "memory");
+    let th = thresholds(rt, Profile::One, n);
     let mut steps = Steps::<L>::new(blank);
-    let removed = support::edges(rt, alloc, n, pairs);
+    let removed = edges(rt, n, pairs);
     assert!(rt; are_present(adj.graph(), &removed) && can_fall(adj, &th));
-    let tally = delete_rounds(rt, alloc, gate, 2, &th, adj, &removed, &mut steps).expect(
-        rt, "memory",
-    );
-    tally.moves
+    let tally = delete_rounds(rt, rt.alloc(), &OpenGate, 2, &th, adj, &removed, &mut steps);
+    drop(removed);
+    tally.expect(rt, "memory").moves
 }
 
-// Returns the graph with the edges of the pairs, and vertices on the greatest levels that meet the lower invariant.
-fn highest<R: Abort, L: Ledger>(
-    rt: &R,
-    alloc: Global,
-    blank: Blank,
-    n: u32,
-    pairs: &[(u32, u32)],
-) -> LevelAdj
-    requires positive { 1 ≤ n }
-    requires small { n ≤ MAX_VERTICES }
-    requires name { blank.name ≡ L.name }
-    requires parts { blank.parts ≡ L.parts }
-    requires some { 0 < L.parts }
+// Returns the greatest levels that meet the lower invariant in the graph with the edges of the pairs.
+fn highest_levels(rt: &impl Bench, n: u32, pairs: &[(u32, u32)]) -> Vec<u16> {
+    let th = thresholds(rt, Profile::One, n);
+    let mut levels = vec![in rt.alloc(); th.top(); n as usize].expect(rt, "memory");
+    let graph = graph(rt, n, pairs);
+    settle_plainly(rt, &graph, &th, false, &mut levels);
+    drop(graph);
+    levels
+}
+
+// Returns the graph with the edges of the pairs, on its highest levels.
+fn highest<R: Bench, L: Ledger>(rt: &R, blank: Blank, n: u32, pairs: &[(u32, u32)]) -> LevelAdj
+    requires ledger { (blank.name ≡ L.name) × (blank.parts ≡ L.parts) × (0 < L.parts) }
 {
-    let graph = support::graph(rt, alloc, n, pairs);
-    let th = Thresholds::new(alloc, Profile::One, n).expect(rt, "memory");
-    let mut levels = vec![in alloc; th.top(); n as usize].expect(rt, "memory");
-    settle_plainly(rt, alloc, &graph, &th, false, &mut levels);
     let mut steps = Steps::<L>::new(blank);
-    levelled(rt, alloc, pairs, &levels, &mut steps)
+    let levels = highest_levels(rt, n, pairs);
+    levelled(rt, pairs, &levels, &mut steps)
 }
 
 // The edges of a graph, its levels, the edges that leave, the levels after it, and the number of vertices that move.
-const CASES: &[(&[(u32, u32)], &[u16], &[(u32, u32)], &[u16], u32)] = &[
-    (
-        &[(0, 1), (0, 2), (0, 3), (0, 4)],
-        &[2, 1, 1, 1, 1],
-        &[(0, 1), (0, 2), (0, 3), (0, 4)],
-        &[0, 0, 0, 0, 0],
-        5,
-    ),
-    (
-        &[(0, 1), (0, 2), (0, 3), (1, 2), (1, 3), (2, 3)],
-        &[6, 6, 6, 6, 0],
-        &[(0, 1)],
-        &[6, 6, 6, 6, 0],
-        0,
-    ),
-    (
-        &[(0, 1), (0, 2), (0, 3), (1, 2), (1, 3), (2, 3)],
-        &[6, 6, 6, 6, 0],
-        &[],
-        &[6, 6, 6, 6, 0],
-        0,
-    ),
+const CASES: &[(Pairs, &[u16], Pairs, &[u16], u32)] = &[
+    (STAR, &[2, 1, 1, 1, 1], STAR, &[0, 0, 0, 0, 0], 5),
+    (FOUR, &[6, 6, 6, 6, 0], &[(0, 1)], &[6, 6, 6, 6, 0], 0),
+    (FOUR, &[6, 6, 6, 6, 0], &[], &[6, 6, 6, 6, 0], 0),
 ];
 
 // Lets edges leave in a phase with a workspace of its own. The graph is on the levels of an insertion phase.
-fn check<R: Threads + Sync + Abort>(
+fn check<R: Bench>(
     rt: &R,
-    alloc: Global,
     pairs: &[(u32, u32)],
     levels: &[u16],
     removed: &[(u32, u32)],
     want: &[u16],
     moves: u32,
 ) {
-    let mut adj = empty(rt, alloc, count_of(rt, levels.len()));
-    come_in(rt, alloc, &OpenGate, 3, &mut adj, &[pairs]);
-    assert!(rt; adj.levels().as_slice() == levels);
-    let blank = Blank::new(1);
-    let count = leave_alone::<R, OpenGate, Brand>(rt, alloc, blank, &OpenGate, &mut adj, removed);
-    assert!(rt; adj.levels().as_slice() == want && count == moves);
+    let mut adj = empty(rt, count_of(rt, levels.len()));
+    come_in(rt, &OpenGate, 3, &mut adj, &[pairs]);
+    let begun = adj.levels().as_slice() == levels;
+    let count = fall_alone::<R, Brand>(rt, Blank::new(1), &mut adj, removed);
+    let ended = adj.levels().as_slice() == want;
+    drop(adj);
+    assert!(rt; begun && ended && count == moves);
 }
 
 #[test]
 fn small_graphs(rt: HostRuntime) {
     for (pairs, levels, removed, want, moves) in CASES {
-        check(&rt, rt.alloc(), pairs, levels, removed, want, *moves);
+        check(&rt, pairs, levels, removed, want, *moves);
     }
 }
 
 // Eight vertices are joined each with each, and one of them keeps two neighbours.
 #[test]
 fn a_vertex_falls_part_of_the_way(rt: HostRuntime) {
-    let eight = all_pairs(&rt, rt.alloc(), 8);
+    let eight = all_pairs(&rt, 8);
     let removed = [(0, 1), (0, 2), (0, 3), (0, 4), (0, 5)];
     let want = [13, 19, 19, 19, 19, 19, 19, 19];
-    check(&rt, rt.alloc(), &eight, &[19; 8], &removed, &want, 1);
+    check(&rt, &eight, &[19; 8], &removed, &want, 1);
 }
 
 // All five vertices of a star have to fall at once.
 #[test]
 fn a_first_round_has_two_pieces_at_once(rt: HostRuntime) {
-    let star = [(0, 1), (0, 2), (0, 3), (0, 4)];
-    let mut adj = empty(&rt, rt.alloc(), 5);
-    come_in(&rt, rt.alloc(), &OpenGate, 1, &mut adj, &[&star]);
+    let mut adj = empty(&rt, 5);
+    come_in(&rt, &OpenGate, 1, &mut adj, &[STAR]);
     let gate = Holding::new();
-    leave(&rt, rt.alloc(), &gate, 2, &mut adj, &[&star]);
+    leave(&rt, &gate, 2, &mut adj, &[STAR]);
+    drop(adj);
     assert!(rt; gate.have_met());
 }
 
@@ -227,12 +205,11 @@ fn batches_fall_as_by_recounting(rt: HostRuntime) {
     for round in 0..8u32 {
         for workers in WORKERS {
             let n = 1 + random.below(20);
-            let pairs = drawn_pairs(&rt, rt.alloc(), &mut random, n, 1 + round % 5, n);
-            let batches = dealt(&rt, rt.alloc(), &mut random, &pairs, 4);
-            let blank = Blank::new(1);
-            let mut adj = highest::<HostRuntime, Brand>(&rt, rt.alloc(), blank, n, &pairs);
-            let batches = batches.parts();
-            leave(&rt, rt.alloc(), &OpenGate, workers, &mut adj, &batches);
+            let pairs = drawn_pairs(&rt, &mut random, n, 1 + round % 5, n);
+            let batches = dealt(&rt, &mut random, &pairs, 4);
+            let mut adj = highest::<HostRuntime, Brand>(&rt, Blank::new(1), n, &pairs);
+            leave(&rt, &OpenGate, workers, &mut adj, &batches.parts());
+            drop(adj);
         }
     }
 }
@@ -243,13 +220,14 @@ fn batches_fall_as_by_recounting(rt: HostRuntime) {
 fn great_batches_come_and_leave_as_by_recounting(rt: HostRuntime) {
     let mut random = Random::new(1);
     let n = 9_000;
-    let pairs = drawn_pairs(&rt, rt.alloc(), &mut random, n, 1_000, 1);
-    let batches = dealt(&rt, rt.alloc(), &mut random, &pairs, 60);
+    let pairs = drawn_pairs(&rt, &mut random, n, 1_000, 1);
+    let batches = dealt(&rt, &mut random, &pairs, 60);
     assert!(rt; batches.third.len() >= 8_192);
     for workers in WORKERS {
-        let mut adj = empty(&rt, rt.alloc(), n);
+        let mut adj = empty(&rt, n);
         let batches = batches.parts();
-        come_in(&rt, rt.alloc(), &OpenGate, workers, &mut adj, &batches);
-        leave(&rt, rt.alloc(), &OpenGate, workers, &mut adj, &batches);
+        come_in(&rt, &OpenGate, workers, &mut adj, &batches);
+        leave(&rt, &OpenGate, workers, &mut adj, &batches);
+        drop(adj);
     }
 }
