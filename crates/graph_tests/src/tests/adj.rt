@@ -12,7 +12,7 @@ use std::marker::Brand;
 use std::sync::ledger::{Blank, Ledger};
 use test_support::graphs::is_below;
 
-// Changes to the graph on 5 vertices without edges, all on level 0 (`apply`), and what holds after them:
+// Changes to the graph on 5 vertices without edges, all on level 0 (`apply` has the signs), and what holds after them:
 //
 // - the levels;
 // - for each vertex, how many of its neighbours are on its level or above;
@@ -141,7 +141,7 @@ fn woven<L: Ledger>(rt: &impl Bench, n: u32, steps: &mut Steps<L>) -> LevelAdj {
     adj
 }
 
-// Returns other levels, none of which is lower.
+// Returns levels for the woven graph, none of which is lower than its own.
 fn raised(rt: &impl Bench, n: u32) -> Levels {
     let mut items = Vec::new(rt.alloc());
     for v in 0..n {
@@ -243,7 +243,7 @@ fn lifted_together_as_one_by_one(rt: HostRuntime) {
     }
 }
 
-// Returns whether the ends of the edge 1 - 3 have as many neighbours as this, all on their level.
+// Returns whether the graph has this number of edges, and each end of 1 - 3 as many neighbours, all on its level.
 fn has_link(adj: &LevelAdj, count: u32) -> bool {
     if adj.graph().vertices() != 5 || adj.graph().edge_count() != count {
         return false;
@@ -278,7 +278,7 @@ fn an_edge_comes_in_whole_or_not_at_all(rt: HostRuntime) {
 // A level, and the first level from it on that has items.
 const NEXT: &[(u16, u16)] = &[(0, 3), (3, 3), (4, 70), (70, 70), (71, 200), (201, 201)];
 
-// Returns whether the levels from those of the table on are these.
+// Returns whether the lists have the next levels of the table.
 fn are_next(lists: &LevelLists<u32>) -> bool {
     for (from, next) in NEXT {
         if *from > lists.count() || lists.next(*from) != *next {

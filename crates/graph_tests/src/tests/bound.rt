@@ -85,7 +85,7 @@ fn is_near(graph: &Graph, levels: &Levels, th: &Thresholds, v: u32, coreness: u3
         && coreness <= 3 * estimate.est
 }
 
-// Returns whether that holds at each vertex.
+// Returns whether each vertex meets both invariants, and its level is near its coreness.
 fn are_near(graph: &Graph, levels: &Levels, th: &Thresholds, corenesses: &[u32]) -> bool
     requires scale { th.now.vertices ≡ graph.now.vertices }
 {

@@ -63,7 +63,7 @@ fn items_of(rt: &impl Bench, text: &str) -> Vec<Item> {
     items
 }
 
-// Returns what cleaning by these workers gives, or what it gives if none are named.
+// Returns what cleaning by these workers gives, or what `clean` gives if no number is named.
 fn cleaned(rt: &impl Bench, workers: Option<u32>, graph: &Graph, items: &[Item]) -> Cleaned {
     assert!(rt; are_inside(graph.vertices(), items) && items.len() <= MAX_ITEMS as usize);
     let cleaned = match workers {
@@ -207,8 +207,8 @@ fn random_graph(rt: &impl Bench, random: &mut Random) -> Graph {
     graph(rt, 5, &pairs)
 }
 
-// Returns items between vertices below n. Each is drawn by a die from 0 on, and half of the sides insert. One side may
-// isolate, and the others delete.
+// Returns items between vertices below n. A die with sides from 0 on decides on each item. The lower half of the sides
+// insert, the side `isolates` isolates, and the others delete.
 fn drawn_items(
     rt: &impl Bench,
     random: &mut Random,

@@ -63,6 +63,7 @@ fn comes_and_leaves(
 fn edges_in_and_out(rt: HostRuntime) {
     for (n, pairs, (a, b), v, without, with) in GRAPHS {
         let mut graph = small_graph(&rt, *n, pairs);
+        // Each edge has two digits in the text, and a blank after all but the last.
         let chars = 3 * graph.edge_count() as usize;
         let e = Edge { a: *a, b: *b };
         let holds = comes_and_leaves(&rt, &mut graph, e, *v, without, with);

@@ -95,7 +95,8 @@ fn plan_having(rt: &impl Bench, n: u32, case: &Case<'_>, edges: &[Edge]) -> Phas
 }
 
 // A line of what a plan says: the label of an entry, and three numbers. An entry's first line has its phase and its
-// direction. A line of a move has the vertex, the old level and the new one, and a line of an edge has its ends.
+// direction. A line of a move has the vertex, the old level and the new one, and a line of an edge has its ends. A
+// number that a line doesn't need is `NONE`.
 type Line = (u32, (u32, u32, u32));
 
 // Puts a line at the end.
@@ -209,7 +210,7 @@ fn labels_plainly(
     labels
 }
 
-// Checks that the plans of a phase say what the plain one does.
+// Checks that the plans of a phase say what `said_plainly` gives.
 fn check<R: Bench>(planners: &Planners<'_, R>, n: u32, case: &Case<'_>, work: &mut GroupWork)
     requires clean { work.old ≡ clean n }
     ensures clean { work.new ≡ clean n }

@@ -33,7 +33,8 @@ fn can_rise(adj: &LevelAdj, th: &Thresholds) -> bool
     true
 }
 
-// Runs one phase, with a workspace that is kept. Returns whether it gave the levels of the plain body, and its moves.
+// Runs one phase, with a workspace that is kept. Returns whether the phase gave the levels and the moves of the plain
+// body.
 fn rises_once<R: Bench, G: Gate + Sync, L: Ledger>(
     rounds: &Rounds<R, G>,
     th: &Thresholds,

@@ -50,7 +50,7 @@ fn told_of(rt: &impl Bench, parts: &[&str]) -> Vec<u8> {
     told(rt, &joined(rt, parts), 1000, &[], RUN_LIMITS)
 }
 
-// Checks texts between `before` and `after`. A row is an answer and its texts, with `|` between them.
+// Checks texts between `before` and `after`. A row is an answer, and the texts that get it, which `|` parts.
 fn check_rows(rt: &impl Bench, before: &'static str, rows: &[&'static str], after: &'static str) {
     for row in rows {
         let (want, parts) = sides(rt, row);
@@ -196,7 +196,7 @@ const LIMITED: &[((u32, u32), &[u32], &str)] = &[
 fn limits_and_faults(rt: HostRuntime) {
     for (limits, failing, want) in LIMITED {
         let got = told(&rt, SHORT.as_bytes(), 9, failing, *limits);
-        check(&rt, "limits", &got, want);
+        check(&rt, "limits and faults", &got, want);
     }
 }
 

@@ -8,10 +8,10 @@ use kc_graph::Item;
 use kc_levels::Profile;
 
 // Limits of a line, of the input and of the items of a batch.
-type Limits = (u32, u32, u32);
+type ThreeLimits = (u32, u32, u32);
 
 // The limits of the program.
-const USUAL: Limits = (LIMITS.0, LIMITS.1, 1_048_576);
+const USUAL: ThreeLimits = (LIMITS.0, LIMITS.1, 1_048_576);
 
 // Puts an ask: its times and vertices.
 fn put_ask(rt: &impl Bench, out: &mut Vec<u8>, ask: &Ask) {
@@ -92,7 +92,7 @@ fn put_batches(rt: &impl Bench, out: &mut Vec<u8>, input: &mut Input, shape: Sha
 }
 
 // Returns the answer to an input: the header, and up to four batches.
-fn told(rt: &impl Bench, text: &[u8], piece: u32, failing: &[u32], limits: Limits) -> Vec<u8> {
+fn told(rt: &impl Bench, text: &[u8], piece: u32, failing: &[u32], limits: ThreeLimits) -> Vec<u8> {
     let mut input = input_of(rt, text, piece, failing, (limits.0, limits.1));
     let mut out = Vec::new(rt.alloc());
     let read = Header::read(rt.alloc(), &mut input.reader, &mut input.source);
@@ -107,7 +107,7 @@ fn told_of(rt: &impl Bench, parts: &[&str], piece: u32) -> Vec<u8> {
     told(rt, &joined(rt, parts), piece, &[], USUAL)
 }
 
-// Checks inputs that begin with `before`. A row is the answer and how they go on, with `|` between them.
+// Checks inputs that begin with `before`. A row is an answer, and how the inputs go on that get it, which `|` parts.
 fn check_rows(rt: &impl Bench, before: &'static str, rows: &[&'static str], piece: u32) {
     for row in rows {
         let (want, texts) = sides(rt, row);
@@ -248,7 +248,7 @@ fn lists_from_a_vec(rt: HostRuntime) {
 }
 
 // The limits of a line, of the input and of the items of a batch, an input, and the answer to it.
-const LIMITED: &[(Limits, &str)] = &[
+const LIMITED: &[(ThreeLimits, &str)] = &[
     (
         (99, 26, 9),
         "kcore 1\nvertices 2\nbatch\n0 1\nend\n => 2\n4 input-limit\n4 input-limit\n4 input-limit\n4 input-limit\n",

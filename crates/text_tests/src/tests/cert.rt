@@ -139,7 +139,7 @@ const LIMITED: &[((u32, u32), &str)] = &[
     ((100, 0), "1 input-limit"),
 ];
 
-// Returns whether the path is refused at this line if it is cut before it, where there is more.
+// Returns whether the path, cut at `start`, is refused as truncated at this line. More of the path has to follow.
 fn is_truncated(rt: &impl Bench, start: usize, line: u32) -> bool {
     let path = PATH.as_bytes();
     assert!(rt; start < path.len());
@@ -194,7 +194,7 @@ fn written_certificates(rt: HostRuntime) {
     check_written(&rt, Profile::Two, &[1, 2, 1, 0, 0], FINE_PATH);
 }
 
-// Returns whether the certificate of the path is cut before this call, and the sink took this text.
+// Returns whether a write of the path, of which this call fails, ends with a write fault, and the sink took this text.
 fn is_cut(rt: &impl Bench, call: u32, text: &[u8]) -> bool {
     let mut sink = sink_of(rt, 2000, &[call]);
     let answer = write_path(rt, &mut sink, Profile::One, &[1, 1, 1, 0, 0]);

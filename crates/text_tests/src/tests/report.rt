@@ -142,8 +142,8 @@ fn line_of_a_refused_header(rt: HostRuntime) {
     check(&rt, "a refused header", &taken(&rt, sink, answer), want);
 }
 
-// Writes a note, and an exact text of four vertices joined each with each, and one alone. The level of the four says 1
-// to 4, and 2 for an estimate.
+// Writes a note, and an exact text with the lines of two vertices: one of four joined each with each, and one alone.
+// The level of the four says 1 to 4, and 2 for an estimate.
 fn write_exact(rt: &impl Bench, buf: &mut LineBuf, sink: &mut MemSink) -> Result<(), SendFault> {
     let alloc = rt.alloc();
     write_note(alloc, buf, sink, 2, 9, Reason::BadVertex)?;
@@ -257,7 +257,7 @@ fn each_vertex_has_its_line(rt: HostRuntime) {
     check(&rt, "no vertex", &got, "end\no");
 }
 
-// What was taken of a text of two vertices, of which call 1, 2, 3 or 4 fails, and how it ended.
+// What was taken of a text of two vertices, of which call 1, 2, 3 or 4 fails, and how it ended. There is no call 4.
 const STOPS: &[&str] = &[
     "f",
     "vertex 0 coreness 5 low 1 est 2 high 4\nf",

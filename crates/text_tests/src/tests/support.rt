@@ -60,7 +60,7 @@ pub fn put_refused(rt: &impl Bench, text: &mut Vec<u8>, line: u32, reason: Reaso
     put(rt, text, reason.word());
 }
 
-/// Puts how a write ended: `o`, or `f` for a write fault.
+/// Puts how a write ended: `o`, `f` for a write fault, or `m` without memory.
 pub fn put_end(rt: &impl Bench, text: &mut Vec<u8>, answer: Result<(), SendFault>) {
     match answer {
         Ok(()) => put(rt, text, b"o"),

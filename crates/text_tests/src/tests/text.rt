@@ -141,7 +141,8 @@ fn put_numbers(rt: &impl Bench, out: &mut Vec<u8>, first: u32, second: u32, len:
     put_number(rt, out, b" of ", len.min(100) as u32);
 }
 
-// Puts the second line if it lies whole in the reader's memory and is two numbers, after `ab` if `named`.
+// Puts the sign, the numbers and the length of the second line if it lies whole in the reader's memory. If `named`,
+// `ab` stands before the numbers and there is no sign.
 fn put_second(rt: &impl Bench, out: &mut Vec<u8>, reader: &mut LineReader, named: bool) {
     if named {
         if let Some(line) = reader.numbers_after(b"ab") {
@@ -238,7 +239,7 @@ fn lines_that_arent_skipped(rt: HostRuntime) {
     }
 }
 
-// Puts a line back, and the two answers after that.
+// Gives a line back to the reader, and puts the next two answers.
 fn put_two(rt: &impl Bench, out: &mut Vec<u8>, input: &mut Input, line: Line)
     requires { input.old.reader.held ≡ None }
 {
@@ -288,7 +289,8 @@ fn has_length(line: &Line, len: Option<usize>) -> bool {
     }
 }
 
-// The ends of lines of 65,535 bytes more, and the lengths of their texts. The limit counts a carriage return.
+// What follows 65,535 times `a` in a line, and the length of the text, or none if the line is too long. The limit
+// counts a carriage return.
 const LONG: &[(&str, Option<usize>)] = &[
     ("a\n", Some(65_536)),
     ("aa\n", None),

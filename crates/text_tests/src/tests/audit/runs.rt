@@ -65,6 +65,7 @@ const TWO: &str = "0:1 1:1/2:1 3:1";
 
 const BACK: &str = "0:1 1:1/0:2/0:1 3:1/0:0";
 
+// Groups, readers, and the verdict.
 const VERDICTS: &[(&str, &str, &str)] = &[
     ("", "", "explained"),
     ("", "5:0/5:1", "1 ask 1"),
@@ -177,7 +178,7 @@ fn level_at(groups: &GroupLines, p: usize, vertex: u32) -> u16 {
     level
 }
 
-// Keeps the points that a reply may have after those of the reply before it. Returns whether there are some.
+// Turns the points that one reply may have into those that the next may have. Returns whether there are some.
 fn narrow(groups: &GroupLines, may_be: &mut [bool], reply: &Reply) -> bool {
     let mut before = false;
     let mut some = false;
@@ -190,7 +191,7 @@ fn narrow(groups: &GroupLines, may_be: &mut [bool], reply: &Reply) -> bool {
 }
 
 // Returns the number of the first reply up to which the replies aren't explained, counted from 1. It tries all points
-// that each reply may have, at first those that are true.
+// that each reply may have. At first each point is true in `may_be`.
 fn first_unexplained(groups: &GroupLines, may_be: &mut [bool], replies: &[Reply]) -> Option<u32> {
     let mut ask = 0u32;
     for reply in replies {

@@ -77,7 +77,7 @@ fn written(rt: &impl Bench, plans: &[PhasePlan]) -> Vec<u8>
 
 const BATCH_LINE: &str = "batch 2 loops 3 repeats 40 idle 4294967295 removed 1 added 1\n";
 
-// Returns whether a batch with these phases is written as its line and these.
+// Returns whether a batch with these phases is written as its line and `lines`, which end with how the call ended.
 fn are_written(rt: &impl Bench, steps: &[Step], lines: &str) -> bool {
     let plans = plans_of(rt, steps);
     let got = written(rt, plans.as_slice());
@@ -87,20 +87,22 @@ fn are_written(rt: &impl Bench, steps: &[Step], lines: &str) -> bool {
 
 const STAR: Pairs = &[(0, 1), (0, 2), (0, 3), (0, 4)];
 
+// A star falls.
 const STAR_FALLS: &[Step] = &[(2, false, STAR, STAR, &[2, 1, 1, 1, 1], &[0; 5])];
 
 const EDGE: Pairs = &[(0, 1)];
 
-const OTHERS: Pairs = &[(0, 1), (0, 2), (0, 3), (1, 2), (1, 3), (2, 3)];
+const SIX_EDGES: Pairs = &[(0, 1), (0, 2), (0, 3), (1, 2), (1, 3), (2, 3)];
 
 const SIXES: Row = &[6, 6, 6, 6, 0];
 
 // An edge leaves, and no vertex moves.
-const QUIET: &[Step] = &[(2, false, EDGE, OTHERS, SIXES, SIXES)];
+const QUIET: &[Step] = &[(2, false, EDGE, SIX_EDGES, SIXES, SIXES)];
 
 const PAIRS: Pairs = &[(0, 1), (2, 3)];
 
-const TWO_RISE: &[Step] = &[(1, true, PAIRS, PAIRS, &[0; 6], &[1, 1, 1, 1, 0, 0])];
+// Two groups rise.
+const TWO_GROUPS: &[Step] = &[(1, true, PAIRS, PAIRS, &[0; 6], &[1, 1, 1, 1, 0, 0])];
 
 #[test]
 fn batches_of_one_phase(rt: HostRuntime) {
@@ -108,7 +110,7 @@ fn batches_of_one_phase(rt: HostRuntime) {
     let groups = "phase 1 insert quiet 0\ngroup 1 0 0:1 1:1\ngroup 1 2 2:1 3:1\no";
     assert!(rt; are_written(&rt, STAR_FALLS, star));
     assert!(rt; are_written(&rt, QUIET, "phase 2 delete quiet 1\no"));
-    assert!(rt; are_written(&rt, TWO_RISE, groups));
+    assert!(rt; are_written(&rt, TWO_GROUPS, groups));
 }
 
 const COMES: Pairs = &[(0, 2)];

@@ -218,6 +218,7 @@ fn put_sends(rt: &impl Bench, out: &mut Vec<u8>, line: &mut LineBuf, sink: &mut 
     put_end(rt, out, line.send(rt.alloc(), sink));
     line.text(rt.alloc(), b"w").expect(rt, "memory");
     put_end(rt, out, line.send(rt.alloc(), sink));
+    line.text(rt.alloc(), b"x").expect(rt, "memory");
 }
 
 // Returns the answers of a sink to two sends, and what it took.
