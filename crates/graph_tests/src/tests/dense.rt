@@ -108,8 +108,8 @@ fn plainly(rows: &[u32], n: u32) -> u32 {
     best
 }
 
-// Returns whether the dense part of a graph on n vertices is what a plain peeling gives, and is half as dense at least
-// as any set.
+// Returns whether the dense part of a graph on n vertices is what a plain peeling gives. No set may be more than twice
+// as dense.
 fn is_dense(rows: &[u32], n: u32, dense: &Dense) -> bool {
     let part = set_of(&dense.members);
     part == plainly(rows, n)
