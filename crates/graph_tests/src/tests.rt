@@ -1,9 +1,6 @@
 // Tests of the crates on graphs, levels and rounds: a file for each crate, with what is tested and where the expected
 // values are from. All run without a proof by `rt try --test` in this folder.
 //
-// Most tests find out whether something holds, drop what they made by a call, and assert at the end. This order is
-// cheaper to prove than to assert while a graph or a workspace is there, or to leave it to its scope.
-//
 // `support.rt` has what several files need, `drawing.rt` random edges, and `plainly.rt` plain bodies of phases. The
 // crate `test_support` has what other test crates need too.
 

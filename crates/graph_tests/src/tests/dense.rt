@@ -3,34 +3,51 @@
 //! it.
 
 use super::drawing::drawn_pairs;
-use super::support::{Bench, graph, small_graph};
-use kc_dense::{Dense, densest};
+use super::support;
+use kc_dense::densest;
 use kc_graph::Graph;
+use std::alloc::Global;
+use std::process::Abort;
 use test_support::random::Random;
 
 // The number of vertices of a graph, its edges, the members of its dense part, and the number of edges between them.
-const GRAPHS: &[(u32, &str, &[u32], u32)] = &[
+const GRAPHS: &[(u32, &[(u32, u32)], &[u32], u32)] = &[
     // Four vertices joined each with each, and one alone.
-    (5, "01 02 03 12 13 23", &[0, 1, 2, 3], 6),
+    (
+        5,
+        &[(0, 1), (0, 2), (0, 3), (1, 2), (1, 3), (2, 3)],
+        &[0, 1, 2, 3],
+        6,
+    ),
     // Vertex 0 joined with four others.
-    (5, "01 02 03 04", &[0, 1, 2, 3, 4], 4),
+    (5, &[(0, 1), (0, 2), (0, 3), (0, 4)], &[0, 1, 2, 3, 4], 4),
     // If no part has an edge, all are equally dense, and the longest is the whole.
-    (2, "", &[0, 1], 0),
+    (2, &[], &[0, 1], 0),
     // The vertices 0 to 2 and 3 to 6 joined each with each, with the edge 2 - 3 between the two.
-    (7, "01 02 12 23 34 35 36 45 46 56", &[3, 4, 5, 6], 6),
+    (
+        7,
+        &[
+            (0, 1),
+            (0, 2),
+            (1, 2),
+            (2, 3),
+            (3, 4),
+            (3, 5),
+            (3, 6),
+            (4, 5),
+            (4, 6),
+            (5, 6),
+        ],
+        &[3, 4, 5, 6],
+        6,
+    ),
 ];
-
-// Returns the dense part of the graph.
-fn dense_of(rt: &impl Bench, graph: &Graph) -> Dense {
-    densest(rt.alloc(), graph).expect(rt, "memory")
-}
 
 #[test]
 fn small_graphs(rt: HostRuntime) {
     for (n, pairs, members, edges) in GRAPHS {
-        let graph = small_graph(&rt, *n, pairs);
-        let dense = dense_of(&rt, &graph);
-        drop(graph);
+        let graph = support::graph(&rt, rt.alloc(), *n, pairs);
+        let dense = densest(rt.alloc(), &graph).expect(&rt, "memory");
         assert!(rt; dense.members.as_slice() == *members && dense.edges == *edges);
     }
 }
@@ -38,8 +55,7 @@ fn small_graphs(rt: HostRuntime) {
 #[test]
 fn many_vertices_and_no_edge(rt: HostRuntime) {
     let graph = Graph::new(rt.alloc(), 100_000).expect(&rt, "memory");
-    let dense = dense_of(&rt, &graph);
-    drop(graph);
+    let dense = densest(rt.alloc(), &graph).expect(&rt, "memory");
     assert!(rt; dense.members.len() == 100_000 && dense.edges == 0);
 }
 
@@ -48,8 +64,8 @@ fn has(set: u32, v: u32) -> bool {
 }
 
 // Returns the set of the neighbours of each vertex.
-fn rows_of(rt: &impl Bench, graph: &Graph) -> Vec<u32> {
-    let mut rows = Vec::new(rt.alloc());
+fn rows<R: Abort>(rt: &R, alloc: Global, graph: &Graph) -> Vec<u32> {
+    let mut rows = Vec::new(alloc);
     for v in 0..graph.vertices() {
         rows.push(set_of(graph.neighbours(v))).expect(rt, "memory");
     }
@@ -108,28 +124,19 @@ fn plainly(rows: &[u32], n: u32) -> u32 {
     best
 }
 
-// Returns whether the dense part of a graph on n vertices is what a plain peeling gives. No set may be more than twice
-// as dense.
-fn is_dense(rows: &[u32], n: u32, dense: &Dense) -> bool {
-    let part = set_of(&dense.members);
-    part == plainly(rows, n)
-        && dense.members.is_sorted()
-        && dense.members.len() == part.count_ones() as usize
-        && dense.edges == edges_in(rows, part)
-        && !(1..1u32.wrapping_shl(n)).any(|set| is_denser(rows, set, part, 2))
-}
-
 #[test]
 fn as_peeled_plainly_and_half_as_dense_as_any(rt: HostRuntime) {
     let mut random = Random::new(1);
     for round in 0..3_000u32 {
         let n = 1 + round % 7;
-        let pairs = drawn_pairs(&rt, &mut random, n, 1 + round / 7 % 5, n);
-        let graph = graph(&rt, n, &pairs);
-        let (rows, dense) = (rows_of(&rt, &graph), dense_of(&rt, &graph));
-        drop(graph);
-        let holds = is_dense(&rows, n, &dense);
-        drop(dense);
-        assert!(rt; holds);
+        let pairs = drawn_pairs(&rt, rt.alloc(), &mut random, n, 1 + round / 7 % 5, n);
+        let graph = support::graph(&rt, rt.alloc(), n, &pairs);
+        let rows = rows(&rt, rt.alloc(), &graph);
+        let dense = densest(rt.alloc(), &graph).expect(&rt, "memory");
+        let part = set_of(&dense.members);
+        assert!(rt; part == plainly(&rows, n) && dense.members.is_sorted());
+        assert!(rt; dense.members.len() == part.count_ones() as usize);
+        assert!(rt; dense.edges == edges_in(&rows, part));
+        assert!(rt; !(1..1u32.wrapping_shl(n)).any(|set| is_denser(&rows, set, part, 2)));
     }
 }

@@ -2,13 +2,15 @@
 
 ghost use Rattle.std.specs.Prelude.{◌<◌};
 
-use super::support::Bench;
+use std::alloc::Global;
+use std::process::Abort;
 use test_support::random::Random;
 
 // Returns ascending pairs of n vertices, the lesser first. A lesser end has at most `most` of them, each up to `gap`
 // numbers after the one before.
-pub fn drawn_pairs(
-    rt: &impl Bench,
+pub fn drawn_pairs<R: Abort>(
+    rt: &R,
+    alloc: Global,
     random: &mut Random,
     n: u32,
     gap: u32,
@@ -16,7 +18,7 @@ pub fn drawn_pairs(
 ) -> Vec<(u32, u32)>
     requires { 0 < gap }
 {
-    let mut pairs = Vec::new(rt.alloc());
+    let mut pairs = Vec::new(alloc);
     for a in 0..n {
         let mut b = a;
         for _ in 0..most {
@@ -30,8 +32,8 @@ pub fn drawn_pairs(
 }
 
 // Returns all pairs of n vertices.
-pub fn all_pairs(rt: &impl Bench, n: u32) -> Vec<(u32, u32)> {
-    drawn_pairs(rt, &mut Random::new(0), n, 1, n)
+pub fn all_pairs<R: Abort>(rt: &R, alloc: Global, n: u32) -> Vec<(u32, u32)> {
+    drawn_pairs(rt, alloc, &mut Random::new(0), n, 1, n)
 }
 
 // Pairs dealt to three batches.
@@ -42,33 +44,37 @@ pub struct Batches {
     pub third: Vec<(u32, u32)>,
 }
 
-impl Batches {
-    fn part(&mut self, number: u32) -> &mut Vec<(u32, u32)> {
-        match number {
-            0 => &mut self.first,
-            1 => &mut self.second,
-            _ => &mut self.third,
-        }
+// Deals pairs to batches. A pair goes to the first batch once in `parts` times, to the second as often, and else to the
+// third.
+pub fn dealt<R: Abort>(
+    rt: &R,
+    alloc: Global,
+    random: &mut Random,
+    pairs: &[(u32, u32)],
+    parts: u32,
+) -> Batches
+    requires { 0 < parts }
+{
+    let mut first = Vec::new(alloc);
+    let mut second = Vec::new(alloc);
+    let mut third = Vec::new(alloc);
+    for pair in pairs {
+        let batch = match random.below(parts) {
+            0 => &mut first,
+            1 => &mut second,
+            _ => &mut third,
+        };
+        batch.push(*pair).expect(rt, "memory");
     }
-
-    pub fn parts(&self) -> [&[(u32, u32)]; 3] {
-        [&self.first, &self.second, &self.third]
+    Batches {
+        first,
+        second,
+        third,
     }
 }
 
-// Deals pairs to batches. A pair goes to the first batch once in `parts` times, to the second as often, and else to the
-// third.
-pub fn dealt(rt: &impl Bench, random: &mut Random, pairs: &[(u32, u32)], parts: u32) -> Batches
-    requires { 0 < parts }
-{
-    let mut batches = Batches {
-        first: Vec::new(rt.alloc()),
-        second: Vec::new(rt.alloc()),
-        third: Vec::new(rt.alloc()),
-    };
-    for pair in pairs {
-        let batch = batches.part(random.below(parts));
-        batch.push(*pair).expect(rt, "memory");
+impl Batches {
+    pub fn parts(&self) -> [&[(u32, u32)]; 3] {
+        [&self.first, &self.second, &self.third]
     }
-    batches
 }

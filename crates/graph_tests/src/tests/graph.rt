@@ -1,7 +1,10 @@
 // Edges come into graphs and leave them, one by one and together. Rows were worked out by hand.
 
-use super::support::{Bench, Pairs, edges, graph, small_graph};
+use super::support::{Pairs, check_row, edges, graph};
 use kc_graph::{Edge, Edges, Graph, MAX_EDGES, sort_numbers};
+use std::alloc::Global;
+use std::process::Abort;
+use std::thread::Threads;
 use test_support::graphs::{are_absent, are_present};
 
 #[test]
@@ -28,52 +31,64 @@ fn edges_are_kept_in_order(rt: HostRuntime) {
 // - the neighbours of the vertex without and with that edge.
 //
 // They are the complete graph on 0 to 3 in ascending and in descending order, a path, and a star.
-const GRAPHS: &[(u32, &str, (u32, u32), u32, &[u32], &[u32])] = &[
-    (5, "01 02 03 12 13", (2, 3), 3, &[0, 1], &[0, 1, 2]),
-    (4, "23 13 12 03 02", (0, 1), 1, &[2, 3], &[0, 2, 3]),
-    (5, "34 12 01", (2, 3), 2, &[1], &[1, 3]),
-    (5, "02 04 01", (0, 3), 0, &[1, 2, 4], &[1, 2, 3, 4]),
+const GRAPHS: &[(u32, Pairs, (u32, u32), u32, &[u32], &[u32])] = &[
+    (
+        5,
+        &[(0, 1), (0, 2), (0, 3), (1, 2), (1, 3)],
+        (2, 3),
+        3,
+        &[0, 1],
+        &[0, 1, 2],
+    ),
+    (
+        4,
+        &[(2, 3), (1, 3), (1, 2), (0, 3), (0, 2)],
+        (0, 1),
+        1,
+        &[2, 3],
+        &[0, 2, 3],
+    ),
+    (5, &[(3, 4), (1, 2), (0, 1)], (2, 3), 2, &[1], &[1, 3]),
+    (
+        5,
+        &[(0, 2), (0, 4), (0, 1)],
+        (0, 3),
+        0,
+        &[1, 2, 4],
+        &[1, 2, 3, 4],
+    ),
 ];
-
-// Returns whether the graph has as many edges as this, and the vertex these neighbours.
-fn has_row(graph: &Graph, edges: u32, v: u32, neighbours: &[u32]) -> bool {
-    v < graph.vertices() && graph.edge_count() == edges && graph.neighbours(v) == neighbours
-}
-
-// Inserts an edge that the graph lacks, and removes it. Returns whether the vertex has its neighbours each time.
-fn comes_and_leaves(
-    rt: &impl Bench,
-    graph: &mut Graph,
-    e: Edge,
-    v: u32,
-    without: &[u32],
-    with: &[u32],
-) -> bool {
-    let count = graph.edge_count();
-    assert!(rt; e.a < e.b && e.b < graph.vertices() && !graph.has(e) && count < MAX_EDGES);
-    let before = has_row(graph, count, v, without);
-    graph.insert(rt.alloc(), e).expect(rt, "memory");
-    assert!(rt; graph.has(e));
-    let between = has_row(graph, count + 1, v, with);
-    graph.remove(e);
-    before && between && has_row(graph, count, v, without)
-}
 
 #[test]
 fn edges_in_and_out(rt: HostRuntime) {
-    for (n, pairs, (a, b), v, without, with) in GRAPHS {
-        let mut graph = small_graph(&rt, *n, pairs);
-        // Each edge has two digits in the text, and a blank after all but the last.
-        let chars = 3 * graph.edge_count() as usize;
-        let e = Edge { a: *a, b: *b };
-        let holds = comes_and_leaves(&rt, &mut graph, e, *v, without, with);
-        drop(graph);
-        assert!(rt; holds && chars == pairs.len() + 1, "{pairs}");
+    for (row, &(n, pairs, (a, b), v, without, with)) in GRAPHS.iter().enumerate() {
+        let mut graph = graph(&rt, rt.alloc(), n, pairs);
+        assert!(rt; a < b && b < n && v < n);
+        let e = Edge { a, b };
+        assert!(rt; !graph.has(e) && graph.edge_count() < MAX_EDGES);
+        check_row(
+            &rt,
+            row,
+            graph.edge_count() as usize == pairs.len() && graph.neighbours(v) == without,
+        );
+        graph.insert(rt.alloc(), e).expect(&rt, "memory");
+        assert!(rt; graph.has(e));
+        check_row(
+            &rt,
+            row,
+            graph.edge_count() as usize == pairs.len() + 1 && graph.neighbours(v) == with,
+        );
+        graph.remove(e);
+        check_row(
+            &rt,
+            row,
+            graph.edge_count() as usize == pairs.len() && graph.neighbours(v) == without,
+        );
     }
 }
 
-// Returns whether the graph has five vertices with these neighbours, and this number of edges.
-fn has_rows(graph: &Graph, rows: &[&[u32]; 5], edges: u32) -> bool {
+// Returns whether the graph has five vertices with these neighbours.
+fn has_rows(graph: &Graph, rows: &[&[u32]; 5]) -> bool {
     if graph.vertices() != 5 {
         return false;
     }
@@ -82,7 +97,7 @@ fn has_rows(graph: &Graph, rows: &[&[u32]; 5], edges: u32) -> bool {
             return false;
         }
     }
-    graph.edge_count() == edges
+    true
 }
 
 const BEFORE: [&[u32]; 5] = [&[2], &[3], &[0], &[1], &[]];
@@ -90,61 +105,63 @@ const BEFORE: [&[u32]; 5] = [&[2], &[3], &[0], &[1], &[]];
 const AFTER: [&[u32]; 5] = [&[1, 2, 3, 4], &[0, 2, 3], &[0, 1, 3], &[0, 1, 2], &[0]];
 
 // Adds edges to the graph that aren't there, by this number of workers; for 0 by the call without workers.
-fn put_in<R: Bench>(rt: &R, workers: u32, graph: &mut Graph, pairs: &[(u32, u32)]) {
-    let edges = edges(rt, graph.vertices(), pairs);
-    let count = graph.edge_count() as usize + edges.len();
-    assert!(rt; are_absent(graph, &edges) && count <= MAX_EDGES as usize && workers <= 64);
-    let done = if workers == 0 {
-        graph.insert_all(rt.alloc(), &edges)
+fn put_in<R: Threads + Sync + Abort>(
+    rt: &R,
+    alloc: Global,
+    workers: u32,
+    graph: &mut Graph,
+    pairs: &[(u32, u32)],
+) {
+    let edges = edges(rt, alloc, graph.vertices(), pairs);
+    assert!(rt;
+        are_absent(graph, &edges) && graph.edge_count() as usize + edges.len() <= MAX_EDGES as usize
+    );
+    if workers == 0 {
+        graph.insert_all(alloc, &edges).expect(rt, "memory");
     } else {
-        graph.par_insert_all(rt, rt.alloc(), workers, &edges)
-    };
-    drop(edges);
-    done.expect(rt, "memory");
+        assert!(rt; workers <= 64);
+        graph
+            .par_insert_all(rt, alloc, workers, &edges)
+            .expect(rt, "memory");
+    }
 }
 
 // Removes edges from the graph that are there.
-fn take_out<R: Bench>(rt: &R, workers: u32, graph: &mut Graph, pairs: &[(u32, u32)]) {
-    let edges = edges(rt, graph.vertices(), pairs);
+fn take_out<R: Threads + Sync + Abort>(
+    rt: &R,
+    alloc: Global,
+    workers: u32,
+    graph: &mut Graph,
+    pairs: &[(u32, u32)],
+) {
+    let edges = edges(rt, alloc, graph.vertices(), pairs);
     assert!(rt; are_present(graph, &edges) && 1 <= workers && workers <= 64);
-    let done = graph.par_remove_all(rt, rt.alloc(), workers, &edges);
-    drop(edges);
-    done.expect(rt, "memory");
+    graph
+        .par_remove_all(rt, alloc, workers, &edges)
+        .expect(rt, "memory");
 }
 
 #[test]
 fn edges_come_and_leave_together(rt: HostRuntime) {
     let pairs: Pairs = &[(0, 1), (0, 3), (0, 4), (1, 2), (2, 3)];
-    let mut graph = graph(&rt, 5, &[(0, 2), (1, 3)]);
-    let mut same = true;
+    let mut graph = graph(&rt, rt.alloc(), 5, &[(0, 2), (1, 3)]);
     for workers in [0, 1, 3, 64] {
-        put_in(&rt, workers, &mut graph, pairs);
-        same &= has_rows(&graph, &AFTER, 7);
-        take_out(&rt, workers.max(1), &mut graph, pairs);
-        same &= has_rows(&graph, &BEFORE, 2);
+        put_in(&rt, rt.alloc(), workers, &mut graph, pairs);
+        assert!(rt; has_rows(&graph, &AFTER) && graph.edge_count() == 7);
+        take_out(&rt, rt.alloc(), workers.max(1), &mut graph, pairs);
+        assert!(rt; has_rows(&graph, &BEFORE) && graph.edge_count() == 2);
     }
-    drop(graph);
-    assert!(rt; same);
 }
 
-// Returns all pairs of vertices below 1000 that are at most 40 apart.
-fn near_pairs(rt: &impl Bench) -> Vec<(u32, u32)> {
-    let mut pairs = Vec::new(rt.alloc());
-    for a in 0..1000u32 {
-        for b in a + 1..1000.min(a + 41) {
+// Returns all pairs of vertices below n that are at most 40 apart.
+fn near_pairs(rt: &impl Abort, alloc: Global, n: u32) -> Vec<(u32, u32)> {
+    let mut pairs = Vec::new(alloc);
+    for a in 0..n {
+        for b in a + 1..n.min(a.saturating_add(41)) {
             pairs.push((a, b)).expect(rt, "memory");
         }
     }
     pairs
-}
-
-const FAR: Pairs = &[(0, 50), (3, 999), (500, 600)];
-
-// Returns the graph of the near pairs and of the far ones, which come in one by one.
-fn near_and_far(rt: &impl Bench) -> Graph {
-    let mut all = near_pairs(rt);
-    all.extend_from_slice(FAR).expect(rt, "memory");
-    graph(rt, 1000, &all)
 }
 
 fn have_same_rows(g: &Graph, h: &Graph) -> bool {
@@ -162,20 +179,19 @@ fn have_same_rows(g: &Graph, h: &Graph) -> bool {
 // Nearly 40,000 edges, which several threads add and remove. The graph is that of edges which come in one by one.
 #[test]
 fn any_number_of_threads(rt: HostRuntime) {
-    let near = near_pairs(&rt);
-    let (before, after) = (graph(&rt, 1000, FAR), near_and_far(&rt));
-    let mut graph = graph(&rt, 1000, FAR);
-    let mut same = true;
+    let far: Pairs = &[(0, 50), (3, 999), (500, 600)];
+    let near = near_pairs(&rt, rt.alloc(), 1000);
+    let before = graph(&rt, rt.alloc(), 1000, far);
+    let mut all = near_pairs(&rt, rt.alloc(), 1000);
+    all.extend_from_slice(far).expect(&rt, "memory");
+    let want = graph(&rt, rt.alloc(), 1000, &all);
+    let mut graph = graph(&rt, rt.alloc(), 1000, far);
     for workers in [1, 2, 4, 64] {
-        put_in(&rt, workers, &mut graph, &near);
-        same &= have_same_rows(&graph, &after);
-        take_out(&rt, workers, &mut graph, &near);
-        same &= have_same_rows(&graph, &before);
+        put_in(&rt, rt.alloc(), workers, &mut graph, &near);
+        assert!(rt; have_same_rows(&graph, &want));
+        take_out(&rt, rt.alloc(), workers, &mut graph, &near);
+        assert!(rt; have_same_rows(&graph, &before));
     }
-    drop(graph);
-    drop(before);
-    drop(after);
-    assert!(rt; same);
 }
 
 // 3,000 numbers of two digits of 12 bits, which are dealt to buckets, and others, which are sorted in place.

@@ -7,11 +7,14 @@ ghost use Rattle.kc_groups.specs.Gathering.{clean};
 
 use super::drawing::{dealt, drawn_pairs};
 use super::insert::WORKERS;
-use super::plainly::level_of;
-use super::support::{Bench, FOUR, Pairs, count_of, edges, graph, levels};
+use super::plainly::{count_of, level_of};
+use super::support;
 use kc_graph::{Edge, Graph, MAX_VERTICES};
 use kc_groups::{GroupWork, Phase, PhasePlan, Planners, plan_moves, plan_phase};
-use kc_history::{Entry, Move, Moves};
+use kc_history::{Entries, Entry, Move, Moves};
+use std::alloc::Global;
+use std::process::Abort;
+use std::thread::Threads;
 use test_support::graphs::{are_present, is_below};
 use test_support::random::Random;
 
@@ -31,28 +34,29 @@ struct Case<'a> {
 }
 
 // Returns the moves from levels to others.
-fn moves_from(rt: &impl Bench, before: &[u16], after: &[u16]) -> Moves
+fn moves_from<R: Abort>(rt: &R, alloc: Global, before: &[u16], after: &[u16]) -> Moves
     requires small { length before.now ≤ MAX_VERTICES }
     requires same { length after.now ≡ length before.now }
     ensures { result ≡ moves_between (length before.now) before.now after.now }
 {
-    let mut moves = Moves::new(rt.alloc());
+    let mut moves = Moves::new(alloc);
     for v in 0..before.len() as u32 {
         let (old, new) = (before[v as usize], after[v as usize]);
         if old != new {
-            let m = Move {
-                vertex: v,
-                old,
-                new,
-            };
-            moves.push(m).expect(rt, "memory");
+            moves
+                .push(Move {
+                    vertex: v,
+                    old,
+                    new,
+                })
+                .expect(rt, "memory");
         }
     }
     moves
 }
 
 // Returns the plan of a phase whose edges the graph lacks, by a workspace that other phases use too.
-fn plan_lacking<R: Bench>(
+fn plan_lacking<R: Threads + Sync + Abort>(
     planners: &Planners<'_, R>,
     case: &Case<'_>,
     edges: &[Edge],
@@ -67,7 +71,7 @@ fn plan_lacking<R: Bench>(
 {
     let rt = planners.rt;
     let _n = graph.vertices();
-    let moves = moves_from(rt, case.before, case.after);
+    let moves = moves_from(rt, planners.alloc, case.before, case.after);
     let phase = Phase {
         number: 7,
         add: case.add,
@@ -75,93 +79,6 @@ fn plan_lacking<R: Bench>(
         moves: &moves,
     };
     plan_moves(planners, &phase, graph, edges, work).expect(rt, "memory")
-}
-
-// Returns the plan of a phase from the levels, whose edges the graph has.
-fn plan_having(rt: &impl Bench, n: u32, case: &Case<'_>, edges: &[Edge]) -> PhasePlan
-    requires before { length case.now.before.now ≡ n }
-    requires after { length case.now.after.now ≡ n }
-    requires ascending { EdgesFrom n 0 0 edges.now }
-{
-    let mut pairs = case.others.to_vec(rt.alloc()).expect(rt, "memory");
-    pairs.extend_from_slice(case.edges).expect(rt, "memory");
-    let graph = graph(rt, n, &pairs);
-    drop(pairs);
-    let (before, after) = (levels(rt, case.before), levels(rt, case.after));
-    assert!(rt; are_present(&graph, edges));
-    assert!(rt; !case.add || is_below(&before, &after));
-    assert!(rt; case.add || is_below(&after, &before));
-    plan_phase(rt.alloc(), 7, case.add, edges, &before, &after, &graph).expect(rt, "memory")
-}
-
-// A line of what a plan says: the label of an entry, and three numbers. An entry's first line has its phase and its
-// direction. A line of a move has the vertex, the old level and the new one, and a line of an edge has its ends. A
-// number that a line doesn't need is `NONE`.
-type Line = (u32, (u32, u32, u32));
-
-// Puts a line at the end.
-fn put(rt: &impl Bench, lines: &mut Vec<Line>, label: u32, x: u32, y: u32, z: u32) {
-    lines.push((label, (x, y, z))).expect(rt, "memory");
-}
-
-// Puts what an entry says.
-fn put_entry(rt: &impl Bench, lines: &mut Vec<Line>, entry: &Entry) {
-    let label = entry.label.unwrap_or(NONE);
-    put(rt, lines, label, entry.phase, u32::from(entry.add), NONE);
-    for m in entry.moves.as_slice() {
-        put(
-            rt,
-            lines,
-            label,
-            m.vertex,
-            u32::from(m.old),
-            u32::from(m.new),
-        );
-    }
-    for e in entry.edges.as_slice() {
-        put(rt, lines, label, e.a, e.b, NONE);
-    }
-}
-
-// Returns what a plan says, with the quiet entry last.
-fn said(rt: &impl Bench, plan: &PhasePlan) -> Vec<Line> {
-    let mut lines = Vec::new(rt.alloc());
-    for group in plan.groups.as_slice() {
-        put_entry(rt, &mut lines, group);
-    }
-    put_entry(rt, &mut lines, &plan.quiet);
-    lines
-}
-
-// Returns what a plan has to say by the labels, sorted by label: first the entries, then their moves, then their edges.
-fn said_plainly(rt: &impl Bench, case: &Case<'_>) -> Vec<Line> {
-    let mut lines = Vec::new(rt.alloc());
-    let n = count_of(rt, case.labels.len());
-    let add = u32::from(case.add);
-    put(rt, &mut lines, NONE, 7, add, NONE);
-    for v in 0..n {
-        if label_of(case.labels, v) == v {
-            put(rt, &mut lines, v, 7, add, NONE);
-        }
-    }
-    for v in 0..n {
-        let (old, new) = (level_of(case.before, v), level_of(case.after, v));
-        let label = label_of(case.labels, v);
-        if label != NONE {
-            put(rt, &mut lines, label, v, u32::from(old), u32::from(new));
-        }
-    }
-    for (a, b) in case.edges {
-        let label = label_of(case.labels, *a).min(label_of(case.labels, *b));
-        put(rt, &mut lines, label, *a, *b, NONE);
-    }
-    lines.sort_by_key(|line: &Line| line.0).expect(rt, "memory");
-    lines
-}
-
-// Returns whether a plan says what it has to.
-fn says(rt: &impl Bench, plan: &PhasePlan, case: &Case<'_>) -> bool {
-    said(rt, plan).as_slice() == said_plainly(rt, case).as_slice()
 }
 
 // Spreads the lesser label of each pair to both ends, if both move. Returns whether a label changed.
@@ -186,19 +103,21 @@ fn label_of(labels: &[u32], v: u32) -> u32 {
 }
 
 // Returns the label of each vertex, spread from pair to pair until none changes.
-fn labels_plainly(
-    rt: &impl Bench,
+fn labels_plainly<R: Abort>(
+    rt: &R,
+    alloc: Global,
     edges: &[(u32, u32)],
     others: &[(u32, u32)],
     before: &[u16],
     after: &[u16],
 ) -> Vec<u32> {
     let n = count_of(rt, before.len());
-    let mut labels = Vec::new(rt.alloc());
+    let mut labels = Vec::new(alloc);
     for v in 0..n {
         let moves = level_of(before, v) != level_of(after, v);
-        let label = if moves { v } else { NONE };
-        labels.push(label).expect(rt, "memory");
+        labels
+            .push(if moves { v } else { NONE })
+            .expect(rt, "memory");
     }
     for _ in 0..n {
         let by_edges = spread(edges, &mut labels);
@@ -210,41 +129,128 @@ fn labels_plainly(
     labels
 }
 
-// Checks that the plans of a phase say what `said_plainly` gives.
-fn check<R: Bench>(planners: &Planners<'_, R>, n: u32, case: &Case<'_>, work: &mut GroupWork)
+// Returns the plan by the labels: vertices and edges are dealt to the entries one after another.
+fn plan_plainly<R: Abort>(rt: &R, alloc: Global, case: &Case<'_>) -> PhasePlan {
+    let mut quiet = Entry::new(alloc, 7, None, case.add);
+    let mut groups: Vec<Entry> = Vec::new(alloc);
+    let mut places = Vec::new(alloc);
+    for v in 0..count_of(rt, case.labels.len()) {
+        let label = label_of(case.labels, v);
+        if label == v {
+            groups
+                .push(Entry::new(alloc, 7, Some(v), case.add))
+                .expect(rt, "memory");
+        }
+        places
+            .push(groups.len().wrapping_sub(1))
+            .expect(rt, "memory");
+        let (old, new) = (level_of(case.before, v), level_of(case.after, v));
+        if let Some(entry) = entry_of(&mut groups, &places, label) {
+            entry
+                .push_move(Move {
+                    vertex: v,
+                    old,
+                    new,
+                })
+                .expect(rt, "memory");
+        }
+    }
+    for pair in case.edges {
+        let (a, b) = *pair;
+        assert!(rt; a < b);
+        let label = label_of(case.labels, a).min(label_of(case.labels, b));
+        match entry_of(&mut groups, &places, label) {
+            Some(entry) => entry.push_edge(Edge { a, b }).expect(rt, "memory"),
+            None => quiet.push_edge(Edge { a, b }).expect(rt, "memory"),
+        }
+    }
+    PhasePlan {
+        quiet,
+        groups: Entries::from_vec(groups),
+    }
+}
+
+// Returns the entry of a label: the last one when the vertex of that number was dealt.
+fn entry_of<'a>(groups: &'a mut Vec<Entry>, places: &[usize], label: u32) -> Option<&'a mut Entry> {
+    let place = *places.get(label as usize)?;
+    groups.get_mut(place)
+}
+
+fn is_same_entry(x: &Entry, y: &Entry) -> bool {
+    x.phase == y.phase
+        && x.label == y.label
+        && x.add == y.add
+        && x.moves.as_slice() == y.moves.as_slice()
+        && x.edges.as_slice() == y.edges.as_slice()
+}
+
+fn is_same_plan(x: &PhasePlan, y: &PhasePlan) -> bool {
+    let (xs, ys) = (x.groups.as_slice(), y.groups.as_slice());
+    is_same_entry(&x.quiet, &y.quiet)
+        && xs.len() == ys.len()
+        && xs.iter().zip(ys.iter()).all(|(a, b)| is_same_entry(a, b))
+}
+
+// Returns the plan of a phase from the levels, whose edges the graph has.
+fn plan_having<R: Abort>(
+    rt: &R,
+    alloc: Global,
+    n: u32,
+    case: &Case<'_>,
+    edges: &[Edge],
+) -> PhasePlan
+    requires before { length case.now.before.now ≡ n }
+    requires after { length case.now.after.now ≡ n }
+    requires ascending { EdgesFrom n 0 0 edges.now }
+{
+    let mut pairs = case.others.to_vec(alloc).expect(rt, "memory");
+    pairs.extend_from_slice(case.edges).expect(rt, "memory");
+    let graph = support::graph(rt, alloc, n, &pairs);
+    let before = support::levels(rt, alloc, case.before);
+    let after = support::levels(rt, alloc, case.after);
+    assert!(rt; are_present(&graph, edges));
+    assert!(rt; !case.add || is_below(&before, &after));
+    assert!(rt; case.add || is_below(&after, &before));
+    plan_phase(alloc, 7, case.add, edges, &before, &after, &graph).expect(rt, "memory")
+}
+
+// Checks that the plans of a phase are the plain one.
+fn check<R: Threads + Sync + Abort>(
+    planners: &Planners<'_, R>,
+    n: u32,
+    case: &Case<'_>,
+    work: &mut GroupWork,
+)
     requires clean { work.old ≡ clean n }
     ensures clean { work.new ≡ clean n }
 {
     let rt = planners.rt;
+    let alloc = planners.alloc;
     assert!(rt; case.before.len() == n as usize && case.after.len() == n as usize);
-    let edges = edges(rt, n, case.edges);
-    let graph = graph(rt, n, case.others);
+    let want = plan_plainly(rt, alloc, case);
+    let graph = support::graph(rt, alloc, n, case.others);
+    let edges = support::edges(rt, alloc, n, case.edges);
     let plan = plan_lacking(planners, case, &edges, &graph, work);
-    drop(graph);
-    let same = says(rt, &plan, case);
-    drop(plan);
-    assert!(rt; same);
+    assert!(rt; is_same_plan(&plan, &want));
     if planners.workers <= 1 {
-        let plan = plan_having(rt, n, case, &edges);
-        let same = says(rt, &plan, case);
-        drop(plan);
-        assert!(rt; same);
+        let plan = plan_having(rt, alloc, n, case, &edges);
+        assert!(rt; is_same_plan(&plan, &want));
     }
-    drop(edges);
 }
 
 // Checks phases of n vertices, one after another, with one workspace.
-fn check_all<R: Bench>(rt: &R, workers: u32, n: u32, cases: &[Case<'_>]) {
-    let planners = Planners {
-        rt,
-        alloc: rt.alloc(),
-        workers,
-    };
-    let mut work = GroupWork::new(rt.alloc(), n).expect(rt, "memory");
+fn check_all<R: Threads + Sync + Abort>(
+    rt: &R,
+    alloc: Global,
+    workers: u32,
+    n: u32,
+    cases: &[Case<'_>],
+) {
+    let planners = Planners { rt, alloc, workers };
+    let mut work = GroupWork::new(alloc, n).expect(rt, "memory");
     for case in cases {
         check(&planners, n, case, &mut work);
     }
-    drop(work);
 }
 
 // Four vertices joined each with each lose an edge and stay, and two others fall.
@@ -272,7 +278,7 @@ const CASES: &[Case] = &[
     Case {
         add: true,
         edges: &[(3, 4)],
-        others: FOUR,
+        others: &[(0, 1), (0, 2), (0, 3), (1, 2), (1, 3), (2, 3)],
         before: &[6, 6, 6, 6, 0, 0],
         after: &[6, 6, 6, 6, 1, 0],
         labels: &[NONE, NONE, NONE, NONE, 4, NONE],
@@ -318,27 +324,27 @@ const CASES: &[Case] = &[
 
 #[test]
 fn small_phases_with_one_workspace(rt: HostRuntime) {
-    check_all(&rt, 0, 6, CASES);
-    check_all(&rt, 2, 6, CASES);
+    check_all(&rt, rt.alloc(), 0, 6, CASES);
+    check_all(&rt, rt.alloc(), 2, 6, CASES);
 }
 
-// What the plan of this phase says, as worked out by hand.
-const STAYING_LINES: &[Line] = &[
-    (4, (7, 0, NONE)),
-    (4, (4, 1, 0)),
-    (4, (5, 1, 0)),
-    (4, (4, 5, NONE)),
-    (NONE, (7, 0, NONE)),
-    (NONE, (0, 1, NONE)),
-];
-
+// The entries of a phase, as worked out by hand.
 #[test]
 fn an_edge_between_vertices_that_stay_is_quiet(rt: HostRuntime) {
-    assert!(rt; said_plainly(&rt, &STAYING).as_slice() == STAYING_LINES);
+    let plan = plan_plainly(&rt, rt.alloc(), &STAYING);
+    let groups = plan.groups.as_slice();
+    assert!(rt; plan.quiet.edges.as_slice() == [Edge { a: 0, b: 1 }].as_slice());
+    assert!(rt; plan.quiet.moves.is_empty() && groups.len() == 1);
+    assert!(rt;
+        groups[0].label == Some(4) && groups[0].edges.as_slice() == [Edge { a: 4, b: 5 }].as_slice()
+    );
+    assert!(rt; groups[0].moves.len() == 2);
 }
 
-// Returns the labels of 70 vertices, of which four move in two groups.
-fn labels_far_apart(rt: &impl Bench) -> Vec<u32> {
+// More levels than are compared at once, and a move at each end of such a run and at the last vertex.
+#[test]
+fn groups_far_apart_rise(rt: HostRuntime) {
+    let mut after = Vec::new(rt.alloc());
     let mut labels = Vec::new(rt.alloc());
     for v in 0..70u32 {
         let label = match v {
@@ -346,25 +352,9 @@ fn labels_far_apart(rt: &impl Bench) -> Vec<u32> {
             63 | 69 => 63,
             _ => NONE,
         };
-        labels.push(label).expect(rt, "memory");
+        after.push(u16::from(label != NONE)).expect(&rt, "memory");
+        labels.push(label).expect(&rt, "memory");
     }
-    labels
-}
-
-// Returns level 1 for each vertex that has a label, and else 0.
-fn levels_by(rt: &impl Bench, labels: &[u32]) -> Vec<u16> {
-    let mut levels = Vec::new(rt.alloc());
-    for label in labels {
-        levels.push(u16::from(*label != NONE)).expect(rt, "memory");
-    }
-    levels
-}
-
-// More levels than are compared at once, and a move at each end of such a run and at the last vertex.
-#[test]
-fn groups_far_apart_rise(rt: HostRuntime) {
-    let labels = labels_far_apart(&rt);
-    let after = levels_by(&rt, &labels);
     let case = Case {
         add: true,
         edges: &[(31, 32), (63, 69)],
@@ -373,7 +363,7 @@ fn groups_far_apart_rise(rt: HostRuntime) {
         after: &after,
         labels: &labels,
     };
-    check_all(&rt, 1, 70, &[case]);
+    check_all(&rt, rt.alloc(), 1, 70, &[case]);
 }
 
 // Two paths, of the even and of the odd vertices, one of which loses its first edge: each leads through all pieces.
@@ -399,34 +389,42 @@ fn groups_are_the_same_in_any_number_of_pieces(rt: HostRuntime) {
         labels: &labels,
     };
     for workers in WORKERS {
-        check_all(&rt, workers, n, &[case]);
+        check_all(&rt, rt.alloc(), workers, n, &[case]);
     }
 }
 
 // Checks a random phase of n vertices, most of which move.
-fn check_drawn<R: Bench>(rt: &R, random: &mut Random, n: u32, add: bool, workers: &[u32]) {
-    let pairs = drawn_pairs(rt, random, n, n.max(1), 3);
-    let dealt = dealt(rt, random, &pairs, 4);
-    let mut low = Vec::new(rt.alloc());
-    let mut high = Vec::new(rt.alloc());
+fn check_drawn<R: Threads + Sync + Abort>(
+    rt: &R,
+    alloc: Global,
+    random: &mut Random,
+    n: u32,
+    add: bool,
+    workers: &[u32],
+) {
+    let pairs = drawn_pairs(rt, alloc, random, n, n.max(1), 3);
+    let dealt = dealt(rt, alloc, random, &pairs, 4);
+    let mut low = Vec::new(alloc);
+    let mut high = Vec::new(alloc);
     for _ in 0..n {
         let level = random.below(3) as u16;
         low.push(level).expect(rt, "memory");
         high.push(level.saturating_add(random.below(4) as u16))
             .expect(rt, "memory");
     }
-    let (before, after) = if add { (&low, &high) } else { (&high, &low) };
-    let labels = labels_plainly(rt, &dealt.first, &dealt.third, before, after);
+    let (before, after) = if add { (low, high) } else { (high, low) };
+    let (edges, others) = (dealt.first, dealt.third);
+    let labels = labels_plainly(rt, alloc, &edges, &others, &before, &after);
     let case = Case {
         add,
-        edges: &dealt.first,
-        others: &dealt.third,
-        before,
-        after,
+        edges: &edges,
+        others: &others,
+        before: &before,
+        after: &after,
         labels: &labels,
     };
     for workers in workers {
-        check_all(rt, *workers, n, &[case, case]);
+        check_all(rt, alloc, *workers, n, &[case, case]);
     }
 }
 
@@ -435,7 +433,7 @@ fn drawn_phases_as_planned_plainly(rt: HostRuntime) {
     let mut random = Random::new(1);
     for round in 0..200u32 {
         let n = 1 + round % 20;
-        check_drawn(&rt, &mut random, n, round % 2 == 0, &[0, 3]);
+        check_drawn(&rt, rt.alloc(), &mut random, n, round % 2 == 0, &[0, 3]);
     }
-    check_drawn(&rt, &mut random, 23_000, false, &[2]);
+    check_drawn(&rt, rt.alloc(), &mut random, 23_000, false, &[2]);
 }

@@ -6,15 +6,18 @@ ghost use Rattle.kc_levels.specs.LevelList.{MeetsUpper, IsCapped};
 ghost use Rattle.kc_insert.specs.Working.{IsReady};
 
 use super::drawing::{all_pairs, dealt, drawn_pairs};
-use super::plainly::has_led;
-use super::support::{Bench, FOUR, Pairs, STAR, count_of, edges, empty, thresholds};
+use super::plainly::{are_moves, count_of, settle_plainly};
+use super::support;
 use kc_adj::{LevelAdj, Steps};
-use kc_graph::MAX_EDGES;
+use kc_graph::{MAX_EDGES, MAX_VERTICES};
 use kc_insert::{InsertionWork, Layout, insert_phase, insert_rounds};
-use kc_levels::{Profile, Thresholds, check_upper};
+use kc_levels::{Moves, Profile, Thresholds, check_upper};
 use kc_rounds::{Gate, OpenGate, Rounds};
+use std::alloc::Global;
 use std::marker::Brand;
+use std::process::Abort;
 use std::sync::ledger::{Blank, Ledger};
+use std::thread::Threads;
 use test_support::gates::Holding;
 use test_support::graphs::are_absent;
 use test_support::random::Random;
@@ -33,17 +36,22 @@ fn can_rise(adj: &LevelAdj, th: &Thresholds) -> bool
     true
 }
 
-// Runs one phase, with a workspace that is kept. Returns whether the phase gave the levels and the moves of the plain
-// body.
-fn rises_once<R: Bench, G: Gate + Sync, L: Ledger>(
+// Returns a graph without edges.
+pub fn empty<R: Abort>(rt: &R, alloc: Global, n: u32) -> LevelAdj {
+    assert!(rt; n >= 1 && n <= MAX_VERTICES);
+    LevelAdj::new(alloc, n).expect(rt, "memory")
+}
+
+// Runs one phase, with a workspace that is kept.
+fn come_in_once<R: Threads + Sync + Abort, G: Gate + Sync, L: Ledger>(
     rounds: &Rounds<R, G>,
+    alloc: Global,
     th: &Thresholds,
     adj: &mut LevelAdj,
     work: &mut InsertionWork,
     pairs: &[(u32, u32)],
     steps: &mut Steps<L>,
-    plain: &mut Vec<u16>,
-) -> bool
+) -> Moves
     requires scale { th.now.vertices ≡ adj.old.graph.vertices }
     requires ready { IsReady th.now.profile adj.old work.old }
     ensures scale { th.now.vertices ≡ adj.new.graph.vertices }
@@ -51,20 +59,18 @@ fn rises_once<R: Bench, G: Gate + Sync, L: Ledger>(
 {
     let rt = rounds.runtime();
     let n = adj.graph().vertices();
-    let added = edges(rt, n, pairs);
+    let added = support::edges(rt, alloc, n, pairs);
     assert!(rt; are_absent(adj.graph(), &added) && can_rise(adj, th));
     assert!(rt; adj.graph().edge_count() as usize + added.len() <= MAX_EDGES as usize);
-    let moves = insert_phase(rounds, rt.alloc(), th, adj, work, &added, steps).expect(rt, "memory");
-    drop(added);
-    let led = has_led(rt, adj, th, true, moves.as_slice(), plain);
-    drop(moves);
+    let moves = insert_phase(rounds, alloc, th, adj, work, &added, steps).expect(rt, "memory");
     assert!(rt; adj.graph().vertices() == n);
-    led
+    moves
 }
 
 // Does what `come_in` does, with a workspace that is ready and a counter of its own.
-fn come_in_counted<R: Bench, G: Gate + Sync, L: Ledger>(
+fn come_in_counted<R: Threads + Sync + Abort, G: Gate + Sync, L: Ledger>(
     rounds: &Rounds<R, G>,
+    alloc: Global,
     blank: Blank,
     th: &Thresholds,
     adj: &mut LevelAdj,
@@ -73,26 +79,27 @@ fn come_in_counted<R: Bench, G: Gate + Sync, L: Ledger>(
 )
     requires scale { th.now.vertices ≡ adj.old.graph.vertices }
     requires ready { IsReady th.now.profile adj.old work.old }
-    requires ledger { (blank.name ≡ L.name) × (blank.parts ≡ L.parts) × (0 < L.parts) }
+    requires name { blank.name ≡ L.name }
+    requires parts { blank.parts ≡ L.parts }
+    requires some { 0 < L.parts }
 {
     let rt = rounds.runtime();
+    let n = adj.graph().vertices();
     let mut steps = Steps::<L>::new(blank);
-    let mut plain = adj
-        .levels()
-        .as_slice()
-        .to_vec(rt.alloc())
-        .expect(rt, "memory");
-    let mut led = true;
+    let mut plain = adj.levels().as_slice().to_vec(alloc).expect(rt, "memory");
     for batch in batches {
-        led &= rises_once(rounds, th, adj, work, batch, &mut steps, &mut plain);
+        let moves = come_in_once(rounds, alloc, th, adj, work, batch, &mut steps);
+        let before = plain.as_slice().to_vec(alloc).expect(rt, "memory");
+        settle_plainly(rt, alloc, adj.graph(), th, true, &mut plain);
+        assert!(rt; adj.levels().as_slice() == plain.as_slice());
+        assert!(rt; are_moves(moves.as_slice(), n, &before, &plain));
     }
-    drop(plain);
-    assert!(rt; led);
 }
 
 // Does what `come_in` does, with the vertices cut as by this layout.
-fn come_in_cut<R: Bench, G: Gate + Sync>(
+fn come_in_cut<R: Threads + Sync + Abort, G: Gate + Sync>(
     rt: &R,
+    alloc: Global,
     gate: &G,
     workers: u32,
     layout: Layout,
@@ -100,68 +107,78 @@ fn come_in_cut<R: Bench, G: Gate + Sync>(
     batches: &[&[(u32, u32)]],
 ) {
     assert!(rt; 1 <= workers && workers <= 64);
-    let th = thresholds(rt, Profile::One, adj.graph().vertices());
-    let mut work = InsertionWork::with_layout(rt.alloc(), &th, adj, layout).expect(rt, "memory");
-    let rounds = Rounds::new(rt, rt.alloc(), gate, workers);
-    come_in_counted::<R, G, Brand>(&rounds, Blank::new(1), &th, adj, &mut work, batches);
-    drop(work);
+    let th = Thresholds::new(alloc, Profile::One, adj.graph().vertices()).expect(rt, "memory");
+    let mut work = InsertionWork::with_layout(alloc, &th, adj, layout).expect(rt, "memory");
+    let rounds = Rounds::new(rt, alloc, gate, workers);
+    let blank = Blank::new(1);
+    come_in_counted::<R, G, Brand>(&rounds, alloc, blank, &th, adj, &mut work, batches);
 }
 
 // Lets batches come in one after another, by 1 to 64 workers with one workspace. Each gives the levels of the plain
 // body.
-pub fn come_in<R: Bench, G: Gate + Sync>(
+pub fn come_in<R: Threads + Sync + Abort, G: Gate + Sync>(
     rt: &R,
+    alloc: Global,
     gate: &G,
     workers: u32,
     adj: &mut LevelAdj,
     batches: &[&[(u32, u32)]],
 ) {
     let layout = Layout::of(adj.graph().vertices());
-    come_in_cut(rt, gate, workers, layout, adj, batches);
-}
-
-// Runs a phase with a workspace of its own. Returns the number of vertices that it moves.
-fn rise_alone<R: Bench, G: Gate + Sync, L: Ledger>(
-    rt: &R,
-    blank: Blank,
-    gate: &G,
-    adj: &mut LevelAdj,
-    pairs: &[(u32, u32)],
-) -> u32
-    requires ledger { (blank.name ≡ L.name) × (blank.parts ≡ L.parts) × (0 < L.parts) }
-{
-    let n = adj.graph().vertices();
-    let th = thresholds(rt, Profile::One, n);
-    let mut steps = Steps::<L>::new(blank);
-    let added = edges(rt, n, pairs);
-    assert!(rt; are_absent(adj.graph(), &added) && can_rise(adj, &th));
-    assert!(rt; adj.graph().edge_count() as usize + added.len() <= MAX_EDGES as usize);
-    let tally = insert_rounds(rt, rt.alloc(), gate, 2, &th, adj, &added, &mut steps);
-    drop(added);
-    tally.expect(rt, "memory").moves
+    come_in_cut(rt, alloc, gate, workers, layout, adj, batches);
 }
 
 // Checks a phase with a workspace of its own. It begins with the graph without edges, on as many vertices as `want` has
 // levels.
-fn check<R: Bench, G: Gate + Sync>(rt: &R, gate: &G, pairs: &[(u32, u32)], want: &[u16]) {
-    let mut adj = empty(rt, count_of(rt, want.len()));
-    let moves = rise_alone::<R, G, Brand>(rt, Blank::new(1), gate, &mut adj, pairs);
-    let same = adj.levels().as_slice() == want;
-    drop(adj);
-    let count = want.iter().filter(|level| **level > 0).count();
-    assert!(rt; same && moves as usize == count);
+fn check_counted<R: Threads + Sync + Abort, G: Gate + Sync, L: Ledger>(
+    rt: &R,
+    alloc: Global,
+    blank: Blank,
+    gate: &G,
+    pairs: &[(u32, u32)],
+    want: &[u16],
+)
+    requires name { blank.name ≡ L.name }
+    requires parts { blank.parts ≡ L.parts }
+    requires some { 0 < L.parts }
+{
+    let n = count_of(rt, want.len());
+    assert!(rt; n >= 1);
+    let th = Thresholds::new(alloc, Profile::One, n).expect(rt, "memory");
+    let mut adj = LevelAdj::new(alloc, n).expect(rt, "memory");
+    let mut steps = Steps::<L>::new(blank);
+    let added = support::edges(rt, alloc, n, pairs);
+    assert!(rt; are_absent(adj.graph(), &added) && can_rise(&adj, &th));
+    let tally = insert_rounds(rt, alloc, gate, 2, &th, &mut adj, &added, &mut steps).expect(
+        rt, "memory",
+    );
+    assert!(rt; adj.levels().as_slice() == want);
+    assert!(rt; tally.moves as usize == want.iter().filter(|level| **level > 0).count());
+}
+
+fn check<R: Threads + Sync + Abort, G: Gate + Sync>(
+    rt: &R,
+    alloc: Global,
+    gate: &G,
+    pairs: &[(u32, u32)],
+    want: &[u16],
+) {
+    check_counted::<R, G, Brand>(rt, alloc, Blank::new(1), gate, pairs, want);
 }
 
 // Batches, and the levels after them.
-const CASES: &[(&[Pairs], &[u16])] = &[
+const CASES: &[(&[&[(u32, u32)]], &[u16])] = &[
     (&[&[]], &[0]),
     (&[&[]], &[0, 0]),
     (&[&[(0, 1)]], &[1, 1]),
     (&[&[(0, 1), (1, 2)]], &[1, 1, 1, 0, 0]),
-    (&[STAR], &[2, 1, 1, 1, 1]),
+    (&[&[(0, 1), (0, 2), (0, 3), (0, 4)]], &[2, 1, 1, 1, 1]),
     (&[&[(0, 1), (0, 2)], &[(0, 3)]], &[2, 1, 1, 1, 0]),
     (&[&[(0, 1), (0, 2), (1, 2)]], &[1, 1, 1]),
-    (&[FOUR], &[6, 6, 6, 6, 0]),
+    (
+        &[&[(0, 1), (0, 2), (0, 3), (1, 2), (1, 3), (2, 3)]],
+        &[6, 6, 6, 6, 0],
+    ),
     (
         &[&[(0, 1), (0, 2), (0, 3), (1, 2), (1, 3), (2, 3), (5, 6)]],
         &[7, 7, 7, 7, 0, 1, 1, 0],
@@ -172,18 +189,17 @@ const CASES: &[(&[Pairs], &[u16])] = &[
 fn small_graphs(rt: HostRuntime) {
     for (batches, want) in CASES {
         for workers in [1, 3, 64] {
-            let mut adj = empty(&rt, count_of(&rt, want.len()));
-            come_in(&rt, &OpenGate, workers, &mut adj, batches);
-            let same = adj.levels().as_slice() == *want;
-            drop(adj);
-            assert!(rt; same);
+            let mut adj = empty(&rt, rt.alloc(), count_of(&rt, want.len()));
+            come_in(&rt, rt.alloc(), &OpenGate, workers, &mut adj, batches);
+            assert!(rt; adj.levels().as_slice() == *want);
         }
     }
 }
 
 #[test]
 fn eight_joined_each_with_each(rt: HostRuntime) {
-    check(&rt, &OpenGate, &all_pairs(&rt, 8), &[19; 8]);
+    let eight = all_pairs(&rt, rt.alloc(), 8);
+    check(&rt, rt.alloc(), &OpenGate, &eight, &[19; 8]);
 }
 
 // Three edges of one vertex, one of them to the last vertex of many.
@@ -200,7 +216,8 @@ fn levels_among_many(rt: HostRuntime) {
             };
             want.push(level).expect(&rt, "memory");
         }
-        check(&rt, &OpenGate, &[(0, 1), (0, 2), (0, last)], &want);
+        let star = [(0, 1), (0, 2), (0, last)];
+        check(&rt, rt.alloc(), &OpenGate, &star, &want);
     }
 }
 
@@ -208,7 +225,13 @@ fn levels_among_many(rt: HostRuntime) {
 #[test]
 fn a_first_round_has_two_pieces_at_once(rt: HostRuntime) {
     let gate = Holding::new();
-    check(&rt, &gate, STAR, &[2, 1, 1, 1, 1]);
+    check(
+        &rt,
+        rt.alloc(),
+        &gate,
+        &[(0, 1), (0, 2), (0, 3), (0, 4)],
+        &[2, 1, 1, 1, 1],
+    );
     assert!(rt; gate.have_met());
 }
 
@@ -221,11 +244,11 @@ fn batches_rise_as_by_recounting(rt: HostRuntime) {
     for round in 0..8u32 {
         for workers in WORKERS {
             let n = 1 + random.below(30);
-            let pairs = drawn_pairs(&rt, &mut random, n, 1 + round % 5, n);
-            let batches = dealt(&rt, &mut random, &pairs, 3);
-            let mut adj = empty(&rt, n);
-            come_in(&rt, &OpenGate, workers, &mut adj, &batches.parts());
-            drop(adj);
+            let pairs = drawn_pairs(&rt, rt.alloc(), &mut random, n, 1 + round % 5, n);
+            let batches = dealt(&rt, rt.alloc(), &mut random, &pairs, 3);
+            let mut adj = empty(&rt, rt.alloc(), n);
+            let batches = batches.parts();
+            come_in(&rt, rt.alloc(), &OpenGate, workers, &mut adj, &batches);
         }
     }
 }
@@ -239,13 +262,21 @@ fn ranges_rise_as_by_recounting(rt: HostRuntime) {
     for round in 0..2u32 {
         for (bits, least_shared) in LAYOUTS {
             let n = 8 + random.below(16);
-            let pairs = drawn_pairs(&rt, &mut random, n, 1 + round, n);
-            let batches = dealt(&rt, &mut random, &pairs, 3);
+            let pairs = drawn_pairs(&rt, rt.alloc(), &mut random, n, 1 + round, n);
+            let batches = dealt(&rt, rt.alloc(), &mut random, &pairs, 3);
             for workers in WORKERS {
                 let layout = Layout::new(bits, least_shared);
-                let mut adj = empty(&rt, n);
-                come_in_cut(&rt, &OpenGate, workers, layout, &mut adj, &batches.parts());
-                drop(adj);
+                let mut adj = empty(&rt, rt.alloc(), n);
+                let batches = batches.parts();
+                come_in_cut(
+                    &rt,
+                    rt.alloc(),
+                    &OpenGate,
+                    workers,
+                    layout,
+                    &mut adj,
+                    &batches,
+                );
             }
         }
     }

@@ -1,7 +1,20 @@
 // Thresholds of bands, and a star that meets and breaks the invariants, all worked out by hand.
+ghost use Rattle.std.specs.Prelude.{◌≡◌};
 
-use super::support::{check_row, levels, small_graph, thresholds};
-use kc_levels::{Estimate, Levels, Profile, at_least, check_lower, check_upper, moved_count};
+use super::support::{check_row, graph, levels};
+use kc_graph::MAX_VERTICES;
+use kc_levels::{
+    Estimate, Levels, Profile, Thresholds, at_least, check_lower, check_upper, moved_count,
+};
+use std::alloc::Global;
+use std::process::Abort;
+
+fn thresholds(rt: &impl Abort, alloc: Global, profile: Profile, n: u32) -> Thresholds
+    ensures { result ≡ record { profile = profile; vertices = n } }
+{
+    assert!(rt; 1 <= n && n <= MAX_VERTICES);
+    Thresholds::new(alloc, profile, n).expect(rt, "memory")
+}
 
 // The top level for a number of vertices.
 const TOPS: &[(Profile, u32, u16)] = &[
@@ -22,7 +35,11 @@ const TOPS: &[(Profile, u32, u16)] = &[
 #[test]
 fn tops(rt: HostRuntime) {
     for (row, &(profile, n, top)) in TOPS.iter().enumerate() {
-        check_row(&rt, row, thresholds(&rt, profile, n).top() == top);
+        check_row(
+            &rt,
+            row,
+            thresholds(&rt, rt.alloc(), profile, n).top() == top,
+        );
     }
 }
 
@@ -40,13 +57,16 @@ const EIGHT: &[(u16, u16, u32, u32, u32, u32)] = &[
 
 #[test]
 fn groups_of_eight(rt: HostRuntime) {
-    let th = thresholds(&rt, Profile::One, 8);
+    let th = thresholds(&rt, rt.alloc(), Profile::One, 8);
     for (row, &(level, group, low, high, est, lo)) in EIGHT.iter().enumerate() {
         assert!(rt; level <= th.top());
         let i = th.group(level);
         let estimate = Estimate { est, lo, hi: high };
-        let same = i == group && th.low(i) == low && th.high(i) == high;
-        check_row(&rt, row, same && th.estimate(level) == estimate);
+        check_row(
+            &rt,
+            row,
+            i == group && th.low(i) == low && th.high(i) == high && th.estimate(level) == estimate,
+        );
     }
 }
 
@@ -61,17 +81,18 @@ const STAR: &[([u16; 5], u32, u32, bool, bool)] = &[
 
 #[test]
 fn a_star_meets_and_breaks_the_bounds(rt: HostRuntime) {
-    let th = thresholds(&rt, Profile::One, 5);
-    let star = small_graph(&rt, 5, "01 02 03");
+    let th = thresholds(&rt, rt.alloc(), Profile::One, 5);
+    let star = graph(&rt, rt.alloc(), 5, &[(0, 1), (0, 2), (0, 3)]);
     for (row, &(items, v, own, upper, lower)) in STAR.iter().enumerate() {
-        let levels = levels(&rt, &items);
+        let levels = levels(&rt, rt.alloc(), &items);
         assert!(rt; v < 5 && levels.get(v) <= th.top());
-        let same = at_least(&star, &levels, v, levels.get(v)) == own;
-        let bounds = (
-            check_upper(&star, &levels, &th, v),
-            check_lower(&star, &levels, &th, v),
+        check_row(
+            &rt,
+            row,
+            at_least(&star, &levels, v, levels.get(v)) == own
+                && check_upper(&star, &levels, &th, v) == upper
+                && check_lower(&star, &levels, &th, v) == lower,
         );
-        check_row(&rt, row, same && bounds == (upper, lower));
     }
 }
 

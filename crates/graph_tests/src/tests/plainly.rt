@@ -1,15 +1,24 @@
 //! Plain bodies of phases. One vertex after another goes to the level that its neighbours require, by a fresh count,
 //! until none moves.
 
-ghost use Rattle.std.specs.Prelude.{◌<◌};
+ghost use Rattle.std.specs.Prelude.{◌≡◌, ◌<◌, ◌≤◌};
 
-use super::support::Bench;
-use kc_adj::LevelAdj;
-use kc_graph::Graph;
+use kc_graph::{Graph, MAX_VERTICES};
 use kc_levels::{Move, Thresholds};
+use std::alloc::Global;
+use std::process::Abort;
 
 // The most tests of a vertex until levels have to be settled.
 const LOOKS: u32 = 100_000_000;
+
+// Returns the length of a list that has an item for each vertex.
+pub fn count_of<R: Abort>(rt: &R, len: usize) -> u32
+    ensures same { result ≡ len }
+    ensures few { result ≤ MAX_VERTICES }
+{
+    assert!(rt; len <= MAX_VERTICES as usize);
+    len as u32
+}
 
 // Returns the level of v.
 pub fn level_of(levels: &[u16], v: u32) -> u16 {
@@ -67,14 +76,15 @@ fn moves(graph: &Graph, th: &Thresholds, rise: bool, levels: &mut Vec<u16>, v: u
 
 // Lets vertices rise to the least levels, from their own on, that meet the upper invariant, or fall to the greatest
 // that meet the lower. All wait at first, and one that moves lets its neighbours wait again.
-pub fn settle_plainly(
-    rt: &impl Bench,
+pub fn settle_plainly<R: Abort>(
+    rt: &R,
+    alloc: Global,
     graph: &Graph,
     th: &Thresholds,
     rise: bool,
     levels: &mut Vec<u16>,
 ) {
-    let mut waiting = Vec::new(rt.alloc());
+    let mut waiting = Vec::new(alloc);
     for v in 0..graph.vertices() {
         waiting.push(v).expect(rt, "memory");
     }
@@ -94,7 +104,7 @@ pub fn settle_plainly(
 }
 
 // Returns whether these are the moves of n vertices from levels to others, ascending.
-fn are_moves(moves: &[Move], n: u32, before: &[u16], after: &[u16]) -> bool {
+pub fn are_moves(moves: &[Move], n: u32, before: &[u16], after: &[u16]) -> bool {
     let mut rest = moves.iter();
     for v in 0..n {
         let (old, new) = (level_of(before, v), level_of(after, v));
@@ -106,22 +116,4 @@ fn are_moves(moves: &[Move], n: u32, before: &[u16], after: &[u16]) -> bool {
         }
     }
     rest.next().is_none()
-}
-
-// Settles the levels from before a phase. Returns whether the phase led to these levels, by these moves.
-pub fn has_led(
-    rt: &impl Bench,
-    adj: &LevelAdj,
-    th: &Thresholds,
-    rise: bool,
-    moves: &[Move],
-    levels: &mut Vec<u16>,
-) -> bool {
-    let before = levels.as_slice().to_vec(rt.alloc()).expect(rt, "memory");
-    settle_plainly(rt, adj.graph(), th, rise, levels);
-    let n = adj.graph().vertices();
-    let same = adj.levels().as_slice() == levels.as_slice();
-    let led = same && are_moves(moves, n, &before, levels);
-    drop(before);
-    led
 }

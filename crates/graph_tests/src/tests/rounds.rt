@@ -2,10 +2,13 @@
 // its first test.
 ghost use Rattle.std.specs.Prelude.{◌≡◌, ◌≤◌};
 
-use super::support::{Bench, check_row};
+use super::support::check_row;
 use kc_rounds::{FirstRound, Gate, RoundTest, Rounds, Spot, filter_round};
+use std::alloc::Global;
+use std::process::Abort;
 use std::sync::atomic::AtomicU64;
 use std::sync::atomic::Ordering::SeqCst;
+use std::thread::Threads;
 use test_support::gates::Holding;
 
 // The gate and the test of small numbers. Odd ones are kept. Counts are in eight bits for each piece and each number.
@@ -73,11 +76,12 @@ const ROUNDS: &[(u32, u32, u64)] = &[
 ];
 
 // Runs a round of the numbers below five, of which two are kept.
-fn watched(rt: &impl Bench, workers: u32, size: u32) -> Watch {
+fn watched<R: Threads + Sync + Abort>(rt: &R, alloc: Global, workers: u32, size: u32) -> Watch {
     assert!(rt; 1 <= workers && workers <= 64 && 1 <= size);
     let watch = Watch::new(size);
-    let kept = filter_round(rt, rt.alloc(), &watch, workers, &[0, 1, 2, 3, 4], &watch);
-    let kept = kept.expect(rt, "memory");
+    let kept = filter_round(rt, alloc, &watch, workers, &[0, 1, 2, 3, 4], &watch).expect(
+        rt, "memory",
+    );
     assert!(rt; kept.as_slice() == [1, 3].as_slice());
     watch
 }
@@ -85,7 +89,7 @@ fn watched(rt: &impl Bench, workers: u32, size: u32) -> Watch {
 #[test]
 fn kept_in_order_by_any_workers(rt: HostRuntime) {
     for (row, &(workers, size, pieces)) in ROUNDS.iter().enumerate() {
-        let watch = watched(&rt, workers, size);
+        let watch = watched(&rt, rt.alloc(), workers, size);
         check_row(&rt, row, watch.pieces.load(SeqCst) == pieces);
     }
 }
@@ -93,7 +97,7 @@ fn kept_in_order_by_any_workers(rt: HostRuntime) {
 #[test]
 fn pieces_are_told_before_they_are_tested(rt: HostRuntime) {
     for (row, &(workers, size, _)) in ROUNDS.iter().enumerate() {
-        let watch = watched(&rt, workers, size);
+        let watch = watched(&rt, rt.alloc(), workers, size);
         check_row(&rt, row, watch.early.load(SeqCst) == 0);
     }
 }
@@ -101,7 +105,7 @@ fn pieces_are_told_before_they_are_tested(rt: HostRuntime) {
 #[test]
 fn each_candidate_is_tested_once(rt: HostRuntime) {
     for (row, &(workers, size, _)) in ROUNDS.iter().enumerate() {
-        let watch = watched(&rt, workers, size);
+        let watch = watched(&rt, rt.alloc(), workers, size);
         check_row(&rt, row, watch.tested.load(SeqCst) == 0x01_0101_0101);
     }
 }
@@ -110,8 +114,9 @@ fn each_candidate_is_tested_once(rt: HostRuntime) {
 fn an_empty_list_has_no_piece(rt: HostRuntime) {
     for workers in [1, 2, 64] {
         let watch = Watch::new(1);
-        let kept = filter_round(&rt, rt.alloc(), &watch, workers, &[], &watch);
-        let kept = kept.expect(&rt, "memory");
+        let kept = filter_round(&rt, rt.alloc(), &watch, workers, &[], &watch).expect(
+            &rt, "memory",
+        );
         assert!(rt; kept.is_empty() && watch.pieces.load(SeqCst) == 0);
     }
 }
@@ -120,8 +125,9 @@ fn an_empty_list_has_no_piece(rt: HostRuntime) {
 fn pieces_run_at_the_same_time(rt: HostRuntime) {
     let gate = Holding::new();
     let test = Watch::new(3);
-    let kept = filter_round(&rt, rt.alloc(), &gate, 2, &[1, 2, 3, 4, 5], &test);
-    let kept = kept.expect(&rt, "memory");
+    let kept = filter_round(&rt, rt.alloc(), &gate, 2, &[1, 2, 3, 4, 5], &test).expect(
+        &rt, "memory",
+    );
     assert!(rt; kept.as_slice() == [1, 3, 5].as_slice() && gate.have_met());
 }
 
@@ -143,8 +149,11 @@ fn later_short_rounds_have_one_piece(rt: HostRuntime) {
         let movers = rounds
             .movers(&mut first, candidates, &watch)
             .expect(&rt, "memory");
-        let started = watch.pieces.load(SeqCst);
-        check_row(&rt, row, movers.as_slice() == kept && started == pieces);
+        check_row(
+            &rt,
+            row,
+            movers.as_slice() == kept && watch.pieces.load(SeqCst) == pieces,
+        );
     }
     let long = vec![in rt.alloc(); 4u32; 300_000].expect(&rt, "memory");
     let movers = rounds

@@ -1,4 +1,4 @@
 use Rattle.graph_tests.proofs.tests.delete.check.Given as goal
 
-abbrev pub ghosts-fall_alone : goal.ghosts-fall_alone
-ghosts-fall_alone g a = record { name = a.blank.name; parts = a.blank.parts }
+abbrev pub ghosts-leave_alone : goal.ghosts-leave_alone
+ghosts-leave_alone g a = record { name = a.blank.name; parts = a.blank.parts }

@@ -1,4 +1,4 @@
 use Rattle.graph_tests.proofs.tests.insert.check.Given as goal
 
-abbrev pub ghosts-rise_alone : goal.ghosts-rise_alone
-ghosts-rise_alone g a = record { name = a.blank.name; parts = a.blank.parts }
+abbrev pub ghosts-check_counted : goal.ghosts-check_counted
+ghosts-check_counted g a = record { name = a.blank.name; parts = a.blank.parts }
