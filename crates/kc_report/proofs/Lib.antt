@@ -3,3 +3,4 @@ mod LineLemmas
 mod ReaderLemmas
 mod TextLemmas
 mod VertexLemmas
+mod WordLemmas

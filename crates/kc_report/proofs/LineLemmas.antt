@@ -9,6 +9,7 @@ use Rattle.kc_text.proofs.lemmas.Writing.{appends_send}
 use Rattle.kc_graph.specs.declared.cleaning.Cleaned.{Cleaned}
 use Rattle.kc_levels.specs.declared.thresholds.Estimate.{Estimate}
 use Rattle.kc_report.specs.Lines.{vertices_line, header_refused_line, batch_line, refused_line, vertex_line, coreness_line}
+use Rattle.kc_report.specs.VertexLines.{level_words}
 
 -- a buffer that was sent as a line
 pub sent_as : {T : Type 0} → (before now : Option (List ℕ)) (buffer line : List ℕ) (result : Result T SendFault) → buffer ++ 10 ∷ [] ≡ line → Sends before now (buffer ++ 10 ∷ []) result → Appends before now line result
@@ -24,6 +25,17 @@ pub vertex_filled : (v level up down : ℕ) (e : Estimate) (old a b c d : List �
     → b ≡ (((((((a ++ codes " level ") ++ decimal level) ++ codes " est ") ++ decimal e.est) ++ codes " low ") ++ decimal e.lo) ++ codes " high ") ++ decimal e.hi
     → c ≡ (b ++ codes " up ") ++ decimal up → d ≡ (c ++ codes " down ") ++ decimal down → d ++ 10 ∷ [] ≡ vertex_line v level e up down
 vertex_filled v level up down e old a b c d z ea eb ec ed = rw (ed, ec, eb, ea, z) (simp append_assoc)
+
+-- the words of a level, as they are put together
+pub level_filled : (level : ℕ) (e : Estimate) (old a b : List ℕ) → old ≡ []
+    → a ≡ (((((((old ++ codes " level ") ++ decimal level) ++ codes " est ") ++ decimal e.est) ++ codes " low ") ++ decimal e.lo) ++ codes " high ") ++ decimal e.hi
+    → b ≡ a ++ codes " up " → b ≡ level_words level e
+level_filled level e old a b z ea eb = rw (eb, ea, z) (simp append_assoc)
+
+-- a vertex line, put together from the words of its level
+pub counted_filled : (v level up down : ℕ) (e : Estimate) (old a b c d words : List ℕ) → old ≡ [] → a ≡ (old ++ codes "vertex ") ++ decimal v
+    → words ≡ level_words level e → b ≡ a ++ words → c ≡ b ++ decimal up → d ≡ (c ++ codes " down ") ++ decimal down → d ++ 10 ∷ [] ≡ vertex_line v level e up down
+counted_filled v level up down e old a b c d words z ea ew eb ec ed = rw (ed, ec, eb, ew, ea, z) (simp append_assoc)
 
 counts_filled : (number : ℕ) (c : Cleaned) (old a tail : List ℕ) → old ≡ []
     → a ≡ (((((((old ++ codes "batch ") ++ decimal number) ++ codes " loops ") ++ decimal c.loops) ++ codes " repeats ") ++ decimal c.repeats) ++ codes " idle ") ++ decimal c.idle

@@ -16,6 +16,7 @@
 mod batches;
 mod exact;
 mod head;
+mod level_words;
 mod notes;
 mod phases;
 mod readers;
@@ -25,7 +26,8 @@ mod vertices;
 pub use batches::{write_batch, write_refused};
 pub use exact::{write_coreness, write_exact_head};
 pub use head::{write_end, write_head, write_header_refused, write_vertex_count};
+pub use level_words::LevelWords;
 pub use notes::write_note;
 pub use readers::write_reader;
 pub use tail::{VertexLines, write_tail};
-pub use vertices::write_vertex;
+pub use vertices::{VertexCounts, write_counts, write_vertex};

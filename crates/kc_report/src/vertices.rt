@@ -1,30 +1,15 @@
 //! The line of a vertex in a run: its level, what the level says of its coreness, and two counts of neighbours.
-ghost use Rattle.std.specs.Prelude.{◌≡◌, [], ◌∷◌, ◌++◌, OnOk, decimal, codes};
+ghost use Rattle.std.specs.Prelude.{◌≡◌, ℕ, ◌<◌, [], ◌∷◌, ◌++◌, OnOk, length};
+ghost use Rattle.kc_levels.specs.declared.profile.Profile.{Profile};
 ghost use Rattle.kc_text.specs.Writing.{Appends, WriteCause};
 ghost use Rattle.kc_report.specs.Buffer.{IsCleared};
 ghost use Rattle.kc_report.specs.Lines.{vertex_line};
+ghost use Rattle.kc_report.specs.VertexLines.{counted_line, AreLevelWords};
 
+use crate::level_words::{LevelWords, fill_bounds};
 use kc_levels::Estimate;
 use kc_text::{LineBuf, SendFault, Sink, fill_named};
 use std::alloc::{AllocError, Global};
-
-// Appends the words of a vertex line for the level and its estimate.
-fn fill_bounds(
-    alloc: Global,
-    buf: &mut LineBuf,
-    level: u16,
-    estimate: Estimate,
-) -> Result<(), AllocError>
-    ensures { OnOk result (buf.new ≡ (((((((buf.old ++ codes " level ") ++ decimal level)
-        ++ codes " est ") ++ decimal estimate.est)
-        ++ codes " low ") ++ decimal estimate.lo)
-        ++ codes " high ") ++ decimal estimate.hi) }
-{
-    fill_named(alloc, buf, b" level ", u32::from(level))?;
-    fill_named(alloc, buf, b" est ", estimate.est)?;
-    fill_named(alloc, buf, b" low ", estimate.lo)?;
-    fill_named(alloc, buf, b" high ", estimate.hi)
-}
 
 // The numbers of a vertex line.
 #[derive(Clone, Copy)]
@@ -79,5 +64,55 @@ pub fn write_vertex<K: Sink>(
         down,
     };
     fill_vertex(alloc, buf, line)?;
+    buf.send(alloc, sink)
+}
+
+/// What the line of a vertex says beside the words of its level.
+#[derive(Clone, Copy, Debug)]
+pub struct VertexCounts {
+    /// The vertex.
+    pub v: u32,
+    /// Its level.
+    pub level: u16,
+    /// The number of its neighbours on its level or above.
+    pub up: u32,
+    /// The number of its neighbours on the level below or above; on level 0 all.
+    pub down: u32,
+}
+
+fn fill_counts(
+    alloc: Global,
+    buf: &mut LineBuf,
+    words: &LevelWords,
+    counts: VertexCounts,
+) -> Result<(), AllocError>
+    requires { counts.level < length words.now }
+    ensures { (p : Profile) (n : ℕ) → AreLevelWords p n words.now → OnOk result (buf.new ++ 10 ∷ [] ≡ counted_line p n counts) }
+{
+    buf.clear();
+    fill_named(alloc, buf, b"vertex ", counts.v)?;
+    buf.text(alloc, words.of(counts.level))?;
+    buf.number(alloc, counts.up)?;
+    fill_named(alloc, buf, b" down ", counts.down)
+}
+
+/// Writes the line of a vertex as `write_vertex` does, with words that were composed for its level (`counted_line`).
+///
+/// The words are those of a profile and a number of vertices (`AreLevelWords`), and one of them is of the vertex's
+/// level. Costs about half of `write_vertex`, for texts of many vertices. `WriteFault` comes only from a failed write.
+/// After `WriteFault` or `Memory` the sink took a prefix of the line.
+pub fn write_counts<K: Sink>(
+    alloc: Global,
+    buf: &mut LineBuf,
+    sink: &mut K,
+    words: &LevelWords,
+    counts: VertexCounts,
+) -> Result<(), SendFault>
+    requires { counts.level < length words.now }
+    ensures text { (p : Profile) (n : ℕ) → AreLevelWords p n words.now → Appends (K.taken sink.old) (K.taken sink.new) (counted_line p n counts) result }
+    ensures buffer { IsCleared buf.new result }
+    ensures cause { WriteCause (K.faults sink.old) (K.faults sink.new) result }
+{
+    fill_counts(alloc, buf, words, counts)?;
     buf.send(alloc, sink)
 }

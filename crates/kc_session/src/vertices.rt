@@ -5,7 +5,7 @@ ghost use Rattle.kc_report.specs.Buffer.{IsCleared};
 ghost use Rattle.kc_report.specs.VertexLines.{vertex_text, tail_text};
 
 use kc_engine::Engine;
-use kc_report::{VertexLines, write_vertex};
+use kc_report::{LevelWords, VertexCounts, VertexLines, write_counts};
 use kc_text::{LineBuf, SendFault, Sink};
 use std::alloc::Global;
 
@@ -16,14 +16,17 @@ struct EngineLines<'a> {
     engine: &'a Engine,
     // The levels of the engine.
     levels: &'a [u16],
+    // The words of each of these levels.
+    words: LevelWords,
 }
 
 impl VertexLines for EngineLines<'_> {
-    ghost use Rattle.std.specs.Prelude.{◌<◌};
+    ghost use Rattle.std.specs.Prelude.{◌<◌, length, slice_index};
+    ghost use Rattle.kc_report.specs.VertexLines.{AreLevelWords};
 
     ghost line = { λ lines v. vertex_text lines.engine.now.state.profile lines.engine.now.state.graph lines.levels.now v };
 
-    ghost has_line = { λ lines v. (lines.engine.now.halted ≡ false) × (lines.levels.now ≡ lines.engine.now.state.levels) × (v < lines.engine.now.state.graph.vertices) };
+    ghost has_line = { λ lines v. (lines.engine.now.halted ≡ false) × (lines.levels.now ≡ lines.engine.now.state.levels) × (v < lines.engine.now.state.graph.vertices) × AreLevelWords lines.engine.now.state.profile lines.engine.now.state.graph.vertices lines.words × (slice_index lines.levels.now v < length lines.words) };
 
     fn write_line<K: Sink>(
         &self,
@@ -34,11 +37,13 @@ impl VertexLines for EngineLines<'_> {
     ) -> Result<(), SendFault> {
         // Evidence for the check: there is a level for each vertex, at most the top level.
         let _levels = self.engine.levels();
-        let level = self.levels[v as usize];
-        let estimate = self.engine.thresholds().estimate(level);
-        let up = self.engine.at_least_own(v);
-        let down = self.engine.at_least_below(v);
-        write_vertex(alloc, buf, sink, v, level, estimate, up, down)
+        let counts = VertexCounts {
+            v,
+            level: self.levels[v as usize],
+            up: self.engine.at_least_own(v),
+            down: self.engine.at_least_below(v),
+        };
+        write_counts(alloc, buf, sink, &self.words, counts)
     }
 }
 
@@ -63,5 +68,11 @@ pub fn write_tail<K: Sink>(
     ensures buffer { IsCleared buf.new result }
     ensures cause { WriteCause (K.faults sink.old) (K.faults sink.new) result }
 {
-    kc_report::write_tail(alloc, buf, sink, n, &EngineLines { engine, levels })
+    let words = LevelWords::new(alloc, engine.thresholds(), engine.levels().as_slice())?;
+    let lines = EngineLines {
+        engine,
+        levels,
+        words,
+    };
+    kc_report::write_tail(alloc, buf, sink, n, &lines)
 }

@@ -80,6 +80,13 @@ impl LineBuf {
             .extend_from_slice(digits.format(value).as_bytes())
     }
 
+    /// Returns the bytes of the line.
+    pub fn as_bytes(&self) -> &[u8]
+        ensures { result.now ≡ self.now }
+    {
+        self.bytes.as_slice()
+    }
+
     /// Sends the line with a line feed after it, and empties it. After `WriteFault` the sink took a proper prefix of
     /// the line, and the line is empty too. After `Memory` nothing was sent, and the line stays as it was.
     pub fn send<K: Sink>(&mut self, _alloc: Global, sink: &mut K) -> Result<(), SendFault>
