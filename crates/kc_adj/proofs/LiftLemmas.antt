@@ -2,13 +2,15 @@
 use Rattle.std.proofs.Common.{ℕ, suc, ◌+◌, ◌-◌, ◌≤◌, ◌<◌, ◌≡◌, ◌≢◌, inl, inr, true, false, cond, eqb, List, [], ◌∷◌, length, get_or, set, drop, add-one, refl, ap, sym, ◌∙◌, arith}
 use Rattle.std.proofs.lemmas.Bool.{cases_lt, cases_eq, cases_Bool, true≢false}
 use Rattle.std.proofs.lemmas.Bool.Decides.{nat_tests}
-use Rattle.std.proofs.lemmas.Grind.{same_number_lists}
+use Rattle.std.specs.Prelude.{All}
+use Rattle.std.proofs.lemmas.Grind.{same_number_lists, get_or_default_zero}
 use Rattle.std.proofs.Math.Seq.{drop-cons}
 use Rattle.std.proofs.lemmas.List.{drop_all, length-drop, length-set, get_or-set_same, get_or-set_other, get_or_past}
 use Rattle.kc_graph.specs.Numbers.{has_number, RisesFrom}
 use Rattle.kc_graph.specs.Shape.{GraphShape, neighbours_of}
 use Rattle.kc_graph.proofs.lemmas.Numbers.{has_number_below, has_number_at}
 use Rattle.kc_graph.proofs.lemmas.Neighbours.{neighbours_both}
+use Rattle.kc_levels.specs.Following.{AreDistinct}
 use Rattle.kc_levels.specs.LevelList.{at_least, IsBelow}
 use Rattle.kc_levels.proofs.lemmas.Writes.{changed}
 use Rattle.kc_levels.proofs.lemmas.AtLeast.{at_least-few, at_least-set, at_least-change}
@@ -78,6 +80,13 @@ taking_first n x z vertices long sized over all = record {
       | inr past ↦ get_or_past x u 0 (omega (arith, past, long)) ∙ sym (get_or_past z u 0 (omega (arith, past, sized)))
     ]
   ];
+}
+
+pub lifted : (lift : LiftShape) (vertices : List ℕ) → ((v : ℕ) → has_number v vertices ≡ true → v < lift.graph.vertices) → ((v : ℕ) → get_or lift.old v 0 < get_or lift.new v 0 → has_number v vertices ≡ true) → AreDistinct vertices → AreLifted lift vertices
+lifted lift vertices below all once = record {
+  inside = λ k d at. rw (get_or_default_zero vertices k d at) (below (get_or vertices k 0) (has_number_at (get_or vertices k 0) vertices k at refl));
+  all = all;
+  once = once;
 }
 
 pub lifting_first : (lift : LiftShape) (d : ℕ) (vertices counts : List ℕ) → IsLift lift → AreLifted lift vertices → IsCounted lift.graph lift.old d counts → IsLifting lift d vertices counts
@@ -184,9 +193,9 @@ module _ (lift : LiftShape) (d v : ℕ) (rest before counts : List ℕ) (is : Is
         rw (e, off) (moved_next c (omega (arith, ne, over)) is)
   ]
 
-pub lifting_next : (lift : LiftShape) (d i : ℕ) (vertices before counts : List ℕ) (c reach : ℕ) (new : List ℕ) → IsLift lift → i < length vertices → ((v : ℕ) → has_number v vertices ≡ true → v < lift.graph.vertices) → IsLifting lift d (drop i vertices) before → HaveGained lift (get_or vertices i 0) d before counts → reach ≡ get_or lift.new (get_or vertices i 0) 0 - d → c ≡ at_least lift.graph lift.new (get_or vertices i 0) reach → new ≡ cond (is_unmoved lift (get_or vertices i 0)) counts (set counts (get_or vertices i 0) c) → IsLifting lift d (drop (i + 1) vertices) new
+pub lifting_next : (lift : LiftShape) (d i : ℕ) (vertices before counts : List ℕ) (c reach : ℕ) (new : List ℕ) → IsLift lift → i < length vertices → All (λ v. v < lift.graph.vertices) vertices → IsLifting lift d (drop i vertices) before → HaveGained lift (get_or vertices i 0) d before counts → reach ≡ get_or lift.new (get_or vertices i 0) 0 - d → c ≡ at_least lift.graph lift.new (get_or vertices i 0) reach → new ≡ cond (is_unmoved lift (get_or vertices i 0)) counts (set counts (get_or vertices i 0) c) → IsLifting lift d (drop (i + 1) vertices) new
 lifting_next lift d i vertices before counts c reach new is at below s t reach_is c_is e =
-    let inside : get_or vertices i 0 < lift.graph.vertices = below (get_or vertices i 0) (has_number_at (get_or vertices i 0) vertices i at refl) in
+    let inside : get_or vertices i 0 < lift.graph.vertices = below i 0 at in
     let now : IsLifting lift d (get_or vertices i 0 ∷ drop (suc i) vertices) before = rw (drop-cons vertices i 0 at) at s in
     rw add-one (next lift d (get_or vertices i 0) (drop (suc i) vertices) before counts is inside now t c new (c_is ∙ ap (at_least lift.graph lift.new (get_or vertices i 0)) reach_is) e)
 

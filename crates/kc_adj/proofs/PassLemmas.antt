@@ -1,6 +1,6 @@
 -- What is found at the vertices of a list as they go up, and what is written down of it.
 use Rattle.std.proofs.Common.{ℕ, suc, zero, ◌+◌, ◌-◌, ◌*◌, ◌/◌, ◌%◌, ◌≤◌, ◌<◌, ◌≡◌, inl, inr, Bool, true, false, cond, leb, ltb, ◌&&◌, min, List, [], ◌∷◌, ◌++◌, length, get_or, take, drop, refl, ap, sym, ◌∙◌, arith}
-use Rattle.std.specs.Prelude.{filter}
+use Rattle.std.specs.Prelude.{All, filter}
 use Rattle.std.specs.List.{flat_map}
 use Rattle.std.proofs.Math.Seq.{take-append_seam, drop-append-add}
 use Rattle.std.proofs.lemmas.Bool.{cases_Bool, cases_eq, cases_lt, true≢false}
@@ -117,7 +117,7 @@ pub record IsTurn (lift : LiftShape) (vertices touched : List ℕ) (all i place 
   pub within : place + t.touched ≤ length touched
   pub run : (run : List ℕ) → run ≡ take t.touched (drop place touched) → run ≡ touched_by lift (get_or vertices i 0)
 
-module _ (lift : LiftShape) (vertices : List ℕ) (r : Passed) (i place : ℕ) (t : Turn) (below : (v : ℕ) → has_number v vertices ≡ true → v < lift.graph.vertices) (s : ArePassed lift (take (length r.turns.items) vertices) r) (at : i < length r.turns.items) (e : t ≡ get_or r.turns.items i t) (place_is : place ≡ length (flat_map (touched_by lift) (take i (take (length r.turns.items) vertices)))) where
+module _ (lift : LiftShape) (vertices : List ℕ) (r : Passed) (i place : ℕ) (t : Turn) (below : All (λ v. v < lift.graph.vertices) vertices) (s : ArePassed lift (take (length r.turns.items) vertices) r) (at : i < length r.turns.items) (e : t ≡ get_or r.turns.items i t) (place_is : place ≡ length (flat_map (touched_by lift) (take i (take (length r.turns.items) vertices)))) where
   abbrev first : List ℕ
   first = take (length r.turns.items) vertices
 
@@ -139,7 +139,7 @@ module _ (lift : LiftShape) (vertices : List ℕ) (r : Passed) (i place : ℕ) (
   pub turn_at : IsTurn lift vertices r.touched.items (length r.turns.items) i place t
   turn_at = record {
     here = inside_list;
-    inside = below (get_or vertices i 0) (has_number_at (get_or vertices i 0) vertices i inside_list refl);
+    inside = below i 0 inside_list;
     is = it_is;
     next = omega (arith, place_is, count, piece_next (touched_by lift) first i in_first);
     within = omega (arith, place_is, count, piece_within (touched_by lift) first i in_first, ap (λ (vs : List ℕ). length vs) s.touched);
@@ -155,17 +155,6 @@ looked q row old items i end all within is =
     let whole : take end items ≡ old ++ filter q row = is ∙ ap (λ ws. old ++ filter q ws) (take_all i row all) in
     let long : end ≡ length old + length (filter q row) = omega (arith, length-take end items, ap (λ ws. length ws) whole, length-append old (filter q row), within) in
     (whole, omega (arith, long), omega (arith, long))
-
--- a number of a part of a list is in the list
-in_take : (v i : ℕ) (xs : List ℕ) → has_number v (take i xs) ≡ true → has_number v xs ≡ true
-in_take v i xs there = ap (λ ys. has_number v ys) (sym (take-append-drop i xs)) ∙ has_number-append v (take i xs) (drop i xs) ∙ grind (arith, nat_tests, there)
-
-pub in_drop : (v i : ℕ) (xs : List ℕ) → has_number v (drop i xs) ≡ true → has_number v xs ≡ true
-in_drop v i xs there = ap (λ ys. has_number v ys) (sym (take-append-drop i xs)) ∙ has_number-append v (take i xs) (drop i xs) ∙ grind (arith, nat_tests, there)
-
--- the numbers of a piece are below n
-pub piece_below : (n size start : ℕ) (xs ys : List ℕ) → ((v : ℕ) → has_number v xs ≡ true → v < n) → ys ≡ take size (drop start xs) → (k d : ℕ) → k < length ys → get_or ys k d < n
-piece_below n size start xs ys below is k d at = rw (get_or_default_zero ys k d at) (below (get_or ys k 0) (in_drop (get_or ys k 0) start xs (in_take (get_or ys k 0) size (drop start xs) (ap (λ zs. has_number (get_or ys k 0) zs) (sym is) ∙ has_number_at (get_or ys k 0) ys k at refl))))
 
 -- the vertices that follow a piece
 pub rest_next : (size k m : ℕ) (xs rest : List ℕ) → rest ≡ drop (k * size) xs → m ≡ length (take size rest) → drop m rest ≡ drop ((k + 1) * size) xs

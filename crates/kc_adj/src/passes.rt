@@ -3,9 +3,8 @@
 //!
 //! `specs/private/Passing` defines what is found.
 
-ghost use Rattle.std.specs.Prelude.{◌≡◌, ◌+◌, ◌<◌, ◌≤◌, ◌++◌, ℕ, All, IfOk, OnOk, OnErr, true, drop, take, length};
+ghost use Rattle.std.specs.Prelude.{◌≡◌, ◌+◌, ◌<◌, ◌≤◌, ◌++◌, All, IfOk, OnOk, OnErr, true, drop, take, length};
 ghost use Rattle.std.specs.Result.{is_ok};
-ghost use Rattle.kc_graph.specs.Numbers.{has_number};
 ghost use Rattle.kc_adj.specs.LeveledGraph.{IsAdjacency};
 ghost use Rattle.kc_adj.specs.private.Lifting.{lift_cost, AreLifted, CanGain, HaveGained, IsLifting};
 ghost use Rattle.kc_adj.specs.private.Passing.{is_touched as touches, touched_by, turn_of, ArePassed};
@@ -132,7 +131,7 @@ fn write_down<L: Ledger>(
     passed: &Passed,
     steps: &mut Steps<L>,
 )
-    requires vertices { (v : ℕ) → has_number v vertices.now ≡ true → v < lift.now.graph.vertices }
+    requires vertices { All (λ v. v < lift.now.graph.vertices) vertices.now }
     requires passed { ArePassed lift.now (take (length passed.now.turns.items) vertices.now) passed.now }
     requires own { IsLifting lift.now 0 vertices.now counts.old.own.items }
     requires below { IsLifting lift.now 1 vertices.now counts.old.below.items }

@@ -2,7 +2,7 @@
 --
 -- A vertex that stays gains when a neighbour moves. A vertex that moves counts afresh when it moves itself, with all
 -- vertices on their new levels.
-use Rattle.std.specs.Prelude.{ℕ, ◌+◌, ◌-◌, ◌<◌, ◌≤◌, ◌≡◌, ◌==◌, ◌&&◌, cond, true, false, Bool, List, length, get_or}
+use Rattle.std.specs.Prelude.{ℕ, ◌+◌, ◌-◌, ◌<◌, ◌≤◌, ◌≡◌, ◌==◌, ◌&&◌, cond, true, false, All, Bool, List, length, get_or}
 use Rattle.kc_graph.specs.Numbers.{has_number, RisesFrom}
 use Rattle.kc_graph.specs.Shape.{GraphShape, IsGraph, neighbours_of}
 use Rattle.kc_graph.specs.declared.limits.TheConstants.{MAX_VERTICES}
@@ -27,7 +27,7 @@ pub record IsLift (lift : LiftShape) : Type 0 where
 
 -- the list has vertices of the graph, each once, and every vertex that moves is among them
 pub record AreLifted (lift : LiftShape) (vertices : List ℕ) : Type 0 where
-  pub inside : (v : ℕ) → has_number v vertices ≡ true → v < lift.graph.vertices
+  pub inside : All (λ v. v < lift.graph.vertices) vertices
   pub all : (v : ℕ) → get_or lift.old v 0 < get_or lift.new v 0 → has_number v vertices ≡ true
   pub once : AreDistinct vertices
 

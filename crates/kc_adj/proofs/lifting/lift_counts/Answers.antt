@@ -1,6 +1,5 @@
 use Rattle.std.proofs.Common.{length, get_or, ap, ◌∙◌, arith, refl}
 use Rattle.kc_graph.specs.Shape.{neighbours_of}
-use Rattle.kc_graph.proofs.lemmas.Numbers.{has_number_at}
 use Rattle.kc_adj.specs.private.Lifting.{LiftShape, IsLift}
 use Rattle.kc_adj.proofs.LiftLemmas.{lifting_first, lifting_few, lifting_next, lifting_last, cost_next, cost_last}
 use Rattle.kc_adj.proofs.lifting.lift_counts.Goals as goal
@@ -13,32 +12,14 @@ loop-i-init g c =
       omega arith,
     )
 
-pub pass-own-requires-clause-vertex : goal.pass-own-requires-clause-vertex
-pass-own-requires-clause-vertex g c = rw c.in_turn-v.ensures (c.requires.vertices.inside _ (has_number_at _ c.args.vertices.now c.loop-i.i c.loop-i-test.true refl))
-
 pub pass-own-requires-clause-own : goal.pass-own-requires-clause-own
 pass-own-requires-clause-own g c = lifting_few c.args.lift.now 0 _ _ (rw (← c.lift.view_is) c.lift.invariant) c.loop-i.invariant.0
 
 pub pass-own-requires-clause-below : goal.pass-own-requires-clause-below
 pass-own-requires-clause-below g c = lifting_few c.args.lift.now 1 _ _ (rw (← c.lift.view_is) c.lift.invariant) c.loop-i.invariant.1
 
-pub renew-requires-clause-vertex : goal.renew-requires-clause-vertex
-renew-requires-clause-vertex g c = rw c.in_turn-v.ensures (c.requires.vertices.inside _ (has_number_at _ c.args.vertices.now c.loop-i.i c.loop-i-test.true refl))
-
-pub renew-requires-clause-own : goal.renew-requires-clause-own
-renew-requires-clause-own g c =
-    let low = c.requires.vertices.inside _ (has_number_at _ c.args.vertices.now c.loop-i.i c.loop-i-test.true refl) in
-    omega (arith, low, c.in_turn-v.ensures, c.loop-i.invariant.0.sized, c.pass-own.ensures.own.sized)
-
-pub renew-requires-clause-below : goal.renew-requires-clause-below
-renew-requires-clause-below g c =
-    let low = c.requires.vertices.inside _ (has_number_at _ c.args.vertices.now c.loop-i.i c.loop-i-test.true refl) in
-    omega (arith, low, c.in_turn-v.ensures, c.loop-i.invariant.1.sized, c.pass-own.ensures.below.sized)
-
 pub neighbours-requires : goal.neighbours-requires
-neighbours-requires g c =
-    let low = c.requires.vertices.inside _ (has_number_at _ c.args.vertices.now c.loop-i.i c.loop-i-test.true refl) in
-    rw c.in_turn-v.ensures (rw (← c.lift.view_is) at low)
+neighbours-requires g c = rw c.in_turn-v.ensures (rw (← c.lift.view_is) at (c.requires.vertices.inside c.loop-i.i 0 c.loop-i-test.true))
 
 pub loop-i-preserved : goal.loop-i-preserved
 loop-i-preserved g c =

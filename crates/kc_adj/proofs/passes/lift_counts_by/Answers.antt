@@ -1,16 +1,17 @@
 use Rattle.std.proofs.Common.{ℕ, List, ◌≡◌, ◌<◌, ◌≤◌, ◌+◌, ◌*◌, get_or, length, take, drop, ap, ◌∙◌, sym, arith, rules, refl}
 use Rattle.std.specs.Prelude.{Ok}
 use Rattle.std.proofs.lemmas.List.{length-map}
+use Rattle.std.proofs.lemmas.List.Elements.{All-drop, All-take}
 use Rattle.std.proofs.lemmas.Result.{IfOk-at_ok}
 use Rattle.kc_adj.specs.declared.passes.Turn.{Turn}
 use Rattle.kc_adj.specs.private.Lifting.{IsLift, lift_cost}
 use Rattle.kc_adj.specs.private.Passing.{turn_of}
 use Rattle.kc_adj.proofs.LiftLemmas.{lifting_first, lifting_last, cost_last}
-use Rattle.kc_adj.proofs.PassLemmas.{in_drop, piece_below, pieces_cover, rest_is, rest_next}
+use Rattle.kc_adj.proofs.PassLemmas.{pieces_cover, rest_is, rest_next}
 use Rattle.kc_adj.proofs.passes.lift_counts_by.Goals as goal
 
 pub map_chunks-requires-clause-accepts : goal.map_chunks-requires-clause-accepts
-map_chunks-requires-clause-accepts g c κs within = λ start p chunk. piece_below c.args.lift.now.graph.vertices c.div_ceil-size.result start c.args.vertices.now p.now c.requires.vertices.inside chunk.value
+map_chunks-requires-clause-accepts g c κs within = λ start p chunk. rw chunk.value (All-take (λ (v : ℕ). v < c.args.lift.now.graph.vertices) c.div_ceil-size.result _ (All-drop (λ (v : ℕ). v < c.args.lift.now.graph.vertices) start c.args.vertices.now c.requires.vertices.inside))
 
 pub loop-piece-init : goal.loop-piece-init
 loop-piece-init g c =
@@ -24,7 +25,7 @@ loop-piece-init g c =
     )
 
 pub write_down-requires-clause-vertices : goal.write_down-requires-clause-vertices
-write_down-requires-clause-vertices g c = λ v there. c.requires.vertices.inside v (in_drop v (c.loop-piece.piece-index * c.div_ceil-size.result) c.args.vertices.now (rw c.loop-piece.invariant.0 at there))
+write_down-requires-clause-vertices g c = rw c.loop-piece.invariant.0 (All-drop (λ (v : ℕ). v < c.args.lift.now.graph.vertices) (c.loop-piece.piece-index * c.div_ceil-size.result) c.args.vertices.now c.requires.vertices.inside)
 
 pub loop-piece-preserved : goal.loop-piece-preserved
 loop-piece-preserved g c =
