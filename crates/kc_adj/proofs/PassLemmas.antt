@@ -1,17 +1,17 @@
 -- What is found at the vertices of a list as they go up, and what is written down of it.
 use Rattle.std.proofs.Common.{ℕ, suc, zero, ◌+◌, ◌-◌, ◌*◌, ◌/◌, ◌%◌, ◌≤◌, ◌<◌, ◌≡◌, inl, inr, Bool, true, false, cond, leb, ltb, ◌&&◌, min, List, [], ◌∷◌, ◌++◌, length, get_or, take, drop, refl, ap, sym, ◌∙◌, arith}
-use Rattle.std.specs.Prelude.{All, filter}
+use Rattle.std.specs.Prelude.{filter}
 use Rattle.std.specs.List.{flat_map}
 use Rattle.std.proofs.Math.Seq.{take-append_seam, drop-append-add}
 use Rattle.std.proofs.lemmas.Bool.{cases_Bool, cases_eq, cases_lt, true≢false}
 use Rattle.std.proofs.lemmas.Bool.Decides.{nat_tests}
-use Rattle.std.proofs.lemmas.Grind.{flat_map-append, get_or_default_zero}
-use Rattle.std.proofs.lemmas.List.{append-nil, append_assoc, get_or-map, get_or-take, length-append, drop-drop, drop_all, length-drop, length-map, length-take, take-append-drop, take_all, take_more}
+use Rattle.std.proofs.lemmas.Grind.{flat_map-append}
+use Rattle.std.proofs.lemmas.List.{append-nil, append_assoc, get_or-map, get_or-take, length-append, drop-drop, drop_all, length-drop, length-map, length-take, take_all, take_more}
 use Rattle.std.proofs.lemmas.List.Elements.{filter-append}
 use Rattle.std.proofs.lemmas.List.Folds.{length-flat_map-take}
 use Rattle.kc_graph.specs.Numbers.{has_number, RisesFrom}
 use Rattle.kc_graph.specs.Shape.{neighbours_of}
-use Rattle.kc_graph.proofs.lemmas.Numbers.{has_number-append, has_number_at, rises_filter}
+use Rattle.kc_graph.proofs.lemmas.Numbers.{has_number_at, rises_filter}
 use Rattle.kc_graph.proofs.lemmas.Neighbours.{neighbour_below, neighbours_rise}
 use Rattle.kc_adj.specs.declared.passes.Turn.{Turn}
 use Rattle.kc_adj.specs.private.Lifting.{LiftShape, IsLift, is_unmoved, gains, AreGained, HaveGained}
@@ -111,13 +111,12 @@ module _ (f : ℕ → List ℕ) where
 -- the turn at the place i of those at the first vertices of a list, and the vertices that it touches, from `place` on
 pub record IsTurn (lift : LiftShape) (vertices touched : List ℕ) (all i place : ℕ) (t : Turn) : Type 0 where
   pub here : i < length vertices
-  pub inside : get_or vertices i 0 < lift.graph.vertices
   pub is : t ≡ turn_of lift (get_or vertices i 0)
   pub next : place + t.touched ≡ length (flat_map (touched_by lift) (take (i + 1) (take all vertices)))
   pub within : place + t.touched ≤ length touched
   pub run : (run : List ℕ) → run ≡ take t.touched (drop place touched) → run ≡ touched_by lift (get_or vertices i 0)
 
-module _ (lift : LiftShape) (vertices : List ℕ) (r : Passed) (i place : ℕ) (t : Turn) (below : All (λ v. v < lift.graph.vertices) vertices) (s : ArePassed lift (take (length r.turns.items) vertices) r) (at : i < length r.turns.items) (e : t ≡ get_or r.turns.items i t) (place_is : place ≡ length (flat_map (touched_by lift) (take i (take (length r.turns.items) vertices)))) where
+module _ (lift : LiftShape) (vertices : List ℕ) (r : Passed) (i place : ℕ) (t : Turn) (s : ArePassed lift (take (length r.turns.items) vertices) r) (at : i < length r.turns.items) (e : t ≡ get_or r.turns.items i t) (place_is : place ≡ length (flat_map (touched_by lift) (take i (take (length r.turns.items) vertices)))) where
   abbrev first : List ℕ
   first = take (length r.turns.items) vertices
 
@@ -139,7 +138,6 @@ module _ (lift : LiftShape) (vertices : List ℕ) (r : Passed) (i place : ℕ) (
   pub turn_at : IsTurn lift vertices r.touched.items (length r.turns.items) i place t
   turn_at = record {
     here = inside_list;
-    inside = below i 0 inside_list;
     is = it_is;
     next = omega (arith, place_is, count, piece_next (touched_by lift) first i in_first);
     within = omega (arith, place_is, count, piece_within (touched_by lift) first i in_first, ap (λ (vs : List ℕ). length vs) s.touched);

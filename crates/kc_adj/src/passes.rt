@@ -108,6 +108,7 @@ fn look_at_piece(alloc: Global, lift: &Lift<'_>, piece: &[u32]) -> Result<Passed
 }
 
 // Lets the vertices that v touches gain by its move.
+#[tactic(auto, using(crate::proofs::PassLemmas::touched_is, crate::proofs::LiftLemmas::gaining_is))]
 fn gain_all(lift: &Lift<'_>, counts: &mut Counts, v: u32, touched: &[u32])
     requires vertex { v < lift.now.graph.vertices }
     requires own { CanGain lift.now counts.old.own.items }

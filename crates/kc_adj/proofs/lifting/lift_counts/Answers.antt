@@ -18,9 +18,6 @@ pass-own-requires-clause-own g c = lifting_few c.args.lift.now 0 _ _ (rw (← c.
 pub pass-own-requires-clause-below : goal.pass-own-requires-clause-below
 pass-own-requires-clause-below g c = lifting_few c.args.lift.now 1 _ _ (rw (← c.lift.view_is) c.lift.invariant) c.loop-i.invariant.1
 
-pub neighbours-requires : goal.neighbours-requires
-neighbours-requires g c = rw c.in_turn-v.ensures (rw (← c.lift.view_is) at (c.requires.vertices.inside c.loop-i.i 0 c.loop-i-test.true))
-
 pub loop-i-preserved : goal.loop-i-preserved
 loop-i-preserved g c =
     let is : IsLift c.args.lift.now = rw (← c.lift.view_is) c.lift.invariant in

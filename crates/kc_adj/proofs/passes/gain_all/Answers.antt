@@ -1,7 +1,7 @@
 use Rattle.std.proofs.Common.{◌<◌, ◌-◌, get_or, ap, arith}
 use Rattle.kc_graph.specs.Numbers.{RisesFrom}
-use Rattle.kc_adj.specs.private.Lifting.{LiftShape, IsLift}
-use Rattle.kc_adj.proofs.LiftLemmas.{gaining_first, gaining_is, gaining_next, gaining_last}
+use Rattle.kc_adj.specs.private.Lifting.{LiftShape}
+use Rattle.kc_adj.proofs.LiftLemmas.{gaining_first, gaining_next, gaining_last}
 use Rattle.kc_adj.proofs.PassLemmas.{touched_rise, touched_is, gained_by_touched, gains_stays}
 use Rattle.kc_adj.proofs.passes.gain_all.Goals as goal
 
@@ -14,30 +14,6 @@ pub bounds-lift-inside-w : goal.bounds-lift-inside-w
 bounds-lift-inside-w c =
     let low = (touched_is c.args.lift.now c.args.v (rw (← c.lift.view_is) c.lift.invariant) _ c.loop-w.w-index c.requires.touched (omega arith)).0 in
     omega (arith, rw (← c.lift.view_is) at low, c.lift.invariant.after)
-
-pub gain-requires-clause-own : goal.gain-requires-clause-own
-gain-requires-clause-own c =
-    let low = (touched_is c.args.lift.now c.args.v (rw (← c.lift.view_is) c.lift.invariant) _ c.loop-w.w-index c.requires.touched (omega arith)).0 in
-    omega (arith, low, c.requires.own.sized, c.loop-w.invariant.0.sized)
-
-pub gain-requires-clause-below : goal.gain-requires-clause-below
-gain-requires-clause-below c =
-    let low = (touched_is c.args.lift.now c.args.v (rw (← c.lift.view_is) c.lift.invariant) _ c.loop-w.w-index c.requires.touched (omega arith)).0 in
-    omega (arith, low, c.requires.below.sized, c.loop-w.invariant.1.sized)
-
-pub gain-requires-clause-own_small : goal.gain-requires-clause-own_small
-gain-requires-clause-own_small c =
-    let is : IsLift c.args.lift.now = rw (← c.lift.view_is) c.lift.invariant in
-    let at = touched_is c.args.lift.now c.args.v is _ c.loop-w.w-index c.requires.touched (omega arith) in
-    let same = gaining_is _ _ _ _ _ c.loop-w.w-index (omega arith) c.loop-w.invariant.0 in
-    omega (arith, same, c.requires.own.few _ (at.0) (at.1), is.small)
-
-pub gain-requires-clause-below_small : goal.gain-requires-clause-below_small
-gain-requires-clause-below_small c =
-    let is : IsLift c.args.lift.now = rw (← c.lift.view_is) c.lift.invariant in
-    let at = touched_is c.args.lift.now c.args.v is _ c.loop-w.w-index c.requires.touched (omega arith) in
-    let same = gaining_is _ _ _ _ _ c.loop-w.w-index (omega arith) c.loop-w.invariant.1 in
-    omega (arith, same, c.requires.below.few _ (at.0) (at.1), is.small)
 
 pub loop-w-preserved : goal.loop-w-preserved
 loop-w-preserved c =

@@ -8,13 +8,8 @@ use Rattle.kc_adj.proofs.passes.write_down.Goals as goal
 
 pub run_of-touched-requires : goal.run_of-touched-requires
 run_of-touched-requires g c =
-    let turn = turn_at c.args.lift.now c.args.vertices.now c.args.passed.now c.loop-i.i c.loop-i.place c.index-turn.result.now c.requires.vertices c.requires.passed (omega arith) c.index-turn.ensures c.loop-i.invariant.2 in
+    let turn = turn_at c.args.lift.now c.args.vertices.now c.args.passed.now c.loop-i.i c.loop-i.place c.index-turn.result.now c.requires.passed (omega arith) c.index-turn.ensures c.loop-i.invariant.2 in
     omega (arith, turn.within, ap length c.deref.ensures.value)
-
-pub gain_all-requires-clause-vertex : goal.gain_all-requires-clause-vertex
-gain_all-requires-clause-vertex g c =
-    let turn = turn_at c.args.lift.now c.args.vertices.now c.args.passed.now c.loop-i.i c.loop-i.place c.index-turn.result.now c.requires.vertices c.requires.passed (omega arith) c.index-turn.ensures c.loop-i.invariant.2 in
-    turn.inside
 
 pub gain_all-requires-clause-own : goal.gain_all-requires-clause-own
 gain_all-requires-clause-own g c = lifting_few c.args.lift.now 0 _ _ (rw (← c.lift.view_is) c.lift.invariant) c.loop-i.invariant.0
@@ -24,38 +19,18 @@ gain_all-requires-clause-below g c = lifting_few c.args.lift.now 1 _ _ (rw (← 
 
 pub gain_all-requires-clause-touched : goal.gain_all-requires-clause-touched
 gain_all-requires-clause-touched g c =
-    let turn = turn_at c.args.lift.now c.args.vertices.now c.args.passed.now c.loop-i.i c.loop-i.place c.index-turn.result.now c.requires.vertices c.requires.passed (omega arith) c.index-turn.ensures c.loop-i.invariant.2 in
+    let turn = turn_at c.args.lift.now c.args.vertices.now c.args.passed.now c.loop-i.i c.loop-i.place c.index-turn.result.now c.requires.passed (omega arith) c.index-turn.ensures c.loop-i.invariant.2 in
     turn.run _ (rw c.deref.ensures.value at c.run_of-touched.ensures)
-
-pub renew-requires-clause-vertex : goal.renew-requires-clause-vertex
-renew-requires-clause-vertex g c =
-    let turn = turn_at c.args.lift.now c.args.vertices.now c.args.passed.now c.loop-i.i c.loop-i.place c.index-turn.result.now c.requires.vertices c.requires.passed (omega arith) c.index-turn.ensures c.loop-i.invariant.2 in
-    turn.inside
-
-pub renew-requires-clause-own : goal.renew-requires-clause-own
-renew-requires-clause-own g c =
-    let turn = turn_at c.args.lift.now c.args.vertices.now c.args.passed.now c.loop-i.i c.loop-i.place c.index-turn.result.now c.requires.vertices c.requires.passed (omega arith) c.index-turn.ensures c.loop-i.invariant.2 in
-    omega (arith, turn.inside, c.loop-i.invariant.0.sized, c.gain_all.ensures.own.sized)
-
-pub renew-requires-clause-below : goal.renew-requires-clause-below
-renew-requires-clause-below g c =
-    let turn = turn_at c.args.lift.now c.args.vertices.now c.args.passed.now c.loop-i.i c.loop-i.place c.index-turn.result.now c.requires.vertices c.requires.passed (omega arith) c.index-turn.ensures c.loop-i.invariant.2 in
-    omega (arith, turn.inside, c.loop-i.invariant.1.sized, c.gain_all.ensures.below.sized)
 
 pub overflow_add-place : goal.overflow_add-place
 overflow_add-place g c =
-    let turn = turn_at c.args.lift.now c.args.vertices.now c.args.passed.now c.loop-i.i c.loop-i.place c.index-turn.result.now c.requires.vertices c.requires.passed (omega arith) c.index-turn.ensures c.loop-i.invariant.2 in
+    let turn = turn_at c.args.lift.now c.args.vertices.now c.args.passed.now c.loop-i.i c.loop-i.place c.index-turn.result.now c.requires.passed (omega arith) c.index-turn.ensures c.loop-i.invariant.2 in
     omega (arith, turn.within, ap length c.deref.ensures.value, c.deref.type_inv.0)
-
-pub neighbours-requires : goal.neighbours-requires
-neighbours-requires g c =
-    let turn = turn_at c.args.lift.now c.args.vertices.now c.args.passed.now c.loop-i.i c.loop-i.place c.index-turn.result.now c.requires.vertices c.requires.passed (omega arith) c.index-turn.ensures c.loop-i.invariant.2 in
-    rw (← c.lift.view_is) at turn.inside
 
 pub loop-i-preserved : goal.loop-i-preserved
 loop-i-preserved g c =
     let is : IsLift c.args.lift.now = rw (← c.lift.view_is) c.lift.invariant in
-    let turn = turn_at c.args.lift.now c.args.vertices.now c.args.passed.now c.loop-i.i c.loop-i.place c.index-turn.result.now c.requires.vertices c.requires.passed (omega arith) c.index-turn.ensures c.loop-i.invariant.2 in
+    let turn = turn_at c.args.lift.now c.args.vertices.now c.args.passed.now c.loop-i.i c.loop-i.place c.index-turn.result.now c.requires.passed (omega arith) c.index-turn.ensures c.loop-i.invariant.2 in
     let v = get_or c.args.vertices.now c.loop-i.i 0 in
     let row = ap length c.neighbours.ensures.value ∙ ap (λ (l : LiftShape). length (neighbours_of v l.graph.edges)) c.lift.view_is in (
       lifting_next _ 0 c.loop-i.i _ _ _ _ _ _ is turn.here c.requires.vertices c.loop-i.invariant.0 c.gain_all.ensures.own (omega arith) (ap (λ (t : Turn). t.own) turn.is) c.renew.ensures.own,
