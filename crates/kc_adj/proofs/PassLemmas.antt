@@ -1,22 +1,23 @@
 -- What is found at the vertices of a list as they go up, and what is written down of it.
-use Rattle.std.proofs.Common.{ℕ, suc, zero, ◌+◌, ◌-◌, ◌*◌, ◌/◌, ◌%◌, ◌≤◌, ◌<◌, ◌≡◌, inl, inr, Bool, true, false, cond, leb, eqb, ltb, ◌&&◌, min, List, [], ◌∷◌, ◌++◌, length, get_or, map, take, drop, refl, ap, sym, ◌∙◌, arith}
+use Rattle.std.proofs.Common.{ℕ, suc, zero, ◌+◌, ◌-◌, ◌*◌, ◌/◌, ◌%◌, ◌≤◌, ◌<◌, ◌≡◌, inl, inr, Bool, true, false, cond, leb, ltb, ◌&&◌, min, List, [], ◌∷◌, ◌++◌, length, get_or, take, drop, refl, ap, sym, ◌∙◌, arith}
 use Rattle.std.specs.Prelude.{filter}
 use Rattle.std.specs.List.{flat_map}
 use Rattle.std.proofs.Math.Seq.{take-append_seam, drop-append-add}
 use Rattle.std.proofs.lemmas.Bool.{cases_Bool, cases_eq, cases_lt, true≢false}
 use Rattle.std.proofs.lemmas.Bool.Decides.{nat_tests}
-use Rattle.std.proofs.lemmas.Grind.{flat_map-append, get_or_default_zero}
-use Rattle.std.proofs.lemmas.List.{append-nil, append_assoc, get_or-map, get_or-take, length-append, drop-drop, drop_all, length-drop, length-map, length-take, take-append-drop, take_all, take_more}
+use Rattle.std.proofs.lemmas.Grind.{flat_map-append}
+use Rattle.std.proofs.lemmas.List.{append-nil, append_assoc, get_or-map, get_or-take, length-append, drop-drop, drop_all, length-drop, length-map, length-take, take_all, take_more}
 use Rattle.std.proofs.lemmas.List.Elements.{filter-append}
 use Rattle.std.proofs.lemmas.List.Folds.{length-flat_map-take}
 use Rattle.kc_graph.specs.Numbers.{has_number, RisesFrom}
-use Rattle.kc_graph.specs.Shape.{GraphShape, IsGraph, neighbours_of}
-use Rattle.kc_graph.proofs.lemmas.Numbers.{has_number-append, has_number_at, rises_filter}
+use Rattle.kc_graph.specs.Shape.{neighbours_of}
+use Rattle.kc_graph.proofs.lemmas.Numbers.{has_number_at, rises_filter}
 use Rattle.kc_graph.proofs.lemmas.Neighbours.{neighbour_below, neighbours_rise}
 use Rattle.kc_adj.specs.declared.passes.Turn.{Turn}
-use Rattle.kc_adj.specs.private.Lifting.{gains, AreGained}
+use Rattle.kc_adj.specs.private.Lifting.{LiftShape, IsLift, is_unmoved, gains, AreGained, HaveGained}
 use Rattle.kc_adj.specs.private.Moving.{is_passed}
-use Rattle.kc_adj.specs.private.Passing.{is_touched, touched_by}
+use Rattle.kc_adj.specs.declared.passes.Passed.{Passed}
+use Rattle.kc_adj.specs.private.Passing.{is_touched, touched_by, turn_of, ArePassed}
 
 -- one number more is looked at, and kept where it passes
 pub look_next : (q : ℕ → Bool) (row : List ℕ) (i : ℕ) (old found next : List ℕ) (holds : Bool) → i < length row → found ≡ old ++ filter q (take i row) → holds ≡ q (get_or row i 0) → next ≡ cond holds (found ++ get_or row i 0 ∷ []) found → next ≡ old ++ filter q (take (i + 1) row)
@@ -55,44 +56,41 @@ untouched s k l r d one off = elim (cases_Bool (s && (ltb k (r - d) && leb (r - 
     reaches e = grind (arith, nat_tests, e, one)
 
 -- whom v touches
-module _ (g : GraphShape) (x z : List ℕ) (v : ℕ) (graph : IsGraph g) where
-  pub touched_rise : RisesFrom 0 (touched_by g x z v)
-  touched_rise = rises_filter 0 (is_touched x z (get_or x v 0) (get_or z v 0)) (neighbours_of v g.edges) (neighbours_rise g.vertices v g.edges graph)
+module _ (lift : LiftShape) (v : ℕ) (is : IsLift lift) where
+  abbrev test : ℕ → Bool
+  test = is_touched lift (get_or lift.old v 0) (get_or lift.new v 0)
 
-  at_place : (i : ℕ) → i < length (touched_by g x z v) → (has_number (get_or (touched_by g x z v) i 0) (neighbours_of v g.edges) ≡ true) × (is_touched x z (get_or x v 0) (get_or z v 0) (get_or (touched_by g x z v) i 0) ≡ true)
-  at_place i at = both _ _ (sym (has_number-filter (get_or (touched_by g x z v) i 0) (is_touched x z (get_or x v 0) (get_or z v 0)) (neighbours_of v g.edges)) ∙ has_number_at (get_or (touched_by g x z v) i 0) (touched_by g x z v) i at refl)
+  abbrev near : List ℕ
+  near = neighbours_of v lift.graph.edges
 
-  pub touched_below : (i : ℕ) → i < length (touched_by g x z v) → get_or (touched_by g x z v) i 0 < g.vertices
-  touched_below i at = neighbour_below g.vertices v (get_or (touched_by g x z v) i 0) g.edges graph ((at_place i at).0)
+  pub touched_rise : RisesFrom 0 (touched_by lift v)
+  touched_rise = rises_filter 0 test near (neighbours_rise lift.graph.vertices v lift.graph.edges is.graph)
 
-  pub touched_stays : (i : ℕ) → i < length (touched_by g x z v) → get_or x (get_or (touched_by g x z v) i 0) 0 ≡ get_or z (get_or (touched_by g x z v) i 0) 0
-  touched_stays i at = same _ _ ((both _ _ ((at_place i at).1)).0)
-    where
-      same : (a b : ℕ) → eqb a b ≡ true → a ≡ b
-      same a b e = grind (arith, nat_tests, e)
+  at_place : (i : ℕ) → i < length (touched_by lift v) → (has_number (get_or (touched_by lift v) i 0) near ≡ true) × (test (get_or (touched_by lift v) i 0) ≡ true)
+  at_place i at = both _ _ (sym (has_number-filter (get_or (touched_by lift v) i 0) test near) ∙ has_number_at (get_or (touched_by lift v) i 0) (touched_by lift v) i at refl)
+
+  pub touched_is : (touched : List ℕ) (i : ℕ) → touched ≡ touched_by lift v → i < length touched → (get_or touched i 0 < lift.graph.vertices) × (is_unmoved lift (get_or touched i 0) ≡ true)
+  touched_is touched i e at =
+      let here = at_place i (rw e at at) in
+      rw e (neighbour_below lift.graph.vertices v (get_or (touched_by lift v) i 0) lift.graph.edges is.graph here.0, (both _ _ here.1).0)
 
   -- who isn't touched gains nothing
-  pub gained_by_touched : (d : ℕ) (before counts : List ℕ) → d ≤ 1 → AreGained (gains x z (get_or x v 0) (get_or z v 0) d) (touched_by g x z v) before counts → AreGained (gains x z (get_or x v 0) (get_or z v 0) d) (neighbours_of v g.edges) before counts
+  pub gained_by_touched : (d : ℕ) (before counts : List ℕ) → d ≤ 1 → AreGained (gains lift (get_or lift.old v 0) (get_or lift.new v 0) d) (touched_by lift v) before counts → HaveGained lift v d before counts
   gained_by_touched d before counts one s = record {
     sized = s.sized;
-    values = λ u. s.values u ∙ ap (λ k. get_or before u 0 + k) (ap (λ t. cond t (gains x z (get_or x v 0) (get_or z v 0) d u) 0) (has_number-filter u (is_touched x z (get_or x v 0) (get_or z v 0)) (neighbours_of v g.edges)) ∙ same u (has_number u (neighbours_of v g.edges)));
+    values = λ u. s.values u ∙ ap (λ k. get_or before u 0 + k) (ap (λ t. cond t (gains lift (get_or lift.old v 0) (get_or lift.new v 0) d u) 0) (has_number-filter u test near) ∙ same u (has_number u near));
   }
     where
-      none : (s : Bool) (k l r : ℕ) → s && (ltb k r && leb (r - 1) l) ≡ false → ◌≡◌ {A = ℕ} (cond (s && (ltb k (r - d) && leb (r - d) l)) 1 0) 0
-      none s k l r off = untouched s k l r d one off
-
-      same : (u : ℕ) (near : Bool) → cond (near && is_touched x z (get_or x v 0) (get_or z v 0) u) (gains x z (get_or x v 0) (get_or z v 0) d u) 0 ≡ cond near (gains x z (get_or x v 0) (get_or z v 0) d u) 0
+      same : (u : ℕ) (there : Bool) → cond (there && test u) (gains lift (get_or lift.old v 0) (get_or lift.new v 0) d u) 0 ≡ cond there (gains lift (get_or lift.old v 0) (get_or lift.new v 0) d u) 0
       same u false = refl
-      same u true = elim (cases_Bool (is_touched x z (get_or x v 0) (get_or z v 0) u)) [
+      same u true = elim (cases_Bool (test u)) [
         | inl on ↦ rw on refl
-        | inr off ↦ rw off (sym (none (eqb (get_or x u 0) (get_or z u 0)) (get_or x v 0) (get_or z v 0) (get_or z u 0) off))
+        | inr off ↦ rw off (sym (untouched (is_unmoved lift u) (get_or lift.old v 0) (get_or lift.new v 0) (get_or lift.new u 0) d one off))
       ]
 
 -- what one who stays gains
-pub gains_stays : (x z : List ℕ) (k l d u c reach : ℕ) → get_or x u 0 ≡ get_or z u 0 → reach ≡ get_or z u 0 - d → c + cond (is_passed k l reach) 1 0 ≡ c + gains x z k l d u
-gains_stays x z k l d u c reach stays is =
-    let on : eqb (get_or x u 0) (get_or z u 0) ≡ true = grind (arith, nat_tests, stays) in
-    ap (λ r. c + cond (is_passed k l r) 1 0) is ∙ ap (λ t. c + cond (t && is_passed k l (get_or z u 0 - d)) 1 0) (sym on)
+pub gains_stays : (lift : LiftShape) (k l d u c reach : ℕ) → is_unmoved lift u ≡ true → reach ≡ get_or lift.new u 0 - d → c + cond (is_passed k l reach) 1 0 ≡ c + gains lift k l d u
+gains_stays lift k l d u c reach on is = ap (λ r. c + cond (is_passed k l r) 1 0) is ∙ ap (λ t. c + cond (t && is_passed k l (get_or lift.new u 0 - d)) 1 0) (sym on)
 
 -- what a function gives at the place i of a list, in the list of all that it gives, and where the next begins
 module _ (f : ℕ → List ℕ) where
@@ -110,19 +108,41 @@ module _ (f : ℕ → List ℕ) where
       ∙ ap (take (length (f (get_or xs i 0)))) (drop-append-add (f x) (flat_map f xs) (length (flat_map f (take i xs))))
       ∙ piece_at xs i (omega arith)
 
--- whom the one at a place touches, in the list of all who are touched
-pub touched_at : (f : ℕ → List ℕ) (xs : List ℕ) (i start count : ℕ) (all run : List ℕ) → i < length xs → all ≡ flat_map f xs → count ≡ length (f (get_or xs i 0)) → start ≡ length (flat_map f (take i xs)) → run ≡ take count (drop start all) → run ≡ f (get_or xs i 0)
-touched_at f xs i start count all run at all_is count_is start_is run_is = run_is ∙ rw (count_is, start_is, all_is) (piece_at f xs i at)
+-- the turn at the place i of those at the first vertices of a list, and the vertices that it touches, from `place` on
+pub record IsTurn (lift : LiftShape) (vertices touched : List ℕ) (all i place : ℕ) (t : Turn) : Type 0 where
+  pub here : i < length vertices
+  pub is : t ≡ turn_of lift (get_or vertices i 0)
+  pub next : place + t.touched ≡ length (flat_map (touched_by lift) (take (i + 1) (take all vertices)))
+  pub within : place + t.touched ≤ length touched
+  pub run : (run : List ℕ) → run ≡ take t.touched (drop place touched) → run ≡ touched_by lift (get_or vertices i 0)
 
--- the turn at a place of those at the first vertices of a list
-pub turn_at : (f : ℕ → Turn) (vs : List ℕ) (ts : List Turn) (i : ℕ) (r : Turn) → ts ≡ map f (take (length ts) vs) → i < length ts → r ≡ get_or ts i r → (i < length vs) × (i < length (take (length ts) vs)) × (get_or (take (length ts) vs) i 0 ≡ get_or vs i 0) × (r ≡ f (get_or vs i 0))
-turn_at f vs ts i r is at e = (omega (arith, inside, length-take (length ts) vs), inside, here, e ∙ ap (λ (ys : List Turn). get_or ys i r) is ∙ get_or-map f (take (length ts) vs) i 0 r inside ∙ ap f here)
-  where
-    inside : i < length (take (length ts) vs)
-    inside = omega (arith, at, ap (λ (ys : List Turn). length ys) is, length-map (take (length ts) vs) f)
+module _ (lift : LiftShape) (vertices : List ℕ) (r : Passed) (i place : ℕ) (t : Turn) (s : ArePassed lift (take (length r.turns.items) vertices) r) (at : i < length r.turns.items) (e : t ≡ get_or r.turns.items i t) (place_is : place ≡ length (flat_map (touched_by lift) (take i (take (length r.turns.items) vertices)))) where
+  abbrev first : List ℕ
+  first = take (length r.turns.items) vertices
 
-    here : get_or (take (length ts) vs) i 0 ≡ get_or vs i 0
-    here = get_or-take (length ts) vs i 0 at
+  in_first : i < length first
+  in_first = omega (arith, at, ap (λ (ts : List Turn). length ts) s.turns, length-map first (turn_of lift))
+
+  inside_list : i < length vertices
+  inside_list = omega (arith, in_first, length-take (length r.turns.items) vertices)
+
+  same : get_or first i 0 ≡ get_or vertices i 0
+  same = get_or-take (length r.turns.items) vertices i 0 at
+
+  it_is : t ≡ turn_of lift (get_or vertices i 0)
+  it_is = e ∙ ap (λ (ts : List Turn). get_or ts i t) s.turns ∙ get_or-map (turn_of lift) first i 0 t in_first ∙ ap (turn_of lift) same
+
+  count : t.touched ≡ length (touched_by lift (get_or first i 0))
+  count = ap (λ (k : Turn). k.touched) it_is ∙ ap (λ v. length (touched_by lift v)) (sym same)
+
+  pub turn_at : IsTurn lift vertices r.touched.items (length r.turns.items) i place t
+  turn_at = record {
+    here = inside_list;
+    is = it_is;
+    next = omega (arith, place_is, count, piece_next (touched_by lift) first i in_first);
+    within = omega (arith, place_is, count, piece_within (touched_by lift) first i in_first, ap (λ (vs : List ℕ). length vs) s.touched);
+    run = λ run run_is. run_is ∙ rw (count, place_is, s.touched) (piece_at (touched_by lift) first i in_first) ∙ ap (touched_by lift) same;
+  }
 
 pub turn_is : (a b c k l m : ℕ) → a ≡ k → b ≡ l → c ≡ m → ◌≡◌ {A = Turn} (record { own = a; below = b; touched = c }) (record { own = k; below = l; touched = m })
 turn_is a b c k l m e f h = rw (e, f, h) refl
@@ -133,17 +153,6 @@ looked q row old items i end all within is =
     let whole : take end items ≡ old ++ filter q row = is ∙ ap (λ ws. old ++ filter q ws) (take_all i row all) in
     let long : end ≡ length old + length (filter q row) = omega (arith, length-take end items, ap (λ ws. length ws) whole, length-append old (filter q row), within) in
     (whole, omega (arith, long), omega (arith, long))
-
--- a number of a part of a list is in the list
-in_take : (v i : ℕ) (xs : List ℕ) → has_number v (take i xs) ≡ true → has_number v xs ≡ true
-in_take v i xs there = ap (λ ys. has_number v ys) (sym (take-append-drop i xs)) ∙ has_number-append v (take i xs) (drop i xs) ∙ grind (arith, nat_tests, there)
-
-pub in_drop : (v i : ℕ) (xs : List ℕ) → has_number v (drop i xs) ≡ true → has_number v xs ≡ true
-in_drop v i xs there = ap (λ ys. has_number v ys) (sym (take-append-drop i xs)) ∙ has_number-append v (take i xs) (drop i xs) ∙ grind (arith, nat_tests, there)
-
--- the numbers of a piece are below n
-pub piece_below : (n size start : ℕ) (xs ys : List ℕ) → ((v : ℕ) → has_number v xs ≡ true → v < n) → ys ≡ take size (drop start xs) → (k d : ℕ) → k < length ys → get_or ys k d < n
-piece_below n size start xs ys below is k d at = rw (get_or_default_zero ys k d at) (below (get_or ys k 0) (in_drop (get_or ys k 0) start xs (in_take (get_or ys k 0) size (drop start xs) (ap (λ zs. has_number (get_or ys k 0) zs) (sym is) ∙ has_number_at (get_or ys k 0) ys k at refl))))
 
 -- the vertices that follow a piece
 pub rest_next : (size k m : ℕ) (xs rest : List ℕ) → rest ≡ drop (k * size) xs → m ≡ length (take size rest) → drop m rest ≡ drop ((k + 1) * size) xs

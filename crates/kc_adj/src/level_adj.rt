@@ -334,11 +334,7 @@ impl LevelAdj {
         ensures value { self.new ≡ record self.old { levels = new.now } }
         ensures cost { steps.new ≡ steps.old + (degrees self.old.graph vertices.now + length vertices.now) }
     {
-        let lift = Lift {
-            graph: &self.graph,
-            old: self.levels.as_slice(),
-            new: new.as_slice(),
-        };
+        let lift = Lift::new(&self.graph, &self.levels, new);
         lift_counts(&lift, &mut self.counts, vertices, steps);
         take_up(&mut self.levels, vertices, new);
     }
@@ -378,11 +374,7 @@ impl LevelAdj {
         ensures steps_kept { OnErr result (steps.new ≡ steps.old) }
     {
         let lifters = Lifters { rt, alloc, workers };
-        let lift = Lift {
-            graph: &self.graph,
-            old: self.levels.as_slice(),
-            new: new.as_slice(),
-        };
+        let lift = Lift::new(&self.graph, &self.levels, new);
         par_lift_counts(&lifters, &lift, &mut self.counts, vertices, steps)?;
         take_up(&mut self.levels, vertices, new);
         Ok(())

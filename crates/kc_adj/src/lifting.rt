@@ -1,25 +1,22 @@
 //! How the counts change when many vertices go up together, each to its level in a list: one pass over the neighbours
 //! of each.
 //!
-//! `specs/private/Lifting` defines when each vertex gains. Its x are the levels before, and its z those afterwards.
+//! `specs/private/Lifting` defines when each vertex gains.
 
-ghost use Rattle.std.specs.Prelude.{◌≡◌, ◌+◌, ◌-◌, ◌<◌, ◌==◌, ◌&&◌, ◌^◌, ℕ, cond, true, length, slice_index, slice_set};
+ghost use Rattle.std.specs.Prelude.{◌≡◌, ◌+◌, ◌-◌, ◌<◌, ◌^◌, ℕ, cond, true, length, slice_index, slice_set};
 ghost use Rattle.kc_graph.specs.Numbers.{has_number};
-ghost use Rattle.kc_graph.specs.Shape.{neighbours_of};
 ghost use Rattle.kc_levels.specs.LevelList.{at_least, IsBelow};
-ghost use Rattle.kc_levels.specs.Following.{AreDistinct};
-ghost use Rattle.kc_adj.specs.Degrees.{degrees};
 ghost use Rattle.kc_adj.specs.LeveledGraph.{IsAdjacency};
-ghost use Rattle.kc_adj.specs.private.Lifting.{gains, AreGained};
-ghost use Rattle.kc_adj.specs.private.Moving.{is_passed};
+ghost use Rattle.kc_adj.specs.private.Lifting.{is_unmoved, gains, lift_cost, AreLifted, CanGain, HaveGained};
 
 use crate::counts::{Counts, as_one, gain, is_reached};
 use crate::steps::Steps;
 use kc_graph::Graph;
 use kc_levels::Levels;
+use std::marker::Model;
 use std::sync::ledger::Ledger;
 
-/// The vertices of a graph that go up, from their levels in one list to those in another.
+/// The vertices of a graph that go up, from their levels in one list to those in another. Contracts see a `LiftShape`.
 #[derive(Drop)]
 pub struct Lift<'a> {
     /// The graph.
@@ -30,36 +27,59 @@ pub struct Lift<'a> {
     pub new: &'a [u16],
 }
 
-// Does what `gain` does if w stays; a vertex stays if its new level, `level`, is its old one.
-fn gain_unmoved(old: &[u16], counts: &mut Counts, w: u32, from: u16, to: u16, level: u16)
-    requires vertex { w < length old.now }
+impl<'a> Model for Lift<'a> {
+    ghost use Rattle.kc_adj.specs.private.Lifting.{LiftShape, IsLift};
+
+    ghost Value = { LiftShape };
+
+    ghost view = { λ l. record { graph = l.graph.now; old = l.old.now; new = l.new.now } };
+
+    ghost invariant = { λ l. IsLift (record { graph = l.graph.now; old = l.old.now; new = l.new.now }) };
+}
+
+impl<'a> Lift<'a> {
+    /// Makes the lift from the levels `old` to `new`. No vertex is lower in `new`.
+    pub fn new(graph: &'a Graph, old: &'a Levels, new: &'a Levels) -> Lift<'a>
+        requires before { length old.now ≡ graph.now.vertices }
+        requires after { length new.now ≡ graph.now.vertices }
+        requires over { IsBelow graph.now.vertices old.now new.now }
+        ensures { result ≡ record { graph = graph.now; old = old.now; new = new.now } }
+    {
+        let _n = graph.vertices();
+        Lift {
+            graph,
+            old: old.as_slice(),
+            new: new.as_slice(),
+        }
+    }
+}
+
+// Counts a neighbour of w that goes up from a level to another, if w stays (`gain`).
+fn gain_unmoved(lift: &Lift<'_>, counts: &mut Counts, w: u32, from: u16, to: u16)
+    requires vertex { w < lift.now.graph.vertices }
     requires own { w < length counts.old.own.items }
     requires below { w < length counts.old.below.items }
-    requires own_small { slice_index old.now w ≡ level → slice_index counts.old.own.items w < 2 ^ 31 }
-    requires below_small { slice_index old.now w ≡ level → slice_index counts.old.below.items w < 2 ^ 31 }
-    ensures own { counts.new.own.items ≡ slice_set counts.old.own.items w (slice_index counts.old.own.items w + cond ((slice_index old.now w == level) && is_passed from to level) 1 0) }
-    ensures below { counts.new.below.items ≡ slice_set counts.old.below.items w (slice_index counts.old.below.items w + cond ((slice_index old.now w == level) && is_passed from to (level - 1)) 1 0) }
+    requires own_small { is_unmoved lift.now w ≡ true → slice_index counts.old.own.items w < 2 ^ 31 }
+    requires below_small { is_unmoved lift.now w ≡ true → slice_index counts.old.below.items w < 2 ^ 31 }
+    ensures own { counts.new.own.items ≡ slice_set counts.old.own.items w (slice_index counts.old.own.items w + gains lift.now from to 0 w) }
+    ensures below { counts.new.below.items ≡ slice_set counts.old.below.items w (slice_index counts.old.below.items w + gains lift.now from to 1 w) }
 {
-    if is_reached(from, to, level) && old[w as usize] == level {
+    let level = lift.new[w as usize];
+    if is_reached(from, to, level) && lift.old[w as usize] == level {
         gain(counts, w, from, to, level);
     }
 }
 
 // Updates the counts of those neighbours of v that stay to v's new level, and returns both counts of v itself.
-fn pass(lift: &Lift, counts: &mut Counts, v: u32) -> (u32, u32)
-    requires vertex { v < lift.now.graph.now.vertices }
-    requires before { length lift.now.old.now ≡ lift.now.graph.now.vertices }
-    requires after { length lift.now.new.now ≡ lift.now.graph.now.vertices }
-    requires own { length counts.old.own.items ≡ lift.now.graph.now.vertices }
-    requires below { length counts.old.below.items ≡ lift.now.graph.now.vertices }
-    requires few_own { (u : ℕ) → u < lift.now.graph.now.vertices → slice_index lift.now.old.now u ≡ slice_index lift.now.new.now u → slice_index counts.old.own.items u < lift.now.graph.now.vertices }
-    requires few_below { (u : ℕ) → u < lift.now.graph.now.vertices → slice_index lift.now.old.now u ≡ slice_index lift.now.new.now u → slice_index counts.old.below.items u < lift.now.graph.now.vertices }
-    ensures own { AreGained (gains lift.now.old.now lift.now.new.now (slice_index lift.now.old.now v) (slice_index lift.now.new.now v) 0) (neighbours_of v lift.now.graph.now.edges) counts.old.own.items counts.new.own.items }
-    ensures below { AreGained (gains lift.now.old.now lift.now.new.now (slice_index lift.now.old.now v) (slice_index lift.now.new.now v) 1) (neighbours_of v lift.now.graph.now.edges) counts.old.below.items counts.new.below.items }
-    ensures first { result.0 ≡ at_least lift.now.graph.now lift.now.new.now v (slice_index lift.now.new.now v) }
-    ensures second { result.1 ≡ at_least lift.now.graph.now lift.now.new.now v (slice_index lift.now.new.now v - 1) }
+fn pass(lift: &Lift<'_>, counts: &mut Counts, v: u32) -> (u32, u32)
+    requires vertex { v < lift.now.graph.vertices }
+    requires own { CanGain lift.now counts.old.own.items }
+    requires below { CanGain lift.now counts.old.below.items }
+    ensures own { HaveGained lift.now v 0 counts.old.own.items counts.new.own.items }
+    ensures below { HaveGained lift.now v 1 counts.old.below.items counts.new.below.items }
+    ensures first { result.0 ≡ at_least lift.now.graph lift.now.new v (slice_index lift.now.new v) }
+    ensures second { result.1 ≡ at_least lift.now.graph lift.now.new v (slice_index lift.now.new v - 1) }
 {
-    let _n = lift.graph.vertices();
     let from = lift.old[v as usize];
     let to = lift.new[v as usize];
     let under = to.saturating_sub(1);
@@ -69,19 +89,18 @@ fn pass(lift: &Lift, counts: &mut Counts, v: u32) -> (u32, u32)
         let level = lift.new[*w as usize];
         own += as_one(level >= to);
         below += as_one(level >= under);
-        gain_unmoved(lift.old, counts, *w, from, to, level);
+        gain_unmoved(lift, counts, *w, from, to);
     }
     (own, below)
 }
 
 /// Stores the counts of v if v moves. A vertex that stays has its counts from its neighbours' passes.
-pub fn renew(lift: &Lift, counts: &mut Counts, v: u32, own: u32, below: u32)
-    requires before { v < length lift.now.old.now }
-    requires after { v < length lift.now.new.now }
+pub fn renew(lift: &Lift<'_>, counts: &mut Counts, v: u32, own: u32, below: u32)
+    requires vertex { v < lift.now.graph.vertices }
     requires own { v < length counts.old.own.items }
     requires below { v < length counts.old.below.items }
-    ensures own { counts.new.own.items ≡ cond (slice_index lift.now.old.now v == slice_index lift.now.new.now v) counts.old.own.items (slice_set counts.old.own.items v own) }
-    ensures below { counts.new.below.items ≡ cond (slice_index lift.now.old.now v == slice_index lift.now.new.now v) counts.old.below.items (slice_set counts.old.below.items v below) }
+    ensures own { counts.new.own.items ≡ cond (is_unmoved lift.now v) counts.old.own.items (slice_set counts.old.own.items v own) }
+    ensures below { counts.new.below.items ≡ cond (is_unmoved lift.now v) counts.old.below.items (slice_set counts.old.below.items v below) }
 {
     if lift.old[v as usize] != lift.new[v as usize] {
         counts.own[v as usize] = own;
@@ -91,26 +110,22 @@ pub fn renew(lift: &Lift, counts: &mut Counts, v: u32, own: u32, below: u32)
 
 /// Updates all counts to the new levels, one vertex of the list after another.
 pub fn lift_counts<L: Ledger>(
-    lift: &Lift,
+    lift: &Lift<'_>,
     counts: &mut Counts,
     vertices: &[u32],
     steps: &mut Steps<L>,
 )
-    requires adjacency { IsAdjacency lift.now.graph.now lift.now.old.now counts.old.own.items counts.old.below.items }
-    requires sized { length lift.now.new.now ≡ lift.now.graph.now.vertices }
-    requires vertices { (v : ℕ) → has_number v vertices.now ≡ true → v < lift.now.graph.now.vertices }
-    requires over { IsBelow lift.now.graph.now.vertices lift.now.old.now lift.now.new.now }
-    requires moved { (v : ℕ) → slice_index lift.now.old.now v < slice_index lift.now.new.now v → has_number v vertices.now ≡ true }
-    requires once { AreDistinct vertices.now }
-    ensures adjacency { IsAdjacency lift.now.graph.now lift.now.new.now counts.new.own.items counts.new.below.items }
-    ensures cost { steps.new ≡ steps.old + (degrees lift.now.graph.now vertices.now + length vertices.now) }
+    requires adjacency { IsAdjacency lift.now.graph lift.now.old counts.old.own.items counts.old.below.items }
+    requires vertices { AreLifted lift.now vertices.now }
+    ensures adjacency { IsAdjacency lift.now.graph lift.now.new counts.new.own.items counts.new.below.items }
+    ensures cost { steps.new ≡ steps.old + lift_cost lift.now vertices.now }
 {
-    let _n = lift.graph.vertices();
+    let graph = lift.graph;
     for i in 0..vertices.len() {
-        let v = lift.graph.in_turn(vertices, i);
+        let v = graph.in_turn(vertices, i);
         let (own, below) = pass(lift, counts, v);
         renew(lift, counts, v, own, below);
-        steps.add(lift.graph.neighbours(v).len());
+        steps.add(graph.neighbours(v).len());
         steps.tick();
     }
 }

@@ -1,18 +1,13 @@
 //! Vertices that go up together, with passes over their neighbours by threads. Each thread passes over the neighbours
 //! of a piece of the list and writes no count. Then one thread writes what the threads found, in order.
 //!
-//! `specs/private/Passing` defines what is found. Its x are the levels before, and its z those afterwards.
+//! `specs/private/Passing` defines what is found.
 
-ghost use Rattle.std.specs.Prelude.{◌≡◌, ◌+◌, ◌-◌, ◌<◌, ◌≤◌, ◌==◌, ◌&&◌, ◌++◌, ℕ, All, IfOk, OnOk, OnErr, true, drop, take, length, nat_le, nat_lt, slice_index};
+ghost use Rattle.std.specs.Prelude.{◌≡◌, ◌+◌, ◌<◌, ◌≤◌, ◌++◌, All, IfOk, OnOk, OnErr, true, drop, take, length};
 ghost use Rattle.std.specs.Result.{is_ok};
-ghost use Rattle.kc_graph.specs.Numbers.{has_number};
-ghost use Rattle.kc_graph.specs.Shape.{neighbours_of};
-ghost use Rattle.kc_levels.specs.LevelList.{IsBelow};
-ghost use Rattle.kc_levels.specs.Following.{AreDistinct};
-ghost use Rattle.kc_adj.specs.Degrees.{degrees};
 ghost use Rattle.kc_adj.specs.LeveledGraph.{IsAdjacency};
-ghost use Rattle.kc_adj.specs.private.Lifting.{gains, AreGained, IsLifting};
-ghost use Rattle.kc_adj.specs.private.Passing.{touched_by, turn_of, ArePassed};
+ghost use Rattle.kc_adj.specs.private.Lifting.{lift_cost, AreLifted, CanGain, HaveGained, IsLifting};
+ghost use Rattle.kc_adj.specs.private.Passing.{is_touched as touches, touched_by, turn_of, ArePassed};
 
 use crate::counts::{Counts, as_one, gain, is_reached};
 use crate::lifting::{Lift, lift_counts, renew};
@@ -58,26 +53,23 @@ pub struct Passed {
     pub touched: Vec<u32>,
 }
 
-// Returns whether w stays, on `level` by the new levels, and may gain by a neighbour that goes up from a level to
-// another.
-fn is_touched(old: &[u16], w: u32, from: u16, to: u16, level: u16) -> bool
-    requires { w < length old.now }
-    ensures { result ≡ ((slice_index old.now w == level) && (nat_lt from level && nat_le (level - 1) to)) }
+// Returns whether w stays and may gain by a neighbour that goes up from a level to another.
+fn is_touched(lift: &Lift<'_>, w: u32, from: u16, to: u16) -> bool
+    requires { w < lift.now.graph.vertices }
+    ensures { result ≡ touches lift.now from to w }
 {
-    let stays = old[w as usize] == level;
+    let level = lift.new[w as usize];
+    let stays = lift.old[w as usize] == level;
     stays && is_reached(from, to, level)
 }
 
 // Passes over the neighbours of v, and appends those that it touches to `touched`. Fails only if memory runs out; the
 // content of `touched` is then unspecified.
-fn look(lift: &Lift, v: u32, touched: &mut Vec<u32>) -> Result<Turn, AllocError>
-    requires vertex { v < lift.now.graph.now.vertices }
-    requires before { length lift.now.old.now ≡ lift.now.graph.now.vertices }
-    requires after { length lift.now.new.now ≡ lift.now.graph.now.vertices }
-    ensures turn { IfOk result (λ t. t ≡ turn_of lift.now.graph.now lift.now.old.now lift.now.new.now v) }
-    ensures touched { OnOk result (touched.new.items ≡ touched.old.items ++ touched_by lift.now.graph.now lift.now.old.now lift.now.new.now v) }
+fn look(lift: &Lift<'_>, v: u32, touched: &mut Vec<u32>) -> Result<Turn, AllocError>
+    requires { v < lift.now.graph.vertices }
+    ensures turn { IfOk result (λ t. t ≡ turn_of lift.now v) }
+    ensures touched { OnOk result (touched.new.items ≡ touched.old.items ++ touched_by lift.now v) }
 {
-    let _n = lift.graph.vertices();
     let from = lift.old[v as usize];
     let to = lift.new[v as usize];
     let under = to.saturating_sub(1);
@@ -91,7 +83,7 @@ fn look(lift: &Lift, v: u32, touched: &mut Vec<u32>) -> Result<Turn, AllocError>
         let level = lift.new[*w as usize];
         own += as_one(level >= to);
         below += as_one(level >= under);
-        end = put_where(touched, end, *w, is_touched(lift.old, *w, from, to, level));
+        end = put_where(touched, end, *w, is_touched(lift, *w, from, to));
     }
     touched.truncate(end);
     Ok(Turn {
@@ -102,11 +94,9 @@ fn look(lift: &Lift, v: u32, touched: &mut Vec<u32>) -> Result<Turn, AllocError>
 }
 
 // Passes over the neighbours of the vertices of a piece. Fails only if memory runs out.
-fn look_at_piece(alloc: Global, lift: &Lift, piece: &[u32]) -> Result<Passed, AllocError>
-    requires vertices { All (λ v. v < lift.now.graph.now.vertices) piece.now }
-    requires before { length lift.now.old.now ≡ lift.now.graph.now.vertices }
-    requires after { length lift.now.new.now ≡ lift.now.graph.now.vertices }
-    ensures { IfOk result (ArePassed lift.now.graph.now lift.now.old.now lift.now.new.now piece.now) }
+fn look_at_piece(alloc: Global, lift: &Lift<'_>, piece: &[u32]) -> Result<Passed, AllocError>
+    requires { All (λ v. v < lift.now.graph.vertices) piece.now }
+    ensures { IfOk result (ArePassed lift.now piece.now) }
 {
     let mut turns = Vec::with_capacity(alloc, piece.len())?;
     let mut touched = Vec::new(alloc);
@@ -118,19 +108,15 @@ fn look_at_piece(alloc: Global, lift: &Lift, piece: &[u32]) -> Result<Passed, Al
 }
 
 // Lets the vertices that v touches gain by its move.
-fn gain_all(lift: &Lift, counts: &mut Counts, v: u32, touched: &[u32])
-    requires vertex { v < lift.now.graph.now.vertices }
-    requires before { length lift.now.old.now ≡ lift.now.graph.now.vertices }
-    requires after { length lift.now.new.now ≡ lift.now.graph.now.vertices }
-    requires own { length counts.old.own.items ≡ lift.now.graph.now.vertices }
-    requires below { length counts.old.below.items ≡ lift.now.graph.now.vertices }
-    requires few_own { (u : ℕ) → u < lift.now.graph.now.vertices → slice_index lift.now.old.now u ≡ slice_index lift.now.new.now u → slice_index counts.old.own.items u < lift.now.graph.now.vertices }
-    requires few_below { (u : ℕ) → u < lift.now.graph.now.vertices → slice_index lift.now.old.now u ≡ slice_index lift.now.new.now u → slice_index counts.old.below.items u < lift.now.graph.now.vertices }
-    requires touched { touched.now ≡ touched_by lift.now.graph.now lift.now.old.now lift.now.new.now v }
-    ensures own { AreGained (gains lift.now.old.now lift.now.new.now (slice_index lift.now.old.now v) (slice_index lift.now.new.now v) 0) (neighbours_of v lift.now.graph.now.edges) counts.old.own.items counts.new.own.items }
-    ensures below { AreGained (gains lift.now.old.now lift.now.new.now (slice_index lift.now.old.now v) (slice_index lift.now.new.now v) 1) (neighbours_of v lift.now.graph.now.edges) counts.old.below.items counts.new.below.items }
+#[tactic(auto, using(crate::proofs::PassLemmas::touched_is, crate::proofs::LiftLemmas::gaining_is))]
+fn gain_all(lift: &Lift<'_>, counts: &mut Counts, v: u32, touched: &[u32])
+    requires vertex { v < lift.now.graph.vertices }
+    requires own { CanGain lift.now counts.old.own.items }
+    requires below { CanGain lift.now counts.old.below.items }
+    requires touched { touched.now ≡ touched_by lift.now v }
+    ensures own { HaveGained lift.now v 0 counts.old.own.items counts.new.own.items }
+    ensures below { HaveGained lift.now v 1 counts.old.below.items counts.new.below.items }
 {
-    let _n = lift.graph.vertices();
     let from = lift.old[v as usize];
     let to = lift.new[v as usize];
     for w in touched {
@@ -140,24 +126,21 @@ fn gain_all(lift: &Lift, counts: &mut Counts, v: u32, touched: &[u32])
 
 // Writes the results of the first vertices of the list into the counts.
 fn write_down<L: Ledger>(
-    lift: &Lift,
+    lift: &Lift<'_>,
     counts: &mut Counts,
     vertices: &[u32],
     passed: &Passed,
     steps: &mut Steps<L>,
 )
-    requires before { length lift.now.old.now ≡ lift.now.graph.now.vertices }
-    requires after { length lift.now.new.now ≡ lift.now.graph.now.vertices }
-    requires over { IsBelow lift.now.graph.now.vertices lift.now.old.now lift.now.new.now }
-    requires vertices { (v : ℕ) → has_number v vertices.now ≡ true → v < lift.now.graph.now.vertices }
-    requires passed { ArePassed lift.now.graph.now lift.now.old.now lift.now.new.now (take (length passed.now.turns.items) vertices.now) passed.now }
-    requires own { IsLifting lift.now.graph.now lift.now.old.now lift.now.new.now 0 vertices.now counts.old.own.items }
-    requires below { IsLifting lift.now.graph.now lift.now.old.now lift.now.new.now 1 vertices.now counts.old.below.items }
-    ensures own { IsLifting lift.now.graph.now lift.now.old.now lift.now.new.now 0 (drop (length passed.now.turns.items) vertices.now) counts.new.own.items }
-    ensures below { IsLifting lift.now.graph.now lift.now.old.now lift.now.new.now 1 (drop (length passed.now.turns.items) vertices.now) counts.new.below.items }
-    ensures cost { steps.new + (degrees lift.now.graph.now (drop (length passed.now.turns.items) vertices.now) + length (drop (length passed.now.turns.items) vertices.now)) ≡ steps.old + (degrees lift.now.graph.now vertices.now + length vertices.now) }
+    requires vertices { All (λ v. v < lift.now.graph.vertices) vertices.now }
+    requires passed { ArePassed lift.now (take (length passed.now.turns.items) vertices.now) passed.now }
+    requires own { IsLifting lift.now 0 vertices.now counts.old.own.items }
+    requires below { IsLifting lift.now 1 vertices.now counts.old.below.items }
+    ensures own { IsLifting lift.now 0 (drop (length passed.now.turns.items) vertices.now) counts.new.own.items }
+    ensures below { IsLifting lift.now 1 (drop (length passed.now.turns.items) vertices.now) counts.new.below.items }
+    ensures cost { steps.new + lift_cost lift.now (drop (length passed.now.turns.items) vertices.now) ≡ steps.old + lift_cost lift.now vertices.now }
 {
-    let _n = lift.graph.vertices();
+    let graph = lift.graph;
     let mut place = 0;
     for i in 0..passed.turns.len() {
         let v = vertices[i];
@@ -166,7 +149,7 @@ fn write_down<L: Ledger>(
         gain_all(lift, counts, v, touched);
         renew(lift, counts, v, turn.own, turn.below);
         place += turn.touched as usize;
-        steps.add(lift.graph.neighbours(v).len());
+        steps.add(graph.neighbours(v).len());
         steps.tick();
     }
 }
@@ -183,40 +166,43 @@ fn are_made(pieces: &[Result<Passed, AllocError>]) -> bool
     true
 }
 
+// Returns the number of pieces of a list with this number of vertices.
+fn piece_count(workers: u32, vertices: usize) -> usize
+    ensures { 1 ≤ result }
+{
+    (vertices / LEAST_LIFTED).min(workers as usize).max(1)
+}
+
 // Updates all counts to the new levels, by pieces. The pieces have one length, but the last may be shorter. Each goes
 // to a thread of its own if one can be made. Nothing is written before all pieces are done.
 fn lift_counts_by<R: Threads + Sync, L: Ledger>(
     lifters: &Lifters<'_, R>,
-    pieces: usize,
-    lift: &Lift,
+    lift: &Lift<'_>,
     counts: &mut Counts,
     vertices: &[u32],
     steps: &mut Steps<L>,
 ) -> Result<(), AllocError>
-    requires pieces { 1 ≤ pieces }
     requires some { 0 < length vertices.now }
-    requires adjacency { IsAdjacency lift.now.graph.now lift.now.old.now counts.old.own.items counts.old.below.items }
-    requires sized { length lift.now.new.now ≡ lift.now.graph.now.vertices }
-    requires vertices { (v : ℕ) → has_number v vertices.now ≡ true → v < lift.now.graph.now.vertices }
-    requires over { IsBelow lift.now.graph.now.vertices lift.now.old.now lift.now.new.now }
-    requires moved { (v : ℕ) → slice_index lift.now.old.now v < slice_index lift.now.new.now v → has_number v vertices.now ≡ true }
-    requires once { AreDistinct vertices.now }
-    ensures adjacency { OnOk result (IsAdjacency lift.now.graph.now lift.now.new.now counts.new.own.items counts.new.below.items) }
-    ensures cost { OnOk result (steps.new ≡ steps.old + (degrees lift.now.graph.now vertices.now + length vertices.now)) }
+    requires adjacency { IsAdjacency lift.now.graph lift.now.old counts.old.own.items counts.old.below.items }
+    requires vertices { AreLifted lift.now vertices.now }
+    ensures adjacency { OnOk result (IsAdjacency lift.now.graph lift.now.new counts.new.own.items counts.new.below.items) }
+    ensures cost { OnOk result (steps.new ≡ steps.old + lift_cost lift.now vertices.now) }
     ensures err { OnErr result (counts.new ≡ counts.old) }
     ensures steps_kept { OnErr result (steps.new ≡ steps.old) }
 {
     let alloc = lifters.alloc;
     let _n = lift.graph.vertices();
-    let size = vertices.len().div_ceil(pieces);
+    let size = vertices
+        .len()
+        .div_ceil(piece_count(lifters.workers, vertices.len()));
     let found = thread::map_chunks(
         lifters.rt,
         alloc,
         vertices,
         size,
         &|_start: usize, piece: &[u32]| -> Result<Passed, AllocError>
-            requires { All (λ v. v < lift.now.graph.now.vertices) piece.now × (length lift.now.old.now ≡ lift.now.graph.now.vertices) × (length lift.now.new.now ≡ lift.now.graph.now.vertices) }
-            ensures { IfOk result (ArePassed lift.entry.now.graph.now lift.entry.now.old.now lift.entry.now.new.now piece.entry.now) }
+            requires { All (λ v. v < lift.now.graph.vertices) piece.now }
+            ensures { IfOk result (ArePassed lift.entry.now piece.entry.now) }
         { look_at_piece(alloc, lift, piece) },
     )?;
     if !are_made(&found) {
@@ -235,37 +221,25 @@ fn lift_counts_by<R: Threads + Sync, L: Ledger>(
     Ok(())
 }
 
-// Returns the number of pieces of a list with this number of vertices.
-fn piece_count(workers: u32, vertices: usize) -> usize
-    ensures { 1 ≤ result }
-{
-    (vertices / LEAST_LIFTED).min(workers as usize).max(1)
-}
-
 /// Does what `lift_counts` does, but threads share the passes if the list is long. Fails only if memory runs out; then
 /// all is unchanged.
 pub fn par_lift_counts<R: Threads + Sync, L: Ledger>(
     lifters: &Lifters<'_, R>,
-    lift: &Lift,
+    lift: &Lift<'_>,
     counts: &mut Counts,
     vertices: &[u32],
     steps: &mut Steps<L>,
 ) -> Result<(), AllocError>
-    requires adjacency { IsAdjacency lift.now.graph.now lift.now.old.now counts.old.own.items counts.old.below.items }
-    requires sized { length lift.now.new.now ≡ lift.now.graph.now.vertices }
-    requires vertices { (v : ℕ) → has_number v vertices.now ≡ true → v < lift.now.graph.now.vertices }
-    requires over { IsBelow lift.now.graph.now.vertices lift.now.old.now lift.now.new.now }
-    requires moved { (v : ℕ) → slice_index lift.now.old.now v < slice_index lift.now.new.now v → has_number v vertices.now ≡ true }
-    requires once { AreDistinct vertices.now }
-    ensures adjacency { OnOk result (IsAdjacency lift.now.graph.now lift.now.new.now counts.new.own.items counts.new.below.items) }
-    ensures cost { OnOk result (steps.new ≡ steps.old + (degrees lift.now.graph.now vertices.now + length vertices.now)) }
+    requires adjacency { IsAdjacency lift.now.graph lift.now.old counts.old.own.items counts.old.below.items }
+    requires vertices { AreLifted lift.now vertices.now }
+    ensures adjacency { OnOk result (IsAdjacency lift.now.graph lift.now.new counts.new.own.items counts.new.below.items) }
+    ensures cost { OnOk result (steps.new ≡ steps.old + lift_cost lift.now vertices.now) }
     ensures err { OnErr result (counts.new ≡ counts.old) }
     ensures steps_kept { OnErr result (steps.new ≡ steps.old) }
 {
-    let pieces = piece_count(lifters.workers, vertices.len());
-    if pieces == 1 || vertices.is_empty() {
+    if vertices.is_empty() || piece_count(lifters.workers, vertices.len()) == 1 {
         lift_counts(lift, counts, vertices, steps);
         return Ok(());
     }
-    lift_counts_by(lifters, pieces, lift, counts, vertices, steps)
+    lift_counts_by(lifters, lift, counts, vertices, steps)
 }

@@ -4,5 +4,5 @@ use Rattle.kc_adj.proofs.passes.gain_all.Given as goal
 
 abbrev pub invariant-loop-w : goal.invariant-loop-w
 invariant-loop-w l =
-    AreGaining (gains l.lift.old.now l.lift.new.now l.from l.to 0) l.touched (drop l.w-index l.touched) l.initial.counts.own.items l.counts.own.items
-    × AreGaining (gains l.lift.old.now l.lift.new.now l.from l.to 1) l.touched (drop l.w-index l.touched) l.initial.counts.below.items l.counts.below.items
+    AreGaining (gains l.lift l.from l.to 0) l.touched (drop l.w-index l.touched) l.initial.counts.own.items l.counts.own.items
+    × AreGaining (gains l.lift l.from l.to 1) l.touched (drop l.w-index l.touched) l.initial.counts.below.items l.counts.below.items

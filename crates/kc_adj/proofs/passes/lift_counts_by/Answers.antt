@@ -1,29 +1,31 @@
 use Rattle.std.proofs.Common.{ℕ, List, ◌≡◌, ◌<◌, ◌≤◌, ◌+◌, ◌*◌, get_or, length, take, drop, ap, ◌∙◌, sym, arith, rules, refl}
 use Rattle.std.specs.Prelude.{Ok}
-use Rattle.std.proofs.lemmas.List.{drop_all, length-map}
+use Rattle.std.proofs.lemmas.List.{length-map}
+use Rattle.std.proofs.lemmas.List.Elements.{All-drop, All-take}
 use Rattle.std.proofs.lemmas.Result.{IfOk-at_ok}
 use Rattle.kc_adj.specs.declared.passes.Turn.{Turn}
-use Rattle.kc_adj.specs.Degrees.{degrees}
+use Rattle.kc_adj.specs.private.Lifting.{IsLift, lift_cost}
 use Rattle.kc_adj.specs.private.Passing.{turn_of}
-use Rattle.kc_adj.proofs.LiftLemmas.{lifting_first, lifting_last}
-use Rattle.kc_adj.proofs.PassLemmas.{in_drop, piece_below, pieces_cover, rest_is, rest_next}
+use Rattle.kc_adj.proofs.LiftLemmas.{lifting_first, lifting_last, cost_last}
+use Rattle.kc_adj.proofs.PassLemmas.{pieces_cover, rest_is, rest_next}
 use Rattle.kc_adj.proofs.passes.lift_counts_by.Goals as goal
 
 pub map_chunks-requires-clause-accepts : goal.map_chunks-requires-clause-accepts
-map_chunks-requires-clause-accepts g c κs within = λ start p chunk. (piece_below c.args.lift.now.graph.now.vertices c.div_ceil-size.result start c.args.vertices.now p.now c.requires.vertices chunk.value, c.requires.adjacency.sized, c.requires.sized)
+map_chunks-requires-clause-accepts g c κs within = λ start p chunk. rw chunk.value (All-take (λ (v : ℕ). v < c.args.lift.now.graph.vertices) c.div_ceil-size.result _ (All-drop (λ (v : ℕ). v < c.args.lift.now.graph.vertices) start c.args.vertices.now c.requires.vertices.inside))
 
 pub loop-piece-init : goal.loop-piece-init
 loop-piece-init g c =
+    let is : IsLift c.args.lift.now = rw (← c.lift.view_is) c.lift.invariant in
     let none : 0 * c.div_ceil-size.result ≡ 0 = omega arith in
     rw none (
       refl,
-      lifting_first _ _ _ 0 _ _ c.requires.adjacency.sized c.requires.sized c.requires.over c.requires.moved c.requires.once c.requires.adjacency.own_counts,
-      lifting_first _ _ _ 1 _ _ c.requires.adjacency.sized c.requires.sized c.requires.over c.requires.moved c.requires.once c.requires.adjacency.below_counts,
+      lifting_first _ 0 _ _ is c.requires.vertices c.requires.adjacency.own_counts,
+      lifting_first _ 1 _ _ is c.requires.vertices c.requires.adjacency.below_counts,
       refl,
     )
 
 pub write_down-requires-clause-vertices : goal.write_down-requires-clause-vertices
-write_down-requires-clause-vertices g c = λ v there. c.requires.vertices v (in_drop v (c.loop-piece.piece-index * c.div_ceil-size.result) c.args.vertices.now (rw c.loop-piece.invariant.0 at there))
+write_down-requires-clause-vertices g c = rw c.loop-piece.invariant.0 (All-drop (λ (v : ℕ). v < c.args.lift.now.graph.vertices) (c.loop-piece.piece-index * c.div_ceil-size.result) c.args.vertices.now c.requires.vertices.inside)
 
 pub loop-piece-preserved : goal.loop-piece-preserved
 loop-piece-preserved g c =
@@ -36,28 +38,26 @@ loop-piece-preserved g c =
     let is : get_or c.in_ok-found.found.items c.loop-piece.piece-index c.piece-item.result ≡ Ok c.in-Ok.passed = search rules in
     let all = IfOk-at_ok _ is given.call in
     let here : given.argument.now ≡ take c.div_ceil-size.result c.loop-piece.rest.now = given.argument_is.value ∙ ap (λ (ys : List ℕ). take size ys) (sym c.loop-piece.invariant.0) in
-    let long : length c.in-Ok.passed.turns.items ≡ length (take c.div_ceil-size.result c.loop-piece.rest.now) = ap (λ (ts : List Turn). length ts) all.turns ∙ length-map given.argument.now (turn_of c.args.lift.now.graph.now c.args.lift.now.old.now c.args.lift.now.new.now) ∙ ap (λ (ys : List ℕ). length ys) here in
+    let long : length c.in-Ok.passed.turns.items ≡ length (take c.div_ceil-size.result c.loop-piece.rest.now) = ap (λ (ts : List Turn). length ts) all.turns ∙ length-map given.argument.now (turn_of c.args.lift.now) ∙ ap (λ (ys : List ℕ). length ys) here in
     let next : drop (length c.in-Ok.passed.turns.items) c.loop-piece.rest.now ≡ drop ((c.loop-piece.piece-index + 1) * c.div_ceil-size.result) c.args.vertices.now = rest_next size i (length c.in-Ok.passed.turns.items) vertices rest c.loop-piece.invariant.0 long in
-    let count : c.len.result ≡ length c.in-Ok.passed.turns.items = search rules in
-    let before : degrees c.args.lift.now.graph.now c.loop-piece.rest.now + length c.loop-piece.rest.now ≡ degrees c.args.lift.now.graph.now (drop (c.loop-piece.piece-index * c.div_ceil-size.result) c.args.vertices.now) + length (drop (c.loop-piece.piece-index * c.div_ceil-size.result) c.args.vertices.now) = ap (λ (ys : List ℕ). degrees c.args.lift.now.graph.now ys + length ys) c.loop-piece.invariant.0 in
-    let after : degrees c.args.lift.now.graph.now (drop (length c.in-Ok.passed.turns.items) c.loop-piece.rest.now) + length (drop (length c.in-Ok.passed.turns.items) c.loop-piece.rest.now) ≡ degrees c.args.lift.now.graph.now (drop ((c.loop-piece.piece-index + 1) * c.div_ceil-size.result) c.args.vertices.now) + length (drop ((c.loop-piece.piece-index + 1) * c.div_ceil-size.result) c.args.vertices.now) = ap (λ (ys : List ℕ). degrees c.args.lift.now.graph.now ys + length ys) next in (
+    let count : c.len.result ≡ length c.in-Ok.passed.turns.items = search rules in (
       rest_is c.len.result (length c.in-Ok.passed.turns.items) rest count ∙ next,
       rw next at c.write_down.ensures.own,
       rw next at c.write_down.ensures.below,
-      omega (arith, before, after, c.write_down.ensures.cost, c.loop-piece.invariant.3),
+      omega (arith, ap (lift_cost c.args.lift.now) c.loop-piece.invariant.0, ap (lift_cost c.args.lift.now) next, c.write_down.ensures.cost, c.loop-piece.invariant.3),
     )
 
 pub returns-clause-adjacency : goal.returns-clause-adjacency
 returns-clause-adjacency g c =
+    let is : IsLift c.args.lift.now = rw (← c.lift.view_is) c.lift.invariant in
     let end : length c.args.vertices.now ≤ c.loop-piece.piece-index * c.div_ceil-size.result = pieces_cover (length c.args.vertices.now) c.loop-piece.piece-index c.div_ceil-size.result (search rules) (search rules) in
     record {
-      sized = c.requires.sized;
-      own_counts = lifting_last _ _ _ 0 (c.loop-piece.piece-index * c.div_ceil-size.result) c.args.vertices.now _ end c.requires.sized c.requires.over c.loop-piece.invariant.1;
-      below_counts = lifting_last _ _ _ 1 (c.loop-piece.piece-index * c.div_ceil-size.result) c.args.vertices.now _ end c.requires.sized c.requires.over c.loop-piece.invariant.2;
+      sized = is.after;
+      own_counts = lifting_last _ 0 (c.loop-piece.piece-index * c.div_ceil-size.result) c.args.vertices.now _ end is c.loop-piece.invariant.1;
+      below_counts = lifting_last _ 1 (c.loop-piece.piece-index * c.div_ceil-size.result) c.args.vertices.now _ end is c.loop-piece.invariant.2;
     }
 
 pub returns-clause-cost : goal.returns-clause-cost
 returns-clause-cost g c =
     let end : length c.args.vertices.now ≤ c.loop-piece.piece-index * c.div_ceil-size.result = pieces_cover (length c.args.vertices.now) c.loop-piece.piece-index c.div_ceil-size.result (search rules) (search rules) in
-    let none : degrees c.args.lift.now.graph.now (drop (c.loop-piece.piece-index * c.div_ceil-size.result) c.args.vertices.now) + length (drop (c.loop-piece.piece-index * c.div_ceil-size.result) c.args.vertices.now) ≡ 0 = ap (λ (ys : List ℕ). degrees c.args.lift.now.graph.now ys + length ys) (drop_all (c.loop-piece.piece-index * c.div_ceil-size.result) c.args.vertices.now end) in
-    omega (arith, none, c.loop-piece.invariant.3)
+    omega (arith, cost_last c.args.lift.now c.args.vertices.now (c.loop-piece.piece-index * c.div_ceil-size.result) end, c.loop-piece.invariant.3)

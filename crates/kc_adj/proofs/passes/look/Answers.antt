@@ -8,17 +8,18 @@ use Rattle.kc_adj.proofs.passes.look.Goals as goal
 
 pub overflow_cast-result : goal.overflow_cast-result
 overflow_cast-result c =
-    let test = is_touched c.args.lift.now.old.now c.args.lift.now.new.now (get_or c.args.lift.now.old.now c.args.v 0) (get_or c.args.lift.now.new.now c.args.v 0) in
+    let test = is_touched c.args.lift.now (get_or c.lift.inside.old.now c.args.v 0) (get_or c.lift.inside.new.now c.args.v 0) in
     let within : c.loop-w.end ≤ length c.loop-w.touched.items = omega (arith, c.loop-w.invariant.5) in
     let count = (looked test c.neighbours-row.result.now c.args.touched.now.items c.loop-w.touched.items c.loop-w.w-index c.loop-w.end (omega arith) within c.loop-w.invariant.4).1 in
-    omega (arith, count, length-filter test c.neighbours-row.result.now, count_by-le-length test c.neighbours-row.result.now, c.len-start.ensures, c.neighbours-row.ensures.fewer, c.vertices-n.ensures.small)
+    omega (arith, count, length-filter test c.neighbours-row.result.now, count_by-le-length test c.neighbours-row.result.now, c.len-start.ensures, c.neighbours-row.ensures.fewer, c.neighbours-row.ensures.small)
 
 pub returns-clause-turn : goal.returns-clause-turn
 returns-clause-turn c =
-    let first = count_last c.args.lift.now.graph.now c.args.lift.now.new.now c.neighbours-row.result.now c.args.v _ c.loop-w.w-index c.loop-w.own c.loop-w.invariant.0 (omega arith) c.neighbours-row.ensures.value in
-    let second = count_last c.args.lift.now.graph.now c.args.lift.now.new.now c.neighbours-row.result.now c.args.v c.saturating_sub-under.result c.loop-w.w-index c.loop-w.below c.loop-w.invariant.2 (omega arith) c.neighbours-row.ensures.value
-    ∙ ap (at_least c.args.lift.now.graph.now c.args.lift.now.new.now c.args.v) c.saturating_sub-under.ensures in
+    let first = count_last c.lift.inside.graph.now c.lift.inside.new.now c.neighbours-row.result.now c.args.v _ c.loop-w.w-index c.loop-w.own (rw (← c.lift.view_is) at c.loop-w.invariant.0) (omega arith) c.neighbours-row.ensures.value in
+    let second = count_last c.lift.inside.graph.now c.lift.inside.new.now c.neighbours-row.result.now c.args.v c.saturating_sub-under.result c.loop-w.w-index c.loop-w.below (rw (← c.lift.view_is) at c.loop-w.invariant.2) (omega arith) c.neighbours-row.ensures.value
+    ∙ ap (at_least c.lift.inside.graph.now c.lift.inside.new.now c.args.v) c.saturating_sub-under.ensures in
+    let test = is_touched c.args.lift.now (get_or c.lift.inside.old.now c.args.v 0) (get_or c.lift.inside.new.now c.args.v 0) in
     let within : c.loop-w.end ≤ length c.loop-w.touched.items = omega (arith, c.loop-w.invariant.5) in
-    let count = rw c.neighbours-row.ensures.value at ((looked (is_touched c.args.lift.now.old.now c.args.lift.now.new.now (get_or c.args.lift.now.old.now c.args.v 0) (get_or c.args.lift.now.new.now c.args.v 0)) c.neighbours-row.result.now c.args.touched.now.items c.loop-w.touched.items c.loop-w.w-index c.loop-w.end (omega arith) within c.loop-w.invariant.4).1) in
+    let count = (looked test c.neighbours-row.result.now c.args.touched.now.items c.loop-w.touched.items c.loop-w.w-index c.loop-w.end (omega arith) within c.loop-w.invariant.4).1 in
     let start : c.len-start.result ≡ length c.args.touched.now.items = omega (arith, c.len-start.ensures) in
-    turn_is _ _ _ _ _ _ first second (ap (λ n. c.loop-w.end - n) start ∙ count)
+    rw (← c.lift.view_is) (turn_is _ _ _ _ _ _ first second (ap (λ n. c.loop-w.end - n) start ∙ rw c.neighbours-row.ensures.value at (rw (← c.lift.view_is) at count)))

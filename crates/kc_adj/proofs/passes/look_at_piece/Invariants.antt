@@ -5,5 +5,5 @@ use Rattle.kc_adj.proofs.passes.look_at_piece.Given as goal
 
 abbrev pub invariant-loop-i : goal.invariant-loop-i
 invariant-loop-i l =
-    (l.turns.items ≡ map (turn_of l.lift.graph.now l.lift.old.now l.lift.new.now) (take l.i l.piece))
-    × (l.touched.items ≡ flat_map (touched_by l.lift.graph.now l.lift.old.now l.lift.new.now) (take l.i l.piece))
+    (l.turns.items ≡ map (turn_of l.lift) (take l.i l.piece))
+    × (l.touched.items ≡ flat_map (touched_by l.lift) (take l.i l.piece))
