@@ -1,16 +1,16 @@
 //! The two passes of a step over the rows of a range. One is over vertices that stay on the level, the other over
 //! vertices that begin to rise from it.
 
-ghost use Rattle.std.specs.Prelude.{◌≡◌, ◌+◌, ◌*◌, ◌++◌, ◌∷◌, ◌<◌, ◌≤◌, ◌^◌, ◌⊎◌, ℕ, [], false, true, IfOk, OnOk, cond, count_by, filter, length, slice_index, slice_index_or, slice_set, take};
+ghost use Rattle.std.specs.Prelude.{◌≡◌, ◌+◌, ◌*◌, ◌++◌, ◌∷◌, ◌<◌, ◌≤◌, ◌^◌, ℕ, [], false, true, IfOk, OnOk, cond, count_by, filter, length, slice_index, slice_index_or, slice_set, take};
 ghost use Rattle.std.specs.List.{flat_map};
 ghost use Rattle.kc_graph.specs.Numbers.{has_number};
-ghost use Rattle.kc_graph.specs.Shape.{has_edge, neighbours_of};
+ghost use Rattle.kc_graph.specs.Shape.{has_edge};
 ghost use Rattle.kc_adj.specs.Degrees.{degrees};
 ghost use Rattle.kc_insert.specs.private.Crossing.{above_near, count_above, HaveBegun, HaveMeetings, is_above, left_at, met_by, next_near, rising_near, with_levels};
-ghost use Rattle.kc_insert.specs.private.Parts.{CanPart, CanRise, HasParted, HasRisen, HaveRisen};
-ghost use Rattle.kc_insert.specs.private.Rising.{rises, seen};
+ghost use Rattle.kc_insert.specs.private.Parts.{CanPart, CanRise, HasParted, HasRisen, HaveRisen, risen_part};
+ghost use Rattle.kc_insert.specs.private.Rising.{rises};
 ghost use Rattle.kc_insert.specs.private.Telling.{AreDealtAnew, times};
-ghost use Rattle.kc_insert.specs.Ranges.{IsHeld, range_of};
+ghost use Rattle.kc_insert.specs.Ranges.{IsHeld};
 ghost use Rattle.kc_insert.specs.private.Watched.{count_at, StayWatched};
 
 use crate::layout::Layout;
@@ -37,6 +37,9 @@ pub struct Step<'a> {
     pub level: u16,
     /// Whether the lists are dealt by range.
     pub is_dealt: bool,
+    /// How many threads share a pass over the ranges.
+    pub threads: usize,
+    ghost some: { 0 < threads },
 }
 
 impl<'a> Model for Step<'a> {
@@ -263,7 +266,7 @@ impl Range {
     /// tell it to the neighbours that stood on the next level. Fails only if memory runs out.
     pub fn rise(&mut self, alloc: Global, step: &Step<'_>) -> Result<(), AllocError>
         requires { CanRise step.now self.old }
-        ensures part { OnOk result (self.new ≡ record self.old { watch = self.new.watch; meetings = self.new.meetings; began = self.old.began ++ self.old.begun; risen = self.old.risen ++ self.old.begun; begun = []; tell = self.new.tell; steps = self.old.steps + degrees step.now.graph self.old.begun }) }
+        ensures part { OnOk result (self.new ≡ risen_part step.now self.old self.new) }
         ensures told { OnOk result (self.new.tell.all ≡ met_by step.now (slice_index_or self.old.meetings (step.now.level + 1) []) ++ flat_map (next_near step.now) self.old.begun) }
         ensures lists { OnOk result (length self.new.tell.lists ≡ length self.old.tell.lists) }
         ensures dealt { OnOk result (step.now.is_dealt ≡ true → AreDealtAnew step.now.bits self.old.tell self.new.tell) }
