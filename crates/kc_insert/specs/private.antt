@@ -4,7 +4,6 @@ pub mod Filed
 pub mod LevelStep
 pub mod Meetings
 pub mod Parts
-pub mod Phase
 pub mod Ranges
 pub mod Rising
 pub mod Round

@@ -1,19 +1,19 @@
 //! How the counts of a sweep follow those of the graph, and which vertices wait when it begins.
 
-ghost use Rattle.std.specs.Prelude.{◌≡◌, ◌≢◌, ◌+◌, ◌<◌, ◌≤◌, ◌^◌, ℕ, false, All, OnOk, length, slice_index, slice_index_or};
-ghost use Rattle.kc_graph.specs.Numbers.{has_number};
-ghost use Rattle.kc_graph.specs.Shape.{neighbours_of};
+ghost use Rattle.std.specs.Prelude.{◌≡◌, ◌≢◌, ◌+◌, ◌<◌, ◌≤◌, ◌^◌, ℕ, false, All, OnOk, length};
 ghost use Rattle.kc_levels.specs.LevelList.{IsCapped};
 ghost use Rattle.kc_levels.specs.Thresholds.{top_level};
-ghost use Rattle.kc_insert.specs.private.Filed.{AreCopied, AreFiled, HasFollowedAll, HasFollowedOne, HaveFollowed, MayFile, MayFollow};
+ghost use Rattle.kc_insert.specs.private.Filed.{AllFollowed, AreCopied, AreFiled, AreRowsCopied, HasFollowedAll, HasFollowedOne, HaveFollowed, IsRowCopied, MayFile, MayFollow, MayFollowOne};
 ghost use Rattle.kc_insert.specs.Ranges.{IsHeld, IsIn};
+ghost use Rattle.kc_insert.specs.private.Ranges.{EachCan, EachDid};
 
+use crate::counted::Counted;
 use crate::range::Range;
 use crate::ranges::Ranges;
 use crate::sharing::check;
 use crate::watched::WatchedCounts;
 use kc_adj::LevelLists;
-use kc_graph::{Edge, Graph};
+use kc_graph::Edge;
 use kc_levels::{Levels, Move, Thresholds};
 use kc_rounds::{Gate, Rounds};
 use std::alloc::AllocError;
@@ -51,10 +51,7 @@ fn follow_count(
     watched: &mut WatchedCounts,
     queue: &mut LevelLists<u32>,
 ) -> Result<(), AllocError>
-    requires vertex { IsHeld watched.old v }
-    requires inside { (v < length fresh.now.levels) × (v < length fresh.now.counts) }
-    requires capped { slice_index fresh.now.levels v ≤ top_level fresh.now.profile fresh.now.vertices }
-    requires room { slice_index fresh.now.levels v < length queue.old }
+    requires { MayFollowOne fresh.now v watched.old queue.old }
     ensures { OnOk result (HasFollowedOne fresh.now v watched.old watched.new queue.old queue.new) }
 {
     let th = fresh.th;
@@ -150,8 +147,8 @@ impl Range {
 // In each range all vertices count afresh, as `Range::try_follow` says.
 fn follow_each<R: Threads + Sync>(rt: &R, threads: usize, fresh: &Fresh<'_>, items: &mut [Range])
     requires threads { 0 < threads }
-    requires ready { (i : ℕ) (d : _) → i < length items.old → MayFollow fresh.now (slice_index_or items.old i d) }
-    ensures { (i : ℕ) (d : _) → i < length items.old → (slice_index_or items.new i d).is_short ≡ false → HasFollowedAll fresh.now (slice_index_or items.old i d) (slice_index_or items.new i d) }
+    requires ready { EachCan (λ _. MayFollow fresh.now) items.old }
+    ensures { EachDid (λ _. HasFollowedAll fresh.now) items.old items.new }
 {
     thread::for_each_mut(
         rt,
@@ -172,8 +169,8 @@ fn follow_all<R: Threads + Sync>(
     items: &mut [Range],
 ) -> Result<(), AllocError>
     requires threads { 0 < threads }
-    requires ready { (i : ℕ) (d : _) → i < length items.old → MayFollow fresh.now (slice_index_or items.old i d) }
-    ensures { OnOk result ((length items.new ≡ length items.old) × ((i : ℕ) (d : _) → i < length items.old → HasFollowedAll fresh.now (slice_index_or items.old i d) (slice_index_or items.new i d))) }
+    requires ready { EachCan (λ _. MayFollow fresh.now) items.old }
+    ensures { OnOk result (AllFollowed fresh.now items.old items.new) }
 {
     follow_each(rt, threads, fresh, items);
     check(items)?;
@@ -236,27 +233,26 @@ pub fn copy_ends(ranges: &mut Ranges, fresh: &[u32], edges: &[Edge])
 }
 
 // Copies the counts of v and of its neighbours.
-fn copy_row(ranges: &mut Ranges, fresh: &[u32], graph: &Graph, v: u32)
-    requires vertices { (v : ℕ) → v < length fresh.now → IsIn ranges.old v }
-    requires scale { length fresh.now ≡ graph.now.vertices }
-    requires vertex { v < graph.now.vertices }
-    ensures { AreCopied fresh.now (λ u. (u ≢ v) × (has_number u (neighbours_of v graph.now.edges) ≡ false)) ranges.old ranges.new }
+fn copy_row(ranges: &mut Ranges, fresh: Counted<'_>, v: u32)
+    requires vertices { (v : ℕ) → v < length fresh.counts.now → IsIn ranges.old v }
+    requires vertex { v < fresh.graph.now.vertices }
+    ensures { IsRowCopied fresh.entry v ranges.old ranges.new }
 {
-    let _n = graph.vertices();
-    ranges.set(v, fresh[v as usize]);
-    for w in graph.neighbours(v) {
-        ranges.set(*w, fresh[*w as usize]);
+    let counts = fresh.counts;
+    let _n = fresh.graph.vertices();
+    ranges.set(v, counts[v as usize]);
+    for w in fresh.graph.neighbours(v) {
+        ranges.set(*w, counts[*w as usize]);
     }
 }
 
 /// Copies the counts of the vertices that moved, and of their neighbours.
-pub fn copy_rows(ranges: &mut Ranges, fresh: &[u32], graph: &Graph, moves: &[Move])
-    requires vertices { (v : ℕ) → v < length fresh.now → IsIn ranges.old v }
-    requires scale { length fresh.now ≡ graph.now.vertices }
-    requires inside { All (λ m. m.vertex < graph.now.vertices) moves.now }
-    ensures { AreCopied fresh.now (λ u. All (λ m. (u ≢ m.vertex) × (has_number u (neighbours_of m.vertex graph.now.edges) ≡ false)) moves.now) ranges.old ranges.new }
+pub fn copy_rows(ranges: &mut Ranges, fresh: Counted<'_>, moves: &[Move])
+    requires vertices { (v : ℕ) → v < length fresh.counts.now → IsIn ranges.old v }
+    requires inside { All (λ m. m.vertex < fresh.graph.now.vertices) moves.now }
+    ensures { AreRowsCopied fresh.entry moves.now ranges.old ranges.new }
 {
     for m in moves {
-        copy_row(ranges, fresh, graph, m.vertex);
+        copy_row(ranges, fresh, m.vertex);
     }
 }

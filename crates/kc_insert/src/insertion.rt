@@ -6,12 +6,11 @@ ghost use Rattle.kc_graph.specs.Changes.{AllAbsent};
 ghost use Rattle.kc_levels.specs.LevelList.{MeetsUpper, IsCapped, IsRaised};
 ghost use Rattle.kc_levels.specs.Moved.{moved_count, moves_between};
 ghost use Rattle.kc_insert.specs.Effort.{effort};
-ghost use Rattle.kc_insert.specs.private.Phase.{working_of};
 ghost use Rattle.kc_insert.specs.Working.{IsReady};
 
 use crate::filing::{Fresh, file_ends};
 use crate::linking::link_edges;
-use crate::sweep::Sweep;
+use crate::scaled::Scaled;
 use crate::sweeping::raise_queued;
 use crate::work::{InsertionWork, take_moves};
 use kc_adj::{LevelAdj, Steps};
@@ -27,45 +26,6 @@ use std::thread::Threads;
 pub struct Tally {
     /// The number of vertices whose level is another one than before.
     pub moves: u32,
-}
-
-// A whole phase, as `insert_phase` says. The sweep has the levels of the graph and their counts; no vertex rises, waits
-// or is to be met.
-fn sweep_phase<R: Threads + Sync, G: Gate + Sync, L: Ledger>(
-    rounds: &Rounds<R, G>,
-    alloc: Global,
-    th: &Thresholds,
-    adj: &mut LevelAdj,
-    sweep: &mut Sweep,
-    added: &[Edge],
-    steps: &mut Steps<L>,
-) -> Result<Moves, AllocError>
-    requires scale { th.now.vertices ≡ adj.old.graph.vertices }
-    requires capped { IsCapped th.now.profile adj.old.graph.vertices adj.old.levels }
-    requires upper { (v : ℕ) → v < adj.old.graph.vertices → MeetsUpper th.now.profile adj.old.graph adj.old.levels v }
-    requires ready { IsReady th.now.profile adj.old (working_of sweep.old.levels sweep.old.ranges) }
-    requires ascending { EdgesFrom adj.old.graph.vertices 0 0 added.now }
-    requires absent { AllAbsent adj.old.graph added.now }
-    requires room { length adj.old.graph.edges + length added.now ≤ MAX_EDGES }
-    ensures graph { OnOk result (adj.new.graph ≡ with_edges adj.old.graph added.now) }
-    ensures raised { OnOk result (IsRaised th.now.profile adj.new.graph adj.old.levels adj.new.levels) }
-    ensures moves { IfOk result (λ moves. moves ≡ moves_between adj.new.graph.vertices adj.old.levels adj.new.levels) }
-    ensures ready { OnOk result (IsReady th.now.profile adj.new (working_of sweep.new.levels sweep.new.ranges)) }
-    ensures cost { let rises = effort adj.new.graph adj.old.levels adj.new.levels adj.new.graph.vertices in
-        OnOk result (steps.new ≤ steps.old + (4 * length added.now + rises)) }
-{
-    let _levels = adj.levels();
-    let _top = th.top();
-    link_edges(rounds, alloc, adj, added, steps)?;
-    let fresh = Fresh {
-        th,
-        levels: adj.levels(),
-        counts: adj.own_counts(),
-    };
-    file_ends(rounds, &fresh, &mut sweep.ranges, added)?;
-    raise_queued(rounds, alloc, th, adj.graph(), sweep, steps)?;
-    let moves = take_moves(rounds, alloc, adj, sweep, steps)?;
-    Ok(moves)
 }
 
 /// Puts the edges in and raises the levels to the raised list (`IsRaised`). These are the least levels that are at
@@ -123,7 +83,22 @@ pub fn insert_phase<R: Threads + Sync, G: Gate + Sync, L: Ledger>(
     ensures cost { let rises = effort adj.new.graph adj.old.levels adj.new.levels adj.new.graph.vertices in
         OnOk result (steps.new ≤ steps.old + (4 * length added.now + rises)) }
 {
-    let moves = sweep_phase(rounds, alloc, th, adj, &mut work.sweep, added, steps)?;
+    let _levels = adj.levels();
+    let _top = th.top();
+    let sweep = &mut work.sweep;
+    link_edges(rounds, alloc, adj, added, steps)?;
+    let fresh = Fresh {
+        th,
+        levels: adj.levels(),
+        counts: adj.own_counts(),
+    };
+    file_ends(rounds, &fresh, &mut sweep.ranges, added)?;
+    let scaled = Scaled {
+        graph: adj.graph(),
+        th,
+    };
+    raise_queued(rounds, alloc, scaled, sweep, steps)?;
+    let moves = take_moves(rounds, alloc, adj, sweep, steps)?;
     Ok(moves)
 }
 

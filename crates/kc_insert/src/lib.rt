@@ -5,6 +5,7 @@
 //! one of its own.
 #![tactic(auto)]
 
+mod counted;
 mod filing;
 mod insertion;
 mod layout;
@@ -14,6 +15,7 @@ mod passes;
 mod range;
 mod ranges;
 mod rising;
+mod scaled;
 mod sharing;
 mod sweep;
 mod sweeping;

@@ -1,16 +1,16 @@
 //! The two passes of a step over the rows of a range. One is over vertices that stay on the level, the other over
 //! vertices that begin to rise from it.
 
-ghost use Rattle.std.specs.Prelude.{◌≡◌, ◌+◌, ◌*◌, ◌++◌, ◌∷◌, ◌<◌, ◌≤◌, ◌^◌, ◌⊎◌, ℕ, [], false, true, IfOk, OnOk, cond, count_by, filter, length, slice_index, slice_index_or, slice_set, take};
+ghost use Rattle.std.specs.Prelude.{◌≡◌, ◌+◌, ◌*◌, ◌++◌, ◌∷◌, ◌<◌, ◌≤◌, ◌^◌, ℕ, [], false, true, IfOk, OnOk, cond, count_by, filter, length, slice_index, slice_index_or, slice_set, take};
 ghost use Rattle.std.specs.List.{flat_map};
 ghost use Rattle.kc_graph.specs.Numbers.{has_number};
-ghost use Rattle.kc_graph.specs.Shape.{has_edge, neighbours_of};
+ghost use Rattle.kc_graph.specs.Shape.{has_edge};
 ghost use Rattle.kc_adj.specs.Degrees.{degrees};
 ghost use Rattle.kc_insert.specs.private.Crossing.{above_near, count_above, HaveBegun, HaveMeetings, is_above, left_at, met_by, next_near, rising_near, with_levels};
-ghost use Rattle.kc_insert.specs.private.Parts.{CanPart, CanRise, HasParted, HasRisen, HaveRisen};
-ghost use Rattle.kc_insert.specs.private.Rising.{rises, seen};
+ghost use Rattle.kc_insert.specs.private.Parts.{CanPart, CanRise, HasParted, HasRisen, HaveRisen, risen_part};
+ghost use Rattle.kc_insert.specs.private.Rising.{rises};
 ghost use Rattle.kc_insert.specs.private.Telling.{AreDealtAnew, times};
-ghost use Rattle.kc_insert.specs.Ranges.{IsHeld, range_of};
+ghost use Rattle.kc_insert.specs.Ranges.{IsHeld};
 ghost use Rattle.kc_insert.specs.private.Watched.{count_at, StayWatched};
 
 use crate::layout::Layout;
@@ -37,6 +37,9 @@ pub struct Step<'a> {
     pub level: u16,
     /// Whether the lists are dealt by range.
     pub is_dealt: bool,
+    /// How many threads share a pass over the ranges.
+    pub threads: usize,
+    ghost some: { 0 < threads },
 }
 
 impl<'a> Model for Step<'a> {
@@ -200,39 +203,39 @@ fn file_above(
     Ok(())
 }
 
-// Each vertex of the list begins to rise, and tells it to its neighbours on the next level. It is to meet all
-// neighbours that stand above the level and don't rise, and counts afresh. Returns how many neighbours there are. Fails
-// only if memory runs out.
-fn begin_each(
-    step: &Step<'_>,
-    begun: &[u32],
-    row: &mut Vec<u32>,
-    told: &mut Told,
-    meetings: &mut LevelLists<Meeting>,
-    watched: &mut WatchedCounts,
-) -> Result<usize, AllocError>
-    requires vertices { (v : ℕ) → has_number v begun.now ≡ true → (v < step.now.graph.vertices) × IsHeld watched.old v }
-    requires few { length begun.now ≤ 2 ^ 24 }
-    requires places { (w : ℕ) → is_above step.now w ≡ true → slice_index step.now.levels.stored w < length meetings.old }
-    ensures told { OnOk result (told.new ≡ record told.old { all = told.old.all ++ flat_map (next_near step.now) begun.now }) }
-    ensures meetings { OnOk result (HaveMeetings step.now begun.now meetings.old meetings.new) }
-    ensures counts { OnOk result (HaveBegun step.now begun.now watched.old watched.new) }
-    ensures steps { IfOk result (λ steps. (steps ≡ degrees step.now.graph begun.now) × (steps ≤ 2 ^ 24 * length begun.now)) }
-{
-    let graph = step.graph;
-    let mut steps = 0;
-    for i in 0..begun.len() {
-        let v = graph.in_turn(begun, i);
-        let near = graph.neighbours(v);
-        steps += near.len();
-        let (end, above) = above_of(step, near, row)?;
-        file_above(step, v, &row[..end], told, meetings)?;
-        watched.put(v, above)?;
-    }
-    Ok(steps)
-}
-
 impl Range {
+    // Each vertex that begins to rise tells it to its neighbours on the next level. It is to meet all neighbours that
+    // stand above the level and don't rise, and counts afresh. Returns how many neighbours there are. Fails only if
+    // memory runs out.
+    fn begin_each(&mut self, step: &Step<'_>) -> Result<usize, AllocError>
+        requires vertices { (v : ℕ) → has_number v self.old.begun ≡ true → (v < step.now.graph.vertices) × IsHeld self.old.watch v }
+        requires few { length self.old.begun ≤ 2 ^ 24 }
+        requires places { (w : ℕ) → is_above step.now w ≡ true → slice_index step.now.levels.stored w < length self.old.meetings }
+        ensures part { OnOk result (self.new ≡ record self.old { watch = self.new.watch; meetings = self.new.meetings; tell = self.new.tell }) }
+        ensures told { OnOk result (self.new.tell ≡ record self.old.tell { all = self.old.tell.all ++ flat_map (next_near step.now) self.old.begun }) }
+        ensures meetings { OnOk result (HaveMeetings step.now self.old.begun self.old.meetings self.new.meetings) }
+        ensures counts { OnOk result (HaveBegun step.now self.old.begun self.old.watch self.new.watch) }
+        ensures steps { IfOk result (λ steps. (steps ≡ degrees step.now.graph self.old.begun) × (steps ≤ 2 ^ 24 * length self.old.begun)) }
+    {
+        let graph = step.graph;
+        let mut steps = 0;
+        for i in 0..self.begun.len() {
+            let v = graph.in_turn(&self.begun, i);
+            let near = graph.neighbours(v);
+            steps += near.len();
+            let (end, above) = above_of(step, near, &mut self.row)?;
+            file_above(
+                step,
+                v,
+                &self.row[..end],
+                &mut self.told,
+                &mut self.meetings,
+            )?;
+            self.watched.put(v, above)?;
+        }
+        Ok(steps)
+    }
+
     /// Each vertex that stays tells it to its neighbours that rise on. Fails only if memory runs out.
     pub fn part(&mut self, step: &Step<'_>) -> Result<(), AllocError>
         requires { CanPart step.now self.old }
@@ -263,7 +266,7 @@ impl Range {
     /// tell it to the neighbours that stood on the next level. Fails only if memory runs out.
     pub fn rise(&mut self, alloc: Global, step: &Step<'_>) -> Result<(), AllocError>
         requires { CanRise step.now self.old }
-        ensures part { OnOk result (self.new ≡ record self.old { watch = self.new.watch; meetings = self.new.meetings; began = self.old.began ++ self.old.begun; risen = self.old.risen ++ self.old.begun; begun = []; tell = self.new.tell; steps = self.old.steps + degrees step.now.graph self.old.begun }) }
+        ensures part { OnOk result (self.new ≡ risen_part step.now self.old self.new) }
         ensures told { OnOk result (self.new.tell.all ≡ met_by step.now (slice_index_or self.old.meetings (step.now.level + 1) []) ++ flat_map (next_near step.now) self.old.begun) }
         ensures lists { OnOk result (length self.new.tell.lists ≡ length self.old.tell.lists) }
         ensures dealt { OnOk result (step.now.is_dealt ≡ true → AreDealtAnew step.now.bits self.old.tell self.new.tell) }
@@ -273,14 +276,7 @@ impl Range {
         let met = self.meetings.take_all(alloc, step.level);
         leave_behind(step, &met, &mut self.watched)?;
         come_up(step, self.meetings.on(step.level + 1), &mut self.told)?;
-        self.steps += begin_each(
-            step,
-            &self.begun,
-            &mut self.row,
-            &mut self.told,
-            &mut self.meetings,
-            &mut self.watched,
-        )?;
+        self.steps += self.begin_each(step)?;
         self.risen.extend_from_slice(&self.begun)?;
         self.began.append(&mut self.begun)?;
         if step.is_dealt {

@@ -1,11 +1,12 @@
 //! A range of vertices: all that a sweep writes of them but their levels. One thread at a time writes it.
 
-ghost use Rattle.std.specs.Prelude.{◌≡◌, ◌+◌, ◌-◌, ◌++◌, ◌∷◌, ◌<◌, ◌≤◌, ◌==◌, ◌^◌, ℕ, List, [], false, true, All, IfOk, OnOk, cond, filter, length, replicate, slice_index_or, slice_set};
+ghost use Rattle.std.specs.Prelude.{◌≡◌, ◌+◌, ◌-◌, ◌<◌, ◌≤◌, ◌==◌, ◌^◌, ℕ, [], false, true, All, IfOk, OnOk, filter, length};
 ghost use Rattle.kc_graph.specs.Numbers.{has_number};
-ghost use Rattle.kc_insert.specs.private.Parts.{CanHearLess, CanHearMore, HasHeardLess, HaveMet, LetStay};
+ghost use Rattle.kc_insert.specs.private.Parts.{CanHearLess, CanHearMore, HasHeardLess, HaveMet, LetStay, part_met};
+ghost use Rattle.kc_insert.specs.private.Ranges.{forgotten, looked_anew, new_part};
 ghost use Rattle.kc_insert.specs.private.Rising.{rises, seen};
 ghost use Rattle.kc_insert.specs.private.Telling.{heard_by, times};
-ghost use Rattle.kc_insert.specs.private.Watched.{count_at, is_few, StayWatched};
+ghost use Rattle.kc_insert.specs.private.Watched.{count_at, StayWatched};
 ghost use Rattle.kc_insert.specs.Ranges.{IsHeld};
 
 use crate::meetings::Meeting;
@@ -128,7 +129,7 @@ impl Range {
         ranges: usize,
     ) -> Result<Self, AllocError>
         requires { first + length counts.now ≤ 2 ^ 24 }
-        ensures { IfOk result (λ r. r ≡ record { watch = record { first = first; counts = counts.now; most = 0; doubtful = [] }; queue = replicate levels []; meetings = replicate levels []; began = []; risen = []; stay = []; begun = []; tell = record { all = []; lists = replicate ranges [] }; steps = 0; is_short = false }) }
+        ensures { IfOk result (λ r. r ≡ new_part levels ranges first counts.now) }
     {
         Ok(Range {
             watched: WatchedCounts::new(alloc, first, counts)?,
@@ -163,7 +164,7 @@ impl Range {
     /// only if memory runs out.
     pub fn look_anew(&mut self, levels: &RisingLevels, most: u32) -> Result<(), AllocError>
         requires { (v : ℕ) → has_number v self.old.began ≡ true → (v < length (seen levels.now)) × IsHeld self.old.watch v }
-        ensures { let rising = filter (rises levels.now) self.old.began in OnOk result (self.new ≡ record self.old { watch = record self.old.watch { most = most; doubtful = filter (is_few self.old.watch most) rising }; began = rising; stay = self.new.stay }) }
+        ensures { OnOk result (self.new ≡ looked_anew levels.now most self.old self.new.stay) }
     {
         keep_rising(levels, &mut self.began, &mut self.stay)?;
         self.watched.watch(most, &self.began)?;
@@ -175,8 +176,7 @@ impl Range {
         requires vertex { IsHeld self.old.watch v }
         requires small { count_at self.old.watch v < 2 ^ 31 }
         requires room { level < length self.old.queue }
-        ensures { let waits = cond (count_at self.old.watch v == most) (slice_set self.old.queue level (slice_index_or self.old.queue level [] ++ v ∷ [])) self.old.queue in
-            OnOk result (self.new ≡ record self.old { watch = record self.old.watch { counts = slice_set self.old.watch.counts (v - self.old.watch.first) (count_at self.old.watch v + 1) }; queue = waits }) }
+        ensures { OnOk result (self.new ≡ part_met level most v self.old) }
     {
         let count = self.watched.count(v);
         if count == most {
@@ -248,7 +248,7 @@ impl Range {
 
     /// Forgets the phase.
     pub fn forget(&mut self, alloc: Global)
-        ensures { self.new ≡ record self.old { began = []; risen = []; queue = replicate (length self.old.queue) []; meetings = replicate (length self.old.meetings) [] } }
+        ensures { self.new ≡ forgotten self.old }
     {
         self.began.clear();
         self.risen.clear();

@@ -1,10 +1,10 @@
 //! All ranges of a graph, and the passes over them: by threads where there is much to do.
 
-ghost use Rattle.std.specs.Prelude.{◌≡◌, ◌+◌, ◌-◌, ◌*◌, ◌++◌, ◌∷◌, ◌<◌, ◌≤◌, ◌^◌, ℕ, [], false, true, All, IfOk, OnOk, length, replicate, slice_index_or, slice_set, sum_by};
+ghost use Rattle.std.specs.Prelude.{◌≡◌, ◌+◌, ◌-◌, ◌*◌, ◌++◌, ◌<◌, ◌≤◌, ◌^◌, ℕ, [], false, true, All, IfOk, OnOk, length, slice_index_or, sum_by};
 ghost use Rattle.std.specs.List.{flat_map};
 ghost use Rattle.kc_graph.specs.Numbers.{has_number};
-ghost use Rattle.kc_insert.specs.private.Ranges.{all_begun, all_stay, AllLetStay, AreNew, AreToldAll, CanLetStay, CanLiftOff, CanLookAnew, count_of, Forgot, LiftedOff, LookedAnew, LooksAnew, TookWaiting};
-ghost use Rattle.kc_insert.specs.Ranges.{all_began, all_risen, IsHeld, IsIn, meets, part_of, range_of, waits};
+ghost use Rattle.kc_insert.specs.private.Ranges.{all_begun, all_stay, AllLetStay, AreNew, AreToldAll, CanLetStay, CanLiftOff, CanLookAnew, count_of, Forgot, forgotten, HaveNoSteps, LiftedOff, LookedAnew, LooksAnew, TookWaiting, with_count};
+ghost use Rattle.kc_insert.specs.Ranges.{all_began, all_risen, IsHeld, IsIn, meets, waits};
 ghost use Rattle.kc_insert.specs.private.Rising.{seen};
 ghost use Rattle.kc_insert.specs.private.Sharing.{AllParted, AllRisen, CanPartAll, CanRiseAll};
 
@@ -12,7 +12,7 @@ use crate::layout::Layout;
 use crate::passes::Step;
 use crate::range::Range;
 use crate::rising::RisingLevels;
-use crate::sharing::{part_all, rise_all};
+use crate::sharing::{check, collect, hear_more, part_all, rise_each};
 use crate::telling::Told;
 use kc_rounds::{Gate, Rounds};
 use std::alloc::{AllocError, Global};
@@ -55,7 +55,7 @@ fn steps_of(items: &mut [Range]) -> usize
 
 // Each range forgets the phase.
 fn forget_each(alloc: Global, items: &mut [Range])
-    ensures { (j : ℕ) (d : _) → j < length items.old → slice_index_or items.new j d ≡ record (slice_index_or items.old j d) { began = []; risen = []; queue = replicate (length (slice_index_or items.old j d).queue) []; meetings = replicate (length (slice_index_or items.old j d).meetings) [] } }
+    ensures { (j : ℕ) (d : _) → j < length items.old → slice_index_or items.new j d ≡ forgotten (slice_index_or items.old j d) }
 {
     for i in 0..items.len() {
         let range = &mut items[i];
@@ -194,8 +194,7 @@ impl Ranges {
     /// v counts `count`.
     pub fn set(&mut self, v: u32, count: u32)
         requires { IsIn self.old v }
-        ensures { let part = part_of self.old v in
-            self.new ≡ record self.old { parts = slice_set self.old.parts (range_of self.old.bits v) (record part { watch = record part.watch { counts = slice_set part.watch.counts (v - part.watch.first) count } }) } }
+        ensures { self.new ≡ with_count self.old v count }
     {
         let range = &mut self.items[self.layout.range_of(v)];
         range.watched.set(v, count);
@@ -363,42 +362,31 @@ impl Ranges {
         if count == 0 {
             return Ok(());
         }
-        let threads = self.layout.threads(count, rounds.workers());
-        part_all(
-            rounds.runtime(),
-            threads,
-            step,
-            &mut self.told,
-            &mut self.items,
-        )?;
+        part_all(rounds.runtime(), step, &mut self.told, &mut self.items)?;
         Ok(())
     }
 
-    /// The vertices that begin, and those that came up, `count` in all, meet the neighbours that stood on the next
-    /// level. Fails only if memory runs out.
+    /// The vertices that begin, and those that came up, meet the neighbours that stood on the next level. Fails only if
+    /// memory runs out.
     pub fn rise<R: Threads + Sync, G: Gate + Sync>(
         &mut self,
         rounds: &Rounds<R, G>,
         alloc: Global,
         step: &Step<'_>,
         most: u32,
-        count: usize,
     ) -> Result<(), AllocError>
         requires { CanRiseAll step.now self.old.parts self.old.told }
         ensures risen { OnOk result (AllRisen step.now most self.old.parts self.new.parts) }
         ensures told { OnOk result (AreToldAll (length self.old.parts) self.new.told) }
         ensures same { self.new.bits ≡ self.old.bits }
     {
-        let threads = self.layout.threads(count, rounds.workers());
-        rise_all(
-            rounds.runtime(),
-            alloc,
-            threads,
-            step,
-            most,
-            &mut self.told,
-            &mut self.items,
-        )?;
+        let rt = rounds.runtime();
+        let items = self.items.as_mut_slice();
+        let told = self.told.as_mut_slice();
+        rise_each(rt, alloc, step, items);
+        check(items)?;
+        collect(items, told);
+        hear_more(rt, step, most, told, items)?;
         Ok(())
     }
 
@@ -406,7 +394,7 @@ impl Ranges {
     pub fn take_steps(&mut self) -> usize
         requires { sum_by (λ p. p.steps) self.old.parts < 2 ^ 64 }
         ensures steps { result ≡ sum_by (λ p. p.steps) self.old.parts }
-        ensures rest { (length self.new.parts ≡ length self.old.parts) × ((j : ℕ) (d : _) → j < length self.old.parts → slice_index_or self.new.parts j d ≡ record (slice_index_or self.old.parts j d) { steps = 0 }) }
+        ensures rest { HaveNoSteps self.old.parts self.new.parts }
         ensures same { (self.new.bits ≡ self.old.bits) × (self.new.told ≡ self.old.told) }
     {
         steps_of(&mut self.items)

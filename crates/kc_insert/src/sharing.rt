@@ -2,7 +2,8 @@
 
 ghost use Rattle.std.specs.Prelude.{◌≡◌, ◌+◌, ◌<◌, ℕ, false, All, OnOk, length, slice_index_or};
 ghost use Rattle.kc_insert.specs.private.Parts.{CanHearLess, CanHearMore, CanPart, CanRise, HasHeardLess, HasParted, HasRisen, HaveMet};
-ghost use Rattle.kc_insert.specs.private.Sharing.{AllParted, AllRisen, AreFew, AreTold, CanLessen, CanMeet, CanPartAll, CanRiseAll, HearLess, HearMore, told_all};
+ghost use Rattle.kc_insert.specs.private.Ranges.{EachCan, EachDid};
+ghost use Rattle.kc_insert.specs.private.Sharing.{AllParted, AreFew, AreTold, CanLessen, CanMeet, CanPartAll, HearLess, HearMore, told_all};
 ghost use Rattle.kc_insert.specs.private.Telling.{heard_by};
 
 use crate::layout::Layout;
@@ -26,15 +27,14 @@ pub fn check(items: &[Range]) -> Result<(), AllocError>
 }
 
 /// In each range the vertices that stay tell it to their neighbours that rise on.
-pub fn part_each<R: Threads + Sync>(rt: &R, threads: usize, step: &Step<'_>, items: &mut [Range])
-    requires threads { 0 < threads }
-    requires ready { (i : ℕ) (d : _) → i < length items.old → CanPart step.now (slice_index_or items.old i d) }
-    ensures { (i : ℕ) (d : _) → i < length items.old → (slice_index_or items.new i d).is_short ≡ false → HasParted step.now (slice_index_or items.old i d) (slice_index_or items.new i d) }
+pub fn part_each<R: Threads + Sync>(rt: &R, step: &Step<'_>, items: &mut [Range])
+    requires { EachCan (λ _. CanPart step.now) items.old }
+    ensures { EachDid (λ _. HasParted step.now) items.old items.new }
 {
     thread::for_each_mut(
         rt,
         items,
-        threads,
+        step.threads,
         &|_: usize, range: &mut Range|
             requires { CanPart step.now range.old }
             ensures { range.new.is_short ≡ false → HasParted step.entry.now range.old range.new }
@@ -43,21 +43,14 @@ pub fn part_each<R: Threads + Sync>(rt: &R, threads: usize, step: &Step<'_>, ite
 }
 
 /// In each range vertices go on or begin, and tell it to the neighbours that stood on the next level.
-pub fn rise_each<R: Threads + Sync>(
-    rt: &R,
-    alloc: Global,
-    threads: usize,
-    step: &Step<'_>,
-    items: &mut [Range],
-)
-    requires threads { 0 < threads }
-    requires ready { (i : ℕ) (d : _) → i < length items.old → CanRise step.now (slice_index_or items.old i d) }
-    ensures { (i : ℕ) (d : _) → i < length items.old → (slice_index_or items.new i d).is_short ≡ false → HasRisen step.now (slice_index_or items.old i d) (slice_index_or items.new i d) }
+pub fn rise_each<R: Threads + Sync>(rt: &R, alloc: Global, step: &Step<'_>, items: &mut [Range])
+    requires { EachCan (λ _. CanRise step.now) items.old }
+    ensures { EachDid (λ _. HasRisen step.now) items.old items.new }
 {
     thread::for_each_mut(
         rt,
         items,
-        threads,
+        step.threads,
         &|_: usize, range: &mut Range|
             requires { CanRise step.now range.old }
             ensures { range.new.is_short ≡ false → HasRisen step.entry.now range.old range.new }
@@ -66,15 +59,19 @@ pub fn rise_each<R: Threads + Sync>(
 }
 
 /// Each range hears its lists: the vertices on them count one less.
-pub fn hear_less_each<R: Threads + Sync>(rt: &R, threads: usize, told: &[Told], items: &mut [Range])
-    requires threads { 0 < threads }
-    requires ready { (i : ℕ) (d : _) → i < length items.old → CanHearLess told.now i (slice_index_or items.old i d) }
-    ensures { (i : ℕ) (d : _) → i < length items.old → (slice_index_or items.new i d).is_short ≡ false → HasHeardLess (heard_by i told.now) (slice_index_or items.old i d) (slice_index_or items.new i d) }
+pub fn hear_less_each<R: Threads + Sync>(
+    rt: &R,
+    step: &Step<'_>,
+    told: &[Told],
+    items: &mut [Range],
+)
+    requires { EachCan (CanHearLess told.now) items.old }
+    ensures { EachDid (λ own. HasHeardLess (heard_by own told.now)) items.old items.new }
 {
     thread::for_each_mut(
         rt,
         items,
-        threads,
+        step.threads,
         &|own: usize, range: &mut Range|
             requires { CanHearLess told.now own range.old }
             ensures { range.new.is_short ≡ false → HasHeardLess (heard_by own told.entry.now) range.old range.new }
@@ -82,24 +79,23 @@ pub fn hear_less_each<R: Threads + Sync>(rt: &R, threads: usize, told: &[Told], 
     );
 }
 
-/// Each range hears its lists: the vertices on them, all on the level, count one more. They wait there if they then
-/// count more than `most`.
+/// Each range hears its lists: the vertices on them, all on the next level, count one more. They wait there if they
+/// then count more than `most`.
 pub fn hear_more_each<R: Threads + Sync>(
     rt: &R,
-    threads: usize,
-    told: &[Told],
-    level: u16,
+    step: &Step<'_>,
     most: u32,
+    told: &[Told],
     items: &mut [Range],
 )
-    requires threads { 0 < threads }
-    requires ready { (i : ℕ) (d : _) → i < length items.old → CanHearMore told.now i level (slice_index_or items.old i d) }
-    ensures { (i : ℕ) (d : _) → i < length items.old → (slice_index_or items.new i d).is_short ≡ false → HaveMet level most (heard_by i told.now) (slice_index_or items.old i d) (slice_index_or items.new i d) }
+    requires { EachCan (λ own. CanHearMore told.now own (step.now.level + 1)) items.old }
+    ensures { EachDid (λ own. HaveMet (step.now.level + 1) most (heard_by own told.now)) items.old items.new }
 {
+    let level = step.level + 1;
     thread::for_each_mut(
         rt,
         items,
-        threads,
+        step.threads,
         &|own: usize, range: &mut Range|
             requires { CanHearMore told.now own level range.old }
             ensures { range.new.is_short ≡ false → HaveMet level most (heard_by own told.entry.now) range.old range.new }
@@ -154,19 +150,17 @@ pub fn hear_more_all(
 /// caller hears one list after another. Fails only if memory runs out.
 pub fn hear_less<R: Threads + Sync>(
     rt: &R,
-    threads: usize,
-    layout: Layout,
-    is_dealt: bool,
+    step: &Step<'_>,
     told: &[Told],
     items: &mut [Range],
 ) -> Result<(), AllocError>
-    requires threads { 0 < threads }
-    requires lists { AreTold layout.bits is_dealt (length items.old) told.now }
-    requires ready { CanLessen layout.bits (told_all told.now) items.old }
-    ensures { OnOk result (HearLess layout.bits (told_all told.now) items.old items.new) }
+    requires lists { AreTold step.now.bits step.now.is_dealt (length items.old) told.now }
+    requires ready { CanLessen step.now.bits (told_all told.now) items.old }
+    ensures { OnOk result (HearLess step.now.bits (told_all told.now) items.old items.new) }
 {
-    if is_dealt {
-        hear_less_each(rt, threads, told, items);
+    let layout = step.layout;
+    if step.is_dealt {
+        hear_less_each(rt, step, told, items);
         check(items)?;
         return Ok(());
     }
@@ -180,13 +174,11 @@ pub fn hear_less<R: Threads + Sync>(
 /// more than `most`. The lists are heard as in `hear_less`. Fails only if memory runs out.
 pub fn hear_more<R: Threads + Sync>(
     rt: &R,
-    threads: usize,
     step: &Step<'_>,
     most: u32,
     told: &[Told],
     items: &mut [Range],
 ) -> Result<(), AllocError>
-    requires threads { 0 < threads }
     requires lists { AreTold step.now.bits step.now.is_dealt (length items.old) told.now }
     requires ready { CanMeet step.now.bits (step.now.level + 1) (told_all told.now) items.old }
     requires few { AreFew items.old }
@@ -195,7 +187,7 @@ pub fn hear_more<R: Threads + Sync>(
     let layout = step.layout;
     let next = step.level + 1;
     if step.is_dealt {
-        hear_more_each(rt, threads, told, next, most, items);
+        hear_more_each(rt, step, most, told, items);
         check(items)?;
         return Ok(());
     }
@@ -208,41 +200,17 @@ pub fn hear_more<R: Threads + Sync>(
 /// In all ranges the vertices that stay are counted no more by those that rise on. Fails only if memory runs out.
 pub fn part_all<R: Threads + Sync>(
     rt: &R,
-    threads: usize,
     step: &Step<'_>,
     told: &mut [Told],
     items: &mut [Range],
 ) -> Result<(), AllocError>
-    requires threads { 0 < threads }
-    requires ready { CanPartAll step.now items.old told.old }
+    requires { CanPartAll step.now items.old told.old }
     ensures parted { OnOk result (AllParted step.now items.old items.new) }
     ensures told { OnOk result (All (λ t. length t.lists ≡ length items.old) told.new) }
 {
-    part_each(rt, threads, step, items);
+    part_each(rt, step, items);
     check(items)?;
     collect(items, told);
-    hear_less(rt, threads, step.layout, step.is_dealt, told, items)?;
-    Ok(())
-}
-
-/// In all ranges vertices go on or begin, and those on the next level hear of them. Fails only if memory runs out.
-pub fn rise_all<R: Threads + Sync>(
-    rt: &R,
-    alloc: Global,
-    threads: usize,
-    step: &Step<'_>,
-    most: u32,
-    told: &mut [Told],
-    items: &mut [Range],
-) -> Result<(), AllocError>
-    requires threads { 0 < threads }
-    requires ready { CanRiseAll step.now items.old told.old }
-    ensures risen { OnOk result (AllRisen step.now most items.old items.new) }
-    ensures told { OnOk result (All (λ t. length t.lists ≡ length items.old) told.new) }
-{
-    rise_each(rt, alloc, threads, step, items);
-    check(items)?;
-    collect(items, told);
-    hear_more(rt, threads, step, most, told, items)?;
+    hear_less(rt, step, told, items)?;
     Ok(())
 }

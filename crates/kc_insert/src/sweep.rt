@@ -1,16 +1,15 @@
 //! How far a sweep over the levels has come.
 
-ghost use Rattle.std.specs.Prelude.{◌≡◌, ◌<◌, ◌≤◌, ◌&&◌, ℕ, List, [], true, not, All, OnOk, length, slice_index_or};
+ghost use Rattle.std.specs.Prelude.{◌≡◌, ◌<◌, ◌≤◌, ◌&&◌, ℕ, true, not, All, OnOk, length, slice_index_or};
 ghost use Rattle.std.specs.List.{flat_map};
 ghost use Rattle.kc_graph.specs.Numbers.{has_number};
-ghost use Rattle.kc_graph.specs.Shape.{GraphShape};
-ghost use Rattle.kc_levels.specs.declared.profile.Profile.{Profile};
 ghost use Rattle.kc_levels.specs.Thresholds.{group_of, high, top_level};
-ghost use Rattle.kc_insert.specs.private.LevelStep.{AreInOrder};
+ghost use Rattle.kc_insert.specs.declared.scaled.Scaled.{Scaled};
+ghost use Rattle.kc_insert.specs.private.LevelStep.{StaysRunning};
 ghost use Rattle.kc_insert.specs.private.Ranges.{CanLookAnew, LookedAnew};
 ghost use Rattle.kc_insert.specs.Ranges.{all_began, meets, waits};
 ghost use Rattle.kc_insert.specs.private.Rising.{rises, seen};
-ghost use Rattle.kc_insert.specs.private.Sweeping.{IsFree, IsPaid, IsSweeping, sweeping_of};
+ghost use Rattle.kc_insert.specs.private.Sweeping.{IsFree};
 
 use crate::range::Range;
 use crate::ranges::Ranges;
@@ -143,9 +142,7 @@ impl Sweep {
         ensures ranges { self.new.ranges ≡ self.old.ranges }
         ensures from { self.old.levels.level ≤ self.new.levels.level }
         ensures within { (n : ℕ) → 0 < length self.old.ranges.parts → All (λ p. length p.queue ≡ n) self.old.ranges.parts → self.old.levels.level ≤ n → self.new.levels.level ≤ n }
-        ensures order { (p : Profile) (g : GraphShape) → AreInOrder p g self.old.levels self.old.ranges → AreInOrder p g self.new.levels self.new.ranges }
-        ensures sweeping { (p : Profile) (g : GraphShape) (x : List ℕ) → AreInOrder p g self.old.levels self.old.ranges → IsSweeping p g x (sweeping_of self.old.levels self.old.ranges) → IsSweeping p g x (sweeping_of self.new.levels self.new.ranges) }
-        ensures paid { (p : Profile) (g : GraphShape) (x : List ℕ) (first now : ℕ) → AreInOrder p g self.old.levels self.old.ranges → IsPaid g x (sweeping_of self.old.levels self.old.ranges) first now → IsPaid g x (sweeping_of self.new.levels self.new.ranges) first now }
+        ensures running { (s : Scaled) (now : ℕ) → StaysRunning s now now self.old self.new }
     {
         if !self.ranges.has_begun() {
             let next = self.ranges.next_waiting(self.levels.level);

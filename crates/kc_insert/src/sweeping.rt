@@ -1,28 +1,20 @@
 //! One sweep over the levels, from the lowest up. At each level, every vertex with more neighbours at or above it than
 //! its group allows rises.
 
-ghost use Rattle.std.specs.Prelude.{◌≡◌, ◌+◌, ◌<◌, ◌≤◌, ℕ, false, List, All, IfOk, OnOk, filter, length};
+ghost use Rattle.std.specs.Prelude.{◌≡◌, ◌+◌, ◌<◌, ◌≤◌, ℕ, false, All, IfOk, OnOk, filter, length};
 ghost use Rattle.std.specs.Bool.{OnTrue};
-ghost use Rattle.kc_graph.specs.Numbers.{has_number};
-ghost use Rattle.kc_graph.specs.Shape.{GraphShape, IsGraph};
-ghost use Rattle.kc_levels.specs.Following.{AreDistinct};
-ghost use Rattle.kc_levels.specs.LevelList.{IsCapped, IsRaised};
-ghost use Rattle.kc_levels.specs.Moved.{is_moved};
-ghost use Rattle.kc_levels.specs.Thresholds.{group_of, high, top_level};
-ghost use Rattle.kc_adj.specs.Degrees.{degrees};
-ghost use Rattle.kc_insert.specs.Effort.{effort};
-ghost use Rattle.kc_insert.specs.private.LevelStep.{AreInOrder, HasLimit, IsLevelStep, IsRunning, IsUnderWay};
-ghost use Rattle.kc_insert.specs.Ranges.{all_risen, AreQuiet, IsIn, waits};
+ghost use Rattle.kc_levels.specs.Thresholds.{group_of, top_level};
+ghost use Rattle.kc_insert.specs.private.LevelStep.{HasLimit, HasSwept, IsUnderWay, most_at, StaysRunning, StepsUp, top_of};
+ghost use Rattle.kc_insert.specs.Ranges.{IsIn};
 ghost use Rattle.kc_insert.specs.private.Ranges.{count_of};
-ghost use Rattle.kc_insert.specs.private.Rising.{seen};
 ghost use Rattle.kc_insert.specs.private.Round.{is_over};
-ghost use Rattle.kc_insert.specs.private.Sweeping.{AreCounted, IsQueued};
+ghost use Rattle.kc_insert.specs.private.Sweeping.{CanSweep};
 
 use crate::passes::Step;
 use crate::ranges::Ranges;
+use crate::scaled::Scaled;
 use crate::sweep::{Over, Sweep};
 use kc_adj::Steps;
-use kc_graph::Graph;
 use kc_levels::Thresholds;
 use kc_rounds::{FirstRound, Gate, Rounds};
 use std::alloc::{AllocError, Global};
@@ -32,7 +24,7 @@ use std::thread::Threads;
 // The first level after this one that is of another group, or the limit where it comes first.
 fn end_of_group(th: &Thresholds, level: u16, limit: u16) -> u16
     requires order { level < limit }
-    requires capped { limit ≤ top_level th.now.profile th.now.vertices }
+    requires inside { limit ≤ top_level th.now.profile th.now.vertices }
     ensures over { level < result }
     ensures within { result ≤ limit }
     ensures same { (k : ℕ) → level ≤ k → k < result → group_of th.now.profile th.now.vertices k ≡ group_of th.now.profile th.now.vertices level }
@@ -57,21 +49,22 @@ fn end_of_group(th: &Thresholds, level: u16, limit: u16) -> u16
 //
 // Rising vertices count each other on each of the levels, and all other neighbours that they count are above. So no
 // count changes, and in a group each of them goes on where all went on before.
-fn rise_together(th: &Thresholds, sweep: &mut Sweep) -> bool
-    requires room { sweep.old.levels.level < top_level th.now.profile th.now.vertices }
+fn rise_together(scaled: Scaled<'_>, sweep: &mut Sweep) -> bool
+    requires room { sweep.old.levels.level < top_of scaled }
     requires waiting { All (λ p. sweep.old.levels.level ≤ length p.queue) sweep.old.ranges.parts }
     requires met { All (λ p. sweep.old.levels.level ≤ length p.meetings) sweep.old.ranges.parts }
     ensures stays { result ≡ false → sweep.new ≡ sweep.old }
     ensures goes { OnTrue result (sweep.old.levels.level < sweep.new.levels.level) }
-    ensures inside { sweep.new.levels.level < top_level th.now.profile th.now.vertices }
-    ensures running { (g : GraphShape) (x : List ℕ) (first now : ℕ) → th.now.vertices ≡ g.vertices → IsGraph g → HasLimit (high th.now.profile (group_of th.now.profile th.now.vertices sweep.old.levels.level)) sweep.old.ranges → IsRunning th.now.profile g x first now sweep.old.levels sweep.old.ranges → IsRunning th.now.profile g x first now sweep.new.levels sweep.new.ranges }
+    ensures inside { sweep.new.levels.level < top_of scaled.entry }
+    ensures running { HasLimit (most_at scaled.entry sweep.old) sweep.old.ranges → (now : ℕ) → StaysRunning scaled.entry now now sweep.old sweep.new }
 {
-    let limit = sweep.free_level(th);
+    let _n = scaled.graph.vertices();
+    let limit = sweep.free_level(scaled.th);
     let level = sweep.levels.level;
     if limit == level || sweep.ranges.has_doubt() {
         return false;
     }
-    sweep.levels.go_to(end_of_group(th, level, limit));
+    sweep.levels.go_to(end_of_group(scaled.th, level, limit));
     true
 }
 
@@ -93,20 +86,19 @@ fn movers<R: Threads + Sync, G: Gate + Sync>(
 fn raise_level<R: Threads + Sync, G: Gate + Sync, L: Ledger>(
     rounds: &Rounds<R, G>,
     alloc: Global,
-    th: &Thresholds,
-    graph: &Graph,
+    scaled: Scaled<'_>,
     sweep: &mut Sweep,
     steps: &mut Steps<L>,
 ) -> Result<(), AllocError>
-    requires scale { th.now.vertices ≡ graph.now.vertices }
-    requires room { sweep.old.levels.level < top_level th.now.profile th.now.vertices }
-    requires limit { HasLimit (high th.now.profile (group_of th.now.profile th.now.vertices sweep.old.levels.level)) sweep.old.ranges }
-    requires running { IsUnderWay th.now.profile graph.now sweep.old.levels sweep.old.ranges }
+    requires room { sweep.old.levels.level < top_of scaled }
+    requires limit { HasLimit (most_at scaled sweep.old) sweep.old.ranges }
+    requires running { IsUnderWay scaled.th.now.profile scaled.graph.now sweep.old.levels sweep.old.ranges }
     ensures level { OnOk result (sweep.new.levels.level ≡ sweep.old.levels.level + 1) }
-    ensures step { let most = high th.now.profile (group_of th.now.profile th.now.vertices sweep.old.levels.level) in
-        OnOk result (IsLevelStep graph.now (seen sweep.old.levels) (seen sweep.new.levels) (count_of sweep.old.ranges) (count_of sweep.new.ranges) sweep.old.levels.level most) }
-    ensures running { OnOk result ((x : List ℕ) (first : ℕ) → IsRunning th.now.profile graph.now x first steps.old sweep.old.levels sweep.old.ranges → IsRunning th.now.profile graph.now x first steps.new sweep.new.levels sweep.new.ranges) }
+    ensures step { OnOk result (StepsUp scaled.entry sweep.old sweep.new) }
+    ensures running { OnOk result (StaysRunning scaled.entry steps.old steps.new sweep.old sweep.new) }
 {
+    let graph = scaled.graph;
+    let th = scaled.th;
     let _n = graph.vertices();
     let _top = th.top();
     let level = sweep.levels.level;
@@ -124,6 +116,7 @@ fn raise_level<R: Threads + Sync, G: Gate + Sync, L: Ledger>(
         layout,
         level,
         is_dealt,
+        threads: layout.threads(staying, rounds.workers()),
     };
     sweep.ranges.part(rounds, &parting, staying)?;
     sweep.levels.go_to(level + 1);
@@ -137,8 +130,9 @@ fn raise_level<R: Threads + Sync, G: Gate + Sync, L: Ledger>(
         layout,
         level,
         is_dealt: is_dealt_up,
+        threads: layout.threads(work, rounds.workers()),
     };
-    sweep.ranges.rise(rounds, alloc, &rising, above, work)?;
+    sweep.ranges.rise(rounds, alloc, &rising, above)?;
     steps.add(sweep.ranges.take_steps());
     Ok(())
 }
@@ -148,24 +142,21 @@ fn raise_level<R: Threads + Sync, G: Gate + Sync, L: Ledger>(
 fn rise_on<R: Threads + Sync, G: Gate + Sync, L: Ledger>(
     rounds: &Rounds<R, G>,
     alloc: Global,
-    th: &Thresholds,
-    graph: &Graph,
+    scaled: Scaled<'_>,
     sweep: &mut Sweep,
     steps: &mut Steps<L>,
 ) -> Result<(), AllocError>
-    requires scale { th.now.vertices ≡ graph.now.vertices }
-    requires room { sweep.old.levels.level < top_level th.now.profile th.now.vertices }
-    requires running { IsUnderWay th.now.profile graph.now sweep.old.levels sweep.old.ranges }
+    requires room { sweep.old.levels.level < top_of scaled }
+    requires running { IsUnderWay scaled.th.now.profile scaled.graph.now sweep.old.levels sweep.old.ranges }
     ensures level { OnOk result (sweep.old.levels.level < sweep.new.levels.level) }
-    ensures within { OnOk result (sweep.new.levels.level ≤ top_level th.now.profile th.now.vertices) }
-    ensures running { OnOk result ((x : List ℕ) (first : ℕ) → IsRunning th.now.profile graph.now x first steps.old sweep.old.levels sweep.old.ranges → IsRunning th.now.profile graph.now x first steps.new sweep.new.levels sweep.new.ranges) }
+    ensures within { OnOk result (sweep.new.levels.level ≤ top_of scaled.entry) }
+    ensures running { OnOk result (StaysRunning scaled.entry steps.old steps.new sweep.old sweep.new) }
 {
-    let _n = graph.vertices();
-    sweep.look_anew(th)?;
-    if rise_together(th, sweep) {
+    sweep.look_anew(scaled.th)?;
+    if rise_together(scaled, sweep) {
         return Ok(());
     }
-    raise_level(rounds, alloc, th, graph, sweep, steps)?;
+    raise_level(rounds, alloc, scaled, sweep, steps)?;
     Ok(())
 }
 
@@ -177,31 +168,19 @@ fn rise_on<R: Threads + Sync, G: Gate + Sync, L: Ledger>(
 pub fn raise_queued<R: Threads + Sync, G: Gate + Sync, L: Ledger>(
     rounds: &Rounds<R, G>,
     alloc: Global,
-    th: &Thresholds,
-    graph: &Graph,
+    scaled: Scaled<'_>,
     sweep: &mut Sweep,
     steps: &mut Steps<L>,
 ) -> Result<(), AllocError>
-    requires scale { th.now.vertices ≡ graph.now.vertices }
-    requires quiet { AreQuiet th.now.profile graph.now sweep.old.ranges }
-    requires sized { length sweep.old.levels.stored ≡ graph.now.vertices }
-    requires capped { IsCapped th.now.profile graph.now.vertices sweep.old.levels.stored }
-    requires counted { AreCounted graph.now sweep.old.levels.stored (count_of sweep.old.ranges) }
-    requires queued { IsQueued th.now.profile graph.now sweep.old.levels.stored (waits sweep.old.ranges) }
-    ensures raised { OnOk result (IsRaised th.now.profile graph.now sweep.old.levels.stored sweep.new.levels.stored) }
-    ensures counted { OnOk result (AreCounted graph.now sweep.new.levels.stored (count_of sweep.new.ranges)) }
-    ensures risen { OnOk result ((v : ℕ) → has_number v (all_risen sweep.new.ranges) ≡ is_moved sweep.old.levels.stored sweep.new.levels.stored v) }
-    ensures once { OnOk result (AreDistinct (all_risen sweep.new.ranges)) }
-    ensures order { OnOk result (AreInOrder th.now.profile graph.now sweep.new.levels sweep.new.ranges) }
-    ensures cost { let later = degrees graph.now (all_risen sweep.new.ranges) + length (all_risen sweep.new.ranges) in
-        OnOk result (steps.new + later ≤ steps.old + effort graph.now sweep.old.levels.stored sweep.new.levels.stored graph.now.vertices) }
+    requires { CanSweep scaled.th.now.profile scaled.graph.now sweep.old.levels.stored sweep.old.ranges }
+    ensures { OnOk result (HasSwept scaled.entry sweep.old.levels.stored steps.old steps.new sweep.new) }
 {
-    let _n = graph.vertices();
-    let top = th.top();
+    let _n = scaled.graph.vertices();
+    let top = scaled.th.top();
     sweep.levels.go_to(0);
     sweep.go_on();
     while sweep.levels.level < top {
-        rise_on(rounds, alloc, th, graph, sweep, steps)?;
+        rise_on(rounds, alloc, scaled, sweep, steps)?;
         sweep.go_on();
     }
     sweep.settle_all();

@@ -1,18 +1,17 @@
 //! The workspace that insertion phases share, one after another.
 
-ghost use Rattle.std.specs.Prelude.{◌≡◌, ◌+◌, ◌<◌, ◌≤◌, ◌^◌, ℕ, [], All, IfOk, OnOk, length, replicate, slice_index_or};
-ghost use Rattle.kc_graph.specs.Numbers.{has_number};
+ghost use Rattle.std.specs.Prelude.{◌≡◌, ◌+◌, ◌<◌, ℕ, All, IfOk, OnOk, length};
 ghost use Rattle.kc_graph.specs.Shape.{without_edges};
 ghost use Rattle.kc_levels.specs.declared.profile.Profile.{Profile};
-ghost use Rattle.kc_levels.specs.Following.{AreDistinct};
 ghost use Rattle.kc_levels.specs.LevelList.{IsBelow};
-ghost use Rattle.kc_levels.specs.Moved.{is_moved, moves_between};
-ghost use Rattle.kc_adj.specs.Degrees.{degrees};
+ghost use Rattle.kc_levels.specs.Moved.{moves_between};
 ghost use Rattle.kc_adj.specs.LeveledGraph.{LeveledGraph};
 ghost use Rattle.kc_insert.specs.private.Ranges.{Forgot};
-ghost use Rattle.kc_insert.specs.Ranges.{all_risen, IsIn};
+ghost use Rattle.kc_insert.specs.Ranges.{IsIn};
+ghost use Rattle.kc_insert.specs.private.Sweeping.{HaveMoved, lift_cost};
 ghost use Rattle.kc_insert.specs.Working.{IsReady};
 
+use crate::counted::Counted;
 use crate::filing::{copy_ends, copy_rows};
 use crate::layout::Layout;
 use crate::ranges::Ranges;
@@ -94,10 +93,13 @@ impl InsertionWork {
         ensures { (p : Profile) (a : LeveledGraph) → IsReady p a self.old → length a.levels ≡ a.graph.vertices → adj.now.graph ≡ without_edges a.graph removed.now → moves.now ≡ moves_between a.graph.vertices a.levels adj.now.levels → IsReady p adj.now self.new }
     {
         let _levels = adj.levels();
-        let fresh = adj.own_counts();
+        let fresh = Counted {
+            graph: adj.graph(),
+            counts: adj.own_counts(),
+        };
         self.sweep.levels.stored.follow(moves);
-        copy_ends(&mut self.sweep.ranges, fresh, removed);
-        copy_rows(&mut self.sweep.ranges, fresh, adj.graph(), moves.as_slice());
+        copy_ends(&mut self.sweep.ranges, fresh.counts, removed);
+        copy_rows(&mut self.sweep.ranges, fresh, moves.as_slice());
     }
 }
 
@@ -112,13 +114,12 @@ pub fn take_moves<R: Threads + Sync, G: Gate + Sync, L: Ledger>(
 ) -> Result<Moves, AllocError>
     requires sized { length sweep.old.levels.stored ≡ adj.old.graph.vertices }
     requires above { IsBelow adj.old.graph.vertices adj.old.levels sweep.old.levels.stored }
-    requires risen { (v : ℕ) → has_number v (all_risen sweep.old.ranges) ≡ is_moved adj.old.levels sweep.old.levels.stored v }
-    requires once { AreDistinct (all_risen sweep.old.ranges) }
+    requires moved { HaveMoved adj.old.levels sweep.old.levels.stored sweep.old.ranges }
     ensures moves { IfOk result (λ moves. moves ≡ moves_between adj.old.graph.vertices adj.old.levels sweep.old.levels.stored) }
     ensures lifted { OnOk result (adj.new ≡ record adj.old { levels = sweep.old.levels.stored }) }
     ensures levels { OnOk result (sweep.new.levels ≡ sweep.old.levels) }
     ensures forgot { OnOk result (Forgot sweep.old.ranges sweep.new.ranges) }
-    ensures cost { OnOk result (steps.new ≡ steps.old + (degrees adj.old.graph (all_risen sweep.old.ranges) + length (all_risen sweep.old.ranges))) }
+    ensures cost { OnOk result (steps.new ≡ steps.old + lift_cost adj.old.graph sweep.old.ranges) }
 {
     let _levels = adj.levels();
     let new = &sweep.levels.stored;

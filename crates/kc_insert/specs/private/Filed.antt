@@ -1,10 +1,13 @@
 -- Which vertices wait when a sweep begins.
-use Rattle.std.specs.Prelude.{ℕ, ◌+◌, ◌-◌, ◌≤◌, ◌<◌, ◌≡◌, ◌≢◌, ◌==◌, ◌&&◌, ◌⊎◌, ◌++◌, ◌∷◌, ◌^◌, not, nat_lt, cond, true, List, [], length, get_or, set}
+use Rattle.std.specs.Prelude.{All, ℕ, ◌+◌, ◌-◌, ◌≤◌, ◌<◌, ◌≡◌, ◌≢◌, ◌==◌, ◌&&◌, ◌⊎◌, ◌++◌, ◌∷◌, ◌^◌, not, nat_lt, cond, true, false, List, [], length, get_or, set}
 use Rattle.kc_graph.specs.Numbers.{has_number}
+use Rattle.kc_graph.specs.Shape.{neighbours_of}
+use Rattle.kc_levels.specs.declared.moves.Move.{Move}
 use Rattle.kc_levels.specs.declared.profile.Profile.{Profile}
 use Rattle.kc_levels.specs.Thresholds.{high, group_of, top_level}
 use Rattle.kc_levels.specs.LevelList.{IsCapped}
 use Rattle.kc_levels.specs.private.Following.{IsCopied}
+use Rattle.kc_insert.specs.declared.counted.Counted.{Counted}
 use Rattle.kc_insert.specs.Ranges.{counts_of, Cut, IsCut, IsHeld, Part, waits, Watch}
 use Rattle.kc_insert.specs.private.Ranges.{IsSameCut}
 use Rattle.kc_insert.specs.private.Watched.{count_at}
@@ -13,6 +16,13 @@ use Rattle.kc_insert.specs.private.Watched.{count_at}
 pub record HasFollowed (p : Profile) (n : ℕ) (y : List ℕ) (v own : ℕ) (old new : Watch) (first queue : List (List ℕ)) : Type 0 where
   pub counts : new ≡ record old { counts = set old.counts (v - old.first) own }
   pub waits : queue ≡ cond (not (count_at old v == own) && nat_lt (high p (group_of p n (get_or y v 0))) own) (set first (get_or y v 0) (get_or first (get_or y v 0) [] ++ v ∷ [])) first
+
+-- v is a vertex of the range, on a level that there is and that has a list of waiting vertices
+pub record CanFollowOne (p : Profile) (n : ℕ) (y fresh : List ℕ) (v : ℕ) (old : Watch) (first : List (List ℕ)) : Type 0 where
+  pub held : IsHeld old v
+  pub inside : (v < length y) × (v < length fresh)
+  pub level : get_or y v 0 ≤ top_level p n
+  pub room : get_or y v 0 < length first
 
 -- the first i vertices of the range count afresh. Each of them waits if it counted otherwise before and counts more
 -- than its group allows. A vertex that waited waits still. All others that wait are of the range, on their levels by y.
@@ -63,6 +73,14 @@ pub record AreCopied (fresh : List ℕ) (spared : ℕ → Type 0) (old new : Cut
   pub queues : (j : ℕ) (d : Part) → j < length old.parts → (get_or new.parts j d).queue ≡ (get_or old.parts j d).queue
   pub copied : (levels : ℕ) → IsCut (length fresh) levels old → IsCopied fresh (counts_of old) (counts_of new) spared
 
+-- the vertex v and its neighbours count as in the graph, and all others as before
+abbrev pub IsRowCopied : Counted → ℕ → Cut → Cut → Type 0
+IsRowCopied fresh v old new = AreCopied fresh.counts.now (λ u. (u ≢ v) × (has_number u (neighbours_of v fresh.graph.now.edges) ≡ false)) old new
+
+-- the vertices that moved and their neighbours count as in the graph, and all others as before
+abbrev pub AreRowsCopied : Counted → List Move → Cut → Cut → Type 0
+AreRowsCopied fresh moves old new = AreCopied fresh.counts.now (λ u. All (λ (m : Move). (u ≢ m.vertex) × (has_number u (neighbours_of m.vertex fresh.graph.now.edges) ≡ false)) moves) old new
+
 -- what contracts see of a `Fresh`: the scale, the levels, and the counts in the graph
 pub record Following : Type 0 where
   pub profile : Profile
@@ -82,6 +100,13 @@ MayFollow f old = CanFollow f.profile f.vertices f.levels f.counts old
 
 abbrev pub HasFollowedAll : Following → Part → Part → Type 0
 HasFollowedAll f old new = HasFiled f.profile f.vertices f.levels f.counts old new
+
+-- in each range all vertices count afresh
+abbrev pub AllFollowed : Following → List Part → List Part → Type 0
+AllFollowed f old new = (length new ≡ length old) × ((j : ℕ) (d : Part) → j < length old → HasFollowedAll f (get_or old j d) (get_or new j d))
+
+abbrev pub MayFollowOne : Following → ℕ → Watch → List (List ℕ) → Type 0
+MayFollowOne f v old first = CanFollowOne f.profile f.vertices f.levels f.counts v old first
 
 abbrev pub HasFollowedOne : Following → ℕ → Watch → Watch → List (List ℕ) → List (List ℕ) → Type 0
 HasFollowedOne f v old new first queue = HasFollowed f.profile f.vertices f.levels v (get_or f.counts v 0) old new first queue

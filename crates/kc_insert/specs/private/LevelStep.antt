@@ -4,12 +4,16 @@ use Rattle.kc_graph.specs.Numbers.{has_number}
 use Rattle.kc_graph.specs.Shape.{GraphShape, has_edge}
 use Rattle.kc_levels.specs.declared.profile.Profile.{Profile}
 use Rattle.kc_levels.specs.Following.{AreDistinct}
-use Rattle.kc_levels.specs.Thresholds.{top_level}
+use Rattle.kc_levels.specs.LevelList.{IsRaised}
+use Rattle.kc_levels.specs.Thresholds.{group_of, high, top_level}
 use Rattle.kc_insert.specs.declared.rising.RisingLevels.{RisingLevels}
+use Rattle.kc_insert.specs.declared.scaled.Scaled.{Scaled}
+use Rattle.kc_insert.specs.declared.sweep.Sweep.{Sweep}
 use Rattle.kc_insert.specs.private.Meetings.{AreApart, IsMeeting}
-use Rattle.kc_insert.specs.private.Ranges.{AreKept}
+use Rattle.kc_insert.specs.private.Ranges.{AreKept, count_of}
 use Rattle.kc_insert.specs.Ranges.{Cut, IsCut, IsHeld, part_at}
-use Rattle.kc_insert.specs.private.Sweeping.{AreCounted, IsPaid, IsSweeping, Sweeping, sweeping_of}
+use Rattle.kc_insert.specs.private.Rising.{seen}
+use Rattle.kc_insert.specs.private.Sweeping.{AreCounted, HaveMoved, IsPaid, IsSweeping, LiftsArePaid, Sweeping, sweeping_of}
 
 -- The step from the levels y to z. Each vertex on the level l that counts more than `most` goes to the next level, and
 -- no other vertex moves. The counts are c before and d afterwards.
@@ -84,3 +88,27 @@ pub record IsRunning (p : Profile) (g : GraphShape) (x : List ℕ) (first now : 
   pub order : AreInOrder p g s r
   pub sweeping : IsSweeping p g x (sweeping_of s r)
   pub paid : IsPaid g x (sweeping_of s r) first now
+
+-- the top level
+abbrev pub top_of : Scaled → ℕ
+top_of s = top_level s.th.now.profile s.th.now.vertices
+
+-- how many neighbours the group of the sweep's level allows
+abbrev pub most_at : Scaled → Sweep → ℕ
+most_at s w = high s.th.now.profile (group_of s.th.now.profile s.th.now.vertices w.levels.level)
+
+-- the step of a sweep from its level to the next, where each vertex goes that counts more than the group allows
+abbrev pub StepsUp : Scaled → Sweep → Sweep → Type 0
+StepsUp s old new = IsLevelStep s.graph.now (seen old.levels) (seen new.levels) (count_of old.ranges) (count_of new.ranges) old.levels.level (most_at s old)
+
+-- whatever a sweep began with, it is still on its way when `before` steps have become `after`
+abbrev pub StaysRunning : Scaled → ℕ → ℕ → Sweep → Sweep → Type 0
+StaysRunning s before after old new = (x : List ℕ) (first : ℕ) → IsRunning s.th.now.profile s.graph.now x first before old.levels old.ranges → IsRunning s.th.now.profile s.graph.now x first after new.levels new.ranges
+
+-- what `raise_queued` leaves of a sweep that began with the levels x; the steps were `first` before and are `now`
+pub record HasSwept (s : Scaled) (x : List ℕ) (first now : ℕ) (new : Sweep) : Type 0 where
+  pub raised : IsRaised s.th.now.profile s.graph.now x new.levels.stored
+  pub counted : AreCounted s.graph.now new.levels.stored (count_of new.ranges)
+  pub moved : HaveMoved x new.levels.stored new.ranges
+  pub order : AreInOrder s.th.now.profile s.graph.now new.levels new.ranges
+  pub paid : LiftsArePaid s.graph.now x new.levels.stored new.ranges first now

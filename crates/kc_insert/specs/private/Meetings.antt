@@ -2,7 +2,7 @@
 --
 -- In a sweep from level to level the vertices of x rise to y. A riser v and a neighbour w that stood above it meet on
 -- the level of w. There w begins to count v. If v goes on and w stays, v counts w no more.
-use Rattle.std.specs.Prelude.{ℕ, ◌≤◌, ◌<◌, ◌≡◌, true, false, Bool, List, [], ◌∷◌, get_or}
+use Rattle.std.specs.Prelude.{ℕ, ◌<◌, ◌≡◌, true, false, List, [], ◌∷◌, get_or}
 use Rattle.kc_graph.specs.Numbers.{has_number}
 use Rattle.kc_graph.specs.Shape.{GraphShape, Pair, neighbours_of, has_edge}
 

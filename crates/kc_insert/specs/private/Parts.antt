@@ -1,5 +1,5 @@
 -- The state of a sweep, cut into ranges of vertices.
-use Rattle.std.specs.Prelude.{All, ℕ, ◌+◌, ◌^◌, ◌≤◌, ◌<◌, ◌≡◌, ◌&&◌, ◌⊎◌, ◌++◌, not, true, false, List, [], count_by, length, get_or, set}
+use Rattle.std.specs.Prelude.{All, ℕ, ◌+◌, ◌-◌, ◌^◌, ◌≤◌, ◌<◌, ◌≡◌, ◌==◌, ◌&&◌, ◌⊎◌, ◌++◌, ◌∷◌, not, true, false, cond, List, [], count_by, length, get_or, set}
 use Rattle.std.specs.List.{flat_map}
 use Rattle.kc_graph.specs.Numbers.{has_number}
 use Rattle.kc_graph.specs.Shape.{has_edge, neighbours_of}
@@ -20,6 +20,14 @@ pub record LetStay (old : RisingLevels) (watch : Watch) (new : RisingLevels) (st
   pub watched : (v : ℕ) → has_number v stay ≡ true → has_number v watch.doubtful ≡ true
   pub over : (v : ℕ) → has_number v watch.doubtful ≡ true → rises new v ≡ true → watch.most < count_at watch v
   pub distinct : AreDistinct stay
+
+-- the lists of those that wait, with v on the level if it counts `most`
+abbrev pub waits_met : ℕ → ℕ → ℕ → Part → List (List ℕ)
+waits_met level most v p = cond (count_at p.watch v == most) (set p.queue level (get_or p.queue level [] ++ v ∷ [])) p.queue
+
+-- the range where v counts one more, and waits on the level if it then counts one more than `most`
+abbrev pub part_met : ℕ → ℕ → ℕ → Part → Part
+part_met level most v p = record p { watch = record p.watch { counts = set p.watch.counts (v - p.watch.first) (count_at p.watch v + 1) }; queue = waits_met level most v p }
 
 -- each vertex of the list counts one more for each time that it is there. A vertex that waited waits still. Besides
 -- only vertices of the list on the level wait, among them each whose count passed `most`.
@@ -53,9 +61,13 @@ pub record HaveRisen (step : Crossing) (old new : Part) : Type 0 where
   pub own : (v : ℕ) → has_number v old.begun ≡ true → count_at new.watch v ≡ count_by (count_above step) (neighbours_of v step.graph.edges)
   pub others : (v : ℕ) → old.watch.first ≤ v → has_number v old.begun ≡ false → count_at new.watch v + times v (left_at step (get_or old.meetings step.level [])) ≡ count_at old.watch v
 
+-- the range where all that begin have begun to rise; what it counts, is to meet and tells is as in `new`
+abbrev pub risen_part : Crossing → Part → Part → Part
+risen_part step old new = record old { watch = new.watch; meetings = new.meetings; began = old.began ++ old.begun; risen = old.risen ++ old.begun; begun = []; tell = new.tell; steps = old.steps + degrees step.graph old.begun }
+
 -- what `Range::rise` leaves, writes and tells
 pub record HasRisen (step : Crossing) (old new : Part) : Type 0 where
-  pub part : new ≡ record old { watch = new.watch; meetings = new.meetings; began = old.began ++ old.begun; risen = old.risen ++ old.begun; begun = []; tell = new.tell; steps = old.steps + degrees step.graph old.begun }
+  pub part : new ≡ risen_part step old new
   pub told : new.tell.all ≡ met_by step (get_or old.meetings (step.level + 1) []) ++ flat_map (next_near step) old.begun
   pub lists : length new.tell.lists ≡ length old.tell.lists
   pub dealt : step.is_dealt ≡ true → AreDealtAnew step.bits old.tell new.tell

@@ -1,5 +1,5 @@
 -- All ranges of a graph, seen as one: what each vertex counts, and the lists of all ranges one after another.
-use Rattle.std.specs.Prelude.{ℕ, ◌+◌, ◌^◌, ◌≤◌, ◌<◌, ◌≡◌, ◌⊎◌, ◌&&◌, ◌||◌, not, true, false, List, [], filter, length, get_or, replicate, set}
+use Rattle.std.specs.Prelude.{ℕ, ◌+◌, ◌-◌, ◌^◌, ◌≤◌, ◌<◌, ◌≡◌, ◌⊎◌, ◌&&◌, ◌||◌, not, true, false, List, [], filter, length, get_or, replicate, set}
 use Rattle.std.specs.List.{flat_map}
 use Rattle.kc_graph.specs.Numbers.{has_number}
 use Rattle.kc_levels.specs.Following.{AreDistinct}
@@ -11,6 +11,22 @@ use Rattle.kc_insert.specs.private.Watched.{count_at, is_few}
 -- how many neighbours v counts
 abbrev pub count_of : Cut → ℕ → ℕ
 count_of r v = count_at (part_of r v).watch v
+
+-- the ranges where v counts `count`
+abbrev pub with_count : Cut → ℕ → ℕ → Cut
+with_count r v count = record r { parts = set r.parts (range_of r.bits v) (record (part_of r v) { watch = record (part_of r v).watch { counts = set (part_of r v).watch.counts (v - (part_of r v).watch.first) count } }) }
+
+-- what `can` says holds of each range and its place
+abbrev pub EachCan : (ℕ → Part → Type 0) → List Part → Type 0
+EachCan can old = (j : ℕ) (d : Part) → j < length old → can j (get_or old j d)
+
+-- what `did` says holds of each range and its place, unless memory ran out there
+abbrev pub EachDid : (ℕ → Part → Part → Type 0) → List Part → List Part → Type 0
+EachDid did old new = (j : ℕ) (d : Part) → j < length old → (get_or new j d).is_short ≡ false → did j (get_or old j d) (get_or new j d)
+
+-- no range has steps, and all else is as before
+abbrev pub HaveNoSteps : List Part → List Part → Type 0
+HaveNoSteps old new = (length new ≡ length old) × ((j : ℕ) (d : Part) → j < length old → get_or new j d ≡ record (get_or old j d) { steps = 0 })
 
 -- the vertices that stay on the level
 abbrev pub all_stay : Cut → List ℕ
@@ -115,9 +131,13 @@ pub record AreToldAll (n : ℕ) (told : List Tell) : Type 0 where
   pub long : length told ≡ n
   pub lists : (j : ℕ) (d : Tell) → j < n → length (get_or told j d).lists ≡ n
 
+-- the range without what a phase leaves in it
+abbrev pub forgotten : Part → Part
+forgotten p = record p { began = []; risen = []; queue = replicate (length p.queue) []; meetings = replicate (length p.meetings) [] }
+
 -- what `Ranges::forget` leaves: nothing of the phase
 pub record Forgot (old new : Cut) : Type 0 where
   pub bits : new.bits ≡ old.bits
   pub told : new.told ≡ old.told
   pub sized : length new.parts ≡ length old.parts
-  pub each : (j : ℕ) (d : Part) → j < length old.parts → get_or new.parts j d ≡ record (get_or old.parts j d) { began = []; risen = []; queue = replicate (length (get_or old.parts j d).queue) []; meetings = replicate (length (get_or old.parts j d).meetings) [] }
+  pub each : (j : ℕ) (d : Part) → j < length old.parts → get_or new.parts j d ≡ forgotten (get_or old.parts j d)

@@ -55,7 +55,7 @@ pub record CanPartAll (step : Crossing) (old : List Part) (tells : List Tell) : 
 abbrev pub rise_told : Crossing → List Part → List ℕ
 rise_told step old = flat_map (λ (p : Part). met_by step (get_or p.meetings (step.level + 1) []) ++ flat_map (next_near step) p.begun) old
 
--- what `rise_all` asks: each range can rise, each vertex that is told is of its range, and there is room
+-- what `Ranges::rise` asks: each range can rise, each vertex that is told is of its range, and there is room
 pub record CanRiseAll (step : Crossing) (old : List Part) (tells : List Tell) : Type 0 where
   pub told : length tells ≡ length old
   pub heard : (i : ℕ) (e : Tell) → i < length old → length (get_or tells i e).lists ≡ length old

@@ -15,7 +15,7 @@ use Rattle.kc_insert.specs.Effort.{effort}
 use Rattle.kc_insert.specs.declared.rising.RisingLevels.{RisingLevels}
 use Rattle.kc_insert.specs.private.Meetings.{AreApart, IsMeeting}
 use Rattle.kc_insert.specs.private.Ranges.{count_of}
-use Rattle.kc_insert.specs.Ranges.{all_began, all_risen, Cut, meets, waits}
+use Rattle.kc_insert.specs.Ranges.{all_began, all_risen, AreQuiet, Cut, meets, waits}
 use Rattle.kc_insert.specs.private.Rising.{all_at, rises, seen}
 
 -- A sweep on its way: the level that it is at, the levels by now, and the count of each vertex. `rising` has the
@@ -81,6 +81,28 @@ IsPaid g x s first now = now + (degrees g s.rising + (degrees g s.risen + length
 pub record IsQueued (p : Profile) (g : GraphShape) (x : List ℕ) (waits : ℕ → List ℕ) : Type 0 where
   pub waiting : (k v : ℕ) → has_number v (waits k) ≡ true → (v < g.vertices) × (get_or x v 0 ≡ k)
   pub found : (v : ℕ) → v < g.vertices → (has_number v (waits (get_or x v 0)) ≡ true) ⊎ MeetsUpper p g x v
+
+-- The graph has these levels, and the ranges its counts. No vertex rises, and each that breaks the upper invariant
+-- waits on its level.
+pub record CanSweep (p : Profile) (g : GraphShape) (y : List ℕ) (r : Cut) : Type 0 where
+  pub quiet : AreQuiet p g r
+  pub sized : length y ≡ g.vertices
+  pub capped : IsCapped p g.vertices y
+  pub counted : AreCounted g y (count_of r)
+  pub queued : IsQueued p g y (waits r)
+
+-- the ranges keep as risen the vertices that moved from x to y, each once
+pub record HaveMoved (x y : List ℕ) (r : Cut) : Type 0 where
+  pub risen : (v : ℕ) → has_number v (all_risen r) ≡ is_moved x y v
+  pub once : AreDistinct (all_risen r)
+
+-- the steps to lift in the graph all that rose: one for each neighbour, and one more
+abbrev pub lift_cost : GraphShape → Cut → ℕ
+lift_cost g r = degrees g (all_risen r) + length (all_risen r)
+
+-- Enough steps are left to lift in the graph all that rose from x to y.
+abbrev pub LiftsArePaid : GraphShape → List ℕ → List ℕ → Cut → ℕ → ℕ → Type 0
+LiftsArePaid g x y r first now = now + lift_cost g r ≤ first + effort g x y g.vertices
 
 -- a sweep that begins with the levels x
 pub record IsFirst (p : Profile) (g : GraphShape) (x : List ℕ) (s : Sweeping) : Type 0 where

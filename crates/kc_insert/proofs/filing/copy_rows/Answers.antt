@@ -9,7 +9,7 @@ pub copy_row-requires-clause-vertices : goal.copy_row-requires-clause-vertices
 copy_row-requires-clause-vertices c = λ v h. in_same c.args.ranges.now c.loop-m.ranges v c.loop-m.invariant.same (c.requires.vertices v h)
 
 pub loop-m-preserved : goal.loop-m-preserved
-loop-m-preserved c = copied_more (λ u (m : Move). (u ≢ m.vertex) × (has_number u (neighbours_of m.vertex c.args.graph.now.edges) ≡ false)) c.args.moves.now c.loop-m.m-index _ _ c.args.fresh.now c.args.ranges.now c.loop-m.ranges _ c.loop-m-test.true refl c.loop-m.invariant c.copy_row.ensures
+loop-m-preserved c = copied_more (λ u (m : Move). (u ≢ m.vertex) × (has_number u (neighbours_of m.vertex c.args.fresh.graph.now.edges) ≡ false)) c.args.moves.now c.loop-m.m-index _ _ c.args.fresh.counts.now c.args.ranges.now c.loop-m.ranges _ c.loop-m-test.true refl c.loop-m.invariant c.copy_row.ensures
 
 pub returns : goal.returns
-returns c = copied_whole (λ u (m : Move). (u ≢ m.vertex) × (has_number u (neighbours_of m.vertex c.args.graph.now.edges) ≡ false)) c.args.moves.now c.loop-m.m-index c.args.fresh.now c.args.ranges.now c.loop-m.ranges (omega (arith, c.loop-m-test.false)) c.loop-m.invariant
+returns c = copied_whole (λ u (m : Move). (u ≢ m.vertex) × (has_number u (neighbours_of m.vertex c.args.fresh.graph.now.edges) ≡ false)) c.args.moves.now c.loop-m.m-index c.args.fresh.counts.now c.args.ranges.now c.loop-m.ranges (omega (arith, c.loop-m-test.false)) c.loop-m.invariant

@@ -7,4 +7,4 @@ use Rattle.kc_insert.specs.private.Filed.{AreCopied}
 use Rattle.kc_insert.proofs.filing.copy_rows.Given as goal
 
 abbrev pub invariant-loop-m : goal.invariant-loop-m
-invariant-loop-m l = AreCopied l.fresh (λ u. All (λ (m : Move). (u ≢ m.vertex) × (has_number u (neighbours_of m.vertex l.graph.edges) ≡ false)) (take l.m-index l.moves)) l.initial.ranges l.ranges
+invariant-loop-m l = AreCopied l.fresh.counts.now (λ u. All (λ (m : Move). (u ≢ m.vertex) × (has_number u (neighbours_of m.vertex l.fresh.graph.now.edges) ≡ false)) (take l.m-index l.moves)) l.initial.ranges l.ranges

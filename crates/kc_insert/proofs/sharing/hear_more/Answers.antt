@@ -1,25 +1,21 @@
 use Rattle.std.proofs.Common.{ℕ, List, ◌≡◌, ◌+◌, get_or, length, ap, sym, subst, ◌∙◌, arith}
 use Rattle.kc_insert.specs.private.Crossing.{Crossing}
-use Rattle.kc_insert.specs.private.Parts.{CanHearMore, HaveMet}
 use Rattle.kc_insert.specs.private.Sharing.{AreTold, CanMeet, HearMore}
-use Rattle.kc_insert.specs.private.Telling.{heard_by}
 use Rattle.kc_insert.specs.Ranges.{Tell}
 use Rattle.kc_insert.proofs.Shared.{can_meet, meet_first, met_dealt, next_met, next_room, next_small, next_there}
 use Rattle.kc_insert.proofs.sharing.hear_more.Goals as goal
 
-pub hear_more_each-requires-clause-ready : goal.hear_more_each-requires-clause-ready
-hear_more_each-requires-clause-ready g c κs within =
-    let next : c.args.step.now.level + 1 ≡ c.step.inside.level + 1 = ap (λ (s : Crossing). s.level + 1) (sym c.step.view_is) in
+pub hear_more_each-requires-after_bounds : goal.hear_more_each-requires-after_bounds
+hear_more_each-requires-after_bounds g c κs within =
     let lists = subst (λ b. AreTold c.args.step.now.bits b (length c.args.items.now) c.args.told.now) (ap (λ (s : Crossing). s.is_dealt) (sym c.step.view_is) ∙ c.if-step.true) c.requires.lists in
-    λ i d at. subst (λ k. CanHearMore c.args.told.now i k (get_or c.args.items.now i d)) next (can_meet c.args.step.now.bits (c.args.step.now.level + 1) c.args.told.now c.args.items.now c.requires.ready lists i at c.requires.few d)
+    λ i d at. can_meet c.args.step.now.bits (c.args.step.now.level + 1) c.args.told.now c.args.items.now c.requires.ready lists i at c.requires.few d
 
 pub returns-then-step : goal.returns-then-step
 returns-then-step g c =
-    let next : c.step.inside.level + 1 ≡ c.args.step.now.level + 1 = ap (λ (s : Crossing). s.level + 1) c.step.view_is in
     let lists = subst (λ b. AreTold c.args.step.now.bits b (length c.args.items.now) c.args.told.now) (ap (λ (s : Crossing). s.is_dealt) (sym c.step.view_is) ∙ c.if-step.true) c.requires.lists in
     record {
       sized = c.hear_more_each.auto.items;
-      each = λ j d h. met_dealt c.args.step.now.bits (c.args.step.now.level + 1) c.args.told.now c.args.items.now c.requires.ready lists j h c.args.most _ _ (subst (λ k. HaveMet k c.args.most (heard_by j c.args.told.now) (get_or c.args.items.now j d) (get_or c.hear_more_each.new.items j d)) next (c.hear_more_each.ensures j d h (c.in_ok-check.ensures j d (omega (arith, h, c.hear_more_each.auto.items)))));
+      each = λ j d h. met_dealt c.args.step.now.bits (c.args.step.now.level + 1) c.args.told.now c.args.items.now c.requires.ready lists j h c.args.most _ _ (c.hear_more_each.ensures j d h (c.in_ok-check.ensures j d (omega (arith, h, c.hear_more_each.auto.items))));
     }
 
 pub loop-i-init : goal.loop-i-init
