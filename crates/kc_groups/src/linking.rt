@@ -1,9 +1,9 @@
 //! The moves of a phase, gathered into a tree for each group, and the links between them.
-ghost use Rattle.std.specs.Prelude.{◌≡◌, ℕ, List, Bool, ◌<◌, ◌≤◌, ◌||◌, IfOk, OnOk, cond, false, true, length, nat_lt, slice_index};
+ghost use Rattle.std.specs.Prelude.{◌≡◌, ℕ, List, ◌<◌, ◌≤◌, IfOk, OnOk, cond, false, true, length, nat_lt, slice_index};
 ghost use Rattle.kc_graph.specs.Shape.{EdgesFrom};
-ghost use Rattle.kc_groups.specs.private.Forest.{AreGathered, IsForest};
+ghost use Rattle.kc_groups.specs.private.Forest.{AreGathered, IsForest, Joins};
 ghost use Rattle.kc_groups.specs.Gathering.{vertices};
-ghost use Rattle.kc_groups.specs.private.Gathering.{AreLinks, AreNumbered, in_row, in_rows, in_piece, in_edges};
+ghost use Rattle.kc_groups.specs.private.Gathering.{Adds, AreLinks, AreNumbered, in_row, in_rows, in_piece, in_edges};
 
 use crate::forest::join;
 use kc_graph::{Edge, Graph, MAX_VERTICES};
@@ -68,7 +68,7 @@ fn link_row(graph: &Graph, moves: &[Move], places: &[u32], parents: &mut Vec<u32
     requires numbered { AreNumbered graph.now.vertices (vertices moves.now) places.now }
     requires many { length parents.old.items ≡ length moves.now }
     requires forest { (roots : List ℕ) × IsForest parents.old.items roots }
-    ensures { (before : ℕ → ℕ → Bool) → AreGathered (length moves.now) before parents.old.items → AreGathered (length moves.now) (λ i j. before i j || in_row graph.now (vertices moves.now) place i j) parents.new.items }
+    ensures { Joins (length moves.now) (in_row graph.now (vertices moves.now) place) parents.old.items parents.new.items }
 {
     let v = vertex_in_turn(graph, moves, place);
     for w in graph.neighbours(v) {
@@ -107,7 +107,7 @@ fn find_links(
 ) -> Result<(), AllocError>
     requires inside { place < length moves.now }
     requires numbered { AreNumbered graph.now.vertices (vertices moves.now) places.now }
-    ensures { OnOk result ((before : ℕ → ℕ → Bool) → AreLinks (length moves.now) before links.old.items → AreLinks (length moves.now) (λ i j. before i j || in_row graph.now (vertices moves.now) place i j) links.new.items) }
+    ensures { OnOk result (Adds (length moves.now) (in_row graph.now (vertices moves.now) place) links.old.items links.new.items) }
 {
     let v = vertex_in_turn(graph, moves, place);
     for w in graph.neighbours(v) {
@@ -147,7 +147,7 @@ pub(crate) fn link_edges(edges: &[Edge], moves: &[Move], places: &[u32], parents
     requires ascending { EdgesFrom (length places.now) 0 0 edges.now }
     requires many { length parents.old.items ≡ length moves.now }
     requires forest { (roots : List ℕ) × IsForest parents.old.items roots }
-    ensures { (before : ℕ → ℕ → Bool) → AreGathered (length moves.now) before parents.old.items → AreGathered (length moves.now) (λ i j. before i j || in_edges edges.now (vertices moves.now) i j) parents.new.items }
+    ensures { Joins (length moves.now) (in_edges edges.now (vertices moves.now)) parents.old.items parents.new.items }
 {
     let m = moves.len() as u32;
     for e in edges {

@@ -4,8 +4,8 @@ ghost use Rattle.std.specs.Prelude.{◌≡◌, ◌≤◌, ℕ, List, IfOk, OnOk,
 ghost use Rattle.kc_graph.specs.Shape.{EdgesFrom, with_edges};
 ghost use Rattle.kc_graph.specs.Changes.{AllPresent};
 ghost use Rattle.kc_levels.specs.LevelList.{IsBelow};
-ghost use Rattle.kc_groups.specs.Entries.{AreEntries};
-ghost use Rattle.kc_groups.specs.Gathering.{vertices, clean, AreInOrder, AreMovesOf};
+ghost use Rattle.kc_groups.specs.Entries.{AreEntries, IsPlanOf};
+ghost use Rattle.kc_groups.specs.Gathering.{vertices, clean, AreInOrder};
 ghost use Rattle.kc_groups.specs.private.Forest.{AreGathered};
 ghost use Rattle.kc_groups.specs.private.Gathering.{AreNumbered, in_rows};
 ghost use Rattle.kc_groups.specs.WellFormed.{IsWellFormed};
@@ -38,7 +38,7 @@ fn plan_trees(
     requires ascending { EdgesFrom graph.now.vertices 0 0 gone.now }
     requires present { AllPresent (with_edges graph.now gone.now) phase.now.edges.now }
     ensures clean { OnOk result (places.new.items ≡ clean graph.now.vertices) }
-    ensures entries { IfOk result (λ plan. (before after : List ℕ) → AreMovesOf graph.now.vertices before after phase.now.moves.now → AreEntries phase.now.number phase.now.add phase.now.edges.now before after (with_edges graph.now gone.now) plan) }
+    ensures entries { IfOk result (IsPlanOf phase.now graph.now gone.now) }
 {
     // Evidence for the check: the vertices of the graph are at most `MAX_VERTICES`.
     let _n = graph.vertices();
@@ -72,7 +72,7 @@ pub(crate) fn plan_in_pieces<R: Threads + Sync>(
     requires ascending { EdgesFrom graph.now.vertices 0 0 gone.now }
     requires present { AllPresent (with_edges graph.now gone.now) phase.now.edges.now }
     ensures clean { OnOk result (work.new ≡ clean graph.now.vertices) }
-    ensures entries { IfOk result (λ plan. (before after : List ℕ) → AreMovesOf graph.now.vertices before after phase.now.moves.now → AreEntries phase.now.number phase.now.add phase.now.edges.now before after (with_edges graph.now gone.now) plan) }
+    ensures entries { IfOk result (IsPlanOf phase.now graph.now gone.now) }
 {
     // Evidence for the check, as in `plan_trees`.
     let _n = graph.vertices();
@@ -84,7 +84,7 @@ pub(crate) fn plan_in_pieces<R: Threads + Sync>(
 }
 
 /// Returns the entries of a phase, as `AreEntries` defines: by the graph with all its edges, and by levels before and
-/// after it. Any levels will do, if the moves lead from the first to the second (`AreMovesOf`).
+/// after it. Any levels will do, if the moves lead from the first to the second (`IsPlanOf`).
 ///
 /// `graph` is the graph after the phase, or the one before it. `gone` has those edges of the phase that `graph` lacks:
 /// none for the graph after an insertion, and all for the graph after a deletion. The edges of `gone` ascend, and so do
@@ -111,7 +111,7 @@ pub fn plan_moves<R: Threads + Sync>(
     requires ascending { EdgesFrom graph.now.vertices 0 0 gone.now }
     requires present { AllPresent (with_edges graph.now gone.now) phase.now.edges.now }
     ensures clean { OnOk result (work.new ≡ clean graph.now.vertices) }
-    ensures entries { IfOk result (λ plan. (before after : List ℕ) → AreMovesOf graph.now.vertices before after phase.now.moves.now → AreEntries phase.now.number phase.now.add phase.now.edges.now before after (with_edges graph.now gone.now) plan) }
+    ensures entries { IfOk result (IsPlanOf phase.now graph.now gone.now) }
 {
     let pieces = piece_count(planners.workers, phase.moves.len());
     plan_in_pieces(planners, phase, graph, gone, work, pieces)
