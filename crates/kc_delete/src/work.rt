@@ -52,8 +52,8 @@ impl DeletionWork {
         })
     }
 
-    /// Makes the workspace ready for the graph after an insertion phase, if it was ready before. The moves are those of
-    /// the phase. Costs a step for each. Takes no memory.
+    /// Makes the workspace ready for the graph after an insertion phase, if it was ready before (`Follows`). The moves
+    /// are those of the phase. Costs a step for each. Takes no memory.
     pub fn follow(&mut self, moves: &Moves)
         requires { All (λ m. m.vertex < length self.old.before) moves.now }
         ensures { Follows moves.now self.old self.new }
