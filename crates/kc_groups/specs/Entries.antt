@@ -55,5 +55,5 @@ pub record AreEntries (phase : ℕ) (add : Bool) (edges : List Pair) (x y : List
 -- the plan has the entries of the phase, by any levels between which its moves lead
 --
 -- The edges `gone` of the phase aren't in the graph g.
-abbrev pub IsPlanOf : Phase → GraphShape → List Pair → PhasePlan → Type 0
-IsPlanOf phase g gone plan = (x y : List ℕ) → AreMovesOf g.vertices x y phase.moves.now → AreEntries phase.number phase.add phase.edges.now x y (with_edges g gone) plan
+abbrev pub IsPhasePlan : Phase → GraphShape → List Pair → PhasePlan → Type 0
+IsPhasePlan phase g gone plan = (x y : List ℕ) → AreMovesOf g.vertices x y phase.moves.now → AreEntries phase.number phase.add phase.edges.now x y (with_edges g gone) plan

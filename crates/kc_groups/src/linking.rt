@@ -9,6 +9,7 @@ use crate::forest::join;
 use kc_graph::{Edge, Graph, MAX_VERTICES};
 use kc_history::Move;
 use std::alloc::{AllocError, Global};
+use std::ops::Range;
 
 // Makes a forest of m places, each a tree of its own.
 pub(crate) fn lone_places(alloc: Global, m: u32) -> Result<Vec<u32>, AllocError>
@@ -119,22 +120,22 @@ fn find_links(
     Ok(())
 }
 
-// Returns the links to lesser places of the moves from place `from` up to place `to`, without `to`.
+// Returns the links to lesser places of the moves at the places of a part.
 pub(crate) fn links_between(
     alloc: Global,
     graph: &Graph,
     moves: &[Move],
     places: &[u32],
-    from: u32,
-    to: u32,
+    part: Range<usize>,
 ) -> Result<Vec<Edge>, AllocError>
+    requires small { length moves.now ≤ MAX_VERTICES }
     requires numbered { AreNumbered graph.now.vertices (vertices moves.now) places.now }
-    requires order { from ≤ to }
-    requires inside { to ≤ length moves.now }
-    ensures { IfOk result (λ links. AreLinks (length moves.now) (in_piece graph.now (vertices moves.now) from to) links.items) }
+    requires order { part.start ≤ part.end }
+    requires inside { part.end ≤ length moves.now }
+    ensures { IfOk result (λ links. AreLinks (length moves.now) (in_piece graph.now (vertices moves.now) part.start part.end) links.items) }
 {
     let mut links = Vec::new(alloc);
-    for place in from..to {
+    for place in part.start as u32..part.end as u32 {
         find_links(graph, moves, places, place, &mut links)?;
     }
     Ok(links)
