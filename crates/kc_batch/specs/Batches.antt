@@ -117,6 +117,14 @@ behind_batch End rest = []
 behind_batch (Refused line InputLimit) rest = Refused line InputLimit ∷ []
 behind_batch next rest = next ∷ rest
 
+-- the next batch of the lines that a reader had still to give is `next`, and the lines after it are those still to give
+abbrev pub ReadsBatch : Rules → Reading → Option (List ℕ) → Reading → Option (List ℕ) → Next → Type 0
+ReadsBatch rules old left new rest next = option_map (batch_of rules) (tokens_left old left) ≡ option_map (with_next next) (tokens_left new rest)
+
+-- the batches that a reader had still to give are `next` and those still to give
+abbrev pub ReadsFirst : Rules → Reading → Option (List ℕ) → Reading → Option (List ℕ) → Next → Type 0
+ReadsFirst rules old left new rest next = batches_left rules old left ≡ option_map (behind_batch next) (batches_left rules new rest)
+
 -- there are no more batches
 abbrev pub IsEnd : Next → Type 0
 IsEnd End = Unit {0}

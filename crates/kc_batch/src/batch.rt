@@ -46,7 +46,7 @@ pub enum BatchFault {
     Memory(AllocError),
 }
 
-ghost use Rattle.kc_batch.specs.Batches.{after_end, items_from, batch_of, with_next, batches_left, behind_batch, IsEnd, IsNext, TakesBatch};
+ghost use Rattle.kc_batch.specs.Batches.{after_end, items_from, with_next, IsEnd, IsNext, ReadsBatch, ReadsFirst, TakesBatch};
 ghost use Rattle.kc_batch.specs.Causes.{AwaitCause, BatchCause};
 
 // Passes over the lines up to the next `end`, or up to the end of the input or its limit.
@@ -112,7 +112,7 @@ fn find_batch<S: Source, K: Sink>(
     sink: &mut K,
     rules: Rules,
 ) -> Result<Next, AwaitFault>
-    ensures batch { IfOk result (λ next. option_map (batch_of rules) (tokens_left reader.old (S.left src.old)) ≡ option_map (with_next next) (tokens_left reader.new (S.left src.new))) }
+    ensures batch { IfOk result (ReadsBatch rules reader.old (S.left src.old) reader.new (S.left src.new)) }
     ensures sound { IfOk result (IsNext rules) }
     ensures takes { IfOk result (λ next. TakesBatch next (budget reader.old) (budget reader.new)) }
     ensures again { IfOk result (λ next. IsEnd next → tokens_left reader.new (S.left src.new) ≡ tokens_left reader.old (S.left src.old)) }
@@ -166,8 +166,8 @@ pub fn await_batch<S: Source, K: Sink>(
     profile: Profile,
     item_limit: u32,
 ) -> Result<Next, AwaitFault>
-    ensures batch { IfOk result (λ next. option_map (batch_of (record { n = n; profile = profile; item_limit = item_limit })) (tokens_left reader.old (S.left src.old)) ≡ option_map (with_next next) (tokens_left reader.new (S.left src.new))) }
-    ensures batches { IfOk result (λ next. batches_left (record { n = n; profile = profile; item_limit = item_limit }) reader.old (S.left src.old) ≡ option_map (behind_batch next) (batches_left (record { n = n; profile = profile; item_limit = item_limit }) reader.new (S.left src.new))) }
+    ensures batch { IfOk result (ReadsBatch (record { n = n; profile = profile; item_limit = item_limit }) reader.old (S.left src.old) reader.new (S.left src.new)) }
+    ensures batches { IfOk result (ReadsFirst (record { n = n; profile = profile; item_limit = item_limit }) reader.old (S.left src.old) reader.new (S.left src.new)) }
 
     // The range clause holds whether or not the source tells its bytes.
     ensures sound { IfOk result (IsNext (record { n = n; profile = profile; item_limit = item_limit })) }
@@ -211,8 +211,8 @@ pub fn next_batch<S: Source>(
     profile: Profile,
     item_limit: u32,
 ) -> Result<Next, BatchFault>
-    ensures batch { IfOk result (λ next. option_map (batch_of (record { n = n; profile = profile; item_limit = item_limit })) (tokens_left reader.old (S.left src.old)) ≡ option_map (with_next next) (tokens_left reader.new (S.left src.new))) }
-    ensures batches { IfOk result (λ next. batches_left (record { n = n; profile = profile; item_limit = item_limit }) reader.old (S.left src.old) ≡ option_map (behind_batch next) (batches_left (record { n = n; profile = profile; item_limit = item_limit }) reader.new (S.left src.new))) }
+    ensures batch { IfOk result (ReadsBatch (record { n = n; profile = profile; item_limit = item_limit }) reader.old (S.left src.old) reader.new (S.left src.new)) }
+    ensures batches { IfOk result (ReadsFirst (record { n = n; profile = profile; item_limit = item_limit }) reader.old (S.left src.old) reader.new (S.left src.new)) }
 
     // The range clause holds whether or not the source tells its bytes.
     ensures sound { IfOk result (IsNext (record { n = n; profile = profile; item_limit = item_limit })) }

@@ -1,8 +1,8 @@
 //! The fallen vertices of a deletion phase, from which the phase's moves are made at its end.
 
-ghost use Rattle.std.specs.Prelude.{◌≡◌, ℕ, ◌<◌, ◌≤◌, List, [], IfOk, OnOk, length, slice_index, slice_set};
+ghost use Rattle.std.specs.Prelude.{◌≡◌, ◌<◌, [], IfOk, OnOk, length};
 ghost use Rattle.kc_levels.specs.Moved.{moves_between};
-ghost use Rattle.kc_delete.specs.private.Fallen.{AreFallen};
+ghost use Rattle.kc_delete.specs.private.Fallen.{AreFallen, NotesFall};
 
 use kc_levels::{Levels, Moves, moves_of};
 use std::alloc::{AllocError, Global};
@@ -21,7 +21,7 @@ impl Fallen {
     pub fn note(&mut self, v: u32, from: u16) -> Result<(), AllocError>
         requires { v < length self.old.before }
         ensures before { self.new.before ≡ self.old.before }
-        ensures noted { OnOk result ((y : List ℕ) (to : ℕ) → AreFallen self.old.before y self.old.vertices.items → v < length y → from ≡ slice_index y v → from ≤ slice_index self.old.before v → to < from → AreFallen self.old.before (slice_set y v to) self.new.vertices.items) }
+        ensures noted { OnOk result (NotesFall self.old.before v from self.old.vertices.items self.new.vertices.items) }
     {
         if self.before.get(v) == from {
             self.vertices.push(v)?;

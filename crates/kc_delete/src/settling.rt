@@ -2,11 +2,11 @@
 
 ghost use Rattle.std.specs.Prelude.{◌≡◌, ℕ, ◌<◌, ◌≤◌, ◌-◌, [], false, OnOk, length, slice_index, slice_index_or};
 ghost use Rattle.std.specs.Bool.{OnTrue, OnFalse};
-ghost use Rattle.kc_graph.specs.Shape.{IsGraph, neighbours_of};
+ghost use Rattle.kc_graph.specs.Shape.{IsGraph};
 ghost use Rattle.kc_levels.specs.Thresholds.{top_level};
 ghost use Rattle.kc_levels.specs.LevelList.{IsCapped, IsLowered};
 ghost use Rattle.kc_delete.specs.private.Fallen.{AreFallen};
-ghost use Rattle.kc_delete.specs.private.Settling.{IsSettling, WaitsOrMeets, StillWait, IsUntouched, IsLookedAt};
+ghost use Rattle.kc_delete.specs.private.Settling.{IsSettling, WaitsOrMeets, StillWait, IsUntouched, AreLookedAt};
 
 use crate::short::is_short;
 use crate::waiting::Waiting;
@@ -66,8 +66,7 @@ fn add_short_neighbours(
     requires sized { length waiting.old ≡ adj.now.graph.vertices }
     ensures sized { OnOk result (length waiting.new ≡ adj.now.graph.vertices) }
     ensures still { OnOk result (StillWait waiting.old waiting.new) }
-    ensures looked { let to = slice_index adj.now.levels v in let near = neighbours_of v adj.now.graph.edges in
-        OnOk result ((k : ℕ) → k < length near → IsLookedAt th.now.profile adj.now.graph from to adj.now.levels waiting.new (slice_index near k)) }
+    ensures looked { OnOk result (AreLookedAt th.now.profile adj.now.graph v from adj.now.levels waiting.new) }
 {
     let to = adj.level(v);
     for w in adj.graph().neighbours(v) {

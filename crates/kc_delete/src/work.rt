@@ -1,9 +1,7 @@
 //! The workspace that deletion phases share, one after another.
 
 ghost use Rattle.std.specs.Prelude.{◌≡◌, ◌<◌, All, IfOk, length};
-ghost use Rattle.kc_levels.specs.Moved.{moves_between};
-ghost use Rattle.kc_adj.specs.LeveledGraph.{LeveledGraph};
-ghost use Rattle.kc_delete.specs.Working.{IsReady};
+ghost use Rattle.kc_delete.specs.Working.{Follows, IsReady};
 
 use crate::fallen::Fallen;
 use crate::waiting::Waiting;
@@ -54,11 +52,11 @@ impl DeletionWork {
         })
     }
 
-    /// Makes the workspace ready for the graph after an insertion phase, if it was ready before. The moves are those of
-    /// the phase. Costs a step for each. Takes no memory.
+    /// Makes the workspace ready for the graph after an insertion phase, if it was ready before (`Follows`). The moves
+    /// are those of the phase. Costs a step for each. Takes no memory.
     pub fn follow(&mut self, moves: &Moves)
         requires { All (λ m. m.vertex < length self.old.before) moves.now }
-        ensures { (a b : LeveledGraph) → IsReady a self.old → length a.levels ≡ a.graph.vertices → length b.levels ≡ b.graph.vertices → b.graph.vertices ≡ a.graph.vertices → moves.now ≡ moves_between a.graph.vertices a.levels b.levels → IsReady b self.new }
+        ensures { Follows moves.now self.old self.new }
     {
         self.fallen.before.follow(moves);
     }

@@ -2,3 +2,4 @@
 pub mod Batches
 pub mod Blanks
 pub mod Lending
+pub mod Rest

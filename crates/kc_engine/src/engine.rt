@@ -176,7 +176,6 @@ impl Engine {
                 alloc,
                 workers: self.workers,
             },
-            alloc,
             th: &self.thresholds,
         };
         let before = self.phases;

@@ -3,12 +3,13 @@ ghost use Rattle.std.specs.Prelude.{◌≡◌, ℕ, ◌+◌, ◌-◌, ◌<◌, �
 ghost use Rattle.kc_graph.specs.Shape.{EdgesFrom, with_edges, without_edges};
 ghost use Rattle.kc_graph.specs.Changes.{AllAbsent, AllPresent};
 ghost use Rattle.kc_graph.specs.CleaningLaws.{FitsGraph};
-ghost use Rattle.kc_levels.specs.LevelList.{MeetsUpper, MeetsLower, MeetsBoth, IsCapped};
+ghost use Rattle.kc_levels.specs.LevelList.{MeetsUpper, MeetsLower, MeetsBoth};
 ghost use Rattle.kc_levels.specs.Moved.{moved_count};
 ghost use Rattle.kc_groups.specs.WellFormed.{IsWellFormed};
 ghost use Rattle.kc_engine.specs.Batches.{phases_for, phases_of, AreLoweredIn, AreRaisedIn, ArePhaseOf, graph_after_batch};
 ghost use Rattle.kc_engine.specs.private.Batches.{IsPlanOf};
 ghost use Rattle.kc_engine.specs.private.Blanks.{IsBlankFor};
+ghost use Rattle.kc_engine.specs.private.Rest.{IsAtRest};
 ghost use Rattle.kc_engine.specs.Readiness.{AreReady};
 
 use crate::plans::BatchPlan;
@@ -21,22 +22,28 @@ use kc_history::MAX_PHASE;
 use kc_insert::insert_phase;
 use kc_levels::Thresholds;
 use kc_rounds::{Gate, Rounds};
-use std::alloc::{AllocError, Global};
-use std::marker::Brand;
+use std::alloc::AllocError;
+use std::marker::{Brand, Model};
 use std::sync::ledger::{Blank, Ledger};
 use std::thread::Threads;
 
-// The values that stay the same through the phases of a batch: rounds, planners, allocator and thresholds.
+// The values that stay the same through the phases of a batch. Contracts see the thresholds alone.
 #[derive(Drop)]
 pub(crate) struct PhaseContext<'a, R, G> {
     // Tests candidates, and passes their spots to the gate.
     pub(crate) rounds: Rounds<'a, R, G>,
-    // Gathers the moves of a phase into groups.
+    // Gathers the moves of a phase into groups. Its allocator is also that of moves and plans.
     pub(crate) planners: Planners<'a, R>,
-    // The allocator of rounds, moves and plans.
-    pub(crate) alloc: Global,
     // The thresholds for the number of vertices of the graph that the phases change.
     pub(crate) th: &'a Thresholds,
+}
+
+impl<'a, R, G> Model for PhaseContext<'a, R, G> {
+    ghost use Rattle.kc_levels.specs.Thresholds.{Scale};
+
+    ghost Value = { Scale };
+
+    ghost view = { λ c. c.th.now };
 }
 
 // Returns the number of phases in which these edges leave, or come in: 0 or 1.
@@ -66,26 +73,24 @@ fn deletion_phase<R: Threads + Sync, G: Gate + Sync, L: Ledger>(
     removed: &Edges,
 ) -> Result<BatchPlan, AllocError>
     requires blank { IsBlankFor L.name L.parts blank.name blank.parts }
-    requires scale { context.now.th.now.vertices ≡ adj.old.graph.vertices }
-    requires ready { AreReady context.now.th.now.profile adj.old work.old }
-    requires capped { IsCapped context.now.th.now.profile adj.old.graph.vertices adj.old.levels }
-    requires lower { (v : ℕ) → v < adj.old.graph.vertices → MeetsLower context.now.th.now.profile adj.old.graph adj.old.levels v }
+    requires rest { IsAtRest context.now adj.old work.old }
+    requires lower { (v : ℕ) → v < adj.old.graph.vertices → MeetsLower context.now.profile adj.old.graph adj.old.levels v }
     requires ascending { EdgesFrom adj.old.graph.vertices 0 0 removed.now }
     requires present { AllPresent adj.old.graph removed.now }
     ensures graph { OnOk result (adj.new.graph ≡ without_edges adj.old.graph removed.now) }
-    ensures lowered { OnOk result (AreLoweredIn context.now.th.now.profile adj.old.graph removed.now adj.old.levels adj.new.levels) }
+    ensures lowered { OnOk result (AreLoweredIn context.now.profile adj.old.graph removed.now adj.old.levels adj.new.levels) }
     ensures phases { IfOk result (λ plan. ArePhaseOf phase false removed.now adj.old.levels adj.new.levels adj.old.graph plan.phases) }
-    ensures ready { OnOk result (AreReady context.now.th.now.profile adj.new work.new) }
+    ensures ready { OnOk result (AreReady context.now.profile adj.new work.new) }
     ensures moves { IfOk result (λ plan. plan.moves ≡ moved_count adj.old.graph.vertices adj.old.levels adj.new.levels) }
 {
     if removed.is_empty() {
-        return Ok(BatchPlan::empty(context.alloc));
+        return Ok(BatchPlan::empty(context.planners.alloc));
     }
     // Evidence for the check: the edges of the graph ascend, its vertices are at most `MAX_VERTICES`, and each has a
     // level.
     let _n = adj.graph().vertices();
     let _levels = adj.levels();
-    let alloc = context.alloc;
+    let alloc = context.planners.alloc;
     let th = context.th;
     let edges = removed.as_slice();
     let mut steps = Steps::<L>::new(blank);
@@ -114,26 +119,24 @@ fn insertion_phase<R: Threads + Sync, G: Gate + Sync, L: Ledger>(
     added: &Edges,
 ) -> Result<BatchPlan, AllocError>
     requires blank { IsBlankFor L.name L.parts blank.name blank.parts }
-    requires scale { context.now.th.now.vertices ≡ adj.old.graph.vertices }
-    requires ready { AreReady context.now.th.now.profile adj.old work.old }
-    requires capped { IsCapped context.now.th.now.profile adj.old.graph.vertices adj.old.levels }
-    requires upper { (v : ℕ) → v < adj.old.graph.vertices → MeetsUpper context.now.th.now.profile adj.old.graph adj.old.levels v }
+    requires rest { IsAtRest context.now adj.old work.old }
+    requires upper { (v : ℕ) → v < adj.old.graph.vertices → MeetsUpper context.now.profile adj.old.graph adj.old.levels v }
     requires ascending { EdgesFrom adj.old.graph.vertices 0 0 added.now }
     requires absent { AllAbsent adj.old.graph added.now }
     requires room { length adj.old.graph.edges + length added.now ≤ MAX_EDGES }
     ensures graph { OnOk result (adj.new.graph ≡ with_edges adj.old.graph added.now) }
-    ensures raised { OnOk result (AreRaisedIn context.now.th.now.profile adj.old.graph added.now adj.old.levels adj.new.levels) }
+    ensures raised { OnOk result (AreRaisedIn context.now.profile adj.old.graph added.now adj.old.levels adj.new.levels) }
     ensures phases { IfOk result (λ plan. ArePhaseOf phase true added.now adj.old.levels adj.new.levels adj.new.graph plan.phases) }
-    ensures ready { OnOk result (AreReady context.now.th.now.profile adj.new work.new) }
+    ensures ready { OnOk result (AreReady context.now.profile adj.new work.new) }
     ensures moves { IfOk result (λ plan. plan.moves ≡ moved_count adj.old.graph.vertices adj.old.levels adj.new.levels) }
 {
     if added.is_empty() {
-        return Ok(BatchPlan::empty(context.alloc));
+        return Ok(BatchPlan::empty(context.planners.alloc));
     }
     // Evidence for the check, as in a phase of deletions.
     let _n = adj.graph().vertices();
     let _levels = adj.levels();
-    let alloc = context.alloc;
+    let alloc = context.planners.alloc;
     let th = context.th;
     let edges = added.as_slice();
     let mut steps = Steps::<L>::new(blank);
@@ -170,16 +173,14 @@ pub(crate) fn run_phases<R: Threads + Sync, G: Gate + Sync>(
     before: u32,
     cleaned: &Cleaned,
 ) -> Result<BatchPlan, AllocError>
-    requires scale { context.now.th.now.vertices ≡ adj.old.graph.vertices }
-    requires ready { AreReady context.now.th.now.profile adj.old work.old }
-    requires capped { IsCapped context.now.th.now.profile adj.old.graph.vertices adj.old.levels }
-    requires both { MeetsBoth context.now.th.now.profile adj.old.graph adj.old.levels }
+    requires rest { IsAtRest context.now adj.old work.old }
+    requires both { MeetsBoth context.now.profile adj.old.graph adj.old.levels }
     requires few_phases { before ≤ MAX_PHASE }
     requires fits { FitsGraph adj.old.graph cleaned.now }
     requires room { length adj.old.graph.edges - length cleaned.now.removed + length cleaned.now.added ≤ MAX_EDGES }
     ensures graph { OnOk result (adj.new.graph ≡ graph_after_batch adj.old.graph cleaned.now) }
-    ensures ready { OnOk result (AreReady context.now.th.now.profile adj.new work.new) }
-    ensures plan { IfOk result (λ plan. IsPlanOf context.now.th.now.profile before adj.old.graph cleaned.now adj.old.levels adj.new.levels plan) }
+    ensures ready { OnOk result (AreReady context.now.profile adj.new work.new) }
+    ensures plan { IfOk result (λ plan. IsPlanOf context.now.profile before adj.old.graph cleaned.now adj.old.levels adj.new.levels plan) }
     ensures well_formed { IfOk result (λ plan. All (IsWellFormed adj.old.graph.vertices) plan.phases) }
 {
     // Evidence for the check: the edges of the graph ascend, and its vertices are at most `MAX_VERTICES`.

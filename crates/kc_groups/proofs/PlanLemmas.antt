@@ -14,7 +14,8 @@ use Rattle.kc_levels.specs.Moved.{is_moved, moved_below, moves_between}
 use Rattle.kc_levels.proofs.lemmas.Moves.{vertices_between, moved_rise, has_number-moved_below}
 use Rattle.kc_history.specs.declared.entries.Entry.{Entry}
 use Rattle.kc_groups.specs.Links.{AreLabels}
-use Rattle.kc_groups.specs.private.Labels.{AreJoined, AreRooted}
+use Rattle.kc_groups.specs.private.Labels.{AreJoined, AreRooted, IsLabelled}
+use Rattle.kc_groups.specs.declared.plans.Phase.{Phase}
 use Rattle.kc_groups.specs.Entries.{labels_below, moves_below, group_entry, AreEntries}
 use Rattle.kc_groups.specs.private.Forest.{IsForest, AreGathered}
 use Rattle.kc_groups.specs.Gathering.{vertices, AreInOrder, AreMovesOf}
@@ -136,3 +137,7 @@ module _ (g : GraphShape) (gone : List Pair) (ms : List Move) (graph : IsGraph g
                     (q ∙ ap (λ k. filter (is_unplaced k places) edges) p.sized ∙ quiet_are n labels roots places p (is_mover ms) rooted_here edges inside ∙ ap (λ (f : ℕ → Bool). filter (λ (e : Pair). not (f e.0) && not (f e.1)) edges) same);
                 groups = rw (are.sized) at groups;
               }
+
+-- a phase with the labels of its moves, in the graph with all its edges
+pub is_labelled : (g : GraphShape) (gone : List Pair) (phase : Phase) (labels : List ℕ) → IsGraph g → EdgesFrom g.vertices 0 0 gone → AllPresent (with_edges g gone) phase.edges.now → AreLabels (with_edges g gone) (is_mover phase.moves.now) labels → IsLabelled (with_edges g gone) phase labels
+is_labelled g gone phase labels graph up there are = record { graph = insertions_keep_graph g gone graph (inside_from_ascending g.vertices 0 0 gone up); are = are; present = there }

@@ -1,11 +1,13 @@
 -- The entries of a phase that changes the levels x to y. Its edges come in if `add` is true, and leave if it is false.
 use Rattle.std.specs.Prelude.{ℕ, ◌≡◌, ◌==◌, ◌||◌, ◌&&◌, Bool, not, List, [], ◌∷◌, ◌++◌, Some, None, get_or, map, filter}
 use Rattle.std.proofs.Common.{suc, zero}
-use Rattle.kc_graph.specs.Shape.{GraphShape, Pair}
+use Rattle.kc_graph.specs.Shape.{GraphShape, Pair, with_edges}
 use Rattle.kc_levels.specs.Moved.{is_moved, pushed_if, move_of}
 use Rattle.kc_levels.specs.declared.moves.Move.{Move}
 use Rattle.kc_history.specs.declared.entries.Entry.{Entry}
+use Rattle.kc_groups.specs.declared.plans.Phase.{Phase}
 use Rattle.kc_groups.specs.declared.plans.PhasePlan.{PhasePlan}
+use Rattle.kc_groups.specs.Gathering.{AreMovesOf}
 use Rattle.kc_groups.specs.Links.{AreLabels}
 
 -- the labels among the vertices below k, ascending; a label is a vertex that is its own label
@@ -49,3 +51,9 @@ pub record AreEntries (phase : ℕ) (add : Bool) (edges : List Pair) (x y : List
   pub are_labels : AreLabels g (is_moved x y) labels
   pub quiet : plan.quiet ≡ quiet_entry phase add edges x y
   pub groups : plan.groups ≡ map (group_entry phase add edges x y labels g.vertices) (labels_below labels g.vertices)
+
+-- the plan has the entries of the phase, by any levels between which its moves lead
+--
+-- The edges `gone` of the phase aren't in the graph g.
+abbrev pub IsPhasePlan : Phase → GraphShape → List Pair → PhasePlan → Type 0
+IsPhasePlan phase g gone plan = (x y : List ℕ) → AreMovesOf g.vertices x y phase.moves.now → AreEntries phase.number phase.add phase.edges.now x y (with_edges g gone) plan

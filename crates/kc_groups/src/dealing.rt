@@ -6,35 +6,35 @@ ghost use Rattle.kc_groups.specs.private.Gathering.{is_mover};
 ghost use Rattle.kc_groups.specs.Entries.{labels_below};
 ghost use Rattle.kc_groups.specs.private.Dealing.{empty_entry, with_moves, with_edges, ArePlaces, AreDealt, AreMovesBelow, IsPlacedEdge, edge_place, is_unplaced};
 
+use crate::Phase;
 use kc_graph::{Edge, Edges, MAX_VERTICES};
 use kc_history::{Entry, Move};
 use std::alloc::{AllocError, Global};
 
-// Makes an empty entry for each label, labels ascending. Turns the label of each vertex that moves into the place of
-// its entry.
+// Makes an empty entry of the phase for each label, labels ascending. Turns the label of each vertex that moves into
+// the place of its entry.
 //
 // A label is the least vertex of its group. So the label's own place is there before another vertex needs it.
 pub(crate) fn open_groups(
     alloc: Global,
-    phase: u32,
-    add: bool,
-    moves: &[Move],
+    phase: &Phase<'_>,
     places: &mut Vec<u32>,
     entries: &mut Vec<Entry>,
 ) -> Result<(), AllocError>
     requires small { length places.old.items ≤ MAX_VERTICES }
-    requires order { AreInOrder (length places.old.items) moves.now }
-    requires rooted { AreRooted (length places.old.items) (is_mover moves.now) places.old.items }
+    requires order { AreInOrder (length places.old.items) phase.now.moves.now }
+    requires rooted { AreRooted (length places.old.items) (is_mover phase.now.moves.now) places.old.items }
     requires entries { entries.old.items ≡ [] }
-    ensures entries { OnOk result (entries.new.items ≡ map (empty_entry phase add) (labels_below places.old.items (length places.old.items))) }
+    ensures entries { OnOk result (entries.new.items ≡ map (empty_entry phase.now.number phase.now.add) (labels_below places.old.items (length places.old.items))) }
     ensures places { OnOk result (ArePlaces (length places.old.items) places.old.items (labels_below places.old.items (length places.old.items)) places.new.items (length places.old.items)) }
 {
+    let moves = phase.moves.as_slice();
     for m in moves {
         let v = m.vertex;
         let label = places[v as usize];
         if label == v {
             places[v as usize] = entries.len() as u32;
-            entries.push(Entry::new(alloc, phase, Some(v), add))?;
+            entries.push(Entry::new(alloc, phase.number, Some(v), phase.add))?;
         } else {
             places[v as usize] = places[label as usize];
         }

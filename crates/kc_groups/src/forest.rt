@@ -1,6 +1,6 @@
 //! A forest over the places of a list: each place points to a place that is no greater, and a root to itself.
-ghost use Rattle.std.specs.Prelude.{◌≡◌, ℕ, Bool, List, ◌<◌, ◌||◌, length, slice_index};
-ghost use Rattle.kc_groups.specs.private.Forest.{IsForest, AreGathered, merged};
+ghost use Rattle.std.specs.Prelude.{◌≡◌, ℕ, Bool, List, ◌<◌, length, slice_index};
+ghost use Rattle.kc_groups.specs.private.Forest.{IsForest, Joins, merged};
 ghost use Rattle.kc_groups.specs.private.Gathering.{AreLinks};
 
 use kc_graph::Edge;
@@ -43,7 +43,7 @@ pub(crate) fn join(parents: &mut Vec<u32>, first: u32, second: u32)
 pub(crate) fn join_links(links: &[Edge], parents: &mut Vec<u32>)
     requires forest { (roots : List ℕ) × IsForest parents.old.items roots }
     requires links { (linked : ℕ → ℕ → Bool) × AreLinks (length parents.old.items) linked links.now }
-    ensures { (before linked : ℕ → ℕ → Bool) → AreGathered (length parents.old.items) before parents.old.items → AreLinks (length parents.old.items) linked links.now → AreGathered (length parents.old.items) (λ i j. before i j || linked i j) parents.new.items }
+    ensures { (linked : ℕ → ℕ → Bool) → AreLinks (length parents.old.items) linked links.now → Joins (length parents.old.items) linked parents.old.items parents.new.items }
 {
     for link in links {
         join(parents, link.b, link.a);

@@ -1,14 +1,15 @@
 //! The moves of a phase, gathered into a tree for each group, and the links between them.
-ghost use Rattle.std.specs.Prelude.{◌≡◌, ℕ, List, Bool, ◌<◌, ◌≤◌, ◌||◌, IfOk, OnOk, cond, false, true, length, nat_lt, slice_index};
+ghost use Rattle.std.specs.Prelude.{◌≡◌, ℕ, List, ◌<◌, ◌≤◌, IfOk, OnOk, cond, false, true, length, nat_lt, slice_index};
 ghost use Rattle.kc_graph.specs.Shape.{EdgesFrom};
-ghost use Rattle.kc_groups.specs.private.Forest.{AreGathered, IsForest};
+ghost use Rattle.kc_groups.specs.private.Forest.{AreGathered, IsForest, Joins};
 ghost use Rattle.kc_groups.specs.Gathering.{vertices};
-ghost use Rattle.kc_groups.specs.private.Gathering.{AreLinks, AreNumbered, in_row, in_rows, in_piece, in_edges};
+ghost use Rattle.kc_groups.specs.private.Gathering.{Adds, AreLinks, AreNumbered, in_row, in_rows, in_piece, in_edges};
 
 use crate::forest::join;
 use kc_graph::{Edge, Graph, MAX_VERTICES};
 use kc_history::Move;
 use std::alloc::{AllocError, Global};
+use std::ops::Range;
 
 // Makes a forest of m places, each a tree of its own.
 pub(crate) fn lone_places(alloc: Global, m: u32) -> Result<Vec<u32>, AllocError>
@@ -68,7 +69,7 @@ fn link_row(graph: &Graph, moves: &[Move], places: &[u32], parents: &mut Vec<u32
     requires numbered { AreNumbered graph.now.vertices (vertices moves.now) places.now }
     requires many { length parents.old.items ≡ length moves.now }
     requires forest { (roots : List ℕ) × IsForest parents.old.items roots }
-    ensures { (before : ℕ → ℕ → Bool) → AreGathered (length moves.now) before parents.old.items → AreGathered (length moves.now) (λ i j. before i j || in_row graph.now (vertices moves.now) place i j) parents.new.items }
+    ensures { Joins (length moves.now) (in_row graph.now (vertices moves.now) place) parents.old.items parents.new.items }
 {
     let v = vertex_in_turn(graph, moves, place);
     for w in graph.neighbours(v) {
@@ -107,7 +108,7 @@ fn find_links(
 ) -> Result<(), AllocError>
     requires inside { place < length moves.now }
     requires numbered { AreNumbered graph.now.vertices (vertices moves.now) places.now }
-    ensures { OnOk result ((before : ℕ → ℕ → Bool) → AreLinks (length moves.now) before links.old.items → AreLinks (length moves.now) (λ i j. before i j || in_row graph.now (vertices moves.now) place i j) links.new.items) }
+    ensures { OnOk result (Adds (length moves.now) (in_row graph.now (vertices moves.now) place) links.old.items links.new.items) }
 {
     let v = vertex_in_turn(graph, moves, place);
     for w in graph.neighbours(v) {
@@ -119,22 +120,22 @@ fn find_links(
     Ok(())
 }
 
-// Returns the links to lesser places of the moves from place `from` up to place `to`, without `to`.
+// Returns the links to lesser places of the moves at the places of a part.
 pub(crate) fn links_between(
     alloc: Global,
     graph: &Graph,
     moves: &[Move],
     places: &[u32],
-    from: u32,
-    to: u32,
+    part: Range<usize>,
 ) -> Result<Vec<Edge>, AllocError>
+    requires small { length moves.now ≤ MAX_VERTICES }
     requires numbered { AreNumbered graph.now.vertices (vertices moves.now) places.now }
-    requires order { from ≤ to }
-    requires inside { to ≤ length moves.now }
-    ensures { IfOk result (λ links. AreLinks (length moves.now) (in_piece graph.now (vertices moves.now) from to) links.items) }
+    requires order { part.start ≤ part.end }
+    requires inside { part.end ≤ length moves.now }
+    ensures { IfOk result (λ links. AreLinks (length moves.now) (in_piece graph.now (vertices moves.now) part.start part.end) links.items) }
 {
     let mut links = Vec::new(alloc);
-    for place in from..to {
+    for place in part.start as u32..part.end as u32 {
         find_links(graph, moves, places, place, &mut links)?;
     }
     Ok(links)
@@ -147,7 +148,7 @@ pub(crate) fn link_edges(edges: &[Edge], moves: &[Move], places: &[u32], parents
     requires ascending { EdgesFrom (length places.now) 0 0 edges.now }
     requires many { length parents.old.items ≡ length moves.now }
     requires forest { (roots : List ℕ) × IsForest parents.old.items roots }
-    ensures { (before : ℕ → ℕ → Bool) → AreGathered (length moves.now) before parents.old.items → AreGathered (length moves.now) (λ i j. before i j || in_edges edges.now (vertices moves.now) i j) parents.new.items }
+    ensures { Joins (length moves.now) (in_edges edges.now (vertices moves.now)) parents.old.items parents.new.items }
 {
     let m = moves.len() as u32;
     for e in edges {

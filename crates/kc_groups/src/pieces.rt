@@ -36,24 +36,6 @@ pub(crate) fn piece_count(workers: u32, moves: usize) -> u32
     long.max(1)
 }
 
-// Returns the links to lesser places of the moves of a piece, from place `start` on.
-fn links_of(
-    alloc: Global,
-    graph: &Graph,
-    moves: &[Move],
-    places: &[u32],
-    start: usize,
-    piece: &[Move],
-) -> Result<Vec<Edge>, AllocError>
-    requires small { length moves.now ≤ MAX_VERTICES }
-    requires numbered { AreNumbered graph.now.vertices (vertices moves.now) places.now }
-    requires inside { start + length piece.now ≤ length moves.now }
-    ensures { IfOk result (λ links. AreLinks (length moves.now) (in_piece graph.now (vertices moves.now) start (start + length piece.now)) links.items) }
-{
-    let end = start + piece.len();
-    links_between(alloc, graph, moves, places, start as u32, end as u32)
-}
-
 // Makes a forest over the moves, in which moves with an edge of the graph between them are in one tree.
 //
 // There are `pieces` pieces, or fewer if there are few moves. Each finds its links in a thread of its own if one can be
@@ -83,7 +65,7 @@ pub(crate) fn gather_rows<R: Threads + Sync>(
         &|start: usize, piece: &[Move]| -> Result<Vec<Edge>, AllocError>
             requires { (length moves.now ≤ MAX_VERTICES) × AreNumbered graph.now.vertices (vertices moves.now) places.now × (start + length piece.now ≤ length moves.now) }
             ensures { IfOk result (λ links. AreLinks (length moves.entry.now) (in_piece graph.entry.now (vertices moves.entry.now) start (start + length piece.entry.now)) links.items) }
-        { links_of(alloc, graph, moves, places, start, piece) },
+        { links_between(alloc, graph, moves, places, start..start + piece.len()) },
     )?;
     let mut parents = lone_places(alloc, moves.len() as u32)?;
     for links in &found {

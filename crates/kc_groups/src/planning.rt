@@ -1,13 +1,15 @@
 //! The plan of a phase from end to end. Its moves are numbered and joined into groups. Then moves and edges are dealt
 //! to the entries of these groups.
-ghost use Rattle.std.specs.Prelude.{◌≡◌, ◌≤◌, ℕ, List, IfOk, OnOk, IsTrue, length, true, false};
-ghost use Rattle.kc_graph.specs.Shape.{EdgesFrom, with_edges};
+ghost use Rattle.std.specs.Prelude.{◌≡◌, ◌≤◌, [], IfOk, OnOk, length, true, false};
+ghost use Rattle.kc_graph.specs.Shape.{EdgesFrom, GraphShape, with_edges};
 ghost use Rattle.kc_graph.specs.Changes.{AllPresent};
 ghost use Rattle.kc_levels.specs.LevelList.{IsBelow};
-ghost use Rattle.kc_groups.specs.Entries.{AreEntries};
-ghost use Rattle.kc_groups.specs.Gathering.{vertices, clean, AreInOrder, AreMovesOf};
+ghost use Rattle.kc_groups.specs.Entries.{AreEntries, IsPhasePlan};
+ghost use Rattle.kc_groups.specs.Gathering.{vertices, clean, AreInOrder};
 ghost use Rattle.kc_groups.specs.private.Forest.{AreGathered};
-ghost use Rattle.kc_groups.specs.private.Gathering.{AreNumbered, in_rows};
+ghost use Rattle.kc_groups.specs.Links.{AreLabels};
+ghost use Rattle.kc_groups.specs.private.Gathering.{AreNumbered, is_mover, in_rows};
+ghost use Rattle.kc_groups.specs.private.Labels.{IsLabelled};
 ghost use Rattle.kc_groups.specs.WellFormed.{IsWellFormed};
 
 use crate::dealing::{deal_edges, deal_moves, open_groups};
@@ -16,38 +18,50 @@ use crate::moved::find_moves;
 use crate::pieces::{Planners, gather_rows, piece_count};
 use crate::work::{GroupWork, clear, label, number};
 use crate::{Phase, PhasePlan};
-use kc_graph::{Edge, Graph};
-use kc_history::{Entries, Entry};
+use kc_graph::{Edge, Graph, MAX_VERTICES};
+use kc_history::{Entries, Entry, Move};
 use kc_levels::Levels;
 use std::alloc::{AllocError, Global};
 use std::thread::Threads;
 
-// Makes the plan of a phase from a forest of its moves (`gather_rows`). The moves with an edge of `gone` between them
-// are joined too, and each tree is a group. `places` has the place of each move, and is clean afterwards.
-fn plan_trees(
-    alloc: Global,
-    phase: &Phase<'_>,
+// Gives each vertex that moves the label of its group, by a forest of the moves (`gather_rows`). The moves with an edge
+// of `gone` between them are joined too, and each tree is then a group. `places` has the place of each move before.
+fn label_groups(
     graph: &Graph,
     gone: &[Edge],
+    moves: &[Move],
     places: &mut Vec<u32>,
-    mut parents: Vec<u32>,
-) -> Result<PhasePlan, AllocError>
-    requires order { AreInOrder graph.now.vertices phase.now.moves.now }
-    requires numbered { AreNumbered graph.now.vertices (vertices phase.now.moves.now) places.old.items }
-    requires gathered { AreGathered (length phase.now.moves.now) (in_rows graph.now (vertices phase.now.moves.now) (length phase.now.moves.now)) parents.items }
+    parents: &mut Vec<u32>,
+)
+    requires order { AreInOrder graph.now.vertices moves.now }
+    requires numbered { AreNumbered graph.now.vertices (vertices moves.now) places.old.items }
+    requires gathered { AreGathered (length moves.now) (in_rows graph.now (vertices moves.now) (length moves.now)) parents.old.items }
     requires ascending { EdgesFrom graph.now.vertices 0 0 gone.now }
-    requires present { AllPresent (with_edges graph.now gone.now) phase.now.edges.now }
-    ensures clean { OnOk result (places.new.items ≡ clean graph.now.vertices) }
-    ensures entries { IfOk result (λ plan. (before after : List ℕ) → AreMovesOf graph.now.vertices before after phase.now.moves.now → AreEntries phase.now.number phase.now.add phase.now.edges.now before after (with_edges graph.now gone.now) plan) }
+    ensures { AreLabels (with_edges graph.now gone.now) (is_mover moves.now) places.new.items }
 {
     // Evidence for the check: the vertices of the graph are at most `MAX_VERTICES`.
     let _n = graph.vertices();
+    link_edges(gone, moves, places, parents);
+    label(moves, parents, places);
+}
+
+// Makes the plan of a phase from the labels of the vertices that move. `places` has the labels, and is clean
+// afterwards.
+fn plan_labelled(
+    alloc: Global,
+    phase: &Phase<'_>,
+    places: &mut Vec<u32>,
+) -> Result<PhasePlan, AllocError>
+    requires small { length places.old.items ≤ MAX_VERTICES }
+    requires order { AreInOrder (length places.old.items) phase.now.moves.now }
+    requires labelled { (g : GraphShape) × IsLabelled g phase.now places.old.items }
+    ensures clean { OnOk result (places.new.items ≡ clean (length places.old.items)) }
+    ensures entries { IfOk result (λ plan. (g : GraphShape) → IsLabelled g phase.now places.old.items → IsPhasePlan phase.now g [] plan) }
+{
     let moves = phase.moves.as_slice();
-    link_edges(gone, moves, places, &mut parents);
-    label(moves, &parents, places);
     let mut groups = Vec::new(alloc);
     let mut quiet = Entry::new(alloc, phase.number, None, phase.add);
-    open_groups(alloc, phase.number, phase.add, moves, places, &mut groups)?;
+    open_groups(alloc, phase, places, &mut groups)?;
     deal_moves(moves, places, &mut groups)?;
     deal_edges(places, phase.edges, &mut quiet.edges, &mut groups)?;
     clear(moves, places);
@@ -57,34 +71,8 @@ fn plan_trees(
     })
 }
 
-// Returns the same as `plan_moves`, with the moves cut into this many pieces.
-pub(crate) fn plan_in_pieces<R: Threads + Sync>(
-    planners: &Planners<'_, R>,
-    phase: &Phase<'_>,
-    graph: &Graph,
-    gone: &[Edge],
-    work: &mut GroupWork,
-    pieces: u32,
-) -> Result<PhasePlan, AllocError>
-    requires pieces { 1 ≤ pieces }
-    requires clean { work.old ≡ clean graph.now.vertices }
-    requires order { AreInOrder graph.now.vertices phase.now.moves.now }
-    requires ascending { EdgesFrom graph.now.vertices 0 0 gone.now }
-    requires present { AllPresent (with_edges graph.now gone.now) phase.now.edges.now }
-    ensures clean { OnOk result (work.new ≡ clean graph.now.vertices) }
-    ensures entries { IfOk result (λ plan. (before after : List ℕ) → AreMovesOf graph.now.vertices before after phase.now.moves.now → AreEntries phase.now.number phase.now.add phase.now.edges.now before after (with_edges graph.now gone.now) plan) }
-{
-    // Evidence for the check, as in `plan_trees`.
-    let _n = graph.vertices();
-    let moves = phase.moves.as_slice();
-    let places = &mut work.places;
-    number(moves, places);
-    let parents = gather_rows(planners, graph, moves, places, pieces)?;
-    plan_trees(planners.alloc, phase, graph, gone, places, parents)
-}
-
 /// Returns the entries of a phase, as `AreEntries` defines: by the graph with all its edges, and by levels before and
-/// after it. Any levels will do, if the moves lead from the first to the second (`AreMovesOf`).
+/// after it. Any levels will do, if the moves lead from the first to the second (`IsPhasePlan`).
 ///
 /// `graph` is the graph after the phase, or the one before it. `gone` has those edges of the phase that `graph` lacks:
 /// none for the graph after an insertion, and all for the graph after a deletion. The edges of `gone` ascend, and so do
@@ -111,10 +99,18 @@ pub fn plan_moves<R: Threads + Sync>(
     requires ascending { EdgesFrom graph.now.vertices 0 0 gone.now }
     requires present { AllPresent (with_edges graph.now gone.now) phase.now.edges.now }
     ensures clean { OnOk result (work.new ≡ clean graph.now.vertices) }
-    ensures entries { IfOk result (λ plan. (before after : List ℕ) → AreMovesOf graph.now.vertices before after phase.now.moves.now → AreEntries phase.now.number phase.now.add phase.now.edges.now before after (with_edges graph.now gone.now) plan) }
+    ensures entries { IfOk result (IsPhasePlan phase.now graph.now gone.now) }
 {
-    let pieces = piece_count(planners.workers, phase.moves.len());
-    plan_in_pieces(planners, phase, graph, gone, work, pieces)
+    // Evidence for the check, as in `label_groups`.
+    let _n = graph.vertices();
+    let moves = phase.moves.as_slice();
+    let places = &mut work.places;
+    number(moves, places);
+    let pieces = piece_count(planners.workers, moves.len());
+    let mut parents = gather_rows(planners, graph, moves, places, pieces)?;
+    label_groups(graph, gone, moves, places, &mut parents);
+    let plan = plan_labelled(planners.alloc, phase, places)?;
+    Ok(plan)
 }
 
 /// Returns the entries of phase `phase`, as `AreEntries` defines. Its edges come in if `add` is true, and otherwise
@@ -149,12 +145,14 @@ pub fn plan_phase(
     let places = &mut work.places;
     let list = moves.as_slice();
     number(list, places);
-    let parents = link_rows(alloc, graph, list, places)?;
+    let mut parents = link_rows(alloc, graph, list, places)?;
+    label_groups(graph, &[], list, places, &mut parents);
     let phase = Phase {
         number: phase,
         add,
         edges,
         moves: &moves,
     };
-    plan_trees(alloc, &phase, graph, &[], places, parents)
+    let plan = plan_labelled(alloc, &phase, places)?;
+    Ok(plan)
 }

@@ -8,7 +8,8 @@ use Rattle.kc_intake.specs.declared.updates.Update.{Update}
 use Rattle.kc_intake.specs.declared.roles.Submitted.{Submitted}
 use Rattle.kc_intake.specs.declared.roles.Role.{Role}
 use Rattle.kc_intake.specs.Rule.{IsKept}
-use Rattle.kc_intake.specs.Updates.{updates_of, updates_in}
+use Rattle.kc_intake.specs.Updates.{updates_of, updates_in, all_updates}
+use Rattle.kc_intake.specs.Views.{DrainerShape, drainer_role, AreAllDrained}
 
 -- invariants of the updates drained of an intake and of those that wait in it, both oldest first
 abbrev pub Holds : Type 1
@@ -43,3 +44,9 @@ pub record MayWait (holds : Holds) (role : Role) (items : List Update) : Type 0 
 -- the queue held n updates at a step at which the pass had this role
 abbrev pub HeldAtStep : Holds → ℕ → Role → Type 0
 HeldAtStep holds n role = Held n (MayWait holds role)
+
+-- the drainer found the queue empty: it was so at a step, and all items of the clients taken in are drained
+--
+-- The invariant holds of the drained updates while none waits.
+abbrev pub FoundEmpty : Holds → DrainerShape → Type 0
+FoundEmpty holds d = HeldAtStep holds 0 (drainer_role d) × AreAllDrained d × holds (all_updates d.taken) []

@@ -3,9 +3,9 @@
 ghost use Rattle.std.specs.Prelude.{◌≡◌, ◌≤◌, ◌<◌, [], ◌∷◌, ◌++◌, length, map, All, IfOk, OnOk, OnErr};
 ghost use Rattle.std.specs.List.{range_with_len};
 ghost use mathlib.Core.List.{IsPrefix};
-ghost use Rattle.kc_intake.specs.Causes.{HeldAtStep, HoldsOf, StaysAtSubmit, StaysAtDrain};
+ghost use Rattle.kc_intake.specs.Causes.{FoundEmpty, HeldAtStep, HoldsOf, StaysAtSubmit, StaysAtDrain};
 ghost use Rattle.kc_intake.specs.Updates.{updates_of, updates_in, all_updates, AreNumbered};
-ghost use Rattle.kc_intake.specs.Views.{client_role, drainer_role, new_client, submitted, AreAllDrained};
+ghost use Rattle.kc_intake.specs.Views.{client_role, new_client, submitted};
 
 use crate::client::Client;
 use crate::drainer::Drainer;
@@ -139,8 +139,8 @@ impl<I: Invariant> Intake<I> {
     /// The batch is shorter than `capacity` only if the queue was empty at a step after the last update was drained
     /// (`HeldAtStep`). `Empty` comes only in that case too; then the batch is empty, and nothing was drained.
     ///
-    /// In both cases the invariant held of the drained updates while none waited. All items are drained that were sent
-    /// by the clients taken in (`AreAllDrained`).
+    /// In both cases (`FoundEmpty`) the invariant held of the drained updates while none waited. All items are drained
+    /// that were sent by the clients taken in (`AreAllDrained`).
     ///
     /// Cost: time in proportion to the batch, except that the call tries again while other threads are at the same
     /// place of the queue.
@@ -156,8 +156,8 @@ impl<I: Invariant> Intake<I> {
         ensures clients { OnOk result (All (λ u. u.client < drainer.new.clients) drainer.new.batch) }
         ensures serials { OnOk result (AreNumbered drainer.new.taken) }
         ensures invariant { OnOk result (HoldsOf I.holds (all_updates drainer.new.taken)) }
-        ensures short { OnOk result (length drainer.new.batch < self.now.capacity → HeldAtStep I.holds 0 (drainer_role drainer.new) × AreAllDrained drainer.new × I.holds (all_updates drainer.new.taken) []) }
-        ensures empty { OnErr result ((drainer.new ≡ record drainer.old { batch = [] }) × HeldAtStep I.holds 0 (drainer_role drainer.new) × AreAllDrained drainer.new × I.holds (all_updates drainer.new.taken) []) }
+        ensures short { OnOk result (length drainer.new.batch < self.now.capacity → FoundEmpty I.holds drainer.new) }
+        ensures empty { OnErr result ((drainer.new ≡ record drainer.old { batch = [] }) × FoundEmpty I.holds drainer.new) }
     {
         drainer.batch.clear();
         let Some(first) = self.queue.pop_as::<Begins<I>, R>(rt, &mut drainer.pass) else {

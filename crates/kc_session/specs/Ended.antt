@@ -4,6 +4,8 @@ use Rattle.std.specs.List.{sum_by, fold}
 use Rattle.kc_batch.specs.declared.batch.Next.{Next}
 use Rattle.kc_batch.specs.HeaderShape.{HeaderShape}
 use Rattle.kc_history.specs.declared.replies.Reply.{Reply}
+use Rattle.kc_engine.specs.States.{State}
+use Rattle.kc_session.specs.declared.counts.Counts.{Counts}
 use Rattle.kc_session.specs.declared.ended.Ended.{Ended}
 use Rattle.kc_session.specs.Counts.{capped, refused_in, all_groups, all_moves}
 use Rattle.kc_session.specs.States.{Step, start, last_state}
@@ -15,6 +17,11 @@ greatest levels = fold max 0 levels
 -- the number of replies
 abbrev pub replies_in : List (List Reply) → ℕ
 replies_in lists = sum_by (λ (rs : List Reply). length rs) lists
+
+-- the counts of a session that ends in this state: those of its batches, its number of replies, and its greatest level
+abbrev pub ended_with : Counts → State → ℕ → List ℕ → Ended
+ended_with c s replies levels =
+    record { batches = c.batches; refused = c.refused; phases = s.phases; groups = c.groups; moves = c.moves; edges = length s.graph.edges; replies = replies; top = greatest levels }
 
 -- the counts at the end of a session whose batches led to these steps
 --

@@ -1,6 +1,6 @@
 //! The counts at the end of a session, for a text of one line.
-ghost use Rattle.std.specs.Prelude.{◌≡◌, ◌<◌, ◌^◌, length, max};
-ghost use Rattle.kc_session.specs.Ended.{greatest, replies_in};
+ghost use Rattle.std.specs.Prelude.{◌≡◌, ◌<◌, ◌^◌, max};
+ghost use Rattle.kc_session.specs.Ended.{ended_with, greatest, replies_in};
 ghost use Rattle.kc_session.specs.States.{IsOpen};
 
 use crate::counts::Counts;
@@ -63,7 +63,7 @@ impl Ended {
     /// these levels.
     pub fn with(counts: Counts, engine: &Engine, replies: u32, levels: &[u16]) -> Ended
         requires { IsOpen engine.now }
-        ensures { result ≡ record { batches = counts.batches; refused = counts.refused; phases = engine.now.state.phases; groups = counts.groups; moves = counts.moves; edges = length engine.now.state.graph.edges; replies = replies; top = greatest levels.now } }
+        ensures { result ≡ ended_with counts engine.now.state replies levels.now }
     {
         Ended {
             batches: counts.batches,

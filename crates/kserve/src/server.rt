@@ -71,8 +71,8 @@ impl Server {
         updates: &[Update],
     ) -> Result<(), Stop>
         requires few { length updates.now ≤ MAX_ITEMS }
-        requires ready { IsReady context.now.asked.now.n self.old.engine }
-        ensures taken { TakesBatch context.now.asked.now.n number updates.now self.old.engine.state self.new.engine.state (K.taken sink.old) (K.taken sink.new) result }
+        requires ready { IsReady context.now.n self.old.engine }
+        ensures taken { TakesBatch context.now.n number updates.now self.old.engine.state self.new.engine.state (K.taken sink.old) (K.taken sink.new) result }
         ensures open { OnOk result (IsOpen self.new.engine) }
         ensures cause { StopCause (K.faults sink.old) (K.faults sink.new) result }
     {
@@ -101,8 +101,8 @@ impl Server {
         course: Result<(), Stop>,
     ) -> Result<(), Stop>
         requires few { length updates.now ≤ MAX_ITEMS }
-        requires ready { OnOk course (IsReady context.now.asked.now.n self.old.engine) }
-        ensures served { GoesOn context.now.asked.now.n number updates.now self.old.engine.state self.new.engine.state (K.taken sink.old) (K.taken sink.new) course result }
+        requires ready { OnOk course (IsReady context.now.n self.old.engine) }
+        ensures served { GoesOn context.now.n number updates.now self.old.engine.state self.new.engine.state (K.taken sink.old) (K.taken sink.new) course result }
         ensures open { OnOk result (IsOpen self.new.engine) }
         ensures cause { GoesOnCause (K.faults sink.old) (K.faults sink.new) course result }
     {
@@ -130,10 +130,10 @@ impl Server {
         requires capacity { intake.now.capacity ≡ CAPACITY }
         requires drainer { (drainer.old.intake ≡ intake.now) × (drainer.old.taken ≡ []) }
         requires open { IsOpen self.old.engine }
-        requires start { self.old.engine.state ≡ start context.now.asked.now.n }
-        ensures served { Serves context.now.asked.now.n (start context.now.asked.now.n) drainer.new.taken self.new.engine.state (K.taken sink.old) (K.taken sink.new) result }
+        requires start { self.old.engine.state ≡ start context.now.n }
+        ensures served { Serves context.now.n (start context.now.n) drainer.new.taken self.new.engine.state (K.taken sink.old) (K.taken sink.new) result }
         ensures drained { AreDrained intake.now drainer.old drainer.new }
-        ensures all { context.now.asked.now.count ≤ length (all_updates drainer.new.taken) }
+        ensures all { context.now.count ≤ length (all_updates drainer.new.taken) }
         ensures open { OnOk result (IsOpen self.new.engine) }
         ensures cause { StopCause (K.faults sink.old) (K.faults sink.new) result }
     {

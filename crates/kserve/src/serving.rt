@@ -49,15 +49,15 @@ fn side_by_side<R: Threads + Wait + Sync, K: Sink + Send, G: Gate + Sync>(
     sink: &mut K,
 ) -> Result<(), Stop>
     requires none { opened.old.drainer.taken ≡ [] }
-    requires clients { AreNew opened.old.intake (length context.now.asked.now.scripts.items) opened.old.clients.items }
+    requires clients { AreNew opened.old.intake (length context.now.scripts.items) opened.old.clients.items }
     requires open { IsOpen server.old.engine }
-    requires start { server.old.engine.state ≡ start context.now.asked.now.n }
-    ensures served { Serves context.now.asked.now.n (start context.now.asked.now.n) opened.new.drainer.taken server.new.engine.state (K.taken sink.old) (K.taken sink.new) result }
+    requires start { server.old.engine.state ≡ start context.now.n }
+    ensures served { Serves context.now.n (start context.now.n) opened.new.drainer.taken server.new.engine.state (K.taken sink.old) (K.taken sink.new) result }
     ensures intake { opened.new.intake ≡ opened.old.intake }
     ensures drained { AreDrained opened.old.intake opened.old.drainer opened.new.drainer }
-    ensures all { context.now.asked.now.count ≤ length (all_updates opened.new.drainer.taken) }
+    ensures all { context.now.count ≤ length (all_updates opened.new.drainer.taken) }
     ensures open { OnOk result (IsOpen server.new.engine) }
-    ensures clients { HaveEnded opened.old.intake context.now.asked.now.scripts.items opened.new.clients.items }
+    ensures clients { HaveEnded opened.old.intake context.now.scripts.items opened.new.clients.items }
     ensures cause { StopCause (K.faults sink.old) (K.faults sink.new) result }
 {
     let rt = context.rt;
@@ -69,7 +69,7 @@ fn side_by_side<R: Threads + Wait + Sync, K: Sink + Send, G: Gate + Sync>(
     thread::join_mut(
         rt,
         &mut ||
-            requires { IsSync R.row × IsSync G.row × (intake.now.capacity ≡ CAPACITY) × (drainer.now.intake ≡ intake.now) × (drainer.now.taken ≡ []) × IsOpen server.now.engine × (server.now.engine.state ≡ start context.now.asked.now.n) }
+            requires { IsSync R.row × IsSync G.row × (intake.now.capacity ≡ CAPACITY) × (drainer.now.intake ≡ intake.now) × (drainer.now.taken ≡ []) × IsOpen server.now.engine × (server.now.engine.state ≡ start context.now.n) }
         { server.run(context, intake, drainer, sink) },
         &mut ||
             requires { IsSync R.row × IsSync G.row × AreNew intake.now (length scripts.now) clients.now.items × (length scripts.now ≤ MAX_CLIENTS) × All (λ script. length script ≤ MAX_ITEMS) scripts.now }
@@ -97,10 +97,10 @@ fn serve_clients<R: Threads + Wait + Sync, K: Sink + Send, G: Gate + Sync>(
     server: &mut Server,
     sink: &mut K,
 ) -> Result<(), ServeFault>
-    requires some { 1 ≤ length context.now.asked.now.scripts.items }
+    requires some { 1 ≤ length context.now.scripts.items }
     requires open { IsOpen server.old.engine }
-    requires start { server.old.engine.state ≡ start context.now.asked.now.n }
-    ensures served { ServesAll context.now.asked.now.n context.now.asked.now.scripts.items server.new.engine.state (K.taken sink.old) (K.taken sink.new) result }
+    requires start { server.old.engine.state ≡ start context.now.n }
+    ensures served { ServesAll context.now.n context.now.scripts.items server.new.engine.state (K.taken sink.old) (K.taken sink.new) result }
     ensures open { OnOk result (IsOpen server.new.engine) }
     ensures cause { WritingCause (K.faults sink.old) (K.faults sink.new) result }
 {
@@ -131,8 +131,8 @@ fn serve_batches<R: Threads + Wait + Sync, K: Sink + Send, G: Gate + Sync>(
     sink: &mut K,
 ) -> Result<(), ServeFault>
     requires open { IsOpen server.old.engine }
-    requires start { server.old.engine.state ≡ start context.now.asked.now.n }
-    ensures served { ServesAll context.now.asked.now.n context.now.asked.now.scripts.items server.new.engine.state (K.taken sink.old) (K.taken sink.new) result }
+    requires start { server.old.engine.state ≡ start context.now.n }
+    ensures served { ServesAll context.now.n context.now.scripts.items server.new.engine.state (K.taken sink.old) (K.taken sink.new) result }
     ensures open { OnOk result (IsOpen server.new.engine) }
     ensures cause { WritingCause (K.faults sink.old) (K.faults sink.new) result }
 {
@@ -149,8 +149,8 @@ fn serve_opened<R: Threads + Wait + Sync, K: Sink + Send, G: Gate + Sync>(
     sink: &mut K,
 ) -> Result<(), ServeFault>
     requires open { IsOpen server.old.engine }
-    requires start { server.old.engine.state ≡ start context.now.asked.now.n }
-    ensures text { Writes context.now.asked.now.n context.now.asked.now.scripts.items (K.taken sink.old) (K.taken sink.new) result }
+    requires start { server.old.engine.state ≡ start context.now.n }
+    ensures text { Writes context.now.n context.now.scripts.items (K.taken sink.old) (K.taken sink.new) result }
     ensures cause { WritingCause (K.faults sink.old) (K.faults sink.new) result }
 {
     let alloc = context.alloc;

@@ -1,6 +1,6 @@
 -- Lowering with marks at the vertices that wait for a test.
 use Rattle.std.specs.Prelude.{ℕ, ◌-◌, ◌≤◌, ◌<◌, ◌≡◌, ◌⊎◌, ◌&&◌, nat_lt, Bool, true, false, List, [], ◌∷◌, length, get_or}
-use Rattle.kc_graph.specs.Shape.{GraphShape, Pair}
+use Rattle.kc_graph.specs.Shape.{GraphShape, Pair, neighbours_of}
 use Rattle.kc_levels.specs.declared.profile.Profile.{Profile}
 use Rattle.kc_levels.specs.Thresholds.{low, group_of}
 use Rattle.kc_levels.specs.LevelList.{at_least, MeetsLower}
@@ -34,6 +34,11 @@ IsUntouched from to level = (level - 1 ≤ to) ⊎ (from < level - 1)
 -- w was tested after a neighbour fell from one level to another, or needed no test
 abbrev pub IsLookedAt : Profile → GraphShape → ℕ → ℕ → List ℕ → List Bool → ℕ → Type 0
 IsLookedAt p g from to y waits w = IsUntouched from to (get_or y w 0) ⊎ WaitsOrMeets p g y waits w
+
+-- each neighbour of v was looked at after v fell from a level to its own
+abbrev pub AreLookedAt : Profile → GraphShape → ℕ → ℕ → List ℕ → List Bool → Type 0
+AreLookedAt p g v from y waits =
+    (k : ℕ) → k < length (neighbours_of v g.edges) → IsLookedAt p g from (get_or y v 0) y waits (get_or (neighbours_of v g.edges) k 0)
 
 -- both ends of each edge
 abbrev pub ends_of : List Pair → List ℕ

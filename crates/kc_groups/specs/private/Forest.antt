@@ -1,5 +1,5 @@
 -- A forest over the places of a list.
-use Rattle.std.specs.Prelude.{ℕ, ◌≤◌, ◌<◌, ◌≡◌, ◌==◌, Bool, true, cond, List, length, get_or, map, max, min}
+use Rattle.std.specs.Prelude.{ℕ, ◌≤◌, ◌<◌, ◌≡◌, ◌==◌, ◌||◌, Bool, true, cond, List, length, get_or, map, max, min}
 
 -- each place points to one that is no greater, and the way up from it ends at its root in `roots`
 pub record IsForest (parents roots : List ℕ) : Type 0 where
@@ -23,3 +23,7 @@ pub record AreGathered (m : ℕ) (linked : ℕ → ℕ → Bool) (parents : List
   pub sized : length parents ≡ m
   pub joined : (i j : ℕ) → i < m → j < m → linked i j ≡ true → get_or roots i 0 ≡ get_or roots j 0
   pub sound : (label : ℕ → ℕ) → ((i j : ℕ) → i < m → j < m → linked i j ≡ true → label i ≡ label j) → (i : ℕ) → i < m → label (get_or roots i 0) ≡ label i
+
+-- the forest `old` became `new` by links: if it had the trees of some links before, it has those of them and of these
+abbrev pub Joins : ℕ → (ℕ → ℕ → Bool) → List ℕ → List ℕ → Type 0
+Joins m linked old new = (before : ℕ → ℕ → Bool) → AreGathered m before old → AreGathered m (λ i j. before i j || linked i j) new

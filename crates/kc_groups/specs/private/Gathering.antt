@@ -1,5 +1,5 @@
 -- Numbers, trees and labels of vertices that move.
-use Rattle.std.specs.Prelude.{ℕ, ◌<◌, ◌≡◌, ◌==◌, nat_le, nat_lt, Bool, false, ◌&&◌, List, length, get_or, All}
+use Rattle.std.specs.Prelude.{ℕ, ◌<◌, ◌≡◌, ◌==◌, nat_le, nat_lt, Bool, false, ◌&&◌, ◌||◌, List, length, get_or, All}
 use Rattle.kc_graph.specs.Numbers.{RisesFrom, AllBelow, has_number}
 use Rattle.kc_graph.specs.Shape.{GraphShape, Pair, neighbours_of, has_edge}
 use Rattle.kc_levels.specs.declared.moves.Move.{Move}
@@ -41,6 +41,10 @@ in_piece g movers from k i j = nat_le from i && in_rows g movers k i j
 pub record AreLinks (m : ℕ) (linked : ℕ → ℕ → Bool) (links : List Pair) : Type 0 where
   pub inside : All (λ (e : Pair). (e.0 < m) × (e.1 < m)) links
   pub same : (i j : ℕ) → i < m → j < m → has_edge (j, i) links ≡ linked i j
+
+-- the list `old` became `new` by links: if it had the pairs of some links before, it has those of them and of these
+abbrev pub Adds : ℕ → (ℕ → ℕ → Bool) → List Pair → List Pair → Type 0
+Adds m linked old new = (before : ℕ → ℕ → Bool) → AreLinks m before old → AreLinks m (λ i j. before i j || linked i j) new
 
 -- an edge leads from the mover at place i to the one at place j
 abbrev pub in_edges : List Pair → List ℕ → ℕ → ℕ → Bool

@@ -19,12 +19,12 @@ returns-then-is_empty-clause-moves g c = ap (λ (p : BatchPlan). p.moves) c.empt
 pub follow-requires-clause-levels : goal.follow-requires-clause-levels
 follow-requires-clause-levels g c =
     let same : c.delete_phase.new.adj.graph.vertices ≡ c.args.adj.now.graph.vertices = ap (λ (h : GraphShape). h.vertices) c.in_ok-moves.ensures.graph ∙ vertices-without_edges c.args.adj.now.graph c.as_slice-edges.result.now in
-    ap (λ (x : List ℕ). length x) c.requires.ready.insertion.levels ∙ c.levels-levels.ensures.sized ∙ sym same
+    ap (λ (x : List ℕ). length x) c.requires.rest.ready.insertion.levels ∙ c.levels-levels.ensures.sized ∙ sym same
 
 pub follow-requires-clause-vertices : goal.follow-requires-clause-vertices
 follow-requires-clause-vertices g c =
     let same : c.delete_phase.new.adj.graph.vertices ≡ c.args.adj.now.graph.vertices = ap (λ (h : GraphShape). h.vertices) c.in_ok-moves.ensures.graph ∙ vertices-without_edges c.args.adj.now.graph c.as_slice-edges.result.now in
-    λ v h. c.requires.ready.insertion.quiet.shape.vertex v (omega (arith, h, same))
+    λ v h. c.requires.rest.ready.insertion.quiet.shape.vertex v (omega (arith, h, same))
 
 pub follow-requires-clause-edges : goal.follow-requires-clause-edges
 follow-requires-clause-edges g c =
@@ -38,7 +38,7 @@ follow-requires-clause-moves g c =
 
 pub plan_moves-requires-clause-clean : goal.plan_moves-requires-clause-clean
 plan_moves-requires-clause-clean g c κs within =
-    rw (c.graph-2.ensures, c.in_ok-moves.ensures.graph, vertices-without_edges c.args.adj.now.graph c.as_slice-edges.result.now) c.requires.ready.groups
+    rw (c.graph-2.ensures, c.in_ok-moves.ensures.graph, vertices-without_edges c.args.adj.now.graph c.as_slice-edges.result.now) c.requires.rest.ready.groups
 
 pub plan_moves-requires-clause-order : goal.plan_moves-requires-clause-order
 plan_moves-requires-clause-order g c κs within =
@@ -72,9 +72,9 @@ returns-clause-phases g c =
 pub returns-clause-ready : goal.returns-clause-ready
 returns-clause-ready g c =
     let same : c.delete_phase.new.adj.graph.vertices ≡ c.args.adj.now.graph.vertices = ap (λ (h : GraphShape). h.vertices) c.in_ok-moves.ensures.graph ∙ vertices-without_edges c.args.adj.now.graph c.as_slice-edges.result.now in
-    let ready : AreReady c.args.context.now.th.now.profile c.delete_phase.new.adj (record { deletion = c.delete_phase.new.work; insertion = c.follow.new.self; groups = c.plan_moves.new.work }) = record {
+    let ready : AreReady c.args.context.now.profile c.delete_phase.new.adj (record { deletion = c.delete_phase.new.work; insertion = c.follow.new.self; groups = c.plan_moves.new.work }) = record {
       deletion = c.in_ok-moves.ensures.ready;
-      insertion = c.follow.ensures c.args.context.now.th.now.profile c.args.adj.now c.requires.ready.insertion c.levels-levels.ensures.sized c.in_ok-moves.ensures.graph (moves_again c.delete_phase.new.adj.graph.vertices c.args.adj.now.graph.vertices c.args.adj.now.levels c.delete_phase.new.adj.levels c.in_ok-moves.moves same c.in_ok-moves.ensures.moves);
+      insertion = c.follow.ensures c.args.context.now.profile c.args.adj.now c.requires.rest.ready.insertion c.levels-levels.ensures.sized c.in_ok-moves.ensures.graph (moves_again c.delete_phase.new.adj.graph.vertices c.args.adj.now.graph.vertices c.args.adj.now.levels c.delete_phase.new.adj.levels c.in_ok-moves.moves same c.in_ok-moves.ensures.moves);
       groups = rw c.graph-2.ensures at c.in_ok-plan.ensures.clean;
     } in
     IfOk-weaker c.of_phase.result _ _ (λ plan made. ready) c.of_phase.ensures

@@ -19,11 +19,11 @@ pub follow-requires : goal.follow-requires
 follow-requires g c =
     let same : c.insert_phase.new.adj.graph.vertices ≡ c.args.adj.now.graph.vertices = ap (λ (h : GraphShape). h.vertices) c.in_ok-moves.ensures.graph ∙ vertices-with_edges c.args.adj.now.graph c.as_slice-edges.result.now in
     moves_inside c.insert_phase.new.adj.graph.vertices (length c.args.work.now.deletion.before) c.args.adj.now.levels c.insert_phase.new.adj.levels c.in_ok-moves.moves
-    (same ∙ sym c.levels-levels.ensures.sized ∙ sym (ap (λ (x : List ℕ). length x) c.requires.ready.deletion.before)) c.in_ok-moves.ensures.moves
+    (same ∙ sym c.levels-levels.ensures.sized ∙ sym (ap (λ (x : List ℕ). length x) c.requires.rest.ready.deletion.before)) c.in_ok-moves.ensures.moves
 
 pub plan_moves-requires-clause-clean : goal.plan_moves-requires-clause-clean
 plan_moves-requires-clause-clean g c κs within =
-    rw (c.graph-2.ensures, c.in_ok-moves.ensures.graph, vertices-with_edges c.args.adj.now.graph c.as_slice-edges.result.now) c.requires.ready.groups
+    rw (c.graph-2.ensures, c.in_ok-moves.ensures.graph, vertices-with_edges c.args.adj.now.graph c.as_slice-edges.result.now) c.requires.rest.ready.groups
 
 pub plan_moves-requires-clause-order : goal.plan_moves-requires-clause-order
 plan_moves-requires-clause-order g c κs within =
@@ -53,9 +53,9 @@ returns-clause-phases g c =
 pub returns-clause-ready : goal.returns-clause-ready
 returns-clause-ready g c =
     let same : c.insert_phase.new.adj.graph.vertices ≡ c.args.adj.now.graph.vertices = ap (λ (h : GraphShape). h.vertices) c.in_ok-moves.ensures.graph ∙ vertices-with_edges c.args.adj.now.graph c.as_slice-edges.result.now in
-    let ready : AreReady c.args.context.now.th.now.profile c.insert_phase.new.adj (record { deletion = c.follow.new.self; insertion = c.insert_phase.new.work; groups = c.plan_moves.new.work }) = record {
-      deletion = c.follow.ensures c.args.adj.now c.insert_phase.new.adj c.requires.ready.deletion c.levels-levels.ensures.sized c.in_ok-moves.ensures.raised.raisable.sized same (moves_again c.insert_phase.new.adj.graph.vertices c.args.adj.now.graph.vertices c.args.adj.now.levels c.insert_phase.new.adj.levels c.in_ok-moves.moves same c.in_ok-moves.ensures.moves);
-      insertion = c.in_ok-moves.ensures.ready;
+    let ready : AreReady c.args.context.now.profile c.insert_phase.new.adj (record { deletion = c.follow.new.self; insertion = c.insert_phase.new.work; groups = c.plan_moves.new.work }) = record {
+      deletion = c.follow.ensures c.args.adj.now c.insert_phase.new.adj c.requires.rest.ready.deletion c.levels-levels.ensures.sized c.in_ok-moves.ensures.raised.raisable.sized same (moves_again c.insert_phase.new.adj.graph.vertices c.args.adj.now.graph.vertices c.args.adj.now.levels c.insert_phase.new.adj.levels c.in_ok-moves.moves same c.in_ok-moves.ensures.moves);
+      insertion = rw (← c.context.view_is) c.in_ok-moves.ensures.ready;
       groups = rw c.graph-2.ensures at c.in_ok-plan.ensures.clean;
     } in
     IfOk-weaker c.of_phase.result _ _ (λ plan made. ready) c.of_phase.ensures

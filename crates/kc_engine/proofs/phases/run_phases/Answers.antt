@@ -12,25 +12,25 @@ use Rattle.kc_engine.proofs.PhaseLaw.{plan_made, well_formed_made}
 use Rattle.kc_engine.proofs.phases.run_phases.Given.{Over}
 use Rattle.kc_engine.proofs.phases.run_phases.Goals as goal
 
-pub insertion_phase-requires-clause-scale : goal.insertion_phase-requires-clause-scale
-insertion_phase-requires-clause-scale g c κs within =
-    rw c.in_ok-fallen.ensures.graph (c.requires.scale ∙ sym (vertices-without_edges c.args.adj.now.graph c.args.cleaned.now.removed))
-
-pub insertion_phase-requires-clause-capped : goal.insertion_phase-requires-clause-capped
-insertion_phase-requires-clause-capped g c κs within =
-    let p = c.args.context.now.th.now.profile in
+pub insertion_phase-requires-clause-rest : goal.insertion_phase-requires-clause-rest
+insertion_phase-requires-clause-rest g c κs within =
+    let p = c.args.context.now.profile in
     let graph = c.args.adj.now.graph in
     let levels = c.args.adj.now.levels in
-    let at : IsAt p graph levels = record { graph = rw c.graph.ensures at c.vertices-n.ensures.graph; both = c.requires.both; capped = c.requires.capped } in
+    let at : IsAt p graph levels = record { graph = rw c.graph.ensures at c.vertices-n.ensures.graph; both = c.requires.both; capped = c.requires.rest.capped } in
     let between = after_lowered p graph c.args.cleaned.now.removed levels c.deletion_phase.new.adj.levels at c.in_ok-fallen.ensures.lowered in
-    rw c.in_ok-fallen.ensures.graph between.capped
+    record {
+      scale = rw c.in_ok-fallen.ensures.graph (c.requires.rest.scale ∙ sym (vertices-without_edges graph c.args.cleaned.now.removed));
+      capped = rw c.in_ok-fallen.ensures.graph between.capped;
+      ready = c.in_ok-fallen.ensures.ready;
+    }
 
 pub insertion_phase-requires-clause-upper : goal.insertion_phase-requires-clause-upper
 insertion_phase-requires-clause-upper g c κs within =
-    let p = c.args.context.now.th.now.profile in
+    let p = c.args.context.now.profile in
     let graph = c.args.adj.now.graph in
     let levels = c.args.adj.now.levels in
-    let at : IsAt p graph levels = record { graph = rw c.graph.ensures at c.vertices-n.ensures.graph; both = c.requires.both; capped = c.requires.capped } in
+    let at : IsAt p graph levels = record { graph = rw c.graph.ensures at c.vertices-n.ensures.graph; both = c.requires.both; capped = c.requires.rest.capped } in
     let between = after_lowered p graph c.args.cleaned.now.removed levels c.deletion_phase.new.adj.levels at c.in_ok-fallen.ensures.lowered in
     rw c.in_ok-fallen.ensures.graph between.both.upper
 
@@ -58,9 +58,9 @@ and_then-requires g c =
     )
 
 -- the plan that was made
-made : (g : Over) (c : goal.After-and_then g) → IfOk c.and_then.result (λ (plan : BatchPlan). IsPlanOf c.args.context.now.th.now.profile c.args.before c.args.adj.now.graph c.args.cleaned.now c.args.adj.now.levels c.insertion_phase.new.adj.levels plan)
+made : (g : Over) (c : goal.After-and_then g) → IfOk c.and_then.result (λ (plan : BatchPlan). IsPlanOf c.args.context.now.profile c.args.before c.args.adj.now.graph c.args.cleaned.now c.args.adj.now.levels c.insertion_phase.new.adj.levels plan)
 made g c =
-    plan_made c.and_then.result c.args.context.now.th.now.profile c.args.before (c.args.before + c.phases_for.result) c.args.adj.now.graph c.deletion_phase.new.adj.graph c.insertion_phase.new.adj.graph c.args.cleaned.now
+    plan_made c.and_then.result c.args.context.now.profile c.args.before (c.args.before + c.phases_for.result) c.args.adj.now.graph c.deletion_phase.new.adj.graph c.insertion_phase.new.adj.graph c.args.cleaned.now
     c.args.adj.now.levels c.deletion_phase.new.adj.levels c.insertion_phase.new.adj.levels c.in_ok-fallen.fallen c.in_ok-risen.risen
     (ap (λ n. c.args.before + n) c.phases_for.ensures.value) c.in_ok-fallen.ensures.graph c.in_ok-risen.ensures.graph
     c.in_ok-fallen.ensures.lowered c.in_ok-risen.ensures.raised c.in_ok-fallen.ensures.phases c.in_ok-risen.ensures.phases c.in_ok-fallen.ensures.moves c.in_ok-risen.ensures.moves c.and_then.ensures
@@ -73,7 +73,7 @@ returns-clause-plan g c = made g c
 
 pub returns-clause-well_formed : goal.returns-clause-well_formed
 returns-clause-well_formed g c =
-    let p = c.args.context.now.th.now.profile in
+    let p = c.args.context.now.profile in
     let graph = c.args.adj.now.graph in
     let levels = c.args.adj.now.levels in
     well_formed_made c.and_then.result p c.args.before graph c.args.cleaned.now levels c.insertion_phase.new.adj.levels (made g c)

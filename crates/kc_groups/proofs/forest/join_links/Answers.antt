@@ -43,5 +43,5 @@ loop-link-preserved c =
     )
 
 pub returns : goal.returns
-returns c before linked g l =
+returns c linked l before g =
     joined_last (length c.args.parents.now.items) before c.args.links.now c.loop-link.parents.items linked c.loop-link.link-index (omega arith) l (c.loop-link.invariant.2 before g)

@@ -27,7 +27,7 @@ loop-links-preserved g c =
     let sized = c.loop-links.invariant.sized in
     let next : min (c.loop-links.links-index * c.div_ceil-size.result) (length c.args.moves.now) ≤ min ((c.loop-links.links-index + 1) * c.div_ceil-size.result) (length c.args.moves.now) = omega (arith, ends.0, ends.1) in
     rows_joined m graph vs c.join_links.new.parents.items (min (i * size) m) (min ((i + 1) * size) m) next
-    (rw sized at (c.join_links.ensures (in_rows graph vs (min (i * size) m)) (in_piece graph vs (min (i * size) m) (min ((i + 1) * size) m)) (rw sized c.loop-links.invariant) (rw sized at)))
+    (rw sized at (c.join_links.ensures (in_piece graph vs (min (i * size) m) (min ((i + 1) * size) m)) (rw sized at) (in_rows graph vs (min (i * size) m)) (rw sized c.loop-links.invariant)))
 
 pub join_links-requires-clause-forest : goal.join_links-requires-clause-forest
 join_links-requires-clause-forest g c = (c.loop-links.invariant.roots, c.loop-links.invariant.forest)

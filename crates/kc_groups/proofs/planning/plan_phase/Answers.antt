@@ -1,15 +1,12 @@
-use Rattle.std.proofs.Common.{◌≡◌, ◌≤◌, ℕ, List, length, ap, ◌∙◌, arith}
+use Rattle.std.proofs.Common.{◌≡◌, ◌≤◌, ℕ, List, [], length, ap, sym, ◌∙◌, arith}
 use Rattle.kc_graph.specs.declared.limits.TheConstants.{MAX_VERTICES}
 use Rattle.kc_graph.proofs.lemmas.Numbers.{length-rising}
 use Rattle.kc_groups.specs.Gathering.{vertices, AreInOrder}
 use Rattle.kc_groups.proofs.WorkLemmas.{many}
 use Rattle.std.proofs.lemmas.List.{length-replicate}
-use Rattle.std.proofs.lemmas.Result.{IfOk-weaker}
 use Rattle.kc_levels.specs.Moved.{moves_between}
-use Rattle.kc_groups.specs.Entries.{AreEntries}
-use Rattle.kc_groups.specs.WellFormed.{IsWellFormed}
 use Rattle.kc_groups.proofs.PlanLaw.{plan_is_well_formed}
-use Rattle.kc_groups.proofs.PlanLemmas.{between_in_order}
+use Rattle.kc_groups.proofs.PlanLemmas.{between_in_order, is_labelled}
 use Rattle.kc_groups.proofs.planning.plan_phase.Goals as goal
 
 pub number-requires-clause-order : goal.number-requires-clause-order
@@ -37,8 +34,8 @@ link_rows-requires-clause-small c =
     let small : length c.as_slice-list.result.now ≤ MAX_VERTICES = rw (c.as_slice-list.ensures) (omega (arith, few, many c.in_ok-moves.moves, c.vertices-n.ensures.small)) in
     small
 
-pub plan_trees-requires-clause-order : goal.plan_trees-requires-clause-order
-plan_trees-requires-clause-order c =
+pub label_groups-requires-clause-order : goal.label_groups-requires-clause-order
+label_groups-requires-clause-order c =
     let n = c.args.graph.now.vertices in
     let moves : c.in_ok-moves.moves ≡ moves_between c.args.graph.now.vertices c.args.before.now c.args.after.now =
     c.in_ok-moves.ensures
@@ -46,7 +43,24 @@ plan_trees-requires-clause-order c =
     ∙ ap (λ x. moves_between n x c.as_slice-2.result.now) c.as_slice.ensures
     ∙ ap (λ y. moves_between n c.args.before.now y) c.as_slice-2.ensures in
     let order : AreInOrder c.args.graph.now.vertices c.in_ok-moves.moves = between_in_order c.args.graph.now.vertices c.args.before.now c.args.after.now c.in_ok-moves.moves moves in
-    order
+    rw (c.as_slice-list.ensures) order
+
+pub plan_labelled-requires-clause-small : goal.plan_labelled-requires-clause-small
+plan_labelled-requires-clause-small c = omega (arith, c.label_groups.ensures.sized, c.vertices-n.ensures.small)
+
+pub plan_labelled-requires-clause-order : goal.plan_labelled-requires-clause-order
+plan_labelled-requires-clause-order c =
+    let n = c.args.graph.now.vertices in
+    let moves : c.in_ok-moves.moves ≡ moves_between c.args.graph.now.vertices c.args.before.now c.args.after.now =
+    c.in_ok-moves.ensures
+    ∙ ap (λ k. moves_between k c.as_slice.result.now c.as_slice-2.result.now) c.vertices-n.ensures.count
+    ∙ ap (λ x. moves_between n x c.as_slice-2.result.now) c.as_slice.ensures
+    ∙ ap (λ y. moves_between n c.args.before.now y) c.as_slice-2.ensures in
+    let order : AreInOrder c.args.graph.now.vertices c.in_ok-moves.moves = between_in_order c.args.graph.now.vertices c.args.before.now c.args.after.now c.in_ok-moves.moves moves in
+    rw c.label_groups.ensures.sized order
+
+pub plan_labelled-requires-clause-labelled : goal.plan_labelled-requires-clause-labelled
+plan_labelled-requires-clause-labelled c = (c.args.graph.now, is_labelled c.args.graph.now [] _ c.label_groups.new.places.items c.vertices-n.ensures.graph tt c.requires.present (rw (sym c.as_slice-list.ensures) c.label_groups.ensures))
 
 pub returns-clause-entries : goal.returns-clause-entries
 returns-clause-entries c =
@@ -56,10 +70,9 @@ returns-clause-entries c =
     ∙ ap (λ k. moves_between k c.as_slice.result.now c.as_slice-2.result.now) c.vertices-n.ensures.count
     ∙ ap (λ x. moves_between n x c.as_slice-2.result.now) c.as_slice.ensures
     ∙ ap (λ y. moves_between n c.args.before.now y) c.as_slice-2.ensures in
-    IfOk-weaker c.plan_trees.result _ _ (λ plan all. all c.args.before.now c.args.after.now (record { before = c.requires.before; after = c.requires.after; moves = moves })) c.plan_trees.ensures.entries
+    c.in_ok-plan.ensures.entries c.args.graph.now (is_labelled c.args.graph.now [] _ c.label_groups.new.places.items c.vertices-n.ensures.graph tt c.requires.present (rw (sym c.as_slice-list.ensures) c.label_groups.ensures))
+    c.args.before.now c.args.after.now (record { before = c.requires.before; after = c.requires.after; moves = moves })
 
 pub returns-clause-well_formed : goal.returns-clause-well_formed
 returns-clause-well_formed c =
-    IfOk-weaker c.plan_trees.result (AreEntries c.args.phase c.args.add c.args.edges.now c.args.before.now c.args.after.now c.args.graph.now) (IsWellFormed c.args.graph.now.vertices)
-    (λ plan are. plan_is_well_formed c.args.phase c.args.add c.args.edges.now c.args.before.now c.args.after.now c.args.graph.now plan are)
-    (returns-clause-entries c)
+    plan_is_well_formed c.args.phase c.args.add c.args.edges.now c.args.before.now c.args.after.now c.args.graph.now c.in_ok-plan.plan (returns-clause-entries c)

@@ -7,12 +7,12 @@ use Rattle.kserve.proofs.serving.serve_opened.Goals as goal
 pub returns-in_err-write_head-clause-text : goal.returns-in_err-write_head-clause-text
 returns-in_err-write_head-clause-text g c =
     let p = err_from_is_err_and c.from_residual.result c.from_residual.ensures.1 in
-    rw p.1 (head_stopped c.args.context.now.asked.now.n c.args.context.now.asked.now.scripts.items _ _ (can_serve c.args.context.now.asked.now.n c.args.context.now.asked.now.scripts.items c.args.context.now.asked.now.ranges) c.in_err-write_head.ensures.text)
+    rw p.1 (head_stopped c.args.context.now.n c.args.context.now.scripts.items _ _ (can_serve c.args.context.now.n c.args.context.now.scripts.items c.args.context.now.ranges) (rw c.context.view_is at c.in_err-write_head.ensures.text))
 
 pub returns-in_err-serve_batches-clause-text : goal.returns-in_err-serve_batches-clause-text
 returns-in_err-serve_batches-clause-text g c =
     let p = err_from_is_err_and c.from_residual-in_err-serve_batches.result c.from_residual-in_err-serve_batches.ensures.1 in
-    rw p.1 (batches_stopped c.args.context.now.asked.now.n c.args.context.now.asked.now.scripts.items _ _ _ (can_serve c.args.context.now.asked.now.n c.args.context.now.asked.now.scripts.items c.args.context.now.asked.now.ranges) c.in_ok-write_head.ensures.text c.in_err-serve_batches.ensures.served)
+    rw p.1 (batches_stopped c.args.context.now.n c.args.context.now.scripts.items _ _ _ (can_serve c.args.context.now.n c.args.context.now.scripts.items c.args.context.now.ranges) (rw c.context.view_is at c.in_ok-write_head.ensures.text) c.in_err-serve_batches.ensures.served)
 
 pub returns-in_err-serve_batches-clause-cause : goal.returns-in_err-serve_batches-clause-cause
 returns-in_err-serve_batches-clause-cause g c =
@@ -20,13 +20,14 @@ returns-in_err-serve_batches-clause-cause g c =
     rw p.1 (same_cause (Unit {0}) (Unit {0}) _ _ _ _ p.0 p.2 c.in_ok-write_head.ensures.cause c.in_err-serve_batches.ensures.cause)
 
 pub write_tail-requires-clause-vertices : goal.write_tail-requires-clause-vertices
-write_tail-requires-clause-vertices g c = vertices_served c.args.context.now.asked.now.n c.args.context.now.asked.now.scripts.items c.serve_batches.new.server.engine.state _ _ c.in_ok-serve_batches.ensures.served
+write_tail-requires-clause-vertices g c =
+    rw c.context.view_is (vertices_served c.args.context.now.n c.args.context.now.scripts.items c.serve_batches.new.server.engine.state _ _ c.in_ok-serve_batches.ensures.served)
 
 pub returns-in_err-write_tail-clause-text : goal.returns-in_err-write_tail-clause-text
 returns-in_err-write_tail-clause-text g c =
     let levels = c.as_slice-levels.ensures ∙ c.levels.ensures.value in
     let p = err_from_is_err_and c.from_residual-in_err-write_tail.result c.from_residual-in_err-write_tail.ensures.1 in
-    rw p.1 (tail_stopped c.args.context.now.asked.now.n c.args.context.now.asked.now.scripts.items c.serve_batches.new.server.engine.state _ _ _ _ c.in_ok-serve_batches.ensures.open.sound c.in_ok-write_head.ensures.text c.in_ok-serve_batches.ensures.served (rw levels at c.in_err-write_tail.ensures.text))
+    rw p.1 (tail_stopped c.args.context.now.n c.args.context.now.scripts.items c.serve_batches.new.server.engine.state _ _ _ _ c.in_ok-serve_batches.ensures.open.sound (rw c.context.view_is at c.in_ok-write_head.ensures.text) c.in_ok-serve_batches.ensures.served (rw levels at c.in_err-write_tail.ensures.text))
 
 pub returns-in_err-write_tail-clause-cause : goal.returns-in_err-write_tail-clause-cause
 returns-in_err-write_tail-clause-cause g c =
@@ -36,4 +37,4 @@ returns-in_err-write_tail-clause-cause g c =
 pub returns-clause-text : goal.returns-clause-text
 returns-clause-text g c =
     let levels = c.as_slice-levels.ensures ∙ c.levels.ensures.value in
-    served_whole c.args.context.now.asked.now.n c.args.context.now.asked.now.scripts.items c.serve_batches.new.server.engine.state _ _ _ _ c.in_ok-serve_batches.ensures.open.sound c.in_ok-write_head.ensures.text c.in_ok-serve_batches.ensures.served (rw levels at c.in_ok-write_tail.ensures.text)
+    served_whole c.args.context.now.n c.args.context.now.scripts.items c.serve_batches.new.server.engine.state _ _ _ _ c.in_ok-serve_batches.ensures.open.sound (rw c.context.view_is at c.in_ok-write_head.ensures.text) c.in_ok-serve_batches.ensures.served (rw levels at c.in_ok-write_tail.ensures.text)

@@ -17,8 +17,9 @@ run_phases-requires-clause-fits g c κs within =
     let asked = rw (← c.self.view_is) at c.requires.cleaning in
     fits e.adj.graph c.args.cleaned.now (c.self.invariant.sound c.if-self.false).graph (asked c.if-self.false)
 
-pub run_phases-requires-clause-ready : goal.run_phases-requires-clause-ready
-run_phases-requires-clause-ready g c κs within = c.self.invariant.ready c.if-self.false
+pub run_phases-requires-clause-rest : goal.run_phases-requires-clause-rest
+run_phases-requires-clause-rest g c κs within =
+    record { scale = c.self.invariant.scale c.if-self.false; capped = (c.self.invariant.sound c.if-self.false).capped; ready = c.self.invariant.ready c.if-self.false }
 
 pub invariant_of-self-2 : goal.invariant_of-self-2
 invariant_of-self-2 g c =

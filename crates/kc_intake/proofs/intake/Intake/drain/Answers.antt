@@ -12,9 +12,11 @@ pop_as-requires-clause-rule g c = (begins_from _ _ _ c.drainer.invariant.0.role_
 pub returns-in_default-clause-empty : goal.returns-in_default-clause-empty
 returns-in_default-clause-empty g c = (
   drainer_stays c.drainer.inside.pass c.pop_as.new.pass c.drainer.inside.batch.items _ _ c.drainer.view_is c.in_default.ensures.queue.0 c.in_default.ensures.rule.0 c.clear.ensures.items,
-  held_as _ 0 0 _ _ refl (c.drainer.invariant.0.role_is ∙ ap (λ v. Drains (drained_of v)) (sym c.in_default.ensures.rule.0)) (held_told _ 0 _ c.in_default.ensures.rule.1),
-  held_whole _ c.pop_as.new.pass c.clear.new.self.items _ c.in_default.ensures.rule.0 c.in_default.ensures.rule.1,
-  held_empty _ c.pop_as.new.pass _ c.in_default.ensures.rule.0 c.in_default.ensures.rule.1,
+  (
+    held_as _ 0 0 _ _ refl (c.drainer.invariant.0.role_is ∙ ap (λ v. Drains (drained_of v)) (sym c.in_default.ensures.rule.0)) (held_told _ 0 _ c.in_default.ensures.rule.1),
+    held_whole _ c.pop_as.new.pass c.clear.new.self.items _ c.in_default.ensures.rule.0 c.in_default.ensures.rule.1,
+    held_empty _ c.pop_as.new.pass _ c.in_default.ensures.rule.0 c.in_default.ensures.rule.1,
+  ),
 )
 
 pub pop_as-requires-in-loop-self-clause-rule : goal.pop_as-requires-in-loop-self-clause-rule

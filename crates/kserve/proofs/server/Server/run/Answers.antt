@@ -12,7 +12,7 @@ use Rattle.kserve.proofs.server.Server.run.Goals as goal
 
 pub loop-turn-init : goal.loop-turn-init
 loop-turn-init g c =
-    let asked = c.args.context.now.asked.now in record {
+    let asked = c.args.context.now in record {
       served = none_served {T = Unit {0}} asked.n (start asked.n) c.args.drainer.now.taken c.args.self.now.engine.state _ _ tt c.requires.drainer.1 c.requires.start refl;
       running = (c.requires.open, none_within asked.n c.args.self.now.engine.state c.requires.start);
       drained = none_drained c.args.intake.now c.args.drainer.now c.requires.drainer.0 c.requires.drainer.1;
@@ -25,16 +25,16 @@ loop-turn-init g c =
 
 pub go_on-course-requires-clause-ready : goal.go_on-course-requires-clause-ready
 go_on-course-requires-clause-ready g c κs within =
-    let asked = c.args.context.now.asked.now in
+    let asked = c.args.context.now in
     let i = c.loop-turn.invariant in
-    let few : c.loop-turn.drained ≤ MAX_ITEMS = omega (arith, c.if-drained-count.false, asked.counted, asked.ranges.few_items) in
+    let few : c.loop-turn.drained ≤ MAX_ITEMS = omega (arith, c.if-drained-count.false, c.context.inside.asked.now.counted, c.context.inside.asked.now.ranges.few_items) in
     ready asked.n c.loop-turn.drained (start asked.n) c.loop-turn.self.engine c.loop-turn.drainer.taken _ _ c.loop-turn.course refl few i.served i.running
 
 pub loop-turn-preserved : goal.loop-turn-preserved
 loop-turn-preserved g c =
-    let asked = c.args.context.now.asked.now in
+    let asked = c.args.context.now in
     let i = c.loop-turn.invariant in
-    let few : c.loop-turn.drained ≤ MAX_ITEMS = omega (arith, c.if-drained-count.false, asked.counted, asked.ranges.few_items) in
+    let few : c.loop-turn.drained ≤ MAX_ITEMS = omega (arith, c.if-drained-count.false, c.context.inside.asked.now.counted, c.context.inside.asked.now.ranges.few_items) in
     let b = c.drain.new.drainer.batch in
     let taken : c.drain.new.drainer.taken ≡ c.loop-turn.drainer.taken ++ b ∷ [] = ap (λ (d : DrainerShape). d.taken) c.in-Ok.ensures.ok in
     let size = c.in-Ok.ensures.size in

@@ -11,7 +11,7 @@ use Rattle.kserve.proofs.server.Server.run.Given as goal
 
 abbrev pub invariant-loop-turn : goal.invariant-loop-turn
 invariant-loop-turn g l = record {
-  served : Serves l.fn.context.asked.now.n (start l.fn.context.asked.now.n) l.drainer.taken l.self.engine.state (g.K.Sink.taken l.fn.sink) (g.K.Sink.taken l.sink) l.course;
+  served : Serves l.fn.context.n (start l.fn.context.n) l.drainer.taken l.self.engine.state (g.K.Sink.taken l.fn.sink) (g.K.Sink.taken l.sink) l.course;
   running : IsRunning l.drained l.self.engine l.course;
   drained : AreDrained l.intake l.fn.drainer l.drainer;
   count : l.drained ≡ length (all_updates l.drainer.taken);
