@@ -1,16 +1,16 @@
 -- Lemmas on half-edges that come into rows, or leave them.
-use Rattle.std.proofs.Common.{ℕ, suc, ◌+◌, ◌-◌, ◌≤◌, ◌<◌, ◌≡◌, ◌≢◌, inl, inr, Bool, true, false, ◌||◌, ◌&&◌, cond, eqb, List, [], ◌∷◌, ◌++◌, length, get_or, set, take, drop, refl, ap, sym, ◌∙◌, arith}
-use Rattle.std.proofs.lemmas.Bool.{cases_eq}
+use Rattle.std.proofs.Common.{ℕ, suc, zero, ◌+◌, ◌-◌, ◌≤◌, ◌<◌, ◌≡◌, ◌≢◌, inl, inr, ◌⊎◌, Bool, true, false, ◌||◌, ◌&&◌, cond, eqb, List, [], ◌∷◌, ◌++◌, length, get_or, set, take, drop, refl, ap, sym, ◌∙◌, arith, subst}
+use Rattle.std.proofs.lemmas.Bool.{cases_eq, cases_lt}
 use Rattle.std.proofs.lemmas.Bool.Decides.{nat_tests}
-use Rattle.std.proofs.lemmas.List.{length-set, get_or-set_same, get_or-set_other, take_more, take_all, drop_more, length-drop}
+use Rattle.std.proofs.lemmas.List.{length-set, get_or-set_same, get_or-set_other, take_more, length-append, length-drop, length-take-le, get_or-take, get_or_append_left, get_or-append_right, take-append-drop}
 use Rattle.std.proofs.lemmas.List.Sorted.{list_any-IsPermutation}
 use Rattle.std.specs.List.{list_any}
 use Rattle.std.specs.List.Sorted.{IsPermutation}
 use Rattle.std.specs.Prelude.{filter, not, Result, Ok, Err, OnOk}
 use Rattle.kc_graph.specs.Numbers.{RisesFrom, has_number}
 use Rattle.kc_graph.specs.Shape.{Pair, same_edge, has_edge, joined}
-use Rattle.kc_graph.specs.private.Numbers.{put}
-use Rattle.kc_graph.specs.private.Halves.{has_second, AreOf, AreInside, AreGiven, AreGivenSome, AreTaken}
+use Rattle.kc_graph.specs.private.Numbers.{put, without}
+use Rattle.kc_graph.specs.private.Halves.{has_second, SecondsRise, AreOf, AreInside, IsFirst, IsRun, AreGiven, AreGivenSome, AreTaken}
 use Rattle.kc_graph.proofs.NumberLemmas.{has_number-put}
 
 pub has_edge-append : (e : Pair) (es fs : List Pair) → has_edge e (es ++ fs) ≡ has_edge e es || has_edge e fs
@@ -20,6 +20,10 @@ has_edge-append e (d ∷ ds) fs = regroup (same_edge e d) (has_edge-append e ds 
     regroup : (b : Bool) → has_edge e (ds ++ fs) ≡ has_edge e ds || has_edge e fs → (b || has_edge e (ds ++ fs)) ≡ ((b || has_edge e ds) || has_edge e fs)
     regroup true rest = refl
     regroup false rest = rest
+
+or_true : (b : Bool) → b || true ≡ true
+or_true true = refl
+or_true false = refl
 
 or_false : (b : Bool) → b || false ≡ b
 or_false true = refl
@@ -46,51 +50,38 @@ turned_next es hs i v w e h is before =
     turned : same_edge (v, w) (e.1, e.0) ≡ same_edge (w, v) e
     turned = grind (arith, nat_tests)
 
--- one more half of a list is put at the end of others
-pub moved_next : (list hs : List Pair) (i : ℕ) (e h : Pair) → i < length list → h ≡ get_or list i (0, 0) → has_edge e (hs ++ h ∷ []) || has_edge e (drop (i + 1) list) ≡ has_edge e hs || has_edge e (drop i list)
-moved_next list hs i e h lt is =
-    ap (λ b. b || has_edge e (drop (i + 1) list)) (has_edge-push e h hs)
-    ∙ regroup (has_edge e hs) (same_edge e h) (has_edge e (drop (i + 1) list))
-    ∙ sym (rw (drop_more list i (0, 0) lt, ← is) refl)
-  where
-    regroup : (a b c : Bool) → ((a || b) || c) ≡ (a || (b || c))
-    regroup true b c = refl
-    regroup false b c = refl
-
--- the half at the lesser end of one more edge
-pub merged_next : (list es hs : List Pair) (i k : ℕ) (d e : Pair) → k < length es → e ≡ get_or es k (0, 0) → has_edge d hs || has_edge d (drop i list) ≡ has_edge d list || has_edge d (take k es) → has_edge d (hs ++ e ∷ []) || has_edge d (drop i list) ≡ has_edge d list || has_edge d (take (k + 1) es)
-merged_next list es hs i k d e lt is before =
-    ap (λ b. b || has_edge d (drop i list)) (has_edge-push d e hs)
-    ∙ regroup (has_edge d hs) (same_edge d e) (has_edge d (drop i list)) (has_edge d list) (has_edge d (take k es)) before
-    ∙ sym (rw (take_more es k (0, 0) lt, ← is, has_edge-push d e (take k es)) refl)
-  where
-    regroup : (a b c f g : Bool) → (a || c) ≡ (f || g) → ((a || b) || c) ≡ (f || (g || b))
-    regroup true b c true g h = refl
-    regroup true b c false true h = refl
-    regroup true true c false false h = refl
-    regroup true false c false false h = h
-    regroup false true c true g h = refl
-    regroup false true c false true h = refl
-    regroup false true c false false h = refl
-    regroup false false c true g h = h
-    regroup false false c false true h = h
-    regroup false false c false false h = h
-
--- all halves after the merge
-pub merged_last : (list es hs : List Pair) (i k v w : ℕ) (n : ℕ) → length list - i ≤ n → length es ≤ k → ((a b : ℕ) → has_edge (a, b) list ≡ has_edge (b, a) es) → ((d : Pair) → has_edge d hs || has_edge d (drop i list) ≡ has_edge d list || has_edge d (take k es)) → has_edge (v, w) (hs ++ take n (drop i list)) ≡ joined v w es
-merged_last list es hs i k v w n enough all turned same =
-    ap (λ (t : List Pair). has_edge (v, w) (hs ++ t)) (take_all n (drop i list) (rw (length-drop i list) enough))
-    ∙ has_edge-append (v, w) hs (drop i list)
-    ∙ same (v, w)
-    ∙ ap (λ (t : List Pair). has_edge (v, w) list || has_edge (v, w) t) (take_all k es all)
-    ∙ ap (λ b. b || has_edge (v, w) es) (turned v w)
-    ∙ swap (has_edge (w, v) es) (has_edge (v, w) es)
+-- the halves at both ends of edges
+pub both_ends : (greater es : List Pair) (v w : ℕ) → has_edge (v, w) greater ≡ has_edge (w, v) es → has_edge (v, w) (greater ++ es) ≡ joined v w es
+both_ends greater es v w turned = has_edge-append (v, w) greater es ∙ ap (λ b. b || has_edge (v, w) es) turned ∙ swap (has_edge (w, v) es) (has_edge (v, w) es)
   where
     swap : (a b : Bool) → (a || b) ≡ (b || a)
     swap true true = refl
     swap true false = refl
     swap false true = refl
     swap false false = refl
+
+-- two lists that are cut in two each
+pub in_parts : (e : Pair) (m k : ℕ) (gs hs : List Pair) → has_edge e (gs ++ hs) ≡ has_edge e (take m gs ++ take k hs) || has_edge e (drop m gs ++ drop k hs)
+in_parts e m k gs hs =
+    ap (λ (es : List Pair). has_edge e (es ++ hs)) (sym (take-append-drop m gs))
+    ∙ ap (λ (es : List Pair). has_edge e ((take m gs ++ drop m gs) ++ es)) (sym (take-append-drop k hs))
+    ∙ has_edge-append e (take m gs ++ drop m gs) (take k hs ++ drop k hs)
+    ∙ ap (λ b. b || has_edge e (take k hs ++ drop k hs)) (has_edge-append e (take m gs) (drop m gs))
+    ∙ ap (λ b. (has_edge e (take m gs) || has_edge e (drop m gs)) || b) (has_edge-append e (take k hs) (drop k hs))
+    ∙ regroup (has_edge e (take m gs)) (has_edge e (drop m gs)) (has_edge e (take k hs)) (has_edge e (drop k hs))
+    ∙ ap (λ b. b || (has_edge e (drop m gs) || has_edge e (drop k hs))) (sym (has_edge-append e (take m gs) (take k hs)))
+    ∙ ap (λ b. has_edge e (take m gs ++ take k hs) || b) (sym (has_edge-append e (drop m gs) (drop k hs)))
+  where
+    regroup : (a b c d : Bool) → ((a || b) || (c || d)) ≡ ((a || c) || (b || d))
+    regroup true b c d = refl
+    regroup false true true d = refl
+    regroup false true false d = refl
+    regroup false false c d = refl
+
+pub has_place : (hs : List Pair) (k : ℕ) → k < length hs → has_edge (get_or hs k (0, 0)) hs ≡ true
+has_place [] k lt = absurd (omega (arith, lt))
+has_place (h ∷ hs) zero lt = grind (arith, nat_tests)
+has_place (h ∷ hs) (suc k) lt = rw (has_place hs k (omega (arith, lt))) (or_true (same_edge (get_or hs k (0, 0)) h))
 
 -- halves of one vertex
 
@@ -111,20 +102,74 @@ of_other v u x (h ∷ hs) all ne =
     let later : has_edge (u, x) hs ≡ false = of_other v u x hs (of_later v h hs all) ne in
     grind (arith, nat_tests)
 
--- the vertex of the first half has a row
-pub first_inside : (first n : ℕ) (h : Pair) (hs : List Pair) → AreInside first n hs → 0 < length hs → h ≡ get_or hs 0 (0, 0) → (first ≤ h.0) × (h.0 - first < n) × (first + (h.0 - first) ≡ (get_or hs 0 (0, 0)).0)
-first_inside first n h [] inside some is = absurd (omega (arith, some))
-first_inside first n h (f ∷ fs) inside some is =
-    let at = inside f.0 f.1 (grind (arith, nat_tests)) in
-    let v_is : h.0 ≡ f.0 = ap (λ (p : Pair). p.0) is in
-    (omega (arith, at.0, v_is), omega (arith, at.0, at.1, v_is), omega (arith, at.0, v_is))
+-- the first halves of a vertex in two lists
+module _ (gs hs : List Pair) (v m k : ℕ) (le : m ≤ length gs) (le' : k ≤ length hs) where
+  length_run : length (take m gs ++ take k hs) ≡ m + k
+  length_run = length-append (take m gs) (take k hs) ∙ rw (length-take-le m gs le, length-take-le k hs le') refl
 
-later_inside : (first n : ℕ) (run later : List Pair) → AreInside first n (run ++ later) → AreInside first n later
-later_inside first n run later inside v x there = inside v x (has_edge-append (v, x) run later ∙ ap (λ b. has_edge (v, x) run || b) there ∙ or_true (has_edge (v, x) run))
-  where
-    or_true : (b : Bool) → b || true ≡ true
-    or_true true = refl
-    or_true false = refl
+  at_front : (i : ℕ) → i < m → get_or (take m gs ++ take k hs) i (0, 0) ≡ get_or gs i (0, 0)
+  at_front i lt = get_or_append_left (take m gs) (take k hs) (0, 0) i (rw (length-take-le m gs le) lt) ∙ get_or-take m gs i (0, 0) lt
+
+  at_back : (i : ℕ) → m ≤ i → i < m + k → get_or (take m gs ++ take k hs) i (0, 0) ≡ get_or hs (i - m) (0, 0)
+  at_back i ge lt = get_or-append_right (take m gs) (take k hs) m i (0, 0) (length-take-le m gs le) ge ∙ get_or-take k hs (i - m) (0, 0) (omega arith)
+
+  module _ (of : (i : ℕ) → i < m → (get_or gs i (0, 0)).0 ≡ v) (of' : (i : ℕ) → i < k → (get_or hs i (0, 0)).0 ≡ v) where
+    of_run : AreOf v (take m gs ++ take k hs)
+    of_run i lt = elim (cases_lt i m) [
+      | inl front ↦ rw (at_front i front) (of i front)
+      | inr ge ↦ rw (at_back i ge (omega (arith, lt, length_run))) (of' (i - m) (omega (arith, lt, length_run, ge)))
+    ]
+
+  module _ (up : (i : ℕ) → i + 1 < m → (get_or gs i (0, 0)).1 < (get_or gs (i + 1) (0, 0)).1) (up' : (i : ℕ) → i + 1 < k → (get_or hs i (0, 0)).1 < (get_or hs (i + 1) (0, 0)).1) (low : (i : ℕ) → i < m → (get_or gs i (0, 0)).1 < v) (high : (i : ℕ) → i < k → v < (get_or hs i (0, 0)).1) where
+    run_rises : SecondsRise (take m gs ++ take k hs)
+    run_rises i lt = elim (cases_lt (i + 1) m) [
+      | inl front ↦ rw (at_front i (omega (arith, front)), at_front (i + 1) front) (up i front)
+      | inr back ↦ elim (cases_lt i m) [
+        | inl last ↦
+            let a : (get_or gs i (0, 0)).1 < v = low i last in
+            let b : v < (get_or hs ((i + 1) - m) (0, 0)).1 = high ((i + 1) - m) (omega (arith, lt, length_run, back, last)) in
+            rw (at_front i last, at_back (i + 1) back (omega (arith, lt, length_run))) (omega (arith, a, b))
+        | inr ge ↦
+            let next : (i + 1) - m ≡ (i - m) + 1 = omega (arith, ge) in
+            rw (at_back i ge (omega (arith, lt, length_run)), at_back (i + 1) back (omega (arith, lt, length_run)), next) (up' (i - m) (omega (arith, lt, length_run, ge)))
+      ]
+    ]
+
+  fewer_left : (0 < m) ⊎ (0 < k) → length (drop m gs ++ drop k hs) < length (gs ++ hs)
+  fewer_left some = rw (length-append (drop m gs) (drop k hs), length-append gs hs, length-drop m gs, length-drop k hs) (elim some [
+    | inl lt ↦ omega (arith, lt)
+    | inr lt ↦ omega (arith, lt)
+  ])
+
+first_has : (v : ℕ) (hs : List Pair) → 0 < length hs → (get_or hs 0 (0, 0)).0 ≡ v → has_edge (v, (get_or hs 0 (0, 0)).1) hs ≡ true
+first_has v hs some is = subst (λ u. has_edge (u, (get_or hs 0 (0, 0)).1) hs ≡ true) is (has_place hs 0 some)
+
+pub is_run : (gs hs : List Pair) (v m k : ℕ) → IsFirst v gs hs → m ≤ length gs → k ≤ length hs → (0 < length gs → (get_or gs 0 (0, 0)).0 ≡ v → 0 < m) → (0 < length hs → (get_or hs 0 (0, 0)).0 ≡ v → 0 < k) → ((i : ℕ) → i < m → (get_or gs i (0, 0)).0 ≡ v) → ((i : ℕ) → i < k → (get_or hs i (0, 0)).0 ≡ v) → ((i : ℕ) → i + 1 < m → (get_or gs i (0, 0)).1 < (get_or gs (i + 1) (0, 0)).1) → ((i : ℕ) → i + 1 < k → (get_or hs i (0, 0)).1 < (get_or hs (i + 1) (0, 0)).1) → ((i : ℕ) → i < m → (get_or gs i (0, 0)).1 < v) → ((i : ℕ) → i < k → v < (get_or hs i (0, 0)).1) → IsRun (gs ++ hs) v (take m gs ++ take k hs) (drop m gs ++ drop k hs)
+is_run gs hs v m k (inl first) le le' some some' of of' up up' low high = record {
+  other = (get_or gs 0 (0, 0)).1;
+  some = has_edge-append (v, (get_or gs 0 (0, 0)).1) gs hs ∙ ap (λ b. b || has_edge (v, (get_or gs 0 (0, 0)).1) hs) (first_has v gs first.0 first.1);
+  of = of_run gs hs v m k le le' of of';
+  rising = run_rises gs hs v m k le le' up up' low high;
+  all = λ e. in_parts e m k gs hs;
+  fewer = fewer_left gs hs v m k le le' (inl (some first.0 first.1));
+}
+is_run gs hs v m k (inr first) le le' some some' of of' up up' low high = record {
+  other = (get_or hs 0 (0, 0)).1;
+  some = has_edge-append (v, (get_or hs 0 (0, 0)).1) gs hs ∙ ap (λ b. has_edge (v, (get_or hs 0 (0, 0)).1) gs || b) (first_has v hs first.0 first.1) ∙ or_true (has_edge (v, (get_or hs 0 (0, 0)).1) gs);
+  of = of_run gs hs v m k le le' of of';
+  rising = run_rises gs hs v m k le le' up up' low high;
+  all = λ e. in_parts e m k gs hs;
+  fewer = fewer_left gs hs v m k le le' (inr (some' first.0 first.1));
+}
+
+-- the vertex of a run has a row
+pub run_inside : (first n : ℕ) (rest : List Pair) (v : ℕ) (run later : List Pair) → IsRun rest v run later → AreInside first n rest → (first ≤ v) × (v - first < n) × (first + (v - first) ≡ v)
+run_inside first n rest v run later r inside =
+    let at = inside v r.other r.some in
+    (at.0, omega (arith, at.0, at.1), omega (arith, at.0))
+
+later_inside : (first n : ℕ) (rest run later : List Pair) → ((e : Pair) → has_edge e rest ≡ has_edge e run || has_edge e later) → AreInside first n rest → AreInside first n later
+later_inside first n rest run later all inside v x there = inside v x (all (v, x) ∙ ap (λ b. has_edge (v, x) run || b) there ∙ or_true (has_edge (v, x) run))
 
 -- halves come into rows, and `rest` is to come
 pub record IsGiving (first : ℕ) (old rows : List (List ℕ)) (rest halves : List Pair) : Type 0 where
@@ -143,10 +188,10 @@ giving_first first rows halves inside = record {
   has = λ v x h. refl;
 }
 
-pub giving_next : (first : ℕ) (old rows : List (List ℕ)) (rest halves run later : List Pair) (v : ℕ) (row : List ℕ) → IsGiving first old rows rest halves → rest ≡ run ++ later → AreOf (first + v) run → v < length rows → RisesFrom 0 row → ((x : ℕ) → has_number x row ≡ has_number x (get_or rows v []) || has_second x run) → IsGiving first old (set rows v row) later halves
-giving_next first old rows rest halves run later v row s split of h up new = record {
+pub giving_next : (first : ℕ) (old rows : List (List ℕ)) (rest halves run later : List Pair) (v : ℕ) (row : List ℕ) → IsGiving first old rows rest halves → ((e : Pair) → has_edge e rest ≡ has_edge e run || has_edge e later) → AreOf (first + v) run → v < length rows → RisesFrom 0 row → ((x : ℕ) → has_number x row ≡ has_number x (get_or rows v []) || has_second x run) → IsGiving first old (set rows v row) later halves
+giving_next first old rows rest halves run later v row s all of h up new = record {
   sized = length-set rows v row ∙ s.sized;
-  inside = later_inside first (length old) run later (rw split at s.inside);
+  inside = later_inside first (length old) rest run later all s.inside;
   rise = λ u lt before. elim (cases_eq u v) [
     | inl e ↦ rw (e, get_or-set_same rows v row [] h) up
     | inr ne ↦ rw (get_or-set_other rows v u row [] ne) (s.rise u lt before)
@@ -166,7 +211,7 @@ giving_next first old rows rest halves run later v row s split of h up new = rec
     regroup false b c = refl
 
     told : (u x : ℕ) {b : Bool} → has_edge (first + u, x) run ≡ b → (has_number x (get_or rows u []) || (b || has_edge (first + u, x) later)) ≡ (has_number x (get_or rows u []) || has_edge (first + u, x) rest)
-    told u x is = ap (λ c. has_number x (get_or rows u []) || c) (ap (λ c. c || has_edge (first + u, x) later) (sym is) ∙ sym (has_edge-append (first + u, x) run later) ∙ ap (λ (es : List Pair). has_edge (first + u, x) es) (sym split))
+    told u x is = ap (λ c. has_number x (get_or rows u []) || c) (ap (λ c. c || has_edge (first + u, x) later) (sym is) ∙ sym (all (first + u, x)))
 
 pub given : (first : ℕ) (old rows : List (List ℕ)) (rest halves : List Pair) → IsGiving first old rows rest halves → rest ≡ [] → AreGiven first old rows halves
 given first old rows rest halves s none = record {
@@ -223,10 +268,10 @@ has_number-filter x p (y ∷ ys) = elim (cases_eq y x) [
     other true rest ne = rw ne rest
     other false rest ne = rw ne rest
 
-pub taking_next : (first : ℕ) (old rows : List (List ℕ)) (rest halves run later : List Pair) (v : ℕ) (row : List ℕ) → IsTaking first old rows rest halves → rest ≡ run ++ later → AreOf (first + v) run → v < length rows → RisesFrom 0 row → row ≡ filter (λ x. not (has_second x run)) (get_or rows v []) → IsTaking first old (set rows v row) later halves
-taking_next first old rows rest halves run later v row s split of h up new = record {
+pub taking_next : (first : ℕ) (old rows : List (List ℕ)) (rest halves run later : List Pair) (v : ℕ) (row : List ℕ) → IsTaking first old rows rest halves → ((e : Pair) → has_edge e rest ≡ has_edge e run || has_edge e later) → AreOf (first + v) run → v < length rows → RisesFrom 0 row → row ≡ filter (λ x. not (has_second x run)) (get_or rows v []) → IsTaking first old (set rows v row) later halves
+taking_next first old rows rest halves run later v row s all of h up new = record {
   sized = length-set rows v row ∙ s.sized;
-  inside = later_inside first (length old) run later (rw split at s.inside);
+  inside = later_inside first (length old) rest run later all s.inside;
   rise = λ u lt before. elim (cases_eq u v) [
     | inl e ↦ rw (e, get_or-set_same rows v row [] h) up
     | inr ne ↦ rw (get_or-set_other rows v u row [] ne) (s.rise u lt before)
@@ -244,7 +289,7 @@ taking_next first old rows rest halves run later v row s split of h up new = rec
     regroup a false false = refl
 
     told : (u x : ℕ) {b : Bool} → has_edge (first + u, x) run ≡ b → (not (b || has_edge (first + u, x) later) && has_number x (get_or rows u [])) ≡ (not (has_edge (first + u, x) rest) && has_number x (get_or rows u []))
-    told u x is = ap (λ c. not c && has_number x (get_or rows u [])) (ap (λ c. c || has_edge (first + u, x) later) (sym is) ∙ sym (has_edge-append (first + u, x) run later) ∙ ap (λ (es : List Pair). has_edge (first + u, x) es) (sym split))
+    told u x is = ap (λ c. not c && has_number x (get_or rows u [])) (ap (λ c. c || has_edge (first + u, x) later) (sym is) ∙ sym (all (first + u, x)))
 
 pub taken : (first : ℕ) (old rows : List (List ℕ)) (rest halves : List Pair) → IsTaking first old rows rest halves → rest ≡ [] → AreTaken first old rows halves
 taken first old rows rest halves s none = record {
@@ -265,3 +310,13 @@ given_one row new (g ∷ []) h d w some few is w_is new_is x =
     let put_is : has_number x new ≡ eqb w x || has_number x row = ap (has_number x) new_is ∙ has_number-put x w row in
     grind (arith, nat_tests, same, put_is)
 given_one row new (g ∷ f ∷ fs) h d w some few is w_is new_is x = absurd (omega (arith, few))
+
+-- a single half leaves a row
+pub taken_one : (row new : List ℕ) (hs : List Pair) (w : ℕ) → 1 ≤ length hs → length hs < 2 → w ≡ (get_or hs 0 (0, 0)).1 → new ≡ without w row → new ≡ filter (λ x. not (has_second x hs)) row
+taken_one row new [] w some few is new_is = absurd (omega (arith, some))
+taken_one row new (g ∷ []) w some few is new_is = new_is ∙ same row
+  where
+    same : (xs : List ℕ) → without w xs ≡ filter (λ x. not (has_second x (g ∷ []))) xs
+    same [] = refl
+    same (y ∷ ys) = grind (arith, nat_tests, is, same ys)
+taken_one row new (g ∷ f ∷ fs) w some few is new_is = absurd (omega (arith, few))

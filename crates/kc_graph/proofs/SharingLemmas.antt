@@ -1,15 +1,14 @@
 -- Lemmas on rows that are cut in two, and so are the half-edges that come into them or leave them.
-use Rattle.std.proofs.Common.{ℕ, suc, zero, ◌+◌, ◌-◌, ◌/◌, ◌≤◌, ◌<◌, ◌≡◌, inl, inr, Bool, true, false, eqb, ◌||◌, ◌&&◌, List, [], ◌∷◌, ◌++◌, length, get_or, take, drop, refl, ap, sym, ◌∙◌, arith, subst, true≢false}
-use Rattle.std.proofs.lemmas.Bool.{cases_lt, eqb-true}
+use Rattle.std.proofs.Common.{ℕ, ◌+◌, ◌-◌, ◌≤◌, ◌<◌, ◌≡◌, inl, inr, Bool, true, false, ◌||◌, ◌&&◌, List, [], ◌∷◌, ◌++◌, length, get_or, take, drop, refl, ap, sym, ◌∙◌, arith, subst, true≢false}
+use Rattle.std.proofs.lemmas.Bool.{cases_lt}
 use Rattle.std.proofs.lemmas.Bool.Decides.{nat_tests}
-use Rattle.std.proofs.lemmas.List.{get_or_append_left, get_or-append_right, length-append, take-append-drop, take_all}
+use Rattle.std.proofs.lemmas.List.{get_or_append_left, get_or-append_right, length-append}
 use Rattle.std.proofs.lemmas.List.Elements.{All-head, All-tail}
-use Rattle.std.specs.Bool.{OnTrue}
 use Rattle.std.specs.Prelude.{All, not, Result, Ok, Err, OnOk}
 use Rattle.kc_graph.specs.Numbers.{RisesFrom, has_number}
-use Rattle.kc_graph.specs.Shape.{Pair, same_edge, has_edge}
+use Rattle.kc_graph.specs.Shape.{Pair, has_edge}
 use Rattle.kc_graph.specs.private.Halves.{IsCut, AreInside, AreGiven, AreGivenSome, AreTaken}
-use Rattle.kc_graph.proofs.HalfLemmas.{has_edge-append}
+use Rattle.kc_graph.proofs.HalfLemmas.{has_edge-append, has_place, in_parts}
 
 none_low : (v u x : ℕ) (hs : List Pair) → All (λ h. h.0 < v) hs → v ≤ u → has_edge (u, x) hs ≡ false
 none_low v u x [] all le = refl
@@ -73,41 +72,63 @@ module _ (first v : ℕ) (low high : List Pair) (are_low : All (λ h. h.0 < v) l
       has = λ u x h. each_row (λ w y hs old new. has_number y new ≡ not (has_edge (w, y) hs) && has_number y old) (λ w y hs gs old new is p. p ∙ ap (λ b. not b && has_number y old) (sym is)) front back front' back' le len s.sized t.sized s.has t.has u x h;
     }
 
-at_place : (hs : List Pair) (k : ℕ) → k < length hs → has_edge (get_or hs k (0, 0)) hs ≡ true
-at_place [] k lt = absurd (omega (arith, lt))
-at_place (h ∷ hs) zero lt = grind (arith, nat_tests)
-at_place (h ∷ hs) (suc k) lt = rw (at_place hs k (omega (arith, lt))) (or_true (same_edge (get_or hs k (0, 0)) h))
-  where
-    or_true : (b : Bool) → b || true ≡ true
-    or_true true = refl
-    or_true false = refl
+module _ (first : ℕ) (old new : List (List ℕ)) (hs gs : List Pair) (same : (e : Pair) → has_edge e gs ≡ has_edge e hs) where
+  same_given : AreGiven first old new hs → AreGiven first old new gs
+  same_given s = record {
+    sized = s.sized;
+    rise = s.rise;
+    has = λ v x h. s.has v x h ∙ ap (λ b. has_number x (get_or old v []) || b) (sym (same (first + v, x)));
+  }
 
-module _ (first len v : ℕ) (halves : List Pair) (at : IsCut halves len v) where
-  whole : take len halves ++ drop len halves ≡ halves
-  whole = take-append-drop len halves
+  same_given_some : AreGivenSome first old new hs → AreGivenSome first old new gs
+  same_given_some s = record {
+    sized = s.sized;
+    rise = s.rise;
+    kept = s.kept;
+    only = λ v x h there. ap (λ b. has_number x (get_or old v []) || b) (same (first + v, x)) ∙ s.only v x h there;
+  }
+
+  same_taken : AreTaken first old new hs → AreTaken first old new gs
+  same_taken s = record {
+    sized = s.sized;
+    rise = s.rise;
+    has = λ v x h. s.has v x h ∙ ap (λ b. not b && has_number x (get_or old v [])) (sym (same (first + v, x)));
+  }
+
+-- two lists that are cut each at a vertex
+pub is_cut : (gs hs : List Pair) (v k m n : ℕ) (low high : List Pair) → k < length (gs ++ hs) → v ≡ (get_or (gs ++ hs) k (0, 0)).0 → low ≡ take m gs ++ take n hs → high ≡ drop m gs ++ drop n hs → All (λ h. h.0 < v) low → All (λ h. v ≤ h.0) high → IsCut (gs ++ hs) v low high
+is_cut gs hs v k m n low high at is low_is high_is below from = record {
+  other = (get_or (gs ++ hs) k (0, 0)).1;
+  some = subst (λ u. has_edge (u, (get_or (gs ++ hs) k (0, 0)).1) (gs ++ hs) ≡ true) (sym is) (has_place (gs ++ hs) k at);
+  below = below;
+  from = from;
+  all = λ e. in_parts e m n gs hs ∙ ap (λ (es : List Pair). has_edge e es || has_edge e (drop m gs ++ drop n hs)) (sym low_is) ∙ ap (λ (es : List Pair). has_edge e low || has_edge e es) (sym high_is);
+}
+
+module _ (first v : ℕ) (halves low high : List Pair) (at : IsCut halves v low high) where
+  whole : (e : Pair) → has_edge e halves ≡ has_edge e (low ++ high)
+  whole e = at.all e ∙ sym (has_edge-append e low high)
 
   -- the vertex at which the halves are cut has a row
   pub cut_row : (n : ℕ) → AreInside first n halves → (first ≤ v) × (v < first + n)
-  cut_row n inside = rw at.of (inside (get_or halves (length halves / 2) (0, 0)).0 (get_or halves (length halves / 2) (0, 0)).1 (at_place halves (length halves / 2) at.some))
+  cut_row n inside = inside v at.other at.some
 
-  pub low_inside : (n m : ℕ) → AreInside first n halves → m ≡ v - first → AreInside first m (take len halves)
+  pub low_inside : (n m : ℕ) → AreInside first n halves → m ≡ v - first → AreInside first m low
   low_inside n m inside is u x there =
       let below : u < v = elim (cases_lt u v) [
         | inl lt ↦ lt
-        | inr ge ↦ absurd (true≢false (sym there ∙ none_low v u x (take len halves) at.low ge))
+        | inr ge ↦ absurd (true≢false (sym there ∙ none_low v u x low at.below ge))
       ] in
-      let in_all : has_edge (u, x) halves ≡ true = rw (← whole) (has_edge-append (u, x) (take len halves) (drop len halves) ∙ ap (λ b. b || has_edge (u, x) (drop len halves)) there) in
-      let row = inside u x in_all in
+      let row = inside u x (at.all (u, x) ∙ ap (λ b. b || has_edge (u, x) high) there) in
       (row.0, omega (arith, row.0, is, below))
 
-  pub high_inside : (n m : ℕ) → AreInside first n halves → m + (v - first) ≡ n → AreInside v m (drop len halves)
+  pub high_inside : (n m : ℕ) → AreInside first n halves → m + (v - first) ≡ n → AreInside v m high
   high_inside n m inside is u x there =
       let from : v ≤ u = elim (cases_lt u v) [
-        | inl lt ↦ absurd (true≢false (sym there ∙ none_high v u x (drop len halves) at.high lt))
+        | inl lt ↦ absurd (true≢false (sym there ∙ none_high v u x high at.from lt))
         | inr ge ↦ ge
       ] in
-      let in_all : has_edge (u, x) halves ≡ true = rw (← whole) (has_edge-append (u, x) (take len halves) (drop len halves) ∙ ap (λ b. has_edge (u, x) (take len halves) || b) there ∙ or_true (has_edge (u, x) (take len halves))) in
-      let row = inside u x in_all in
+      let row = inside u x (at.all (u, x) ∙ ap (λ b. has_edge (u, x) low || b) there ∙ or_true (has_edge (u, x) low)) in
       let cut = cut_row n inside in
       (from, omega (arith, row.1, cut.0, cut.1, is, from))
     where
@@ -116,32 +137,16 @@ module _ (first len v : ℕ) (halves : List Pair) (at : IsCut halves len v) wher
       or_true false = refl
 
   module _ (rows front back front' back' : List (List ℕ)) (split : rows ≡ front ++ back) (le : first ≤ v) (len_is : length front ≡ v - first) where
-    pub given_in_both : AreGiven first front front' (take len halves) → AreGiven v back back' (drop len halves) → AreGiven first rows (front' ++ back') halves
-    given_in_both s t = rw split (subst (λ (hs : List Pair). AreGiven first (front ++ back) (front' ++ back') hs) whole (both_given first v (take len halves) (drop len halves) at.low at.high front back front' back' le len_is s t))
+    pub given_in_both : AreGiven first front front' low → AreGiven v back back' high → AreGiven first rows (front' ++ back') halves
+    given_in_both s t = rw split (same_given first (front ++ back) (front' ++ back') (low ++ high) halves whole (both_given first v low high at.below at.from front back front' back' le len_is s t))
 
-    pub given_some_in_both : AreGivenSome first front front' (take len halves) → AreGivenSome v back back' (drop len halves) → AreGivenSome first rows (front' ++ back') halves
-    given_some_in_both s t = rw split (subst (λ (hs : List Pair). AreGivenSome first (front ++ back) (front' ++ back') hs) whole (both_given_some first v (take len halves) (drop len halves) at.low at.high front back front' back' le len_is s t))
+    pub given_some_in_both : AreGivenSome first front front' low → AreGivenSome v back back' high → AreGivenSome first rows (front' ++ back') halves
+    given_some_in_both s t = rw split (same_given_some first (front ++ back) (front' ++ back') (low ++ high) halves whole (both_given_some first v low high at.below at.from front back front' back' le len_is s t))
 
-    pub taken_in_both : AreTaken first front front' (take len halves) → AreTaken v back back' (drop len halves) → AreTaken first rows (front' ++ back') halves
-    taken_in_both s t = rw split (subst (λ (hs : List Pair). AreTaken first (front ++ back) (front' ++ back') hs) whole (both_taken first v (take len halves) (drop len halves) at.low at.high front back front' back' le len_is s t))
+    pub taken_in_both : AreTaken first front front' low → AreTaken v back back' high → AreTaken first rows (front' ++ back') halves
+    taken_in_both s t = rw split (same_taken first (front ++ back) (front' ++ back') (low ++ high) halves whole (both_taken first v low high at.below at.from front back front' back' le len_is s t))
 
 -- what follows of two facts that hold where a call succeeds, holds there
 pub on_ok_both : {A E : Type 0} (r : Result A E) (P Q S : Type 0) → (P → Q → S) → OnOk r P → OnOk r Q → OnOk r S
 on_ok_both (Ok x) P Q S then p q = then p q
 on_ok_both (Err e) P Q S then p q = tt
-
-inside_below : (n : ℕ) (hs : List Pair) → All (λ h. h.0 < n) hs → AreInside 0 n hs
-inside_below n hs all u x there = elim (cases_lt u n) [
-  | inl lt ↦ (omega arith, omega (arith, lt))
-  | inr ge ↦ absurd (true≢false (sym there ∙ none_low n u x hs all ge))
-]
-
--- where as many halves are of lesser vertices as there are, the vertices of all have rows
-pub inside_if_all : (n len : ℕ) (hs : List Pair) → All (λ h. h.0 < n) (take len hs) → OnTrue (eqb len (length hs)) (AreInside 0 n hs)
-inside_if_all n len hs low = go (eqb len (length hs)) refl
-  where
-    go : (b : Bool) → eqb len (length hs) ≡ b → OnTrue b (AreInside 0 n hs)
-    go true is =
-        let same : len ≡ length hs = eqb-true len (length hs) is in
-        inside_below n hs (rw (take_all len hs (omega (arith, same))) at low)
-    go false is = tt

@@ -2,6 +2,7 @@
 pub mod Buckets
 pub mod Digits
 pub mod EdgeLists
+pub mod HalfLists
 pub mod Halves
 pub mod KeptRows
 pub mod Keys

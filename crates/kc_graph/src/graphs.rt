@@ -6,7 +6,7 @@ ghost use Rattle.kc_graph.specs.Shape.{GraphShape, EdgesFrom, IsGraph, neighbour
 ghost use Rattle.kc_graph.specs.Changes.{AllAbsent, AllPresent};
 
 use crate::edges::Edge;
-use crate::halves::sorted_halves;
+use crate::halves::{Halves, greater_halves};
 use crate::limits::{MAX_EDGES, MAX_VERTICES};
 use crate::links;
 use crate::rows::Row;
@@ -162,9 +162,9 @@ impl Graph {
     ///
     /// Fails only if memory runs out; the graph is then unchanged.
     ///
-    /// Costs a sort of one pair an edge and a merge, for which it takes memory. Each vertex that gets neighbours costs
-    /// one pass over them and over its old neighbours above the least of them. From 2,048 edges on the sort takes
-    /// linear time, and memory for the pairs once more, which it gives back before the merge.
+    /// Costs a sort of one pair an edge, for which it takes memory. Each vertex that gets neighbours costs one pass
+    /// over them and over its old neighbours above the least of them. From 2,048 edges on the sort takes linear time,
+    /// and memory for the pairs once more, which it gives back before rows change.
     pub fn insert_all(&mut self, alloc: Global, edges: &[Edge]) -> Result<(), AllocError>
         requires ascending { EdgesFrom self.old.vertices 0 0 edges.now }
         requires absent { AllAbsent self.old edges.now }
@@ -172,9 +172,10 @@ impl Graph {
         ensures ok { OnOk result (self.new ≡ with_edges self.old edges.now) }
         ensures err { OnErr result (self.new ≡ self.old) }
     {
-        let halves = sorted_halves(alloc, edges)?;
-        if let Err(error) = give_alone(&halves, &mut self.rows) {
-            take_alone(&halves, &mut self.rows);
+        let greater = greater_halves(alloc, edges)?;
+        let halves = Halves::of(&greater, edges);
+        if let Err(error) = give_alone(halves, &mut self.rows) {
+            take_alone(halves, &mut self.rows);
             return Err(error);
         }
         self.count += edges.len() as u32;
@@ -202,9 +203,10 @@ impl Graph {
         ensures ok { OnOk result (self.new ≡ with_edges self.old edges.now) }
         ensures err { OnErr result (self.new ≡ self.old) }
     {
-        let halves = sorted_halves(alloc, edges)?;
-        if let Err(error) = give_by(rt, workers, &halves, &mut self.rows) {
-            take_by(rt, workers, &halves, &mut self.rows);
+        let greater = greater_halves(alloc, edges)?;
+        let halves = Halves::of(&greater, edges);
+        if let Err(error) = give_by(rt, workers, halves, &mut self.rows) {
+            take_by(rt, workers, halves, &mut self.rows);
             return Err(error);
         }
         self.count += edges.len() as u32;
@@ -218,10 +220,9 @@ impl Graph {
     ///
     /// Fails only if memory runs out; the graph is then unchanged.
     ///
-    /// Costs a sort of one pair an edge and a merge, for which it takes memory. Each vertex that loses neighbours costs
-    /// at most one pass over its old neighbours. If it loses few of many, it costs a binary search for each and one
-    /// move of those that stay. Threads share these passes as in `par_insert_all`, and the sort is that of
-    /// `insert_all`.
+    /// Costs a sort of one pair an edge, for which it takes memory. Each vertex that loses neighbours costs at most one
+    /// pass over its old neighbours. If it loses few of many, it costs a binary search for each and one move of those
+    /// that stay. Threads share these passes as in `par_insert_all`, and the sort is that of `insert_all`.
     pub fn par_remove_all<R: Threads + Sync>(
         &mut self,
         rt: &R,
@@ -235,8 +236,9 @@ impl Graph {
         ensures ok { OnOk result (self.new ≡ without_edges self.old edges.now) }
         ensures err { OnErr result (self.new ≡ self.old) }
     {
-        let halves = sorted_halves(alloc, edges)?;
-        take_by(rt, workers, &halves, &mut self.rows);
+        let greater = greater_halves(alloc, edges)?;
+        let halves = Halves::of(&greater, edges);
+        take_by(rt, workers, halves, &mut self.rows);
         self.count -= edges.len() as u32;
         Ok(())
     }

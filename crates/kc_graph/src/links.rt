@@ -1,11 +1,12 @@
 //! Edges come into the rows of both ends and leave them: singly, or as halves by one pass over each row.
 
-ghost use Rattle.std.specs.Prelude.{◌≡◌, ◌<◌, [], length, false, slice_index_or, OnOk, OnErr};
+ghost use Rattle.std.specs.Prelude.{◌≡◌, ◌<◌, [], length, false, true, slice_index_or, OnOk, OnErr};
 ghost use Rattle.kc_graph.specs.Numbers.{has_number};
 ghost use Rattle.kc_graph.specs.private.KeptRows.{rows_joined, rows_parted};
+ghost use Rattle.kc_graph.specs.private.HalfLists.{halves_of};
 ghost use Rattle.kc_graph.specs.private.Halves.{AreInside, AreGiven, AreGivenSome, AreTaken};
 
-use crate::halves::{Half, run_len};
+use crate::halves::Halves;
 use crate::rows::Row;
 use std::alloc::AllocError;
 
@@ -35,60 +36,93 @@ pub fn part(rows: &mut Vec<Row>, a: u32, b: u32)
     rows[b as usize].remove(a);
 }
 
-// The number of halves whose rows are prefetched together.
+// The number of halves of a list whose rows are prefetched together.
 const AHEAD: usize = 32;
 
-// Prefetches the rows of the first halves. Always true, since rows ascend; the compiler can't know that, so it keeps
-// the loads.
-fn are_at_hand(rows: &[Row], first: u32, halves: &[Half]) -> bool {
-    for k in 0..halves.len().min(AHEAD) {
-        if let Some(row) = rows.get(halves[k].vertex().saturating_sub(first) as usize) {
-            if !row.is_at_hand() {
-                return false;
-            }
-        }
+// When the next rows are prefetched.
+#[derive(Clone, Copy)]
+struct Ahead {
+    // How many halves of the list below are left then.
+    below: usize,
+    // How many edges of the list above are left then.
+    above: usize,
+}
+
+// Prefetches the row of v. Always true, since rows ascend; the compiler can't know that, so it keeps the loads.
+fn is_at_hand(rows: &[Row], first: u32, v: u32) -> bool
+    ensures { result ≡ true }
+{
+    match rows.get(v.saturating_sub(first) as usize) {
+        Some(row) => row.is_at_hand(),
+        None => true,
     }
-    true
+}
+
+impl Ahead {
+    // Prefetches the rows of the first halves of a list if those before them are done with. Always true.
+    fn are_at_hand(&mut self, rows: &[Row], first: u32, rest: Halves<'_>) -> bool
+        ensures { result ≡ true }
+    {
+        let below = rest.below.len();
+        if below <= self.below {
+            for half in &rest.below[..below.min(AHEAD)] {
+                if !is_at_hand(rows, first, half.v) {
+                    return false;
+                }
+            }
+            self.below = below.saturating_sub(AHEAD);
+        }
+        let above = rest.above.len();
+        if above <= self.above {
+            for e in &rest.above[..above.min(AHEAD)] {
+                if !is_at_hand(rows, first, e.a) {
+                    return false;
+                }
+            }
+            self.above = above.saturating_sub(AHEAD);
+        }
+        true
+    }
 }
 
 /// Puts the other end of each half into the row of its vertex, by one merge for each run of halves of one vertex. The
 /// first row is that of `first`. Fails only if memory runs out; some other ends may then be in their rows.
-pub fn give_all(first: u32, halves: &[Half], rows: &mut [Row]) -> Result<(), AllocError>
-    requires { AreInside first (length rows.old) halves.now }
-    ensures ok { OnOk result (AreGiven first rows.old rows.new halves.now) }
-    ensures some { AreGivenSome first rows.old rows.new halves.now }
+pub fn give_all(first: u32, halves: Halves<'_>, rows: &mut [Row]) -> Result<(), AllocError>
+    requires { AreInside first (length rows.old) (halves_of halves) }
+    ensures ok { OnOk result (AreGiven first rows.old rows.new (halves_of halves.entry)) }
+    ensures some { AreGivenSome first rows.old rows.new (halves_of halves.entry) }
 {
     let mut rest = halves;
-    let mut looked = rest.len();
-    while let Some(half) = rest.first() {
-        let mut near = true;
-        if rest.len() <= looked {
-            near = are_at_hand(rows, first, rest);
-            looked = rest.len().saturating_sub(AHEAD);
+    let mut ahead = Ahead {
+        below: rest.below.len(),
+        above: rest.above.len(),
+    };
+    while let Some(run) = rest.next_run() {
+        if !ahead.are_at_hand(rows, first, rest) {
+            break;
         }
-        let (run, later) = rest.split_at(run_len(rest, near));
-        rows[(half.v - first) as usize].insert_all(run)?;
-        rest = later;
+        rows[(run.v - first) as usize].insert_all(run.halves)?;
+        rest = run.later;
     }
     Ok(())
 }
 
 /// Takes the other end of each half out of the row of its vertex if it is there. Makes one pass for each run of halves
 /// of one vertex. The first row is that of `first`.
-pub fn take_all(first: u32, halves: &[Half], rows: &mut [Row])
-    requires { AreInside first (length rows.old) halves.now }
-    ensures { AreTaken first rows.old rows.new halves.now }
+pub fn take_all(first: u32, halves: Halves<'_>, rows: &mut [Row])
+    requires { AreInside first (length rows.old) (halves_of halves) }
+    ensures { AreTaken first rows.old rows.new (halves_of halves.entry) }
 {
     let mut rest = halves;
-    let mut looked = rest.len();
-    while let Some(half) = rest.first() {
-        let mut near = true;
-        if rest.len() <= looked {
-            near = are_at_hand(rows, first, rest);
-            looked = rest.len().saturating_sub(AHEAD);
+    let mut ahead = Ahead {
+        below: rest.below.len(),
+        above: rest.above.len(),
+    };
+    while let Some(run) = rest.next_run() {
+        if !ahead.are_at_hand(rows, first, rest) {
+            break;
         }
-        let (run, later) = rest.split_at(run_len(rest, near));
-        rows[(half.v - first) as usize].remove_all(run);
-        rest = later;
+        rows[(run.v - first) as usize].remove_all(run.halves);
+        rest = run.later;
     }
 }

@@ -3,39 +3,39 @@
 
 ghost use Rattle.std.specs.Prelude.{◌≡◌, ℕ, ◌+◌, ◌≤◌, ◌<◌, ◌++◌, ◌||◌, not, length, take, drop, filter, slice_index, slice_index_or};
 ghost use Rattle.kc_graph.specs.Numbers.{has_number, RisesFrom};
+ghost use Rattle.kc_graph.specs.private.HalfLists.{halves_of};
 ghost use Rattle.kc_graph.specs.private.Halves.{has_second, SecondsRise};
 
-use crate::halves::Half;
+use crate::halves::Halves;
 
 /// Merges the first `old` numbers with those that come in, from the greatest down, into the end of the list.
 ///
 /// Returns where the old numbers that stay in place end, and where the merged ones begin. The places between are free.
-pub fn merge_back(items: &mut Vec<u32>, old: usize, incoming: &[Half]) -> (usize, usize)
-    requires room { length items.old.items ≡ old + length incoming.now }
+pub fn merge_back(items: &mut Vec<u32>, old: usize, incoming: Halves<'_>) -> (usize, usize)
+    requires room { length items.old.items ≡ old + length (halves_of incoming) }
     requires rises { RisesFrom 0 (take old items.old.items) }
-    requires incoming { SecondsRise incoming.now }
+    requires incoming { SecondsRise (halves_of incoming) }
     ensures order { result.0 ≤ result.1 }
     ensures within { result.1 ≤ length items.new.items }
     ensures rises { RisesFrom 0 (take result.0 items.new.items ++ drop result.1 items.new.items) }
-    ensures has { (x : ℕ) → has_number x (take result.0 items.new.items ++ drop result.1 items.new.items) ≡ has_number x (take old items.old.items) || has_second x incoming.now }
+    ensures has { (x : ℕ) → has_number x (take result.0 items.new.items ++ drop result.1 items.new.items) ≡ has_number x (take old items.old.items) || has_second x (halves_of incoming.entry) }
 {
     let mut i = old;
     let mut j = incoming.len();
     let mut at = items.len();
     while j > 0 {
-        let w = incoming[j - 1].other();
-        at -= 1;
-        if i > 0 && w <= items[i - 1] {
+        j -= 1;
+        let w = incoming.other_at(j);
+        while i > 0 && items[i - 1] > w {
             i -= 1;
-            let x = items[i];
-            if x == w {
-                j -= 1;
-            }
-            items[at] = x;
-        } else {
-            j -= 1;
-            items[at] = w;
+            at -= 1;
+            items[at] = items[i];
         }
+        if i > 0 && items[i - 1] == w {
+            i -= 1;
+        }
+        at -= 1;
+        items[at] = w;
     }
     (i, at)
 }
@@ -51,39 +51,29 @@ pub fn close(items: &mut Vec<u32>, from: usize, to: usize)
     }
 }
 
-// Returns the first place from j on whose number isn't below x.
-fn first_from(outgoing: &[Half], j: usize, x: u32) -> usize
-    requires { j ≤ length outgoing.now }
-    ensures from { j ≤ result }
-    ensures within { result ≤ length outgoing.now }
-    ensures passed { (k : ℕ) → j ≤ k → k < result → (slice_index_or outgoing.now k (0, 0)).1 < x }
-    ensures here { result < length outgoing.now → x ≤ (slice_index_or outgoing.now result (0, 0)).1 }
-{
-    let mut j = j;
-    while j < outgoing.len() && outgoing[j].other() < x {
-        j += 1;
-    }
-    j
-}
-
 // Does what `keep_others` does, number by number.
-fn keep_each(items: &mut Vec<u32>, outgoing: &[Half]) -> usize
+fn keep_each(items: &mut Vec<u32>, outgoing: Halves<'_>) -> usize
     requires rises { RisesFrom 0 items.old.items }
-    requires outgoing { SecondsRise outgoing.now }
+    requires outgoing { SecondsRise (halves_of outgoing) }
     ensures within { result ≤ length items.new.items }
-    ensures kept { take result items.new.items ≡ filter (λ x. not (has_second x outgoing.now)) items.old.items }
+    ensures kept { take result items.new.items ≡ filter (λ x. not (has_second x (halves_of outgoing.entry))) items.old.items }
 {
     let mut kept = 0;
-    let mut j = 0;
-    for i in 0..items.len() {
-        let x = items[i];
-        j = first_from(outgoing, j, x);
-        if j == outgoing.len() || outgoing[j].other() != x {
-            items[kept] = x;
+    let mut i = 0;
+    for j in 0..outgoing.len() {
+        let x = outgoing.other_at(j);
+        while i < items.len() && items[i] < x {
+            items[kept] = items[i];
             kept += 1;
+            i += 1;
+        }
+        if i < items.len() && items[i] == x {
+            i += 1;
         }
     }
-    kept
+    let end = items.len();
+    items.copy_within(i..end, kept);
+    kept + (end - i)
 }
 
 // Returns the first place of an ascending list, from one place on, whose number isn't below x.
@@ -109,16 +99,16 @@ fn place_from(items: &[u32], from: usize, x: u32) -> usize
 }
 
 // Does what `keep_others` does, by a search for each number that leaves. Moves the numbers between two of them at once.
-fn keep_runs(items: &mut Vec<u32>, outgoing: &[Half]) -> usize
+fn keep_runs(items: &mut Vec<u32>, outgoing: Halves<'_>) -> usize
     requires rises { RisesFrom 0 items.old.items }
-    requires outgoing { SecondsRise outgoing.now }
+    requires outgoing { SecondsRise (halves_of outgoing) }
     ensures within { result ≤ length items.new.items }
-    ensures kept { take result items.new.items ≡ filter (λ x. not (has_second x outgoing.now)) items.old.items }
+    ensures kept { take result items.new.items ≡ filter (λ x. not (has_second x (halves_of outgoing.entry))) items.old.items }
 {
     let mut kept = 0;
     let mut from = 0;
     for j in 0..outgoing.len() {
-        let x = outgoing[j].other();
+        let x = outgoing.other_at(j);
         let place = place_from(items, from, x);
         items.copy_within(from..place, kept);
         kept += place - from;
@@ -137,11 +127,11 @@ fn keep_runs(items: &mut Vec<u32>, outgoing: &[Half]) -> usize
 const LEAST_RUN: usize = 16;
 
 /// Moves the numbers that stay to the front, in their order, and returns how many they are.
-pub fn keep_others(items: &mut Vec<u32>, outgoing: &[Half]) -> usize
+pub fn keep_others(items: &mut Vec<u32>, outgoing: Halves<'_>) -> usize
     requires rises { RisesFrom 0 items.old.items }
-    requires outgoing { SecondsRise outgoing.now }
+    requires outgoing { SecondsRise (halves_of outgoing) }
     ensures within { result ≤ length items.new.items }
-    ensures kept { take result items.new.items ≡ filter (λ x. not (has_second x outgoing.now)) items.old.items }
+    ensures kept { take result items.new.items ≡ filter (λ x. not (has_second x (halves_of outgoing.entry))) items.old.items }
 {
     if outgoing.len() <= items.len() / LEAST_RUN {
         keep_runs(items, outgoing)

@@ -3,9 +3,10 @@
 ghost use Rattle.std.specs.Prelude.{◌≡◌, ℕ, ◌<◌, ◌↔◌, ◌||◌, not, true, [], List, IsTrue, OnOk, OnErr, All, filter};
 ghost use Rattle.kc_graph.specs.Numbers.{has_number, RisesFrom};
 ghost use Rattle.kc_graph.specs.private.Numbers.{put, without, Found};
+ghost use Rattle.kc_graph.specs.private.HalfLists.{halves_of};
 ghost use Rattle.kc_graph.specs.private.Halves.{has_second, SecondsRise};
 
-use crate::halves::Half;
+use crate::halves::Halves;
 use crate::merging::{close, keep_others, merge_back};
 use std::alloc::{AllocError, Global};
 use std::marker::Model;
@@ -106,22 +107,22 @@ impl Row {
 
     /// Puts the other ends of the halves at their places; those that the row has are unchanged. A single one goes as in
     /// `insert`, several by one pass from the greatest down. Fails only if memory runs out; the row is then unchanged.
-    pub fn insert_all(&mut self, incoming: &[Half]) -> Result<(), AllocError>
-        requires { SecondsRise incoming.now }
-        ensures ok { OnOk result ((x : ℕ) → has_number x self.new ≡ has_number x self.old || has_second x incoming.now) }
+    pub fn insert_all(&mut self, incoming: Halves<'_>) -> Result<(), AllocError>
+        requires { SecondsRise (halves_of incoming) }
+        ensures ok { OnOk result ((x : ℕ) → has_number x self.new ≡ has_number x self.old || has_second x (halves_of incoming.entry)) }
         ensures rises { RisesFrom 0 self.new }
         ensures err { OnErr result (self.new ≡ self.old) }
     {
-        match incoming {
-            [one] => self.insert(one.other()),
-            _ => self.merge_in(incoming),
+        if incoming.len() == 1 {
+            return self.insert(incoming.other_at(0));
         }
+        self.merge_in(incoming)
     }
 
     // Does what `insert_all` does, by one pass from the greatest down.
-    fn merge_in(&mut self, incoming: &[Half]) -> Result<(), AllocError>
-        requires { SecondsRise incoming.now }
-        ensures ok { OnOk result ((x : ℕ) → has_number x self.new ≡ has_number x self.old || has_second x incoming.now) }
+    fn merge_in(&mut self, incoming: Halves<'_>) -> Result<(), AllocError>
+        requires { SecondsRise (halves_of incoming) }
+        ensures ok { OnOk result ((x : ℕ) → has_number x self.new ≡ has_number x self.old || has_second x (halves_of incoming.entry)) }
         ensures rises { RisesFrom 0 self.new }
         ensures err { OnErr result (self.new ≡ self.old) }
     {
@@ -134,21 +135,22 @@ impl Row {
 
     /// Takes the other ends of the halves out. A single one goes as in `remove`, several by one pass, and few of a long
     /// row by a search for each.
-    pub fn remove_all(&mut self, outgoing: &[Half])
-        requires { SecondsRise outgoing.now }
-        ensures value { self.new ≡ filter (λ x. not (has_second x outgoing.now)) self.old }
+    pub fn remove_all(&mut self, outgoing: Halves<'_>)
+        requires { SecondsRise (halves_of outgoing) }
+        ensures value { self.new ≡ filter (λ x. not (has_second x (halves_of outgoing.entry))) self.old }
         ensures rises { RisesFrom 0 self.new }
     {
-        match outgoing {
-            [one] => self.remove(one.other()),
-            _ => self.keep_others(outgoing),
+        if outgoing.len() == 1 {
+            self.remove(outgoing.other_at(0));
+            return;
         }
+        self.keep_others(outgoing);
     }
 
     // Does what `remove_all` does, in place and in order.
-    fn keep_others(&mut self, outgoing: &[Half])
-        requires { SecondsRise outgoing.now }
-        ensures value { self.new ≡ filter (λ x. not (has_second x outgoing.now)) self.old }
+    fn keep_others(&mut self, outgoing: Halves<'_>)
+        requires { SecondsRise (halves_of outgoing) }
+        ensures value { self.new ≡ filter (λ x. not (has_second x (halves_of outgoing.entry))) self.old }
         ensures rises { RisesFrom 0 self.new }
     {
         let kept = keep_others(&mut self.items, outgoing);

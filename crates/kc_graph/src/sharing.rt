@@ -1,12 +1,13 @@
 //! Several threads put halves into rows or take them out. Halves are cut by vertices into parts, so each thread has
 //! rows of its own.
 
-ghost use Rattle.std.specs.Prelude.{◌≡◌, ◌+◌, ◌<◌, ◌≤◌, length, take, drop, All, IfSome, OnOk};
+ghost use Rattle.std.specs.Prelude.{◌≡◌, ◌<◌, ◌≤◌, length, All, IfSome, OnOk};
 ghost use Rattle.std.specs.Bool.{OnTrue};
 ghost use Rattle.std.specs.Thread.{IsSync};
+ghost use Rattle.kc_graph.specs.private.HalfLists.{halves_of};
 ghost use Rattle.kc_graph.specs.private.Halves.{IsCut, AreInside, AreGiven, AreGivenSome, AreTaken};
 
-use crate::halves::Half;
+use crate::halves::Halves;
 use crate::links::{give_all, take_all};
 use crate::rows::Row;
 use std::alloc::AllocError;
@@ -46,42 +47,113 @@ struct Part<'a> {
     // The vertex of the first row: no greater than that of any half.
     first: u32,
     // The halves that go into these rows, or out of them.
-    halves: &'a [Half],
+    halves: Halves<'a>,
 }
 
-// Returns how many halves stand before the first one whose vertex is v or greater.
-fn len_below(halves: &[Half], v: u32) -> usize
-    ensures within { result ≤ length halves.now }
-    ensures lesser { All (λ h. h.0 < v) (take result halves.now) }
+// Returns the first place from `low` up to `high` whose half isn't of a vertex below v, if these halves are by
+// vertices.
+fn place_of(halves: Halves<'_>, low: usize, high: usize, v: u32) -> usize
+    requires order { low ≤ high }
+    requires within { high ≤ length (halves_of halves) }
+    ensures from { low ≤ result }
+    ensures to { result ≤ high }
 {
-    let mut len = 0;
-    while len < halves.len() && halves[len].vertex() < v {
-        len += 1;
+    let mut from = low;
+    let mut to = high;
+    while from < to {
+        let middle = from + (to - from) / 2;
+        if halves.vertex_at(middle) < v {
+            from = middle + 1;
+        } else {
+            to = middle;
+        }
     }
-    len
+    from
 }
 
-// Returns whether no half is of a vertex below v.
-fn are_from(halves: &[Half], v: u32) -> bool
-    ensures { OnTrue result (All (λ h. v ≤ h.0) halves.now) }
+// Returns how many halves of each list stand before those of v or a greater vertex, if each list is by vertices.
+fn len_below(halves: Halves<'_>, v: u32) -> (usize, usize)
+    ensures below { result.0 ≤ length halves.entry.below.now }
+    ensures above { result.1 ≤ length halves.entry.above.now }
 {
-    for half in halves {
-        if half.vertex() < v {
+    let count = halves.below.len();
+    let below = place_of(halves, 0, count, v);
+    let above = place_of(halves, count, halves.len(), v) - count;
+    (below, above)
+}
+
+// Returns the place of the half at whose vertex the halves are cut best, by a search in the longer list. Returns none
+// if there are no halves.
+fn middle(halves: Halves<'_>) -> Option<usize>
+    ensures { IfSome result (λ k. k < length (halves_of halves.entry)) }
+{
+    let count = halves.below.len();
+    let mut from = 0;
+    let mut to = count;
+    if count < halves.above.len() {
+        from = count;
+        to = halves.len();
+    }
+    if from == to {
+        return None;
+    }
+    while from + 1 < to {
+        let k = from + (to - from) / 2;
+        let (below, above) = len_below(halves, halves.vertex_at(k));
+        if below + above <= halves.len() / 2 {
+            from = k;
+        } else {
+            to = k;
+        }
+    }
+    Some(from)
+}
+
+// Returns whether all halves are of vertices below v.
+fn are_below(halves: Halves<'_>, v: u32) -> bool
+    ensures { OnTrue result (All (λ h. h.0 < v) (halves_of halves.entry)) }
+{
+    for k in 0..halves.len() {
+        if halves.vertex_at(k) >= v {
             return false;
         }
     }
     true
 }
 
-// Returns the vertex v of the half in the middle, and how many halves stand before the first of v or greater. Returns
-// none if a half of a lesser vertex stands after these, as can't be in a list by vertices.
-fn cut(halves: &[Half]) -> Option<(usize, u32)>
-    ensures { IfSome result (λ place. IsCut halves.now place.0 place.1) }
+// Returns whether no half is of a vertex below v.
+fn are_from(halves: Halves<'_>, v: u32) -> bool
+    ensures { OnTrue result (All (λ h. v ≤ h.0) (halves_of halves.entry)) }
 {
-    let v = halves.get(halves.len() / 2)?.vertex();
-    let len = len_below(halves, v);
-    if are_from(&halves[len..], v) {
-        Some((len, v))
+    for k in 0..halves.len() {
+        if halves.vertex_at(k) < v {
+            return false;
+        }
+    }
+    true
+}
+
+// Halves cut in two at a vertex.
+#[derive(Clone, Copy)]
+struct Cut<'a> {
+    // The vertex.
+    v: u32,
+    // The halves of lesser vertices.
+    low: Halves<'a>,
+    // All others.
+    high: Halves<'a>,
+}
+
+// Cuts the halves at a vertex, in two parts of about the same length. Returns none if a part has a half that belongs to
+// the other, as can't be if each list is by vertices.
+fn cut_in_two<'a>(halves: Halves<'a>) -> Option<Cut<'a>>
+    ensures { IfSome result (λ c. IsCut (halves_of halves.entry) c.v (halves_of c.low) (halves_of c.high)) }
+{
+    let v = halves.vertex_at(middle(halves)?);
+    let (below, above) = len_below(halves, v);
+    let (low, high) = halves.split(below, above);
+    if are_below(low, v) && are_from(high, v) {
+        Some(Cut { v, low, high })
     } else {
         None
     }
@@ -95,22 +167,21 @@ fn give_parts<R: Threads + Sync>(
     part: Part<'_>,
     rows: &mut [Row],
 ) -> Result<(), AllocError>
-    requires { AreInside part.first (length rows.old) part.halves.now }
-    ensures ok { OnOk result (AreGiven part.entry.first rows.old rows.new part.entry.halves.now) }
-    ensures some { AreGivenSome part.entry.first rows.old rows.new part.entry.halves.now }
+    requires { AreInside part.first (length rows.old) (halves_of part.halves) }
+    ensures ok { OnOk result (AreGiven part.entry.first rows.old rows.new (halves_of part.entry.halves)) }
+    ensures some { AreGivenSome part.entry.first rows.old rows.new (halves_of part.entry.halves) }
 {
     if crew.threads >= 2 && crew.least <= part.halves.len() / 2 {
-        if let Some((len, v)) = cut(part.halves) {
-            let (low, high) = part.halves.split_at(len);
+        if let Some(cut) = cut_in_two(part.halves) {
             let low = Part {
                 first: part.first,
-                halves: low,
+                halves: cut.low,
             };
             let high = Part {
-                first: v,
-                halves: high,
+                first: cut.v,
+                halves: cut.high,
             };
-            let (front, back) = rows.split_at_mut((v - part.first) as usize);
+            let (front, back) = rows.split_at_mut((cut.v - part.first) as usize);
             return give_both(crew, low, high, front, back);
         }
     }
@@ -126,22 +197,22 @@ fn give_both<R: Threads + Sync>(
     back: &mut [Row],
 ) -> Result<(), AllocError>
     requires several { 2 ≤ crew.now.threads }
-    requires front { AreInside low.first (length front.old) low.halves.now }
-    requires back { AreInside high.first (length back.old) high.halves.now }
-    ensures front { OnOk result (AreGiven low.entry.first front.old front.new low.entry.halves.now) }
-    ensures back { OnOk result (AreGiven high.entry.first back.old back.new high.entry.halves.now) }
-    ensures some_front { AreGivenSome low.entry.first front.old front.new low.entry.halves.now }
-    ensures some_back { AreGivenSome high.entry.first back.old back.new high.entry.halves.now }
+    requires front { AreInside low.first (length front.old) (halves_of low.halves) }
+    requires back { AreInside high.first (length back.old) (halves_of high.halves) }
+    ensures front { OnOk result (AreGiven low.entry.first front.old front.new (halves_of low.entry.halves)) }
+    ensures back { OnOk result (AreGiven high.entry.first back.old back.new (halves_of high.entry.halves)) }
+    ensures some_front { AreGivenSome low.entry.first front.old front.new (halves_of low.entry.halves) }
+    ensures some_back { AreGivenSome high.entry.first back.old back.new (halves_of high.entry.halves) }
 {
     let mut left = || -> Result<(), AllocError>
-        requires { IsSync R.row × (2 ≤ crew.now.threads) × AreInside low.first (length front.now) low.halves.now }
-        ensures ok { OnOk result (AreGiven low.entry.first front.entry.now front.exit.now low.entry.halves.now) }
-        ensures some { AreGivenSome low.entry.first front.entry.now front.exit.now low.entry.halves.now }
+        requires { IsSync R.row × (2 ≤ crew.now.threads) × AreInside low.first (length front.now) (halves_of low.halves) }
+        ensures ok { OnOk result (AreGiven low.entry.first front.entry.now front.exit.now (halves_of low.entry.halves)) }
+        ensures some { AreGivenSome low.entry.first front.entry.now front.exit.now (halves_of low.entry.halves) }
     { give_parts(&crew.with(crew.threads / 2), low, front) };
     let mut right = || -> Result<(), AllocError>
-        requires { IsSync R.row × (2 ≤ crew.now.threads) × AreInside high.first (length back.now) high.halves.now }
-        ensures ok { OnOk result (AreGiven high.entry.first back.entry.now back.exit.now high.entry.halves.now) }
-        ensures some { AreGivenSome high.entry.first back.entry.now back.exit.now high.entry.halves.now }
+        requires { IsSync R.row × (2 ≤ crew.now.threads) × AreInside high.first (length back.now) (halves_of high.halves) }
+        ensures ok { OnOk result (AreGiven high.entry.first back.entry.now back.exit.now (halves_of high.entry.halves)) }
+        ensures some { AreGivenSome high.entry.first back.entry.now back.exit.now (halves_of high.entry.halves) }
     { give_parts(&crew.with(crew.threads - crew.threads / 2), high, back) };
     let (given_front, given_back) = join_mut(crew.rt, &mut left, &mut right);
     given_front?;
@@ -152,21 +223,20 @@ fn give_both<R: Threads + Sync>(
 // of consecutive vertices for itself, and the halves of these.
 #[cycle(taking)]
 fn take_parts<R: Threads + Sync>(crew: &Crew<'_, R>, part: Part<'_>, rows: &mut [Row])
-    requires { AreInside part.first (length rows.old) part.halves.now }
-    ensures { AreTaken part.entry.first rows.old rows.new part.entry.halves.now }
+    requires { AreInside part.first (length rows.old) (halves_of part.halves) }
+    ensures { AreTaken part.entry.first rows.old rows.new (halves_of part.entry.halves) }
 {
     if crew.threads >= 2 && crew.least <= part.halves.len() / 2 {
-        if let Some((len, v)) = cut(part.halves) {
-            let (low, high) = part.halves.split_at(len);
+        if let Some(cut) = cut_in_two(part.halves) {
             let low = Part {
                 first: part.first,
-                halves: low,
+                halves: cut.low,
             };
             let high = Part {
-                first: v,
-                halves: high,
+                first: cut.v,
+                halves: cut.high,
             };
-            let (front, back) = rows.split_at_mut((v - part.first) as usize);
+            let (front, back) = rows.split_at_mut((cut.v - part.first) as usize);
             take_both(crew, low, high, front, back);
             return;
         }
@@ -183,36 +253,36 @@ fn take_both<R: Threads + Sync>(
     back: &mut [Row],
 )
     requires several { 2 ≤ crew.now.threads }
-    requires front { AreInside low.first (length front.old) low.halves.now }
-    requires back { AreInside high.first (length back.old) high.halves.now }
-    ensures front { AreTaken low.entry.first front.old front.new low.entry.halves.now }
-    ensures back { AreTaken high.entry.first back.old back.new high.entry.halves.now }
+    requires front { AreInside low.first (length front.old) (halves_of low.halves) }
+    requires back { AreInside high.first (length back.old) (halves_of high.halves) }
+    ensures front { AreTaken low.entry.first front.old front.new (halves_of low.entry.halves) }
+    ensures back { AreTaken high.entry.first back.old back.new (halves_of high.entry.halves) }
 {
     let mut left = ||
-        requires { IsSync R.row × (2 ≤ crew.now.threads) × AreInside low.first (length front.now) low.halves.now }
-        ensures { AreTaken low.entry.first front.entry.now front.exit.now low.entry.halves.now }
+        requires { IsSync R.row × (2 ≤ crew.now.threads) × AreInside low.first (length front.now) (halves_of low.halves) }
+        ensures { AreTaken low.entry.first front.entry.now front.exit.now (halves_of low.entry.halves) }
     { take_parts(&crew.with(crew.threads / 2), low, front) };
     let mut right = ||
-        requires { IsSync R.row × (2 ≤ crew.now.threads) × AreInside high.first (length back.now) high.halves.now }
-        ensures { AreTaken high.entry.first back.entry.now back.exit.now high.entry.halves.now }
+        requires { IsSync R.row × (2 ≤ crew.now.threads) × AreInside high.first (length back.now) (halves_of high.halves) }
+        ensures { AreTaken high.entry.first back.entry.now back.exit.now (halves_of high.entry.halves) }
     { take_parts(&crew.with(crew.threads - crew.threads / 2), high, back) };
     join_mut(crew.rt, &mut left, &mut right);
 }
 
 /// Puts the other end of each half into the row of its vertex. The rows are those of all vertices. Fails only if memory
 /// runs out; some other ends may then be in their rows.
-pub fn give_alone(halves: &[Half], rows: &mut Vec<Row>) -> Result<(), AllocError>
-    requires { AreInside 0 (length rows.old.items) halves.now }
-    ensures ok { OnOk result (AreGiven 0 rows.old.items rows.new.items halves.now) }
-    ensures some { AreGivenSome 0 rows.old.items rows.new.items halves.now }
+pub fn give_alone(halves: Halves<'_>, rows: &mut Vec<Row>) -> Result<(), AllocError>
+    requires { AreInside 0 (length rows.old.items) (halves_of halves) }
+    ensures ok { OnOk result (AreGiven 0 rows.old.items rows.new.items (halves_of halves.entry)) }
+    ensures some { AreGivenSome 0 rows.old.items rows.new.items (halves_of halves.entry) }
 {
     give_all(0, halves, rows.as_mut_slice())
 }
 
 /// Takes the other end of each half out of the row of its vertex if it is there. The rows are those of all vertices.
-pub fn take_alone(halves: &[Half], rows: &mut Vec<Row>)
-    requires { AreInside 0 (length rows.old.items) halves.now }
-    ensures { AreTaken 0 rows.old.items rows.new.items halves.now }
+pub fn take_alone(halves: Halves<'_>, rows: &mut Vec<Row>)
+    requires { AreInside 0 (length rows.old.items) (halves_of halves) }
+    ensures { AreTaken 0 rows.old.items rows.new.items (halves_of halves.entry) }
 {
     take_all(0, halves, rows.as_mut_slice());
 }
@@ -221,12 +291,12 @@ pub fn take_alone(halves: &[Half], rows: &mut Vec<Row>)
 pub fn give_by<R: Threads + Sync>(
     rt: &R,
     threads: u32,
-    halves: &[Half],
+    halves: Halves<'_>,
     rows: &mut Vec<Row>,
 ) -> Result<(), AllocError>
-    requires { AreInside 0 (length rows.old.items) halves.now }
-    ensures ok { OnOk result (AreGiven 0 rows.old.items rows.new.items halves.now) }
-    ensures some { AreGivenSome 0 rows.old.items rows.new.items halves.now }
+    requires { AreInside 0 (length rows.old.items) (halves_of halves) }
+    ensures ok { OnOk result (AreGiven 0 rows.old.items rows.new.items (halves_of halves.entry)) }
+    ensures some { AreGivenSome 0 rows.old.items rows.new.items (halves_of halves.entry) }
 {
     give_parts(
         &Crew {
@@ -240,9 +310,9 @@ pub fn give_by<R: Threads + Sync>(
 }
 
 /// Does what `take_alone` does. If the halves are many, up to `threads` threads do it, each at rows of its own.
-pub fn take_by<R: Threads + Sync>(rt: &R, threads: u32, halves: &[Half], rows: &mut Vec<Row>)
-    requires { AreInside 0 (length rows.old.items) halves.now }
-    ensures { AreTaken 0 rows.old.items rows.new.items halves.now }
+pub fn take_by<R: Threads + Sync>(rt: &R, threads: u32, halves: Halves<'_>, rows: &mut Vec<Row>)
+    requires { AreInside 0 (length rows.old.items) (halves_of halves) }
+    ensures { AreTaken 0 rows.old.items rows.new.items (halves_of halves.entry) }
 {
     take_parts(
         &Crew {

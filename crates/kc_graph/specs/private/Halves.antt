@@ -1,5 +1,5 @@
 -- Edges seen from their ends: the half-edge (v, w) puts w into the row of v.
-use Rattle.std.specs.Prelude.{ℕ, ◌+◌, ◌/◌, ◌<◌, ◌≤◌, ◌≡◌, ◌==◌, Bool, true, false, not, ◌||◌, ◌&&◌, List, [], ◌∷◌, length, get_or, take, drop, All}
+use Rattle.std.specs.Prelude.{ℕ, ◌+◌, ◌<◌, ◌≤◌, ◌≡◌, ◌==◌, Bool, true, false, not, ◌||◌, ◌&&◌, List, [], ◌∷◌, length, get_or, All, ◌⊎◌}
 use Rattle.kc_graph.specs.Numbers.{has_number, RisesFrom}
 use Rattle.kc_graph.specs.Shape.{Pair, has_edge}
 
@@ -20,14 +20,28 @@ AreOf v hs = (k : ℕ) → k < length hs → (get_or hs k (0, 0)).0 ≡ v
 abbrev pub AreInside : ℕ → ℕ → List Pair → Type 0
 AreInside first rows hs = (v x : ℕ) → has_edge (v, x) hs ≡ true → (first ≤ v) × (v < first + rows)
 
--- a cut of a list of half-edges: those before it are of vertices below v, and those after it of v or greater ones
+-- the vertex of the first half-edge of one of two lists
+abbrev pub IsFirst : ℕ → List Pair → List Pair → Type 0
+IsFirst v gs hs = ((0 < length gs) × ((get_or gs 0 (0, 0)).0 ≡ v)) ⊎ ((0 < length hs) × ((get_or hs 0 (0, 0)).0 ≡ v))
+
+-- some half-edges of a vertex, by rising second numbers, and those that are left
+pub record IsRun (halves : List Pair) (v : ℕ) (run later : List Pair) : Type 0 where
+  pub other : ℕ
+  pub some : has_edge (v, other) halves ≡ true
+  pub of : AreOf v run
+  pub rising : SecondsRise run
+  pub all : (e : Pair) → has_edge e halves ≡ has_edge e run || has_edge e later
+  pub fewer : length later < length halves
+
+-- half-edges that are cut in two parts: those of vertices below v, and those of v or greater ones
 --
--- The half-edge in the middle is of v.
-pub record IsCut (halves : List Pair) (place v : ℕ) : Type 0 where
-  pub some : length halves / 2 < length halves
-  pub of : v ≡ (get_or halves (length halves / 2) (0, 0)).0
-  pub low : All (λ h. h.0 < v) (take place halves)
-  pub high : All (λ h. v ≤ h.0) (drop place halves)
+-- One of them is of v.
+pub record IsCut (halves : List Pair) (v : ℕ) (low high : List Pair) : Type 0 where
+  pub other : ℕ
+  pub some : has_edge (v, other) halves ≡ true
+  pub below : All (λ h. h.0 < v) low
+  pub from : All (λ h. v ≤ h.0) high
+  pub all : (e : Pair) → has_edge e halves ≡ has_edge e low || has_edge e high
 
 -- the rows, from that of `first` on, after the half-edges came in
 pub record AreGiven (first : ℕ) (old new : List (List ℕ)) (halves : List Pair) : Type 0 where

@@ -1,50 +1,59 @@
 use Rattle.std.proofs.Common.{ℕ, ◌≡◌, ◌-◌, ◌+◌, ◌<◌, ◌∙◌, take, get_or, refl, ap, arith, rules}
 use Rattle.std.proofs.lemmas.List.{get_or_read}
-use Rattle.kc_graph.specs.Shape.{Pair}
+use Rattle.kc_graph.specs.private.HalfLists.{halves_of}
 use Rattle.kc_graph.proofs.MergeLemmas.{merging_first, merging_new, merging_old, merging_both, merged_rises, merged_has}
-use Rattle.kc_graph.proofs.merging.merge_back.Goals.{then-x-w, else-x-w, else-i-gt0-via-then-i-gt0+else-w-index, else-i-gt0-via-else-i-gt0}
+use Rattle.kc_graph.proofs.merging.merge_back.Goals.{then-loop-i-test+else-index-w, else-loop-i-test, then-i-gt0+then-index-w-2, else-i-gt0, else-i-gt0-via-then-i-gt0+else-index-w-2, else-i-gt0-via-else-i-gt0}
 use Rattle.kc_graph.proofs.merging.merge_back.Goals as goal
 
 pub loop-j-init : goal.loop-j-init
-loop-j-init c = merging_first _ _ _ _ _ _ c.requires.rises refl refl (search rules) c.requires.room
+loop-j-init c = merging_first _ (halves_of c.args.incoming) _ _ _ _ c.requires.rises refl (search rules) (search rules) (omega (arith, c.requires.room, c.len-j.ensures))
 
-pub loop-j-preserved-then-w-index : goal.loop-j-preserved-then-w-index
-loop-j-preserved-then-w-index c =
-    let s = c.loop-j.invariant in
+pub loop-i-preserved : goal.loop-i-preserved
+loop-i-preserved c =
+    let s = c.loop-i.invariant in
     let row = take c.args.old c.args.items.now.items in
-    let hs = c.args.incoming.now in
-    let w_is : c.other-w.result ≡ (get_or hs (c.loop-j.j - 1) (0, 0)).1 = c.other-w.ensures ∙ ap (λ (p : Pair). p.1) (get_or_read hs (c.loop-j.j - 1) _ (omega (arith, s.new_left, c.loop-j-test.true)) c.index-incoming-j.is (0, 0)) in
-    let inside : c.loop-j.i - 1 < c.loop-j.i = omega (arith, c.if-i-gt0.true) in
-    let y_is : c.index-x.result.now ≡ get_or row (c.loop-j.i - 1) 0 = get_or_read c.loop-j.items.items (c.loop-j.i - 1) _ (omega (arith, s.fits, s.within, inside)) c.index-x.ensures 0 ∙ s.same (c.loop-j.i - 1) inside in
-    let z_is : c.index.result.now ≡ get_or row (c.loop-j.i - 1) 0 = get_or_read c.loop-j.items.items (c.loop-j.i - 1) _ (omega (arith, s.fits, s.within, inside)) c.index.ensures 0 ∙ s.same (c.loop-j.i - 1) inside in
-    elim c.if-x-w.branch [
-      | then-x-w w ↦ rw (w.j-is, y_is) (merging_both row hs c.loop-j.items.items c.loop-j.i c.loop-j.j c.loop-j.at c.requires.rises c.requires.incoming s (c.loop-j.at - 1) (c.loop-j.j - 1) (omega (arith, s.fits, c.loop-j-test.true)) (omega (arith, c.loop-j-test.true)) (c.loop-j.i - 1) (omega (arith, inside)) (omega (arith, w.if-x-w.true, w_is, y_is)))
-      | else-x-w w ↦ rw (w.j-is, y_is) (merging_old row hs c.loop-j.items.items c.loop-j.i c.loop-j.j c.loop-j.at c.requires.rises c.requires.incoming s (c.loop-j.at - 1) (c.loop-j.j - 1) (omega (arith, s.fits, c.loop-j-test.true)) (omega (arith, c.loop-j-test.true)) (c.loop-j.i - 1) (omega (arith, inside)) (omega (arith, w.if-x-w.false, c.if-w-index.true, w_is, y_is, z_is)))
-    ]
+    let hs = halves_of c.args.incoming in
+    let inside : c.loop-i.i - 1 < c.loop-i.i = omega (arith, c.loop-i-test.true) in
+    let y_is : c.index.result.now ≡ get_or row (c.loop-i.i - 1) 0 = get_or_read c.loop-i.items.items (c.loop-i.i - 1) _ (omega (arith, s.fits, s.within, inside)) c.index.ensures 0 ∙ s.same (c.loop-i.i - 1) inside in
+    let z_is : c.index-in-loop-i.result.now ≡ get_or row (c.loop-i.i - 1) 0 = get_or_read c.loop-i.items.items (c.loop-i.i - 1) _ (omega (arith, s.fits, s.within, inside)) c.index-in-loop-i.ensures 0 ∙ s.same (c.loop-i.i - 1) inside in
+    rw z_is (merging_old row hs c.loop-i.items.items c.loop-i.i ((c.loop-j.j - 1) + 1) c.loop-i.at c.requires.rises c.requires.incoming s (c.loop-i.at - 1) (c.loop-j.j - 1) (omega (arith, s.fits)) refl (c.loop-i.i - 1) (omega (arith, inside)) (omega (arith, c.other_at-w.ensures, y_is, c.if-index-w.true)))
 
 pub loop-j-preserved : goal.loop-j-preserved
 loop-j-preserved c =
-    let s = c.loop-j.invariant in
+    let s = c.loop-i.invariant in
     let row = take c.args.old c.args.items.now.items in
-    let hs = c.args.incoming.now in
-    let w_is : c.other-w.result ≡ (get_or hs (c.loop-j.j - 1) (0, 0)).1 = c.other-w.ensures ∙ ap (λ (p : Pair). p.1) (get_or_read hs (c.loop-j.j - 1) _ (omega (arith, s.new_left, c.loop-j-test.true)) c.index-incoming-j.is (0, 0)) in
-    let above : (m : ℕ) → m + 1 ≡ c.loop-j.i → get_or row m 0 < (get_or hs (c.loop-j.j - 1) (0, 0)).1 = λ m e.
-    let f : c.loop-j.i - 1 ≡ m = omega arith in
-    elim c.else-i-gt0.branch [
-      | else-i-gt0-via-then-i-gt0+else-w-index w ↦
-          let z_is : w.index.result.now ≡ get_or row m 0 = get_or_read c.loop-j.items.items (c.loop-j.i - 1) _ (omega (arith, s.fits, s.within, e)) w.index.ensures 0 ∙ ap (λ n. get_or c.loop-j.items.items n 0) f ∙ s.same m (omega arith) in
-          omega (arith, w.if-w-index.false, w_is, z_is)
-      | else-i-gt0-via-else-i-gt0 w ↦ absurd (omega (arith, w.if-i-gt0.false, e))
+    let hs = halves_of c.args.incoming in
+    elim c.if-i-gt0.branch [
+      | then-i-gt0+then-index-w-2 w ↦
+          let inside : c.loop-i.i - 1 < c.loop-i.i = omega (arith, w.if-i-gt0.true) in
+          let y_is : w.index-then-i-gt0.result.now ≡ get_or row (c.loop-i.i - 1) 0 = get_or_read c.loop-i.items.items (c.loop-i.i - 1) _ (omega (arith, s.fits, s.within, inside)) w.index-then-i-gt0.ensures 0 ∙ s.same (c.loop-i.i - 1) inside in
+          let w_is : c.other_at-w.result ≡ get_or row (c.loop-i.i - 1) 0 = omega (arith, y_is, w.if-index-w-2.true) in
+          rw (w.i-is, w_is) (merging_both row hs c.loop-i.items.items c.loop-i.i ((c.loop-j.j - 1) + 1) c.loop-i.at c.requires.rises c.requires.incoming s (c.loop-i.at - 1) (c.loop-j.j - 1) (omega (arith, s.fits)) refl (c.loop-i.i - 1) (omega (arith, inside)) (omega (arith, c.other_at-w.ensures, w_is)))
+      | else-i-gt0 w ↦
+          let above : (m : ℕ) → m + 1 ≡ c.loop-i.i → get_or row m 0 < (get_or hs (c.loop-j.j - 1) (0, 0)).1 = λ m e.
+          let f : c.loop-i.i - 1 ≡ m = omega arith in
+          let inside : c.loop-i.i - 1 < c.loop-i.i = omega arith in
+          elim w.else-i-gt0.branch [
+            | else-i-gt0-via-then-i-gt0+else-index-w-2 w' ↦
+                let y_is : w'.index-then-i-gt0.result.now ≡ get_or row m 0 = get_or_read c.loop-i.items.items (c.loop-i.i - 1) _ (omega (arith, s.fits, s.within, inside)) w'.index-then-i-gt0.ensures 0 ∙ ap (λ n. get_or c.loop-i.items.items n 0) f ∙ s.same m (omega arith) in
+                elim c.loop-i-test.branch [
+                  | then-loop-i-test+else-index-w w'' ↦
+                      let z_is : w''.index.result.now ≡ get_or row m 0 = get_or_read c.loop-i.items.items (c.loop-i.i - 1) _ (omega (arith, s.fits, s.within, inside)) w''.index.ensures 0 ∙ ap (λ n. get_or c.loop-i.items.items n 0) f ∙ s.same m (omega arith) in
+                      omega (arith, y_is, z_is, c.other_at-w.ensures, w'.if-index-w-2.false, w''.if-index-w.false)
+                  | else-loop-i-test w'' ↦ absurd (omega (arith, w''.loop-i-test.false, e))
+                ]
+            | else-i-gt0-via-else-i-gt0 w' ↦ absurd (omega (arith, w'.if-i-gt0.false, e))
+          ]
+          in
+          rw (w.i-is, c.other_at-w.ensures) (merging_new row hs c.loop-i.items.items c.loop-i.i ((c.loop-j.j - 1) + 1) c.loop-i.at c.requires.rises c.requires.incoming s (c.loop-i.at - 1) (c.loop-j.j - 1) (omega (arith, s.fits)) refl above)
     ]
-    in
-    rw w_is (merging_new row hs c.loop-j.items.items c.loop-j.i c.loop-j.j c.loop-j.at c.requires.rises c.requires.incoming s (c.loop-j.at - 1) (c.loop-j.j - 1) (omega (arith, s.fits, c.loop-j-test.true)) (omega (arith, c.loop-j-test.true)) above)
 
 pub returns-clause-rises : goal.returns-clause-rises
 returns-clause-rises c =
     let none : c.loop-j.j ≡ 0 = omega (arith, c.loop-j-test.false) in
-    merged_rises (take c.args.old c.args.items.now.items) c.args.incoming.now c.loop-j.items.items c.loop-j.i c.loop-j.at c.requires.rises (rw none at c.loop-j.invariant)
+    merged_rises (take c.args.old c.args.items.now.items) (halves_of c.args.incoming) c.loop-j.items.items c.loop-j.i c.loop-j.at c.requires.rises (rw none at c.loop-j.invariant)
 
 pub returns-clause-has : goal.returns-clause-has
 returns-clause-has c =
     let none : c.loop-j.j ≡ 0 = omega (arith, c.loop-j-test.false) in
-    merged_has (take c.args.old c.args.items.now.items) c.args.incoming.now c.loop-j.items.items c.loop-j.i c.loop-j.at c.requires.rises (rw none at c.loop-j.invariant)
+    merged_has (take c.args.old c.args.items.now.items) (halves_of c.args.incoming) c.loop-j.items.items c.loop-j.i c.loop-j.at c.requires.rises (rw none at c.loop-j.invariant)
