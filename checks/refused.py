@@ -105,8 +105,10 @@ def main():
     for crate, name, path in edits_in(REFUSED):
         if not sys.argv[1:] or crate in sys.argv[1:] or f"{crate}/{name}" in sys.argv[1:]:
             edits.setdefault(crate, []).append((name, path))
+    # The crates at the top take longest, so they are begun first.
+    crates = sorted(edits, key=list(used).index, reverse=True)
     with concurrent.futures.ThreadPoolExecutor(len(os.sched_getaffinity(0))) as pool:
-        wrong = sum(pool.map(lambda crate: tried(crate, edits[crate], words(crate, used)), edits), [])
+        wrong = sum(pool.map(lambda crate: tried(crate, edits[crate], words(crate, used)), crates), [])
     print("".join(f"{it}\n" for it in wrong) + f"{sum(map(len, edits.values()))} wrong bodies, {len(wrong)} not refused")
     sys.exit(1 if wrong or not edits else 0)
 
