@@ -112,8 +112,8 @@ fn add_short_ends(
 ///
 /// So a phase has no pass over the vertices. Memory is taken for the vertices that wait, for those of a round that
 /// fall, for the fallen vertices and for the moves. The vertices that wait have a list for each level up to the
-/// greatest one under which a vertex waited. While 8,192 edges or more are unlinked, each takes 16 bytes, and 8 more
-/// until the halves of the edges are merged.
+/// greatest one under which a vertex waited. While 8,192 edges or more are unlinked, each takes 8 bytes, and 8 more
+/// while the halves of the edges are sorted.
 pub fn delete_phase<R: Threads + Sync, G: Gate + Sync, L: Ledger>(
     rounds: &Rounds<R, G>,
     alloc: Global,

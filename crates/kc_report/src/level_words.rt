@@ -80,7 +80,7 @@ fn compose_up_to(
 impl LevelWords {
     /// Composes the words of each level from 0 to the greatest of the list. Each level of the list is at most the top.
     ///
-    /// Takes memory for some 60 bytes a level, and time for that and for one pass over the list. Fails only if memory
+    /// Takes memory for some 100 bytes a level, and time for that and for one pass over the list. Fails only if memory
     /// runs out.
     pub fn new(alloc: Global, th: &Thresholds, levels: &[u16]) -> Result<LevelWords, AllocError>
         requires { (v : ℕ) → v < length levels.now → slice_index levels.now v ≤ top_level th.now.profile th.now.vertices }
