@@ -8,4 +8,4 @@ returns-clause-adjacency g c =
     let first = rw c.as_slice.ensures at c.shift_up-own.ensures.first in
     let second = rw c.as_slice.ensures at c.shift_up-own.ensures.second in
     rw c.set.ensures
-    (adjacency_moved c.args.graph.now c.args.levels.now c.args.v c.args.to _ _ _ _ c.vertices-n.ensures.graph c.requires.vertex c.requires.adjacency.sized own below first second)
+    (adjacency_moved c.args.graph.now c.args.levels.now c.args.moved.vertex c.args.moved.new _ _ _ _ c.vertices-n.ensures.graph c.requires.vertex c.requires.adjacency.sized own below first second)

@@ -17,18 +17,18 @@ loop-w-init g c = (
 pub lose-requires-clause-own_some : goal.lose-requires-clause-own_some
 lose-requires-clause-own_some g c =
     let low : get_or c.neighbours-w-items.result.now c.loop-w.w-index 0 < c.args.graph.now.vertices = c.neighbours-w-items.ensures.below c.loop-w.w-index 0 (omega arith) in
-    some_at _ _ _ _ 0 c.loop-w.counts.own.items c.neighbours-w-items.result.now c.loop-w.w-index _ (get_or c.args.levels.now (get_or c.neighbours-w-items.result.now c.loop-w.w-index 0) 0) c.vertices-n.ensures.graph c.requires.vertex c.requires.adjacency.sized c.loop-w.invariant.0 (omega arith) low refl (omega arith)
+    some_at _ _ _ _ 0 c.loop-w.counts.own.items c.neighbours-w-items.result.now c.loop-w.w-index _ (get_or c.args.levels.now (get_or c.neighbours-w-items.result.now c.loop-w.w-index 0) 0) c.vertices-n.ensures.graph c.requires.vertex c.requires.adjacency.sized c.loop-w.invariant.0 (omega arith) low c.requires.from (omega arith)
 
 pub lose-requires-clause-below_some : goal.lose-requires-clause-below_some
 lose-requires-clause-below_some g c =
     let low : get_or c.neighbours-w-items.result.now c.loop-w.w-index 0 < c.args.graph.now.vertices = c.neighbours-w-items.ensures.below c.loop-w.w-index 0 (omega arith) in
-    some_at _ _ _ _ 1 c.loop-w.counts.below.items c.neighbours-w-items.result.now c.loop-w.w-index _ _ c.vertices-n.ensures.graph c.requires.vertex c.requires.adjacency.sized c.loop-w.invariant.1 (omega arith) low refl refl
+    some_at _ _ _ _ 1 c.loop-w.counts.below.items c.neighbours-w-items.result.now c.loop-w.w-index _ _ c.vertices-n.ensures.graph c.requires.vertex c.requires.adjacency.sized c.loop-w.invariant.1 (omega arith) low c.requires.from refl
 
 pub loop-w-preserved : goal.loop-w-preserved
 loop-w-preserved g c =
     let low : get_or c.neighbours-w-items.result.now c.loop-w.w-index 0 < c.args.graph.now.vertices = c.neighbours-w-items.ensures.below c.loop-w.w-index 0 (omega arith) in (
-      rw c.lose.ensures.own (down_at _ _ _ _ 0 c.loop-w.counts.own.items c.neighbours-w-items.result.now c.loop-w.w-index _ (get_or c.args.levels.now (get_or c.neighbours-w-items.result.now c.loop-w.w-index 0) 0) c.vertices-n.ensures.graph c.requires.vertex c.requires.adjacency.sized c.loop-w.invariant.0 (omega arith) low refl (omega arith) c.requires.under),
-      rw c.lose.ensures.below (down_at _ _ _ _ 1 c.loop-w.counts.below.items c.neighbours-w-items.result.now c.loop-w.w-index _ _ c.vertices-n.ensures.graph c.requires.vertex c.requires.adjacency.sized c.loop-w.invariant.1 (omega arith) low refl refl c.requires.under),
+      rw c.lose.ensures.own (down_at _ _ _ _ 0 c.loop-w.counts.own.items c.neighbours-w-items.result.now c.loop-w.w-index _ (get_or c.args.levels.now (get_or c.neighbours-w-items.result.now c.loop-w.w-index 0) 0) c.vertices-n.ensures.graph c.requires.vertex c.requires.adjacency.sized c.loop-w.invariant.0 (omega arith) low c.requires.from (omega arith) c.requires.under),
+      rw c.lose.ensures.below (down_at _ _ _ _ 1 c.loop-w.counts.below.items c.neighbours-w-items.result.now c.loop-w.w-index _ _ c.vertices-n.ensures.graph c.requires.vertex c.requires.adjacency.sized c.loop-w.invariant.1 (omega arith) low c.requires.from refl c.requires.under),
       count_next _ c.neighbours-w-items.result.now _ c.loop-w.w-index _ _ _ (omega arith) c.loop-w.invariant.2 refl c.as_one-own.ensures.value,
       omega (arith, c.loop-w.invariant.3, c.as_one-own.ensures.small),
       count_next _ c.neighbours-w-items.result.now _ c.loop-w.w-index _ _ _ (omega arith) c.loop-w.invariant.4 refl c.as_one-below.ensures.value,
@@ -43,9 +43,9 @@ pub returns-clause-below : goal.returns-clause-below
 returns-clause-below g c = moving_last _ _ _ _ 1 _ c.neighbours-w-items.result.now c.loop-w.w-index c.loop-w.invariant.1 (omega arith)
 
 pub returns-clause-first : goal.returns-clause-first
-returns-clause-first g c = count_last c.args.graph.now c.args.levels.now c.neighbours-w-items.result.now c.args.v c.args.new c.loop-w.w-index c.loop-w.own c.loop-w.invariant.2 (omega arith) c.neighbours-w-items.ensures.value
+returns-clause-first g c = count_last c.args.graph.now c.args.levels.now c.neighbours-w-items.result.now c.args.moved.vertex c.args.moved.new c.loop-w.w-index c.loop-w.own c.loop-w.invariant.2 (omega arith) c.neighbours-w-items.ensures.value
 
 pub returns-clause-second : goal.returns-clause-second
 returns-clause-second g c =
-    let count = count_last c.args.graph.now c.args.levels.now c.neighbours-w-items.result.now c.args.v c.saturating_sub-under.result c.loop-w.w-index c.loop-w.below c.loop-w.invariant.4 (omega arith) c.neighbours-w-items.ensures.value in
-    count ∙ ap (at_least c.args.graph.now c.args.levels.now c.args.v) c.saturating_sub-under.ensures
+    let count = count_last c.args.graph.now c.args.levels.now c.neighbours-w-items.result.now c.args.moved.vertex c.saturating_sub-under.result c.loop-w.w-index c.loop-w.below c.loop-w.invariant.4 (omega arith) c.neighbours-w-items.ensures.value in
+    count ∙ ap (at_least c.args.graph.now c.args.levels.now c.args.moved.vertex) c.saturating_sub-under.ensures
