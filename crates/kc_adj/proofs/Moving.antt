@@ -14,7 +14,12 @@ use Rattle.kc_levels.specs.LevelList.{at_least}
 use Rattle.kc_levels.proofs.lemmas.Writes.{changed}
 use Rattle.kc_levels.proofs.lemmas.AtLeast.{at_least-few, at_least-set, at_least-change}
 use Rattle.kc_adj.specs.LeveledGraph.{IsCounted, IsAdjacency}
-use Rattle.kc_adj.specs.private.Moving.{is_passed, IsMoving, IsMoved}
+use Rattle.kc_adj.specs.private.Moving.{is_passed, IsMoving}
+
+-- all counts are those with v on the level k, but each vertex counts from its old level less d on
+pub record IsMoved (g : GraphShape) (x : List ℕ) (v k d : ℕ) (counts : List ℕ) : Type 0 where
+  pub sized : length counts ≡ g.vertices
+  pub values : (u : ℕ) → u < g.vertices → get_or counts u 0 ≡ at_least g (set x v k) u (get_or x u 0 - d)
 
 pub moving_first : (g : GraphShape) (x : List ℕ) (v k d : ℕ) (counts : List ℕ) → IsGraph g → IsCounted g x d counts → IsMoving g x v k d counts (neighbours_of v g.edges)
 moving_first g x v k d counts graph c = record {

@@ -1,10 +1,8 @@
 //! How the counts change when a vertex moves to another level.
 
-ghost use Rattle.std.specs.Prelude.{◌≡◌, ◌+◌, ◌-◌, ◌<◌, ◌≤◌, length, slice_index, slice_set};
+ghost use Rattle.std.specs.Prelude.{◌≡◌, ◌+◌, ◌<◌, ◌≤◌, length, slice_index, slice_set};
 ghost use Rattle.kc_graph.specs.Shape.{neighbours_of};
-ghost use Rattle.kc_levels.specs.LevelList.{at_least};
 ghost use Rattle.kc_adj.specs.LeveledGraph.{IsAdjacency};
-ghost use Rattle.kc_adj.specs.private.Moving.{IsMoved};
 
 use crate::counts::{Counts, as_one, gain, lose};
 use crate::steps::Steps;
@@ -12,7 +10,7 @@ use kc_graph::Graph;
 use kc_levels::{Levels, Move};
 use std::sync::ledger::Ledger;
 
-// Updates the counts of the neighbours of a vertex that goes up, and counts for the vertex itself.
+// Updates the counts of the neighbours of a vertex that goes up, and returns both counts of the vertex itself.
 fn shift_up<L: Ledger>(
     graph: &Graph,
     levels: &[u16],
@@ -24,10 +22,7 @@ fn shift_up<L: Ledger>(
     requires from { moved.old ≡ slice_index levels.now moved.vertex }
     requires adjacency { IsAdjacency graph.now levels.now counts.old.own.items counts.old.below.items }
     requires over { moved.old ≤ moved.new }
-    ensures own { IsMoved graph.now levels.now moved.vertex moved.new 0 counts.new.own.items }
-    ensures below { IsMoved graph.now levels.now moved.vertex moved.new 1 counts.new.below.items }
-    ensures first { result.0 ≡ at_least graph.now levels.now moved.vertex moved.new }
-    ensures second { result.1 ≡ at_least graph.now levels.now moved.vertex (moved.new - 1) }
+    ensures adjacency { IsAdjacency graph.now (slice_set levels.now moved.vertex moved.new) (slice_set counts.new.own.items moved.vertex result.0) (slice_set counts.new.below.items moved.vertex result.1) }
     ensures cost { steps.new ≡ steps.old + length (neighbours_of moved.vertex graph.now.edges) }
 {
     let _n = graph.vertices();
@@ -45,7 +40,7 @@ fn shift_up<L: Ledger>(
     (own, below)
 }
 
-// Updates the counts of the neighbours of a vertex that goes down, and counts for the vertex itself.
+// Updates the counts of the neighbours of a vertex that goes down, and returns both counts of the vertex itself.
 fn shift_down<L: Ledger>(
     graph: &Graph,
     levels: &[u16],
@@ -57,10 +52,7 @@ fn shift_down<L: Ledger>(
     requires from { moved.old ≡ slice_index levels.now moved.vertex }
     requires adjacency { IsAdjacency graph.now levels.now counts.old.own.items counts.old.below.items }
     requires under { moved.new ≤ moved.old }
-    ensures own { IsMoved graph.now levels.now moved.vertex moved.new 0 counts.new.own.items }
-    ensures below { IsMoved graph.now levels.now moved.vertex moved.new 1 counts.new.below.items }
-    ensures first { result.0 ≡ at_least graph.now levels.now moved.vertex moved.new }
-    ensures second { result.1 ≡ at_least graph.now levels.now moved.vertex (moved.new - 1) }
+    ensures adjacency { IsAdjacency graph.now (slice_set levels.now moved.vertex moved.new) (slice_set counts.new.own.items moved.vertex result.0) (slice_set counts.new.below.items moved.vertex result.1) }
     ensures cost { steps.new ≡ steps.old + length (neighbours_of moved.vertex graph.now.edges) }
 {
     let _n = graph.vertices();
@@ -94,7 +86,6 @@ pub fn lift<L: Ledger>(
     ensures adjacency { IsAdjacency graph.now levels.new counts.new.own.items counts.new.below.items }
     ensures cost { steps.new ≡ steps.old + (length (neighbours_of moved.vertex graph.now.edges) + 1) }
 {
-    let _n = graph.vertices();
     let (own, below) = shift_up(graph, levels.as_slice(), counts, moved, steps);
     levels.set(moved.vertex, moved.new);
     counts.own[moved.vertex as usize] = own;
@@ -118,7 +109,6 @@ pub fn fall<L: Ledger>(
     ensures adjacency { IsAdjacency graph.now levels.new counts.new.own.items counts.new.below.items }
     ensures cost { steps.new ≡ steps.old + (length (neighbours_of moved.vertex graph.now.edges) + 1) }
 {
-    let _n = graph.vertices();
     let (own, below) = shift_down(graph, levels.as_slice(), counts, moved, steps);
     levels.set(moved.vertex, moved.new);
     counts.own[moved.vertex as usize] = own;

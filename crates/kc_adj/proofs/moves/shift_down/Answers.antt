@@ -1,6 +1,6 @@
 use Rattle.std.proofs.Common.{◌<◌, get_or, ap, ◌∙◌, arith, refl}
 use Rattle.kc_levels.specs.LevelList.{at_least}
-use Rattle.kc_adj.proofs.Moving.{moving_first, some_at, down_at, count_next, count_last, moving_last}
+use Rattle.kc_adj.proofs.Moving.{moving_first, some_at, down_at, count_next, count_last, moving_last, adjacency_moved}
 use Rattle.kc_adj.proofs.moves.shift_down.Goals as goal
 
 pub loop-w-init : goal.loop-w-init
@@ -36,16 +36,11 @@ loop-w-preserved g c =
       omega (arith, c.loop-w.invariant.6),
     )
 
-pub returns-clause-own : goal.returns-clause-own
-returns-clause-own g c = moving_last _ _ _ _ 0 _ c.neighbours-w-items.result.now c.loop-w.w-index c.loop-w.invariant.0 (omega arith)
-
-pub returns-clause-below : goal.returns-clause-below
-returns-clause-below g c = moving_last _ _ _ _ 1 _ c.neighbours-w-items.result.now c.loop-w.w-index c.loop-w.invariant.1 (omega arith)
-
-pub returns-clause-first : goal.returns-clause-first
-returns-clause-first g c = count_last c.args.graph.now c.args.levels.now c.neighbours-w-items.result.now c.args.moved.vertex c.args.moved.new c.loop-w.w-index c.loop-w.own c.loop-w.invariant.2 (omega arith) c.neighbours-w-items.ensures.value
-
-pub returns-clause-second : goal.returns-clause-second
-returns-clause-second g c =
-    let count = count_last c.args.graph.now c.args.levels.now c.neighbours-w-items.result.now c.args.moved.vertex c.saturating_sub-under.result c.loop-w.w-index c.loop-w.below c.loop-w.invariant.4 (omega arith) c.neighbours-w-items.ensures.value in
-    count ∙ ap (at_least c.args.graph.now c.args.levels.now c.args.moved.vertex) c.saturating_sub-under.ensures
+pub returns-clause-adjacency : goal.returns-clause-adjacency
+returns-clause-adjacency g c =
+    let own = moving_last _ _ _ _ 0 _ c.neighbours-w-items.result.now c.loop-w.w-index c.loop-w.invariant.0 (omega arith) in
+    let below = moving_last _ _ _ _ 1 _ c.neighbours-w-items.result.now c.loop-w.w-index c.loop-w.invariant.1 (omega arith) in
+    let first = count_last c.args.graph.now c.args.levels.now c.neighbours-w-items.result.now c.args.moved.vertex c.args.moved.new c.loop-w.w-index c.loop-w.own c.loop-w.invariant.2 (omega arith) c.neighbours-w-items.ensures.value in
+    let under = count_last c.args.graph.now c.args.levels.now c.neighbours-w-items.result.now c.args.moved.vertex c.saturating_sub-under.result c.loop-w.w-index c.loop-w.below c.loop-w.invariant.4 (omega arith) c.neighbours-w-items.ensures.value in
+    let second = under ∙ ap (at_least c.args.graph.now c.args.levels.now c.args.moved.vertex) c.saturating_sub-under.ensures in
+    adjacency_moved c.args.graph.now c.args.levels.now c.args.moved.vertex c.args.moved.new _ _ _ _ c.vertices-n.ensures.graph c.requires.vertex c.requires.adjacency.sized own below first second
