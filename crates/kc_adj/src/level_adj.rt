@@ -102,7 +102,6 @@ impl LevelAdj {
         ensures value { result ≡ at_least self.now.graph self.now.levels v (slice_index self.now.levels v) }
         ensures few { result < self.now.graph.vertices }
     {
-        let _n = self.graph.vertices();
         self.counts.own[v as usize]
     }
 
@@ -122,7 +121,6 @@ impl LevelAdj {
         ensures degree { slice_index self.now.levels v ≡ 0 → result ≡ length (neighbours_of v self.now.graph.edges) }
         ensures few { result < self.now.graph.vertices }
     {
-        let _n = self.graph.vertices();
         self.counts.below[v as usize]
     }
 
@@ -185,7 +183,6 @@ impl LevelAdj {
         ensures err { OnErr result (self.new ≡ self.old) }
         ensures steps_kept { OnErr result (steps.new ≡ steps.old) }
     {
-        let _n = self.graph.vertices();
         self.graph.insert(alloc, e)?;
         links::link(&self.levels, &mut self.counts.own, 0, e.a, e.b);
         links::link(&self.levels, &mut self.counts.below, 1, e.a, e.b);
@@ -204,7 +201,6 @@ impl LevelAdj {
         ensures value { self.new ≡ record self.old { graph = without_edge self.old.graph e } }
         ensures cost { steps.new ≡ steps.old + 3 }
     {
-        let _n = self.graph.vertices();
         self.graph.remove(e);
         links::unlink(&self.levels, &mut self.counts.own, 0, e.a, e.b);
         links::unlink(&self.levels, &mut self.counts.below, 1, e.a, e.b);
@@ -236,7 +232,6 @@ impl LevelAdj {
         ensures err { OnErr result (self.new ≡ self.old) }
         ensures steps_kept { OnErr result (steps.new ≡ steps.old) }
     {
-        let _n = self.graph.vertices();
         self.graph.par_insert_all(rt, alloc, workers, edges)?;
         links::link_all(&self.graph, &self.levels, &mut self.counts, edges);
         steps.add(edges.len());
@@ -266,7 +261,6 @@ impl LevelAdj {
         ensures err { OnErr result (self.new ≡ self.old) }
         ensures steps_kept { OnErr result (steps.new ≡ steps.old) }
     {
-        let _n = self.graph.vertices();
         self.graph.par_remove_all(rt, alloc, workers, edges)?;
         links::unlink_all(&self.graph, &self.levels, &mut self.counts, edges);
         steps.add(edges.len());

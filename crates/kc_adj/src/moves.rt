@@ -25,7 +25,6 @@ fn shift_up<L: Ledger>(
     ensures adjacency { IsAdjacency graph.now (slice_set levels.now moved.vertex moved.new) (slice_set counts.new.own.items moved.vertex result.0) (slice_set counts.new.below.items moved.vertex result.1) }
     ensures cost { steps.new ≡ steps.old + length (neighbours_of moved.vertex graph.now.edges) }
 {
-    let _n = graph.vertices();
     let Move { vertex, old, new } = moved;
     let under = new.saturating_sub(1);
     let mut own = 0;
@@ -55,7 +54,6 @@ fn shift_down<L: Ledger>(
     ensures adjacency { IsAdjacency graph.now (slice_set levels.now moved.vertex moved.new) (slice_set counts.new.own.items moved.vertex result.0) (slice_set counts.new.below.items moved.vertex result.1) }
     ensures cost { steps.new ≡ steps.old + length (neighbours_of moved.vertex graph.now.edges) }
 {
-    let _n = graph.vertices();
     let Move { vertex, old, new } = moved;
     let under = new.saturating_sub(1);
     let mut own = 0;
