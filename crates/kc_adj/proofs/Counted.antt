@@ -1,9 +1,10 @@
 -- Counts: how great they are, and what they are at first.
-use Rattle.std.proofs.Common.{ℕ, ◌-◌, ◌<◌, ◌≡◌, Bool, true, leb, List, [], ◌∷◌, length, get_or, replicate, refl, sym, ◌∙◌, arith}
+use Rattle.std.proofs.Common.{ℕ, ◌-◌, ◌≤◌, ◌<◌, ◌≡◌, Bool, true, leb, List, [], ◌∷◌, length, get_or, replicate, refl, sym, ◌∙◌, arith}
 use Rattle.std.specs.Prelude.{count_by}
 use Rattle.std.proofs.lemmas.Bool.{le-leb}
 use Rattle.std.proofs.lemmas.List.{length-replicate, get_or-replicate}
 use Rattle.kc_graph.specs.Shape.{GraphShape, IsGraph, neighbours_of}
+use Rattle.kc_graph.specs.declared.limits.TheConstants.{MAX_VERTICES}
 use Rattle.kc_graph.proofs.lemmas.Counts.{count_by-cons}
 use Rattle.kc_levels.specs.LevelList.{at_least}
 use Rattle.kc_levels.proofs.lemmas.AtLeast.{at_least-few}
@@ -31,6 +32,6 @@ counted_first n d = record {
   values = λ v h. get_or-replicate n v 0 0 h ∙ sym (no_edges n v (get_or (replicate n 0) v 0 - d) (replicate n 0));
 }
 
-pub adjacency_first : (n : ℕ) (g : GraphShape) (x own below : List ℕ) → g ≡ record { vertices = n; edges = [] } → x ≡ replicate n 0 → own ≡ replicate n 0 → below ≡ replicate n 0 → IsAdjacency g x own below
-adjacency_first n g x own below a b c d =
-    rw (a, b, c, d) (record { sized = length-replicate n 0; own_counts = counted_first n 0; below_counts = counted_first n 1 })
+pub adjacency_first : (n : ℕ) (g : GraphShape) (x own below : List ℕ) → n ≤ MAX_VERTICES → g ≡ record { vertices = n; edges = [] } → x ≡ replicate n 0 → own ≡ replicate n 0 → below ≡ replicate n 0 → IsAdjacency g x own below
+adjacency_first n g x own below small a b c d =
+    rw (a, b, c, d) (record { graph = tt; small = small; sized = length-replicate n 0; own_counts = counted_first n 0; below_counts = counted_first n 1 })

@@ -3,10 +3,9 @@ use Rattle.std.proofs.Common.{ℕ, ◌+◌, ◌-◌, ◌≤◌, ◌<◌, ◌≡�
 use Rattle.std.specs.Prelude.{count_by}
 use Rattle.std.proofs.lemmas.Bool.{cases_eq}
 use Rattle.std.proofs.lemmas.List.{length-set, get_or-set_same, get_or-set_other, drop_more, drop_all}
-use Rattle.kc_graph.specs.declared.limits.TheConstants.{MAX_VERTICES}
 use Rattle.kc_graph.specs.Numbers.{has_number}
 use Rattle.kc_graph.specs.Shape.{GraphShape, Pair, IsGraph, neighbours_of, has_edge, with_edge, without_edge}
-use Rattle.kc_graph.proofs.lemmas.Changes.{is_graph-with_edge, is_graph-without_edge, vertices-with_edges}
+use Rattle.kc_graph.proofs.lemmas.Changes.{is_graph-with_edge, is_graph-without_edge}
 use Rattle.kc_graph.proofs.lemmas.Counts.{count_by-put, count_by-without}
 use Rattle.kc_graph.proofs.lemmas.Edges.{joined_comm, joined_in_order}
 use Rattle.kc_graph.proofs.lemmas.Neighbours.{has_number-neighbours_of, neighbours_rise, neighbours_of_insert_low, neighbours_of_insert_high, neighbours_of_insert_other, neighbours_of_remove_low, neighbours_of_remove_high, neighbours_of_remove_other}
@@ -98,22 +97,24 @@ module _ (g : GraphShape) (x : List ℕ) (a b : ℕ) (graph : IsGraph g) (order 
     }
 
 -- the same as clauses give it: an edge e, and the model of the fields
-module _ (g : GraphShape) (x own below : List ℕ) (a b : ℕ) (self : LeveledGraph) (e : Pair) (e_is : (a, b) ≡ e) (self_is : record { graph = g; levels = x } ≡ self) (order : a < b) (graph : IsGraph g) (small : g.vertices ≤ MAX_VERTICES) (within : e.1 < self.graph.vertices) (adj : IsAdjacency g x own below) where
+module _ (g : GraphShape) (x own below : List ℕ) (a b : ℕ) (self : LeveledGraph) (e : Pair) (e_is : (a, b) ≡ e) (self_is : record { graph = g; levels = x } ≡ self) (order : a < b) (within : e.1 < self.graph.vertices) (adj : IsAdjacency g x own below) where
   inside : b < g.vertices
   inside = rw (← self_is, ← e_is) at within
 
   pub few_at : (d v : ℕ) (counts : List ℕ) → IsCounted g x d counts → v ≤ b → get_or counts v 0 < 2147483648
   few_at d v counts c le =
-      let few : get_or counts v 0 < g.vertices = count-few g x d counts v graph c (omega (arith, inside)) in
-      omega (arith, few, small)
+      let few : get_or counts v 0 < g.vertices = count-few g x d counts v adj.graph c (omega (arith, inside)) in
+      omega (arith, few, adj.small)
 
   pub adjacency_linked : has_edge e self.graph.edges ≡ false → (h : GraphShape) (own' below' : List ℕ) → h ≡ with_edge g (a, b) → own' ≡ linked x 0 a b own → below' ≡ linked x 1 a b below → IsAdjacency h x own' below'
   adjacency_linked absent h own' below' is is1 is2 =
       let absent' : has_edge (a, b) g.edges ≡ false = rw (← self_is, ← e_is) at absent in
       rw (is, is1, is2) (record {
+        graph = is_graph-with_edge g (a, b) adj.graph order inside;
+        small = adj.small;
         sized = adj.sized;
-        own_counts = counted_linked g x a b graph order inside absent' 0 own adj.own_counts;
-        below_counts = counted_linked g x a b graph order inside absent' 1 below adj.below_counts;
+        own_counts = counted_linked g x a b adj.graph order inside absent' 0 own adj.own_counts;
+        below_counts = counted_linked g x a b adj.graph order inside absent' 1 below adj.below_counts;
       })
 
   module _ (present : has_edge e self.graph.edges ≡ true) where
@@ -121,17 +122,19 @@ module _ (g : GraphShape) (x own below : List ℕ) (a b : ℕ) (self : LeveledGr
     there = rw (← self_is, ← e_is) at present
 
     pub low_at : (d : ℕ) (counts : List ℕ) → IsCounted g x d counts → share x d a b ≤ get_or counts a 0
-    low_at d counts c = share_low g x a b graph order inside there d counts c
+    low_at d counts c = share_low g x a b adj.graph order inside there d counts c
 
     pub high_at : (d : ℕ) (counts : List ℕ) → IsCounted g x d counts → share x d b a ≤ get_or counts b 0
-    high_at d counts c = share_high g x a b graph order inside there d counts c
+    high_at d counts c = share_high g x a b adj.graph order inside there d counts c
 
     pub adjacency_unlinked : (h : GraphShape) (own' below' : List ℕ) → h ≡ without_edge g (a, b) → own' ≡ unlinked x 0 a b own → below' ≡ unlinked x 1 a b below → IsAdjacency h x own' below'
     adjacency_unlinked h own' below' is is1 is2 =
         rw (is, is1, is2) (record {
+          graph = is_graph-without_edge g (a, b) adj.graph;
+          small = adj.small;
           sized = adj.sized;
-          own_counts = counted_unlinked g x a b graph order inside there 0 own adj.own_counts;
-          below_counts = counted_unlinked g x a b graph order inside there 1 below adj.below_counts;
+          own_counts = counted_unlinked g x a b adj.graph order inside there 0 own adj.own_counts;
+          below_counts = counted_unlinked g x a b adj.graph order inside there 1 below adj.below_counts;
         })
 
 -- all edges come in, or leave: the step of a loop over them at place i
@@ -146,27 +149,28 @@ module _ (g : GraphShape) (x own below : List ℕ) (es : List Pair) (i : ℕ) (e
     pub awaited_inside : e.1 < length x
     awaited_inside = omega (arith, s.addable.0, s.counted.sized)
 
-    awaited_few : g.vertices ≤ MAX_VERTICES → (d v : ℕ) (counts : List ℕ) → IsCounted s.before x d counts → v ≤ e.1 → get_or counts v 0 < 2147483648
-    awaited_few small d v counts c le =
-        let few : get_or counts v 0 < s.before.vertices = count-few s.before x d counts v s.graph c (omega (arith, s.addable.0)) in
-        omega (arith, few, small, ap (λ (h : GraphShape). h.vertices) s.becomes, vertices-with_edges s.before (e ∷ drop (i + 1) es))
+    awaited_few : (d v : ℕ) (counts : List ℕ) → IsCounted s.before x d counts → v ≤ e.1 → get_or counts v 0 < 2147483648
+    awaited_few d v counts c le =
+        let few : get_or counts v 0 < s.before.vertices = count-few s.before x d counts v s.counted.graph c (omega (arith, s.addable.0)) in
+        omega (arith, few, s.counted.small)
 
-    pub awaited_own : g.vertices ≤ MAX_VERTICES → (v : ℕ) → v ≤ e.1 → get_or own v 0 < 2147483648
-    awaited_own small v le = awaited_few small 0 v own s.counted.own_counts le
+    pub awaited_own : (v : ℕ) → v ≤ e.1 → get_or own v 0 < 2147483648
+    awaited_own v le = awaited_few 0 v own s.counted.own_counts le
 
-    pub awaited_below : g.vertices ≤ MAX_VERTICES → (v : ℕ) → v ≤ e.1 → get_or below v 0 < 2147483648
-    awaited_below small v le = awaited_few small 1 v below s.counted.below_counts le
+    pub awaited_below : (v : ℕ) → v ≤ e.1 → get_or below v 0 < 2147483648
+    awaited_below v le = awaited_few 1 v below s.counted.below_counts le
 
     pub awaiting_next : (own' below' : List ℕ) → own' ≡ linked x 0 e.0 e.1 own → below' ≡ linked x 1 e.0 e.1 below → AwaitsEdges g x own' below' (drop (i + 1) es)
     awaiting_next own' below' is1 is2 = record {
       before = with_edge s.before e;
-      graph = is_graph-with_edge s.before e s.graph order s.addable.0;
       addable = s.addable.3;
       becomes = s.becomes;
       counted = rw (is1, is2) (record {
+        graph = is_graph-with_edge s.before e s.counted.graph order s.addable.0;
+        small = s.counted.small;
         sized = s.counted.sized;
-        own_counts = counted_linked s.before x e.0 e.1 s.graph order s.addable.0 s.addable.1 0 own s.counted.own_counts;
-        below_counts = counted_linked s.before x e.0 e.1 s.graph order s.addable.0 s.addable.1 1 below s.counted.below_counts;
+        own_counts = counted_linked s.before x e.0 e.1 s.counted.graph order s.addable.0 s.addable.1 0 own s.counted.own_counts;
+        below_counts = counted_linked s.before x e.0 e.1 s.counted.graph order s.addable.0 s.addable.1 1 below s.counted.below_counts;
       });
     }
 
@@ -178,27 +182,28 @@ module _ (g : GraphShape) (x own below : List ℕ) (es : List Pair) (i : ℕ) (e
     lost_inside = omega (arith, t.removable.0, t.counted.sized)
 
     pub lost_own_low : share x 0 e.0 e.1 ≤ get_or own e.0 0
-    lost_own_low = share_low t.before x e.0 e.1 t.graph order t.removable.0 t.removable.1 0 own t.counted.own_counts
+    lost_own_low = share_low t.before x e.0 e.1 t.counted.graph order t.removable.0 t.removable.1 0 own t.counted.own_counts
 
     pub lost_own_high : share x 0 e.1 e.0 ≤ get_or own e.1 0
-    lost_own_high = share_high t.before x e.0 e.1 t.graph order t.removable.0 t.removable.1 0 own t.counted.own_counts
+    lost_own_high = share_high t.before x e.0 e.1 t.counted.graph order t.removable.0 t.removable.1 0 own t.counted.own_counts
 
     pub lost_below_low : share x 1 e.0 e.1 ≤ get_or below e.0 0
-    lost_below_low = share_low t.before x e.0 e.1 t.graph order t.removable.0 t.removable.1 1 below t.counted.below_counts
+    lost_below_low = share_low t.before x e.0 e.1 t.counted.graph order t.removable.0 t.removable.1 1 below t.counted.below_counts
 
     pub lost_below_high : share x 1 e.1 e.0 ≤ get_or below e.1 0
-    lost_below_high = share_high t.before x e.0 e.1 t.graph order t.removable.0 t.removable.1 1 below t.counted.below_counts
+    lost_below_high = share_high t.before x e.0 e.1 t.counted.graph order t.removable.0 t.removable.1 1 below t.counted.below_counts
 
     pub losing_next : (own' below' : List ℕ) → own' ≡ unlinked x 0 e.0 e.1 own → below' ≡ unlinked x 1 e.0 e.1 below → LosesEdges g x own' below' (drop (i + 1) es)
     losing_next own' below' is1 is2 = record {
       before = without_edge t.before e;
-      graph = is_graph-without_edge t.before e t.graph;
       removable = t.removable.2;
       becomes = t.becomes;
       counted = rw (is1, is2) (record {
+        graph = is_graph-without_edge t.before e t.counted.graph;
+        small = t.counted.small;
         sized = t.counted.sized;
-        own_counts = counted_unlinked t.before x e.0 e.1 t.graph order t.removable.0 t.removable.1 0 own t.counted.own_counts;
-        below_counts = counted_unlinked t.before x e.0 e.1 t.graph order t.removable.0 t.removable.1 1 below t.counted.below_counts;
+        own_counts = counted_unlinked t.before x e.0 e.1 t.counted.graph order t.removable.0 t.removable.1 0 own t.counted.own_counts;
+        below_counts = counted_unlinked t.before x e.0 e.1 t.counted.graph order t.removable.0 t.removable.1 1 below t.counted.below_counts;
       });
     }
 

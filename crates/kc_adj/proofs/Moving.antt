@@ -8,13 +8,19 @@ use Rattle.std.proofs.lemmas.List.{take_all, drop_all, length-set, get_or-set_sa
 use Rattle.std.proofs.lemmas.List.Sums.{count_by_more_yes, count_by_more_no}
 use Rattle.kc_graph.specs.Numbers.{has_number}
 use Rattle.kc_graph.specs.Shape.{GraphShape, IsGraph, neighbours_of}
+use Rattle.kc_graph.specs.declared.limits.TheConstants.{MAX_VERTICES}
 use Rattle.kc_graph.proofs.lemmas.Numbers.{has_number_below}
 use Rattle.kc_graph.proofs.lemmas.Neighbours.{neighbours_both, neighbours_rise, no_own_neighbour}
 use Rattle.kc_levels.specs.LevelList.{at_least}
 use Rattle.kc_levels.proofs.lemmas.Writes.{changed}
 use Rattle.kc_levels.proofs.lemmas.AtLeast.{at_least-few, at_least-set, at_least-change}
 use Rattle.kc_adj.specs.LeveledGraph.{IsCounted, IsAdjacency}
-use Rattle.kc_adj.specs.private.Moving.{is_passed, IsMoving, IsMoved}
+use Rattle.kc_adj.specs.private.Moving.{is_passed, IsMoving}
+
+-- all counts are those with v on the level k, but each vertex counts from its old level less d on
+pub record IsMoved (g : GraphShape) (x : List ℕ) (v k d : ℕ) (counts : List ℕ) : Type 0 where
+  pub sized : length counts ≡ g.vertices
+  pub values : (u : ℕ) → u < g.vertices → get_or counts u 0 ≡ at_least g (set x v k) u (get_or x u 0 - d)
 
 pub moving_first : (g : GraphShape) (x : List ℕ) (v k d : ℕ) (counts : List ℕ) → IsGraph g → IsCounted g x d counts → IsMoving g x v k d counts (neighbours_of v g.edges)
 moving_first g x v k d counts graph c = record {
@@ -131,12 +137,14 @@ counted_moved g x v k d c counts inside h s is = record {
 }
 
 -- v is on its new level, and both its counts are those of the old levels, since v is no neighbour of its own
-pub adjacency_moved : (g : GraphShape) (x : List ℕ) (v k : ℕ) (own below : List ℕ) (c d : ℕ) → IsGraph g → v < g.vertices → length x ≡ g.vertices → IsMoved g x v k 0 own → IsMoved g x v k 1 below → c ≡ at_least g x v k → d ≡ at_least g x v (k - 1) → IsAdjacency g (set x v k) (set own v c) (set below v d)
-adjacency_moved g x v k own below c d graph h sized s t ec ed =
+pub adjacency_moved : (g : GraphShape) (x : List ℕ) (v k : ℕ) (own below : List ℕ) (c d : ℕ) → IsGraph g → g.vertices ≤ MAX_VERTICES → v < g.vertices → length x ≡ g.vertices → IsMoved g x v k 0 own → IsMoved g x v k 1 below → c ≡ at_least g x v k → d ≡ at_least g x v (k - 1) → IsAdjacency g (set x v k) (set own v c) (set below v d)
+adjacency_moved g x v k own below c d graph small h sized s t ec ed =
     let inside : v < length x = omega (arith, h, sized) in
     let none = no_own_neighbour g.vertices 0 0 v g.edges graph in
     let same : k ≡ k - 0 = omega arith in
     record {
+      graph = graph;
+      small = small;
       sized = length-set x v k ∙ sized;
       own_counts = counted_moved g x v k 0 c own inside h s (ec ∙ sym (at_least-set g x v v k k none) ∙ ap (λ l. at_least g (set x v k) v l) same);
       below_counts = counted_moved g x v k 1 d below inside h t (ed ∙ sym (at_least-set g x v v k (k - 1) none));

@@ -3,3 +3,4 @@ pub mod Lifting
 pub mod Linking
 pub mod Moving
 pub mod Passing
+pub mod Standing

@@ -1,12 +1,12 @@
 //! A graph with levels and counts of neighbours, which follow each edge that comes or leaves and each vertex that
 //! moves.
 
-ghost use Rattle.std.specs.Prelude.{◌≡◌, ◌+◌, ◌*◌, ◌-◌, ◌<◌, ◌≤◌, ◌↔◌, ℕ, [], IsTrue, OnOk, OnErr, IfOk, true, false, length, replicate, slice_index, slice_set};
+ghost use Rattle.std.specs.Prelude.{◌≡◌, ◌+◌, ◌*◌, ◌-◌, ◌<◌, ◌≤◌, ℕ, [], OnOk, OnErr, IfOk, true, false, length, replicate, slice_index, slice_set};
 ghost use Rattle.kc_graph.specs.Shape.{EdgesFrom, IsGraph, neighbours_of, has_edge, with_edge, without_edge, with_edges, without_edges};
 ghost use Rattle.kc_graph.specs.Numbers.{has_number};
 ghost use Rattle.kc_graph.specs.Changes.{AllAbsent, AllPresent};
 ghost use Rattle.kc_levels.specs.Thresholds.{top_level};
-ghost use Rattle.kc_levels.specs.LevelList.{at_least, MeetsLower, IsBelow, IsDesired};
+ghost use Rattle.kc_levels.specs.LevelList.{at_least, IsBelow, IsDesired};
 ghost use Rattle.kc_levels.specs.Following.{AreDistinct};
 ghost use Rattle.kc_adj.specs.Degrees.{degrees};
 ghost use Rattle.kc_adj.specs.LeveledGraph.{LeveledGraph, IsCounted};
@@ -14,10 +14,11 @@ ghost use Rattle.kc_adj.specs.LeveledGraph.{LeveledGraph, IsCounted};
 use crate::counts::Counts;
 use crate::lifting::{Lift, lift_counts, take_up};
 use crate::passes::{Lifters, par_lift_counts};
+use crate::standing::Standing;
 use crate::steps::Steps;
 use crate::{desired, links, moves};
 use kc_graph::{Edge, Graph, MAX_EDGES, MAX_VERTICES};
-use kc_levels::{Levels, Thresholds};
+use kc_levels::{Levels, Move, Thresholds};
 use std::alloc::{AllocError, Global};
 use std::marker::Model;
 use std::sync::ledger::Ledger;
@@ -101,7 +102,6 @@ impl LevelAdj {
         ensures value { result ≡ at_least self.now.graph self.now.levels v (slice_index self.now.levels v) }
         ensures few { result < self.now.graph.vertices }
     {
-        let _n = self.graph.vertices();
         self.counts.own[v as usize]
     }
 
@@ -121,19 +121,7 @@ impl LevelAdj {
         ensures degree { slice_index self.now.levels v ≡ 0 → result ≡ length (neighbours_of v self.now.graph.edges) }
         ensures few { result < self.now.graph.vertices }
     {
-        let _n = self.graph.vertices();
         self.counts.below[v as usize]
-    }
-
-    // Returns whether v is held on its own level, by its kept count.
-    fn meets_lower(&self, th: &Thresholds, v: u32) -> bool
-        requires vertex { v < self.now.graph.vertices }
-        requires scale { th.now.vertices ≡ self.now.graph.vertices }
-        requires capped { slice_index self.now.levels v ≤ top_level th.now.profile th.now.vertices }
-        ensures { IsTrue result ↔ MeetsLower th.now.profile self.now.graph self.now.levels v }
-    {
-        let level = self.level(v);
-        level == 0 || th.low(th.group(level - 1)) <= self.at_least_below(v)
     }
 
     /// Returns the greatest level, from 0 up to its own, on which `v` has enough neighbours to stand (`IsDesired`).
@@ -152,11 +140,11 @@ impl LevelAdj {
         requires capped { slice_index self.now.levels v ≤ top_level th.now.profile th.now.vertices }
         ensures { IsDesired th.now.profile self.now.graph self.now.levels v result }
     {
-        if self.meets_lower(th, v) {
+        let at = Standing { adj: self, th, v };
+        if desired::meets_lower(at) {
             return self.level(v);
         }
-        let most = self.level(v) - 1;
-        desired::desired_below(&self.graph, &self.levels, th, v, most)
+        desired::desired_below(at, self.level(v) - 1)
     }
 
     /// Returns the same as `desired`, faster for a close `guess`; any guess is allowed. Takes no memory.
@@ -169,12 +157,12 @@ impl LevelAdj {
         requires capped { slice_index self.now.levels v ≤ top_level th.now.profile th.now.vertices }
         ensures { IsDesired th.now.profile self.now.graph self.now.levels v result }
     {
-        if self.meets_lower(th, v) {
+        let at = Standing { adj: self, th, v };
+        if desired::meets_lower(at) {
             return self.level(v);
         }
-        let most = self.level(v) - 1;
-        let near = desired::bound_near(&self.graph, &self.levels, th, v, most, guess);
-        desired::desired_below(&self.graph, &self.levels, th, v, near)
+        let near = desired::bound_near(at, self.level(v) - 1, guess);
+        desired::desired_below(at, near)
     }
 
     /// Adds an edge that is not there (`with_edge`); fewer than `MAX_EDGES` edges may be there. Levels stay.
@@ -195,7 +183,6 @@ impl LevelAdj {
         ensures err { OnErr result (self.new ≡ self.old) }
         ensures steps_kept { OnErr result (steps.new ≡ steps.old) }
     {
-        let _n = self.graph.vertices();
         self.graph.insert(alloc, e)?;
         links::link(&self.levels, &mut self.counts.own, 0, e.a, e.b);
         links::link(&self.levels, &mut self.counts.below, 1, e.a, e.b);
@@ -214,7 +201,6 @@ impl LevelAdj {
         ensures value { self.new ≡ record self.old { graph = without_edge self.old.graph e } }
         ensures cost { steps.new ≡ steps.old + 3 }
     {
-        let _n = self.graph.vertices();
         self.graph.remove(e);
         links::unlink(&self.levels, &mut self.counts.own, 0, e.a, e.b);
         links::unlink(&self.levels, &mut self.counts.below, 1, e.a, e.b);
@@ -246,7 +232,6 @@ impl LevelAdj {
         ensures err { OnErr result (self.new ≡ self.old) }
         ensures steps_kept { OnErr result (steps.new ≡ steps.old) }
     {
-        let _n = self.graph.vertices();
         self.graph.par_insert_all(rt, alloc, workers, edges)?;
         links::link_all(&self.graph, &self.levels, &mut self.counts, edges);
         steps.add(edges.len());
@@ -276,7 +261,6 @@ impl LevelAdj {
         ensures err { OnErr result (self.new ≡ self.old) }
         ensures steps_kept { OnErr result (steps.new ≡ steps.old) }
     {
-        let _n = self.graph.vertices();
         self.graph.par_remove_all(rt, alloc, workers, edges)?;
         links::unlink_all(&self.graph, &self.levels, &mut self.counts, edges);
         steps.add(edges.len());
@@ -307,12 +291,16 @@ impl LevelAdj {
         ensures value { self.new ≡ record self.old { levels = slice_set self.old.levels v to } }
         ensures cost { steps.new ≡ steps.old + (length (neighbours_of v self.old.graph.edges) + 1) }
     {
+        let moved = Move {
+            vertex: v,
+            old: self.level(v),
+            new: to,
+        };
         moves::lift(
             &self.graph,
             &mut self.levels,
             &mut self.counts,
-            v,
-            to,
+            moved,
             steps,
         );
     }
@@ -389,12 +377,16 @@ impl LevelAdj {
         ensures value { self.new ≡ record self.old { levels = slice_set self.old.levels v to } }
         ensures cost { steps.new ≡ steps.old + (length (neighbours_of v self.old.graph.edges) + 1) }
     {
+        let moved = Move {
+            vertex: v,
+            old: self.level(v),
+            new: to,
+        };
         moves::fall(
             &self.graph,
             &mut self.levels,
             &mut self.counts,
-            v,
-            to,
+            moved,
             steps,
         );
     }

@@ -18,6 +18,7 @@ mod links;
 mod moves;
 mod passes;
 mod runs;
+mod standing;
 mod steps;
 
 pub use level_adj::LevelAdj;

@@ -57,7 +57,6 @@ pub fn link_all(graph: &Graph, levels: &Levels, counts: &mut Counts, edges: &[Ed
     requires { AwaitsEdges graph.now levels.now counts.old.own.items counts.old.below.items edges.now }
     ensures { IsAdjacency graph.now levels.now counts.new.own.items counts.new.below.items }
 {
-    let _n = graph.vertices();
     for e in edges {
         link(levels, &mut counts.own, 0, e.a, e.b);
         link(levels, &mut counts.below, 1, e.a, e.b);

@@ -13,14 +13,14 @@ use Rattle.kc_graph.proofs.lemmas.Counts.{count_by-cons}
 use Rattle.kc_graph.proofs.lemmas.Neighbours.{neighbours_both, neighbours_of_remove_other, no_own_neighbour}
 use Rattle.kc_graph.proofs.lemmas.Changes.{vertices-without_edges}
 use Rattle.kc_levels.specs.declared.profile.Profile.{Profile}
-use Rattle.kc_levels.specs.Thresholds.{low}
+use Rattle.kc_levels.specs.Thresholds.{Scale, low}
 use Rattle.kc_levels.specs.LevelList.{at_least, IsHeld, MeetsLower, IsDesired, IsCapped, IsLowered}
-use Rattle.kc_levels.specs.private.LevelList.{IsLowering}
 use Rattle.kc_levels.proofs.lemmas.Writes.{changed}
 use Rattle.kc_levels.proofs.lemmas.AtLeast.{at_least-set, at_least-kept}
 use Rattle.kc_levels.proofs.lemmas.Lowering.{lowering_first, lowering_more, lowering_done}
 use Rattle.kc_adj.specs.LeveledGraph.{LeveledGraph}
 use Rattle.kc_delete.specs.private.Waiting.{IsSifted, IsTaken}
+use Rattle.kc_delete.specs.private.Within.{IsWithin}
 use Rattle.kc_delete.specs.private.Settling.{WaitsOrMeets, IsSettling, StillWait, IsUntouched, IsLookedAt, ends_of}
 
 -- a mark more
@@ -38,9 +38,12 @@ pub looked_at_still : (p : Profile) (g : GraphShape) (from to : ℕ) (y : List �
 looked_at_still p g from to y before after v still (inl untouched) = inl untouched
 looked_at_still p g from to y before after v still (inr looked) = inr (waits_or_meets_still p g y before after v still looked)
 
--- lower levels are within the top too
-pub capped_after : (p : Profile) (g : GraphShape) (x y : List ℕ) → IsLowering p g x y → IsCapped p g.vertices x → IsCapped p g.vertices y
-capped_after p g x y r capped v h = omega (arith, r.under v h, capped v h)
+-- levels stay within the top when edges leave
+pub within_after : (th : Scale) (a : LeveledGraph) (es : List Pair) → th.vertices ≡ a.graph.vertices → IsCapped th.profile a.graph.vertices a.levels → IsWithin th (record a { graph = without_edges a.graph es })
+within_after th a es scale capped = record {
+  scale = scale ∙ sym (vertices-without_edges a.graph es);
+  capped = λ v h. rw scale (capped v (omega (arith, h, vertices-without_edges a.graph es)));
+}
 
 -- where the count from the level below on is the same, v is held as before
 held_same : (p : Profile) (g : GraphShape) (y z : List ℕ) (v k : ℕ) → ((l : ℕ) → k ≡ suc l → at_least g z v l ≡ at_least g y v l) → IsHeld p g y v k → IsHeld p g z v k

@@ -9,6 +9,7 @@
 //! Floor: phases. From above: [`delete_phase`] and [`DeletionWork`] by the engine.
 #![tactic(auto)]
 
+mod capped;
 mod fallen;
 mod rounds;
 mod settling;

@@ -8,8 +8,10 @@ ghost use Rattle.kc_graph.specs.Changes.{AllPresent, CanRemove};
 ghost use Rattle.kc_levels.specs.LevelList.{MeetsLower, IsCapped, IsLowered};
 ghost use Rattle.kc_levels.specs.Moved.{moved_count, moves_between};
 ghost use Rattle.kc_delete.specs.Working.{IsReady};
+ghost use Rattle.kc_delete.specs.private.Capped.{profile_of, graph_of, levels_of};
 ghost use Rattle.kc_delete.specs.private.Settling.{WaitsOrMeets, ends_of};
 
+use crate::capped::Capped;
 use crate::settling::{add_if_short, settle};
 use crate::waiting::Waiting;
 use crate::work::DeletionWork;
@@ -63,21 +65,18 @@ fn unlink_edges<R: Threads + Sync, G: Gate + Sync, L: Ledger>(
 
 // Lets the ends of the edges wait that have too few neighbours to stand on their levels.
 fn add_short_ends(
-    adj: &LevelAdj,
-    th: &Thresholds,
+    capped: Capped<'_>,
     removed: &[Edge],
     waiting: &mut Waiting,
 ) -> Result<(), AllocError>
-    requires scale { th.now.vertices ≡ adj.now.graph.vertices }
-    requires capped { IsCapped th.now.profile adj.now.graph.vertices adj.now.levels }
-    requires sized { length waiting.old ≡ adj.now.graph.vertices }
-    requires ascending { EdgesFrom adj.now.graph.vertices 0 0 removed.now }
-    ensures sized { OnOk result (length waiting.new ≡ adj.now.graph.vertices) }
-    ensures looked { OnOk result ((v : ℕ) → has_number v (ends_of removed.now) ≡ true → WaitsOrMeets th.now.profile adj.now.graph adj.now.levels waiting.new v) }
+    requires sized { length waiting.old ≡ capped.adj.now.graph.vertices }
+    requires ascending { EdgesFrom capped.adj.now.graph.vertices 0 0 removed.now }
+    ensures sized { OnOk result (length waiting.new ≡ (graph_of capped.entry).vertices) }
+    ensures looked { OnOk result ((v : ℕ) → has_number v (ends_of removed.now) ≡ true → WaitsOrMeets (profile_of capped.entry) (graph_of capped.entry) (levels_of capped.entry) waiting.new v) }
 {
     for e in removed {
-        add_if_short(adj, th, e.a, waiting)?;
-        add_if_short(adj, th, e.b, waiting)?;
+        add_if_short(capped, e.a, waiting)?;
+        add_if_short(capped, e.b, waiting)?;
     }
     Ok(())
 }
@@ -137,7 +136,7 @@ pub fn delete_phase<R: Threads + Sync, G: Gate + Sync, L: Ledger>(
     let _n = adj.graph().vertices();
     let _levels = adj.levels();
     unlink_edges(rounds, alloc, adj, removed, steps)?;
-    add_short_ends(adj, th, removed, &mut work.waiting)?;
+    add_short_ends(Capped { adj, th }, removed, &mut work.waiting)?;
     settle(rounds, th, adj, work, steps)?;
     let moves = work.fallen.take_moves(alloc, adj.levels())?;
     Ok(moves)

@@ -1,13 +1,15 @@
 //! Falls of vertices that have too few neighbours to stand on their level.
 
-ghost use Rattle.std.specs.Prelude.{◌≡◌, ℕ, ◌<◌, ◌≤◌, ◌-◌, [], false, OnOk, length, slice_index, slice_index_or};
+ghost use Rattle.std.specs.Prelude.{◌≡◌, ℕ, ◌<◌, ◌≤◌, ◌-◌, [], false, OnOk, length, slice_index_or};
 ghost use Rattle.std.specs.Bool.{OnTrue, OnFalse};
 ghost use Rattle.kc_graph.specs.Shape.{IsGraph};
-ghost use Rattle.kc_levels.specs.Thresholds.{top_level};
-ghost use Rattle.kc_levels.specs.LevelList.{IsCapped, IsLowered};
+ghost use Rattle.kc_levels.specs.LevelList.{IsLowered};
+ghost use Rattle.kc_delete.specs.private.Capped.{profile_of, graph_of, levels_of};
 ghost use Rattle.kc_delete.specs.private.Fallen.{AreFallen};
 ghost use Rattle.kc_delete.specs.private.Settling.{IsSettling, WaitsOrMeets, StillWait, IsUntouched, AreLookedAt};
+ghost use Rattle.kc_delete.specs.private.Within.{IsWithin};
 
+use crate::capped::Capped;
 use crate::short::is_short;
 use crate::waiting::Waiting;
 use crate::work::DeletionWork;
@@ -21,22 +23,16 @@ use std::thread::Threads;
 /// Lets v wait under its desired level if it has too few neighbours to stand on its level and doesn't wait yet.
 ///
 /// Fails only if memory runs out.
-pub fn add_if_short(
-    adj: &LevelAdj,
-    th: &Thresholds,
-    v: u32,
-    waiting: &mut Waiting,
-) -> Result<(), AllocError>
-    requires vertex { v < adj.now.graph.vertices }
-    requires scale { th.now.vertices ≡ adj.now.graph.vertices }
-    requires capped { slice_index adj.now.levels v ≤ top_level th.now.profile th.now.vertices }
-    requires sized { length waiting.old ≡ adj.now.graph.vertices }
-    ensures sized { OnOk result (length waiting.new ≡ adj.now.graph.vertices) }
+pub fn add_if_short(capped: Capped<'_>, v: u32, waiting: &mut Waiting) -> Result<(), AllocError>
+    requires vertex { v < capped.adj.now.graph.vertices }
+    requires sized { length waiting.old ≡ capped.adj.now.graph.vertices }
+    ensures sized { OnOk result (length waiting.new ≡ (graph_of capped.entry).vertices) }
     ensures still { OnOk result (StillWait waiting.old waiting.new) }
-    ensures looked { OnOk result (WaitsOrMeets th.now.profile adj.now.graph adj.now.levels waiting.new v) }
+    ensures looked { OnOk result (WaitsOrMeets (profile_of capped.entry) (graph_of capped.entry) (levels_of capped.entry) waiting.new v) }
 {
+    let Capped { adj, th } = capped;
     let _top = th.top();
-    if is_short(adj, th, v) && !waiting.has(v) {
+    if is_short(capped, v) && !waiting.has(v) {
         waiting.add(v, adj.desired(th, v))?;
     }
     Ok(())
@@ -54,24 +50,22 @@ fn is_touched(from: u16, to: u16, level: u16) -> bool
 
 // Lets each neighbour of v wait that has too few neighbours since v fell from this level to its own.
 fn add_short_neighbours(
-    adj: &LevelAdj,
-    th: &Thresholds,
+    capped: Capped<'_>,
     v: u32,
     from: u16,
     waiting: &mut Waiting,
 ) -> Result<(), AllocError>
-    requires vertex { v < adj.now.graph.vertices }
-    requires scale { th.now.vertices ≡ adj.now.graph.vertices }
-    requires capped { IsCapped th.now.profile adj.now.graph.vertices adj.now.levels }
-    requires sized { length waiting.old ≡ adj.now.graph.vertices }
-    ensures sized { OnOk result (length waiting.new ≡ adj.now.graph.vertices) }
+    requires vertex { v < capped.adj.now.graph.vertices }
+    requires sized { length waiting.old ≡ capped.adj.now.graph.vertices }
+    ensures sized { OnOk result (length waiting.new ≡ (graph_of capped.entry).vertices) }
     ensures still { OnOk result (StillWait waiting.old waiting.new) }
-    ensures looked { OnOk result (AreLookedAt th.now.profile adj.now.graph v from adj.now.levels waiting.new) }
+    ensures looked { OnOk result (AreLookedAt (profile_of capped.entry) (graph_of capped.entry) v from (levels_of capped.entry) waiting.new) }
 {
+    let adj = capped.adj;
     let to = adj.level(v);
     for w in adj.graph().neighbours(v) {
         if is_touched(from, to, adj.level(*w)) {
-            add_if_short(adj, th, *w, waiting)?;
+            add_if_short(capped, *w, waiting)?;
         }
     }
     Ok(())
@@ -90,8 +84,7 @@ pub fn settle<R: Threads + Sync, G: Gate + Sync, L: Ledger>(
     steps: &mut Steps<L>,
 ) -> Result<(), AllocError>
     requires graph { IsGraph adj.old.graph }
-    requires scale { th.now.vertices ≡ adj.old.graph.vertices }
-    requires capped { IsCapped th.now.profile adj.old.graph.vertices adj.old.levels }
+    requires within { IsWithin th.now adj.old }
     requires settling { IsSettling th.now.profile adj.old.graph adj.old.levels adj.old.levels work.old.waits }
     requires before { work.old.before ≡ adj.old.levels }
     requires nobody { work.old.fallen ≡ [] }
@@ -107,13 +100,13 @@ pub fn settle<R: Threads + Sync, G: Gate + Sync, L: Ledger>(
         fallen,
         first,
     } = work;
-    while let Some(v) = waiting.next(rounds, first, adj, th)? {
+    while let Some(v) = waiting.next(rounds, first, Capped { adj, th })? {
         let from = adj.level(v);
         let to = adj.desired_near(th, v, waiting.level());
         if to < from {
             fallen.note(v, from)?;
             adj.fall(v, to, steps);
-            add_short_neighbours(adj, th, v, from, waiting)?;
+            add_short_neighbours(Capped { adj, th }, v, from, waiting)?;
         }
     }
     Ok(())

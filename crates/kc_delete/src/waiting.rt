@@ -2,12 +2,12 @@
 
 ghost use Rattle.std.specs.Prelude.{◌≡◌, ℕ, ◌<◌, ◌≤◌, ◌-◌, ◌⊎◌, ◌&&◌, ◌||◌, List, Bool, true, false, not, [], All, IfOk, IfSome, IfNone, OnOk, OnErr, length, replicate, slice_index_or, slice_set};
 ghost use Rattle.kc_graph.specs.Numbers.{has_number};
-ghost use Rattle.kc_levels.specs.LevelList.{IsCapped};
+ghost use Rattle.kc_delete.specs.private.Capped.{profile_of, graph_of, levels_of};
 ghost use Rattle.kc_delete.specs.private.Waiting.{AreFiled, IsSifted, IsTaken};
 
+use crate::capped::Capped;
 use crate::short::Short;
-use kc_adj::{LevelAdj, LevelLists};
-use kc_levels::Thresholds;
+use kc_adj::LevelLists;
 use kc_rounds::{FirstRound, Gate, Rounds};
 use std::alloc::{AllocError, Global};
 use std::marker::Model;
@@ -147,14 +147,11 @@ impl Waiting {
         &mut self,
         rounds: &Rounds<R, G>,
         first: &mut FirstRound,
-        adj: &LevelAdj,
-        th: &Thresholds,
+        capped: Capped<'_>,
     ) -> Result<Option<u32>, AllocError>
-        requires scale { th.now.vertices ≡ adj.now.graph.vertices }
-        requires capped { IsCapped th.now.profile adj.now.graph.vertices adj.now.levels }
-        requires sized { length self.old ≡ adj.now.graph.vertices }
-        ensures some { IfOk result (λ next. IfSome next (IsTaken th.now.profile adj.now.graph adj.now.levels self.old self.new)) }
-        ensures none { IfOk result (λ next. IfNone next (IsSifted th.now.profile adj.now.graph adj.now.levels self.old self.new)) }
+        requires { length self.old ≡ capped.adj.now.graph.vertices }
+        ensures some { IfOk result (λ next. IfSome next (IsTaken (profile_of capped.entry) (graph_of capped.entry) (levels_of capped.entry) self.old self.new)) }
+        ensures none { IfOk result (λ next. IfNone next (IsSifted (profile_of capped.entry) (graph_of capped.entry) (levels_of capped.entry) self.old self.new)) }
         ensures nobody { IfOk result (λ next. IfNone next ((v : ℕ) → slice_index_or self.new v false ≡ false)) }
     {
         loop {
@@ -168,7 +165,7 @@ impl Waiting {
                 return Ok(None);
             }
             let marks = &self.marks;
-            let movers = rounds.movers(first, &self.round, &Short { adj, th, marks })?;
+            let movers = rounds.movers(first, &self.round, &Short { capped, marks })?;
             keep_marks(&mut self.marks, &self.round, &movers);
             self.round = movers;
         }

@@ -1,6 +1,6 @@
 -- How an edge that comes in or leaves changes the counts of its ends.
 use Rattle.std.specs.Prelude.{ℕ, ◌+◌, ◌-◌, ◌≡◌, nat_le, cond, List, get_or, set}
-use Rattle.kc_graph.specs.Shape.{GraphShape, Pair, IsGraph, with_edges, without_edges}
+use Rattle.kc_graph.specs.Shape.{GraphShape, Pair, with_edges, without_edges}
 use Rattle.kc_graph.specs.Changes.{CanAdd, CanRemove}
 use Rattle.kc_adj.specs.LeveledGraph.{IsAdjacency}
 
@@ -19,7 +19,6 @@ unlinked x d a b counts = set (set counts a (get_or counts a 0 - share x d a b))
 -- the counts are those of a graph that becomes g when the edges come in
 pub record AwaitsEdges (g : GraphShape) (x own below : List ℕ) (es : List Pair) : Type 0 where
   pub before : GraphShape
-  pub graph : IsGraph before
   pub addable : CanAdd before es
   pub becomes : with_edges before es ≡ g
   pub counted : IsAdjacency before x own below
@@ -27,7 +26,6 @@ pub record AwaitsEdges (g : GraphShape) (x own below : List ℕ) (es : List Pair
 -- the counts are those of a graph that becomes g when the edges leave
 pub record LosesEdges (g : GraphShape) (x own below : List ℕ) (es : List Pair) : Type 0 where
   pub before : GraphShape
-  pub graph : IsGraph before
   pub removable : CanRemove before es
   pub becomes : without_edges before es ≡ g
   pub counted : IsAdjacency before x own below

@@ -18,8 +18,3 @@ pub record IsMoving (g : GraphShape) (x : List ℕ) (v k d : ℕ) (counts rest :
   pub near : (u : ℕ) → has_number u rest ≡ true → has_number u (neighbours_of v g.edges) ≡ true
   pub waits : (u : ℕ) → u < g.vertices → has_number u rest ≡ true → get_or counts u 0 ≡ at_least g x u (get_or x u 0 - d)
   pub done : (u : ℕ) → u < g.vertices → has_number u rest ≡ false → get_or counts u 0 ≡ at_least g (set x v k) u (get_or x u 0 - d)
-
--- all counts are those with v on the level k, but each vertex counts from its old level less d on
-pub record IsMoved (g : GraphShape) (x : List ℕ) (v k d : ℕ) (counts : List ℕ) : Type 0 where
-  pub sized : length counts ≡ g.vertices
-  pub values : (u : ℕ) → u < g.vertices → get_or counts u 0 ≡ at_least g (set x v k) u (get_or x u 0 - d)

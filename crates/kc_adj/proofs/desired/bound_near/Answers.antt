@@ -6,4 +6,4 @@ use Rattle.kc_adj.proofs.desired.bound_near.Goals as goal
 pub returns-then-not-is_held-clause-above : goal.returns-then-not-is_held-clause-above
 returns-then-not-is_held-clause-above c = λ k lt le held.
     let refused : c.is_held.result ≡ false = search rules in
-    true≢false (sym (c.is_held.ensures.1 (held_down c.args.th.now.profile c.args.graph.now c.args.levels.now c.args.v _ k (omega (arith, c.requires.vertex)) (omega arith) held)) ∙ refused)
+    true≢false (sym (c.is_held.ensures.1 (held_down c.args.at.th.now.profile c.args.at.adj.now.graph c.args.at.adj.now.levels c.args.at.v _ k (omega (arith, c.args.at.vertex)) (omega arith) held)) ∙ refused)

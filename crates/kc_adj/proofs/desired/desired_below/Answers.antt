@@ -9,5 +9,5 @@ loop-least-preserved c =
       omega arith,
       omega arith,
       c.loop-least.invariant.2,
-      λ k lt le held. true≢false (sym (c.if-is_held.ensures.1 (held_down c.args.th.now.profile c.args.graph.now c.args.levels.now c.args.v _ k (omega (arith, c.requires.vertex)) (omega arith) held))),
+      λ k lt le held. true≢false (sym (c.if-is_held.ensures.1 (held_down c.args.at.th.now.profile c.args.at.adj.now.graph c.args.at.adj.now.levels c.args.at.v _ k (omega (arith, c.args.at.vertex)) (omega arith) held))),
     )

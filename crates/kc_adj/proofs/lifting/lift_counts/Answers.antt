@@ -32,6 +32,8 @@ pub returns-clause-adjacency : goal.returns-clause-adjacency
 returns-clause-adjacency g c =
     let is : IsLift c.args.lift.now = rw (← c.lift.view_is) c.lift.invariant in
     record {
+      graph = is.graph;
+      small = is.small;
       sized = is.after;
       own_counts = lifting_last _ 0 c.loop-i.i c.args.vertices.now _ (omega arith) is c.loop-i.invariant.0;
       below_counts = lifting_last _ 1 c.loop-i.i c.args.vertices.now _ (omega arith) is c.loop-i.invariant.1;

@@ -6,22 +6,22 @@ use Rattle.kc_adj.proofs.links.link_all.Goals as goal
 pub link-requires-clause-low : goal.link-requires-clause-low
 link-requires-clause-low c =
     let e_is : (c.e.inside.a, c.e.inside.b) ≡ get_or c.args.edges.now c.loop-e.e-index (0, 0) = c.e.view_is ∙ get_or_read _ c.loop-e.e-index _ c.loop-e-test.true c.e-item.is (0, 0) in
-    awaited_own c.args.graph.now c.args.levels.now c.loop-e.counts.own.items c.loop-e.counts.below.items c.args.edges.now c.loop-e.e-index (c.e.inside.a, c.e.inside.b) c.loop-e-test.true e_is c.e.invariant c.loop-e.invariant c.vertices-n.ensures.small c.e.inside.a (omega (arith, c.e.invariant))
+    awaited_own c.args.graph.now c.args.levels.now c.loop-e.counts.own.items c.loop-e.counts.below.items c.args.edges.now c.loop-e.e-index (c.e.inside.a, c.e.inside.b) c.loop-e-test.true e_is c.e.invariant c.loop-e.invariant c.e.inside.a (omega (arith, c.e.invariant))
 
 pub link-requires-clause-high : goal.link-requires-clause-high
 link-requires-clause-high c =
     let e_is : (c.e.inside.a, c.e.inside.b) ≡ get_or c.args.edges.now c.loop-e.e-index (0, 0) = c.e.view_is ∙ get_or_read _ c.loop-e.e-index _ c.loop-e-test.true c.e-item.is (0, 0) in
-    awaited_own c.args.graph.now c.args.levels.now c.loop-e.counts.own.items c.loop-e.counts.below.items c.args.edges.now c.loop-e.e-index (c.e.inside.a, c.e.inside.b) c.loop-e-test.true e_is c.e.invariant c.loop-e.invariant c.vertices-n.ensures.small c.e.inside.b (omega arith)
+    awaited_own c.args.graph.now c.args.levels.now c.loop-e.counts.own.items c.loop-e.counts.below.items c.args.edges.now c.loop-e.e-index (c.e.inside.a, c.e.inside.b) c.loop-e-test.true e_is c.e.invariant c.loop-e.invariant c.e.inside.b (omega arith)
 
 pub link-requires-in-loop-e-clause-low : goal.link-requires-in-loop-e-clause-low
 link-requires-in-loop-e-clause-low c =
     let e_is : (c.e.inside.a, c.e.inside.b) ≡ get_or c.args.edges.now c.loop-e.e-index (0, 0) = c.e.view_is ∙ get_or_read _ c.loop-e.e-index _ c.loop-e-test.true c.e-item.is (0, 0) in
-    awaited_below c.args.graph.now c.args.levels.now c.loop-e.counts.own.items c.loop-e.counts.below.items c.args.edges.now c.loop-e.e-index (c.e.inside.a, c.e.inside.b) c.loop-e-test.true e_is c.e.invariant c.loop-e.invariant c.vertices-n.ensures.small c.e.inside.a (omega (arith, c.e.invariant))
+    awaited_below c.args.graph.now c.args.levels.now c.loop-e.counts.own.items c.loop-e.counts.below.items c.args.edges.now c.loop-e.e-index (c.e.inside.a, c.e.inside.b) c.loop-e-test.true e_is c.e.invariant c.loop-e.invariant c.e.inside.a (omega (arith, c.e.invariant))
 
 pub link-requires-in-loop-e-clause-high : goal.link-requires-in-loop-e-clause-high
 link-requires-in-loop-e-clause-high c =
     let e_is : (c.e.inside.a, c.e.inside.b) ≡ get_or c.args.edges.now c.loop-e.e-index (0, 0) = c.e.view_is ∙ get_or_read _ c.loop-e.e-index _ c.loop-e-test.true c.e-item.is (0, 0) in
-    awaited_below c.args.graph.now c.args.levels.now c.loop-e.counts.own.items c.loop-e.counts.below.items c.args.edges.now c.loop-e.e-index (c.e.inside.a, c.e.inside.b) c.loop-e-test.true e_is c.e.invariant c.loop-e.invariant c.vertices-n.ensures.small c.e.inside.b (omega arith)
+    awaited_below c.args.graph.now c.args.levels.now c.loop-e.counts.own.items c.loop-e.counts.below.items c.args.edges.now c.loop-e.e-index (c.e.inside.a, c.e.inside.b) c.loop-e-test.true e_is c.e.invariant c.loop-e.invariant c.e.inside.b (omega arith)
 
 pub loop-e-preserved : goal.loop-e-preserved
 loop-e-preserved c =

@@ -1,12 +1,12 @@
 use Rattle.std.proofs.Common.{◌<◌, get_or, ap, ◌∙◌, arith, refl}
 use Rattle.kc_levels.specs.LevelList.{at_least}
-use Rattle.kc_adj.proofs.Moving.{moving_first, moving-few, up_at, count_next, count_last, moving_last}
+use Rattle.kc_adj.proofs.Moving.{moving_first, moving-few, up_at, count_next, count_last, moving_last, adjacency_moved}
 use Rattle.kc_adj.proofs.moves.shift_up.Goals as goal
 
 pub loop-w-init : goal.loop-w-init
 loop-w-init g c = (
-  rw c.neighbours-w-items.ensures.value (moving_first _ _ _ _ 0 _ c.vertices-n.ensures.graph c.requires.adjacency.own_counts),
-  rw c.neighbours-w-items.ensures.value (moving_first _ _ _ _ 1 _ c.vertices-n.ensures.graph c.requires.adjacency.below_counts),
+  rw c.neighbours-w-items.ensures.value (moving_first _ _ _ _ 0 _ c.requires.adjacency.graph c.requires.adjacency.own_counts),
+  rw c.neighbours-w-items.ensures.value (moving_first _ _ _ _ 1 _ c.requires.adjacency.graph c.requires.adjacency.below_counts),
   refl,
   omega arith,
   refl,
@@ -17,20 +17,20 @@ loop-w-init g c = (
 pub gain-requires-clause-own_small : goal.gain-requires-clause-own_small
 gain-requires-clause-own_small g c =
     let low : get_or c.neighbours-w-items.result.now c.loop-w.w-index 0 < c.args.graph.now.vertices = c.neighbours-w-items.ensures.below c.loop-w.w-index 0 (omega arith) in
-    let few : get_or c.loop-w.counts.own.items (get_or c.neighbours-w-items.result.now c.loop-w.w-index 0) 0 < c.args.graph.now.vertices = moving-few _ _ _ _ 0 _ _ _ c.vertices-n.ensures.graph c.loop-w.invariant.0 low in
-    omega (arith, few, c.vertices-n.ensures.small)
+    let few : get_or c.loop-w.counts.own.items (get_or c.neighbours-w-items.result.now c.loop-w.w-index 0) 0 < c.args.graph.now.vertices = moving-few _ _ _ _ 0 _ _ _ c.requires.adjacency.graph c.loop-w.invariant.0 low in
+    omega (arith, few, c.requires.adjacency.small)
 
 pub gain-requires-clause-below_small : goal.gain-requires-clause-below_small
 gain-requires-clause-below_small g c =
     let low : get_or c.neighbours-w-items.result.now c.loop-w.w-index 0 < c.args.graph.now.vertices = c.neighbours-w-items.ensures.below c.loop-w.w-index 0 (omega arith) in
-    let few : get_or c.loop-w.counts.below.items (get_or c.neighbours-w-items.result.now c.loop-w.w-index 0) 0 < c.args.graph.now.vertices = moving-few _ _ _ _ 1 _ _ _ c.vertices-n.ensures.graph c.loop-w.invariant.1 low in
-    omega (arith, few, c.vertices-n.ensures.small)
+    let few : get_or c.loop-w.counts.below.items (get_or c.neighbours-w-items.result.now c.loop-w.w-index 0) 0 < c.args.graph.now.vertices = moving-few _ _ _ _ 1 _ _ _ c.requires.adjacency.graph c.loop-w.invariant.1 low in
+    omega (arith, few, c.requires.adjacency.small)
 
 pub loop-w-preserved : goal.loop-w-preserved
 loop-w-preserved g c =
     let low : get_or c.neighbours-w-items.result.now c.loop-w.w-index 0 < c.args.graph.now.vertices = c.neighbours-w-items.ensures.below c.loop-w.w-index 0 (omega arith) in (
-      rw c.gain.ensures.own (up_at _ _ _ _ 0 c.loop-w.counts.own.items c.neighbours-w-items.result.now c.loop-w.w-index _ (get_or c.args.levels.now (get_or c.neighbours-w-items.result.now c.loop-w.w-index 0) 0) c.vertices-n.ensures.graph c.requires.vertex c.requires.adjacency.sized c.loop-w.invariant.0 (omega arith) low refl (omega arith) c.requires.over),
-      rw c.gain.ensures.below (up_at _ _ _ _ 1 c.loop-w.counts.below.items c.neighbours-w-items.result.now c.loop-w.w-index _ _ c.vertices-n.ensures.graph c.requires.vertex c.requires.adjacency.sized c.loop-w.invariant.1 (omega arith) low refl refl c.requires.over),
+      rw c.gain.ensures.own (up_at _ _ _ _ 0 c.loop-w.counts.own.items c.neighbours-w-items.result.now c.loop-w.w-index _ (get_or c.args.levels.now (get_or c.neighbours-w-items.result.now c.loop-w.w-index 0) 0) c.requires.adjacency.graph c.requires.vertex c.requires.adjacency.sized c.loop-w.invariant.0 (omega arith) low c.requires.from (omega arith) c.requires.over),
+      rw c.gain.ensures.below (up_at _ _ _ _ 1 c.loop-w.counts.below.items c.neighbours-w-items.result.now c.loop-w.w-index _ _ c.requires.adjacency.graph c.requires.vertex c.requires.adjacency.sized c.loop-w.invariant.1 (omega arith) low c.requires.from refl c.requires.over),
       count_next _ c.neighbours-w-items.result.now _ c.loop-w.w-index _ _ _ (omega arith) c.loop-w.invariant.2 refl c.as_one-own.ensures.value,
       omega (arith, c.loop-w.invariant.3, c.as_one-own.ensures.small),
       count_next _ c.neighbours-w-items.result.now _ c.loop-w.w-index _ _ _ (omega arith) c.loop-w.invariant.4 refl c.as_one-below.ensures.value,
@@ -38,16 +38,11 @@ loop-w-preserved g c =
       omega (arith, c.loop-w.invariant.6),
     )
 
-pub returns-clause-own : goal.returns-clause-own
-returns-clause-own g c = moving_last _ _ _ _ 0 _ c.neighbours-w-items.result.now c.loop-w.w-index c.loop-w.invariant.0 (omega arith)
-
-pub returns-clause-below : goal.returns-clause-below
-returns-clause-below g c = moving_last _ _ _ _ 1 _ c.neighbours-w-items.result.now c.loop-w.w-index c.loop-w.invariant.1 (omega arith)
-
-pub returns-clause-first : goal.returns-clause-first
-returns-clause-first g c = count_last c.args.graph.now c.args.levels.now c.neighbours-w-items.result.now c.args.v c.args.new c.loop-w.w-index c.loop-w.own c.loop-w.invariant.2 (omega arith) c.neighbours-w-items.ensures.value
-
-pub returns-clause-second : goal.returns-clause-second
-returns-clause-second g c =
-    let count = count_last c.args.graph.now c.args.levels.now c.neighbours-w-items.result.now c.args.v c.saturating_sub-under.result c.loop-w.w-index c.loop-w.below c.loop-w.invariant.4 (omega arith) c.neighbours-w-items.ensures.value in
-    count ∙ ap (at_least c.args.graph.now c.args.levels.now c.args.v) c.saturating_sub-under.ensures
+pub returns-clause-adjacency : goal.returns-clause-adjacency
+returns-clause-adjacency g c =
+    let own = moving_last _ _ _ _ 0 _ c.neighbours-w-items.result.now c.loop-w.w-index c.loop-w.invariant.0 (omega arith) in
+    let below = moving_last _ _ _ _ 1 _ c.neighbours-w-items.result.now c.loop-w.w-index c.loop-w.invariant.1 (omega arith) in
+    let first = count_last c.args.graph.now c.args.levels.now c.neighbours-w-items.result.now c.args.moved.vertex c.args.moved.new c.loop-w.w-index c.loop-w.own c.loop-w.invariant.2 (omega arith) c.neighbours-w-items.ensures.value in
+    let under = count_last c.args.graph.now c.args.levels.now c.neighbours-w-items.result.now c.args.moved.vertex c.saturating_sub-under.result c.loop-w.w-index c.loop-w.below c.loop-w.invariant.4 (omega arith) c.neighbours-w-items.ensures.value in
+    let second = under ∙ ap (at_least c.args.graph.now c.args.levels.now c.args.moved.vertex) c.saturating_sub-under.ensures in
+    adjacency_moved c.args.graph.now c.args.levels.now c.args.moved.vertex c.args.moved.new _ _ _ _ c.requires.adjacency.graph c.requires.adjacency.small c.requires.vertex c.requires.adjacency.sized own below first second

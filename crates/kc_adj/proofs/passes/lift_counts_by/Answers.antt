@@ -52,6 +52,8 @@ returns-clause-adjacency g c =
     let is : IsLift c.args.lift.now = rw (← c.lift.view_is) c.lift.invariant in
     let end : length c.args.vertices.now ≤ c.loop-piece.piece-index * c.div_ceil-size.result = pieces_cover (length c.args.vertices.now) c.loop-piece.piece-index c.div_ceil-size.result (search rules) (search rules) in
     record {
+      graph = is.graph;
+      small = is.small;
       sized = is.after;
       own_counts = lifting_last _ 0 (c.loop-piece.piece-index * c.div_ceil-size.result) c.args.vertices.now _ end is c.loop-piece.invariant.1;
       below_counts = lifting_last _ 1 (c.loop-piece.piece-index * c.div_ceil-size.result) c.args.vertices.now _ end is c.loop-piece.invariant.2;

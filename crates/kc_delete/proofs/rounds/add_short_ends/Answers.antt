@@ -6,20 +6,14 @@ use Rattle.kc_delete.proofs.rounds.add_short_ends.Goals as goal
 pub add_if_short-requires-clause-vertex : goal.add_if_short-requires-clause-vertex
 add_if_short-requires-clause-vertex c = (ends_at _ _ _ _ _ _ c.requires.ascending c.loop-e-test.true c.e-item.is c.e.view_is).0
 
-pub add_if_short-requires-clause-capped : goal.add_if_short-requires-clause-capped
-add_if_short-requires-clause-capped c = rw c.requires.scale (c.requires.capped c.e.inside.a (ends_at _ _ _ _ _ _ c.requires.ascending c.loop-e-test.true c.e-item.is c.e.view_is).0)
-
 pub add_if_short-requires-in-loop-e-clause-vertex : goal.add_if_short-requires-in-loop-e-clause-vertex
 add_if_short-requires-in-loop-e-clause-vertex c = (ends_at _ _ _ _ _ _ c.requires.ascending c.loop-e-test.true c.e-item.is c.e.view_is).1
-
-pub add_if_short-requires-in-loop-e-clause-capped : goal.add_if_short-requires-in-loop-e-clause-capped
-add_if_short-requires-in-loop-e-clause-capped c = rw c.requires.scale (c.requires.capped c.e.inside.b (ends_at _ _ _ _ _ _ c.requires.ascending c.loop-e-test.true c.e-item.is c.e.view_is).1)
 
 pub returns-clause-looked : goal.returns-clause-looked
 returns-clause-looked c = λ v end.
     let at = end_index v c.args.removed.now (0, 0) end in
     let both = c.loop-e.invariant.1 at.0 (omega (arith, at.1)) in
     elim at.2 [
-      | inl low ↦ subst (WaitsOrMeets c.args.th.now.profile c.args.adj.now.graph c.args.adj.now.levels c.loop-e.waiting) (sym low) both.0
-      | inr high ↦ subst (WaitsOrMeets c.args.th.now.profile c.args.adj.now.graph c.args.adj.now.levels c.loop-e.waiting) (sym high) both.1
+      | inl low ↦ subst (WaitsOrMeets c.args.capped.th.now.profile c.args.capped.adj.now.graph c.args.capped.adj.now.levels c.loop-e.waiting) (sym low) both.0
+      | inr high ↦ subst (WaitsOrMeets c.args.capped.th.now.profile c.args.capped.adj.now.graph c.args.capped.adj.now.levels c.loop-e.waiting) (sym high) both.1
     ]

@@ -5,17 +5,12 @@ use Rattle.kc_graph.proofs.lemmas.Changes.{vertices-without_edges, removals_keep
 use Rattle.kc_levels.specs.Moved.{moves_between}
 use Rattle.kc_adj.specs.LeveledGraph.{LeveledGraph}
 use Rattle.kc_delete.specs.Working.{Working, IsReady}
-use Rattle.kc_delete.proofs.SettlingLemmas.{settling_first}
+use Rattle.kc_delete.proofs.SettlingLemmas.{within_after, settling_first}
 use Rattle.kc_delete.proofs.FallenLemmas.{none_marked}
 use Rattle.kc_delete.proofs.rounds.delete_phase.Goals as goal
 
-pub add_short_ends-requires-clause-scale : goal.add_short_ends-requires-clause-scale
-add_short_ends-requires-clause-scale g c =
-    rw c.in_ok-unlink_edges.ensures (c.requires.scale ∙ sym (vertices-without_edges c.args.adj.now.graph c.args.removed.now))
-
-pub add_short_ends-requires-clause-capped : goal.add_short_ends-requires-clause-capped
-add_short_ends-requires-clause-capped g c =
-    rw (c.in_ok-unlink_edges.ensures, vertices-without_edges c.args.adj.now.graph c.args.removed.now) c.requires.capped
+pub invariant_of-add_short_ends : goal.invariant_of-add_short_ends
+invariant_of-add_short_ends g c = record { within = rw c.in_ok-unlink_edges.ensures (within_after c.args.th.now c.args.adj.now c.args.removed.now c.requires.scale c.requires.capped) }
 
 pub add_short_ends-requires-clause-sized : goal.add_short_ends-requires-clause-sized
 add_short_ends-requires-clause-sized g c =
@@ -31,13 +26,8 @@ pub settle-requires-clause-graph : goal.settle-requires-clause-graph
 settle-requires-clause-graph g c κs o =
     rw c.in_ok-unlink_edges.ensures (removals_keep_graph c.args.adj.now.graph c.args.removed.now (rw c.graph.ensures at c.vertices-n.ensures.graph))
 
-pub settle-requires-clause-scale : goal.settle-requires-clause-scale
-settle-requires-clause-scale g c κs o =
-    rw c.in_ok-unlink_edges.ensures (c.requires.scale ∙ sym (vertices-without_edges c.args.adj.now.graph c.args.removed.now))
-
-pub settle-requires-clause-capped : goal.settle-requires-clause-capped
-settle-requires-clause-capped g c κs o =
-    rw (c.in_ok-unlink_edges.ensures, vertices-without_edges c.args.adj.now.graph c.args.removed.now) c.requires.capped
+pub settle-requires-clause-within : goal.settle-requires-clause-within
+settle-requires-clause-within g c κs o = rw c.in_ok-unlink_edges.ensures (within_after c.args.th.now c.args.adj.now c.args.removed.now c.requires.scale c.requires.capped)
 
 pub settle-requires-clause-settling : goal.settle-requires-clause-settling
 settle-requires-clause-settling g c κs o =

@@ -18,4 +18,4 @@ returns-clause-few c =
     let within = rw (← c.self.view_is) at c.requires in
     let counts = c.self.invariant.below_counts in
     let read = get_or_read _ c.args.v _ (omega (arith, counts.sized, within)) c.index.ensures 0 in
-    rw (← c.self.view_is, read) (count-few _ _ 1 _ c.args.v c.vertices-n.ensures.graph counts within)
+    rw (← c.self.view_is, read) (count-few _ _ 1 _ c.args.v c.self.invariant.graph counts within)

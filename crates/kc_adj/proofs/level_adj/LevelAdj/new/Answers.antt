@@ -6,4 +6,4 @@ pub invariant_of-result : goal.invariant_of-result
 invariant_of-result c =
     let own : c.in_ok-own.own.items ≡ replicate c.args.n 0 = search rules in
     let below : c.in_ok-below.below.items ≡ replicate c.args.n 0 = search rules in
-    adjacency_first c.args.n _ _ _ _ c.in_ok-graph.ensures c.in_ok-levels.ensures own below
+    adjacency_first c.args.n _ _ _ _ c.requires.small c.in_ok-graph.ensures c.in_ok-levels.ensures own below

@@ -5,7 +5,7 @@ use Rattle.kc_delete.proofs.waiting.Waiting.next.Given as goal
 abbrev pub invariant-loop-taken : goal.invariant-loop-taken
 invariant-loop-taken g l = record {
   filed : AreFiled l.self-inside.first l.self-inside.filed l.self-inside.round.items l.self-inside.marks.items;
-  sifted : IsSifted l.th.profile l.adj.graph l.adj.levels l.initial.self-inside.marks.items l.self-inside.marks.items;
+  sifted : IsSifted l.capped.th.now.profile l.capped.adj.now.graph l.capped.adj.now.levels l.initial.self-inside.marks.items l.self-inside.marks.items;
 }
 
 abbrev pub decreases-loop-taken : goal.decreases-loop-taken

@@ -1,0 +1,21 @@
+//! A vertex that stands on its level.
+
+ghost use Rattle.std.specs.Prelude.{◌≡◌, ◌<◌, ◌≤◌, slice_index};
+ghost use Rattle.kc_levels.specs.Thresholds.{top_level};
+
+use crate::level_adj::LevelAdj;
+use kc_levels::Thresholds;
+
+/// A vertex on its level, and the thresholds for the graph's number of vertices. The level is at most their top.
+#[derive(Clone, Copy)]
+pub struct Standing<'a> {
+    /// The graph with its levels.
+    pub adj: &'a LevelAdj,
+    /// How many neighbours each group of levels needs.
+    pub th: &'a Thresholds,
+    /// The vertex.
+    pub v: u32,
+    ghost vertex: { v < adj.now.graph.vertices },
+    ghost scale: { th.now.vertices ≡ adj.now.graph.vertices },
+    ghost capped: { slice_index adj.now.levels v ≤ top_level th.now.profile th.now.vertices },
+}
