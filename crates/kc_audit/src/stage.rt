@@ -1,5 +1,5 @@
 //! What a line does at its place in a run text.
-ghost use Rattle.std.specs.Prelude.{◌≡◌, ℕ, ◌<◌, ◌≤◌, List, length, drop, IfOk, OnOk};
+ghost use Rattle.std.specs.Prelude.{◌≡◌, ℕ, ◌<◌, ◌≤◌, List, length, drop, Some, IfOk, OnOk};
 ghost use Rattle.kc_text.specs.Words.{words};
 ghost use Rattle.kc_audit.specs.Runs.{IsAuditable};
 ghost use Rattle.kc_audit.specs.Words.{pairs_of};
@@ -177,22 +177,16 @@ fn is_group(label: u32, members: &[Reply]) -> bool
     }
 }
 
-// Takes the members of a group line of the open phase, by way of the list `members`.
+// Takes the members of a group line of the open phase.
 fn members_turn(
     run: &mut RunText,
     place: Place,
     label: u32,
-    text: &[u8],
-    from: usize,
-    members: &mut Vec<Reply>,
+    members: &[Reply],
 ) -> Result<Turn, AllocError>
-    requires { from ≤ length text.now }
-    ensures step { IfOk result (λ turn. members_step run.old place label (pairs_of 58 (words (drop from text.now))) ≡ step_told run.new turn) }
+    ensures step { IfOk result (λ turn. members_step run.old place label (Some members.now) ≡ step_told run.new turn) }
     ensures sound { IsAuditable run.old → OnOk result (IsAuditable run.new) }
 {
-    if !read_pairs(text, from, b':', members)? {
-        return Ok(Turn::Stop(Reason::BadLine));
-    }
     if !is_group(label, members) {
         return Ok(Turn::Stop(Reason::BadLine));
     }
@@ -289,22 +283,31 @@ fn batches_turn(
     }
 }
 
+// The phase whose group lines may come.
+#[derive(Clone, Copy)]
+struct OpenPhase {
+    // The place after the line of the phase.
+    place: Place,
+    // The least label that the next group line may have.
+    low: u32,
+}
+
 fn groups_turn(
     alloc: Global,
     run: &mut RunText,
-    place: Place,
-    low: u32,
+    open: OpenPhase,
     line: &FormLine<'_>,
     members: &mut Vec<Reply>,
 ) -> Result<Turn, AllocError>
     requires { IsWithin line.now.text.now line.now.form }
-    ensures step { IfOk result (λ turn. groups_step run.old place low (kind_told line.now.text.now line.now.form) ≡ step_told run.new turn) }
+    ensures step { IfOk result (λ turn. groups_step run.old open.place open.low (kind_told line.now.text.now line.now.form) ≡ step_told run.new turn) }
     ensures sound { IsAuditable run.old → OnOk result (IsAuditable run.new) }
 {
+    let OpenPhase { place, low } = open;
     match line.form {
         Form::Group { phase, label, from } => {
-            if phase == place.phase && low <= label {
-                members_turn(run, place, label, line.text, from, members)
+            if phase == place.phase && low <= label && read_pairs(line.text, from, b':', members)? {
+                members_turn(run, place, label, members)
             } else {
                 Ok(Turn::Stop(Reason::BadLine))
             }
@@ -347,7 +350,13 @@ pub fn turn_at(
 {
     match stage {
         Stage::Batches(place) => batches_turn(alloc, run, place, line),
-        Stage::Groups { place, low } => groups_turn(alloc, run, place, low, line, members),
+        Stage::Groups { place, low } => groups_turn(
+            alloc,
+            run,
+            OpenPhase { place, low },
+            line,
+            members,
+        ),
         Stage::Readers => readers_turn(alloc, run, line),
         Stage::VertexLines { next } => Ok(vertices_turn(run, next, line.form)),
         Stage::Closed => Ok(closed_turn(run, line.form)),

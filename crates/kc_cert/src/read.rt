@@ -1,5 +1,6 @@
 //! Reads a certificate line by line into a graph and its levels, or refuses it at its first line that doesn't fit.
 ghost use Rattle.std.specs.Prelude.{◌≡◌, ℕ, ◌≤◌, [], length, IfOk, IfSome};
+ghost use Rattle.kc_graph.specs.declared.limits.TheConstants.{MAX_EDGES, MAX_VERTICES};
 ghost use Rattle.kc_cert.specs.Tokens.{tokens_left};
 ghost use Rattle.kc_cert.specs.Documents.{AtProfile, AtVertices, AtEdgeCount, AtBody, AtInputEnd, empty_certificate, document_of};
 ghost use Rattle.kc_cert.specs.private.Reads.{Answers};
@@ -134,27 +135,37 @@ fn read_levels<S: Source>(
     read_end(alloc, reader, src, cert)
 }
 
+// What the first lines of a certificate say of its body.
+#[derive(Clone, Copy)]
+struct Head {
+    // The profile of the levels.
+    profile: Profile,
+    // The number of vertices, 1 to `MAX_VERTICES`.
+    n: u32,
+    // The number of edges, at most `MAX_EDGES`.
+    edges: u32,
+    ghost some: { 1 ≤ n },
+    ghost small: { n ≤ MAX_VERTICES },
+    ghost few: { edges ≤ MAX_EDGES },
+}
+
 // Reads the edges and the lines after them.
 fn read_edges<S: Source>(
     alloc: Global,
     reader: &mut LineReader,
     src: &mut S,
-    profile: Profile,
-    n: u32,
-    count: u32,
+    head: Head,
 ) -> Result<Certificate, CertFault>
-    requires some { 1 ≤ n }
-    requires small { n ≤ MAX_VERTICES }
-    requires few { count ≤ MAX_EDGES }
-    ensures document { Answers (AtBody (empty_certificate profile n) count 0 0 n) (tokens_left reader.old (S.left src.old)) result }
+    ensures document { Answers (AtBody (empty_certificate head.profile head.n) head.edges 0 0 head.n) (tokens_left reader.old (S.left src.old)) result }
     ensures sound { IfOk result IsCertificate }
     ensures cause { CertCause (S.faults src.old) (S.faults src.new) result }
 {
+    let n = head.n;
     let mut graph = Graph::new(alloc, n)?;
     let mut waiting = Vec::new(alloc);
     let mut a = 0;
     let mut b = 0;
-    for i in 0..count {
+    for i in 0..head.edges {
         let token = next_token(alloc, reader, src)?;
         match edge_of(n, a, b, token.kind) {
             Ok(edge) => {
@@ -169,7 +180,7 @@ fn read_edges<S: Source>(
         }
     }
     let_in(alloc, &mut graph, &mut waiting)?;
-    read_levels(alloc, reader, src, profile, graph)
+    read_levels(alloc, reader, src, head.profile, graph)
 }
 
 // Reads the number of edges and the lines after it.
@@ -188,7 +199,7 @@ fn read_edge_count<S: Source>(
 {
     let token = next_token(alloc, reader, src)?;
     match edge_count_of(token.kind) {
-        Ok(count) => read_edges(alloc, reader, src, profile, n, count),
+        Ok(edges) => read_edges(alloc, reader, src, Head { profile, n, edges }),
         Err(reason) => {
             let line = token.number;
             Err(CertFault::Refused { line, reason })

@@ -41,7 +41,7 @@ fn write_named<K: Sink>(
     buf.send(alloc, sink)
 }
 
-// Appends a name, with its blank, and two numbers.
+// Puts together a line of a name, with its blank, and two numbers.
 fn fill_pair(
     alloc: Global,
     buf: &mut LineBuf,
@@ -49,26 +49,40 @@ fn fill_pair(
     first: u32,
     second: u32,
 ) -> Result<(), AllocError>
-    ensures { OnOk result (buf.new ≡ (((buf.old ++ name.now) ++ decimal first) ++ codes " ") ++ decimal second) }
+    ensures { OnOk result (buf.new ≡ ((name.now ++ decimal first) ++ codes " ") ++ decimal second) }
 {
+    buf.clear();
     fill_named(alloc, buf, name, first)?;
     fill_named(alloc, buf, b" ", second)
 }
 
-// Writes a line of a name, with its blank, and two numbers.
-fn write_pair<K: Sink>(
+// Writes the line of the edge between v and w.
+fn write_edge<K: Sink>(
     alloc: Global,
     buf: &mut LineBuf,
     sink: &mut K,
-    name: &[u8],
-    first: u32,
-    second: u32,
+    v: u32,
+    w: u32,
 ) -> Result<(), SendFault>
-    ensures text { Appends (K.taken sink.old) (K.taken sink.new) ((((name.now ++ decimal first) ++ codes " ") ++ decimal second) ++ 10 ∷ []) result }
+    ensures text { Appends (K.taken sink.old) (K.taken sink.new) ((((codes "edge " ++ decimal v) ++ codes " ") ++ decimal w) ++ 10 ∷ []) result }
     ensures cause { WriteCause (K.faults sink.old) (K.faults sink.new) result }
 {
-    buf.clear();
-    fill_pair(alloc, buf, name, first, second)?;
+    fill_pair(alloc, buf, b"edge ", v, w)?;
+    buf.send(alloc, sink)
+}
+
+// Writes the line of the level of v.
+fn write_level<K: Sink>(
+    alloc: Global,
+    buf: &mut LineBuf,
+    sink: &mut K,
+    v: u32,
+    level: u16,
+) -> Result<(), SendFault>
+    ensures text { Appends (K.taken sink.old) (K.taken sink.new) ((((codes "level " ++ decimal v) ++ codes " ") ++ decimal level) ++ 10 ∷ []) result }
+    ensures cause { WriteCause (K.faults sink.old) (K.faults sink.new) result }
+{
+    fill_pair(alloc, buf, b"level ", v, u32::from(level))?;
     buf.send(alloc, sink)
 }
 
@@ -113,7 +127,7 @@ fn write_row<K: Sink>(
         if *w <= v {
             continue;
         }
-        write_pair(alloc, buf, sink, b"edge ", v, *w)?;
+        write_edge(alloc, buf, sink, v, *w)?;
     }
     Ok(())
 }
@@ -147,7 +161,7 @@ fn write_levels<K: Sink>(
     ensures cause { WriteCause (K.faults sink.old) (K.faults sink.new) result }
 {
     for v in 0..n {
-        write_pair(alloc, buf, sink, b"level ", v, u32::from(levels.get(v)))?;
+        write_level(alloc, buf, sink, v, levels.get(v))?;
     }
     Ok(())
 }

@@ -12,7 +12,7 @@ use crate::faults::EngineFault;
 use crate::phases::{PhaseContext, phase_count, run_phases};
 use crate::plans::BatchPlan;
 use crate::shape::Shape;
-use crate::showing::{Crew, MarkerPlaces, show_phases};
+use crate::showing::{MarkerPlaces, Show, show_phases};
 use crate::work::PhaseWork;
 use kc_adj::LevelAdj;
 use kc_graph::{Cleaned, Graph, MAX_EDGES, MAX_VERTICES};
@@ -225,8 +225,13 @@ impl Engine {
     {
         let n = self.adj.graph().vertices();
         let phases = plan.phases.as_slice();
-        let places = &mut self.places;
-        show_phases(&Crew { rt, gate }, store, writer, phases, places, n);
+        let show = Show {
+            rt,
+            gate,
+            phases,
+            n,
+        };
+        show_phases(&show, store, writer, &mut self.places);
         self.waits = false;
     }
 

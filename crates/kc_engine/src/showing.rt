@@ -4,14 +4,14 @@
 //! the ranges side by side, publishes the group, and clears the ranges side by side. The ranges are lent to markers in
 //! `MarkerPlaces`, so that no call takes memory. `specs/private/Lending` says how the markers change.
 
-mod crew;
 mod lending;
 mod phases;
 mod places;
 mod planned;
+mod show;
 mod side_by_side;
 mod sizes;
 
-pub(crate) use crew::Crew;
 pub(crate) use phases::show_phases;
 pub(crate) use places::MarkerPlaces;
+pub(crate) use show::Show;

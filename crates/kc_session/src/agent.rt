@@ -84,13 +84,19 @@ fn given(has_run: bool, kept: Vec<Reply>) -> Vec<Reply>
     replies
 }
 
-// Asks the store for the level of one vertex after another, at this pace.
+// A reader that puts its questions: its number, which the gate gets, and its pace.
+#[derive(Drop)]
+struct Asker<'a> {
+    reader: u32,
+    pace: Pace<'a>,
+}
+
+// Asks the store for the level of one vertex after another, at the pace of the asker.
 fn ask_all<G: Gate>(
     gate: &G,
     store: &Store,
-    pace: Pace<'_>,
+    asker: Asker<'_>,
     pass: &mut Pass,
-    reader: u32,
     replies: &mut Vec<Reply>,
 )
     requires table { pass.old.table ≡ store.now.table }
@@ -102,7 +108,7 @@ fn ask_all<G: Gate>(
     ensures vertices { vertices_of replies.new.items ≡ vertices_of replies.old.items }
     ensures explained { AreExplained store.now.vertices pass.new.seen pass.old.made replies.new.items }
 {
-    let mut pace = pace;
+    let Asker { reader, mut pace } = asker;
     for i in 0..replies.len() {
         pace.keep(i);
         let ask = i as u32;
@@ -171,9 +177,11 @@ impl Agent {
         requires first { self.old.has_run ≡ false }
         ensures { HasRun self.old self.new }
     {
-        let reader = self.reader;
-        let pace = Pace::begin(progress, self.ask.vertices.as_slice().len());
-        ask_all(gate, store, pace, &mut self.pass, reader, &mut self.replies);
+        let asker = Asker {
+            reader: self.reader,
+            pace: Pace::begin(progress, self.ask.vertices.as_slice().len()),
+        };
+        ask_all(gate, store, asker, &mut self.pass, &mut self.replies);
         self.has_run = true;
     }
 

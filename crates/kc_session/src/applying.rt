@@ -1,11 +1,12 @@
 //! Application of batches to an engine, one after another.
 ghost use Rattle.std.specs.Prelude.{◌≡◌, ◌≤◌, length, All, IfOk, OnOk};
-ghost use Rattle.kc_graph.specs.Cleaning.{IsInside, cleaned};
-ghost use Rattle.kc_session.specs.private.Audiences.{store_of, shown_to, IsAbreast};
+ghost use Rattle.kc_graph.specs.Cleaning.{IsInside};
+ghost use Rattle.kc_session.specs.private.Audiences.{store_of, IsAbreast};
 ghost use Rattle.kc_session.specs.States.{start, IsOpen};
-ghost use Rattle.kc_session.specs.private.Outcomes.{Becomes};
+ghost use Rattle.kc_session.specs.private.Outcomes.{Applies};
 
-use crate::audience::{Audience, show};
+use crate::audience::show;
+use crate::watched::Watched;
 use kc_engine::{BatchPlan, Engine, EngineFault, Shape};
 use kc_graph::{Cleaned, Item, MAX_EDGES, MAX_ITEMS, MAX_VERTICES, clean_by};
 use kc_levels::Profile;
@@ -46,26 +47,27 @@ pub fn open(alloc: Global, profile: Profile, n: u32, workers: u32) -> Result<Eng
 }
 
 /// Applies a batch without a fault. Its items are cleaned first. Then the batch is refused and changes nothing, or its
-/// edges leave and come in, and its phases are shown. Fails only if memory runs out; the engine isn't used again then.
+/// edges leave and come in, and its phases are shown to the audience. Fails only if memory runs out; the engine isn't
+/// used again then.
 ///
 /// Cost: that of `clean_by` and `Engine::plan`, and that of `Engine::show` if there are readers.
 pub fn apply<R: Threads + Sync, G: Gate + Sync>(
     rt: &R,
     alloc: Global,
     gate: &G,
-    audience: &mut Audience<'_>,
-    engine: &mut Engine,
+    watched: &mut Watched<'_>,
     items: &[Item],
 ) -> Result<Outcome, AllocError>
-    requires abreast { IsAbreast audience.old engine.old.state }
-    requires open { IsOpen engine.old }
-    requires inside { All (IsInside engine.old.state.graph.vertices) items.now }
+    requires abreast { IsAbreast watched.old.audience watched.old.engine.state }
+    requires open { IsOpen watched.old.engine }
+    requires inside { All (IsInside watched.old.engine.state.graph.vertices) items.now }
     requires few { length items.now ≤ MAX_ITEMS }
-    ensures outcome { IfOk result (λ o. Becomes engine.old.state (cleaned engine.old.state.graph items.now) o engine.new.state (shown_to audience.old) (shown_to audience.new)) }
-    ensures store { store_of audience.new ≡ store_of audience.old }
-    ensures abreast { OnOk result (IsAbreast audience.new engine.new.state) }
-    ensures open { OnOk result (IsOpen engine.new) }
+    ensures outcome { IfOk result (λ o. Applies watched.old items.now o watched.new) }
+    ensures store { store_of watched.new.audience ≡ store_of watched.old.audience }
+    ensures abreast { OnOk result (IsAbreast watched.new.audience watched.new.engine.state) }
+    ensures open { OnOk result (IsOpen watched.new.engine) }
 {
+    let Watched { engine, audience } = watched;
     let cleaned = clean_by(rt, alloc, engine.workers(), engine.graph(), items)?;
     match engine.plan(rt, alloc, gate, &cleaned) {
         Ok(plan) => {

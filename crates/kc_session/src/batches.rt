@@ -12,7 +12,7 @@ use crate::applying::{Outcome, apply};
 use crate::context::SessionContext;
 use crate::counts::Counts;
 use crate::fault::SessionFault;
-use crate::report::{Report, Reporter};
+use crate::report::Reporter;
 use crate::watched::Watched;
 use kc_batch::{Next, await_batch};
 use kc_graph::MAX_ITEMS;
@@ -20,22 +20,21 @@ use kc_rounds::Gate;
 use kc_text::{LineReader, Reason, Sink, Source};
 use std::thread::Threads;
 
-// Applies the next batch, writes its text and counts it.
+// Applies the next batch and writes its text. Returns the reporter's counts with the batch added.
 fn run_batch<R: Threads + Sync, K: Sink, G: Gate + Sync>(
     context: &SessionContext<'_, R, G>,
     watched: &mut Watched<'_>,
     sink: &mut K,
     reporter: &mut Reporter,
-    counts: Counts,
     next: Next,
 ) -> Result<Counts, SessionFault>
     requires abreast { IsAbreast watched.old.audience watched.old.engine.state }
     requires open { IsOpen watched.old.engine }
     requires batch { IsBatchFor watched.old.engine.state.graph.vertices next }
     requires some { IsEnd next → ⊥ }
-    requires few { counts.batches < 2 ^ 32 - 1 }
-    requires fewer { counts.refused ≤ counts.batches }
-    ensures step { RunsOne reporter.old.report next watched.old watched.new (K.taken sink.old) (K.taken sink.new) counts result }
+    requires few { reporter.old.counts.batches < 2 ^ 32 - 1 }
+    requires fewer { reporter.old.counts.refused ≤ reporter.old.counts.batches }
+    ensures step { RunsOne reporter.old.report next watched.old watched.new (K.taken sink.old) (K.taken sink.new) reporter.old.counts result }
     ensures report { reporter.new.report ≡ reporter.old.report }
     ensures store { store_of watched.new.audience ≡ store_of watched.old.audience }
     ensures abreast { OnOk result (IsAbreast watched.new.audience watched.new.engine.state) }
@@ -50,30 +49,22 @@ fn run_batch<R: Threads + Sync, K: Sink, G: Gate + Sync>(
         ..
     } = context;
     let alloc = *alloc;
-    let Watched { engine, audience } = watched;
-    let number = counts.batches + 1;
+    let counts = reporter.counts;
     match next {
-        Next::Items(batch) => match apply(
-            *rt,
-            alloc,
-            *gate,
-            audience,
-            engine,
-            batch.items.as_slice(),
-        )? {
+        Next::Items(batch) => match apply(*rt, alloc, *gate, watched, batch.items.as_slice())? {
             Outcome::Accepted(cleaned, plan) => {
                 progress.advance(plan.moves);
                 let phases = plan.phases.as_slice();
-                reporter.write_accepted(alloc, sink, number, &cleaned, phases)?;
+                reporter.write_accepted(alloc, sink, &cleaned, phases)?;
                 Ok(counts.with_accepted(phases))
             }
             Outcome::Refused(reason) => {
-                reporter.write_refusal(alloc, sink, number, batch.line, reason)?;
+                reporter.write_refusal(alloc, sink, batch.line, reason)?;
                 Ok(counts.with_refused())
             }
         },
         Next::Refused { line, reason } => {
-            reporter.write_refusal(alloc, sink, number, line, reason)?;
+            reporter.write_refusal(alloc, sink, line, reason)?;
             Ok(counts.with_refused())
         }
         Next::End => Ok(counts),
@@ -103,12 +94,11 @@ pub fn run_batches<R: Threads + Sync, S: Source, K: Sink, G: Gate + Sync>(
     reader: &mut LineReader,
     src: &mut S,
     sink: &mut K,
-    report: Report,
 ) -> Result<Counts, SessionFault>
     requires abreast { IsAbreast watched.old.audience watched.old.engine.state }
     requires open { IsOpen watched.old.engine }
     requires vertices { watched.old.engine.state.graph.vertices ≡ context.now.n }
-    ensures text { RunsAll report watched.old watched.new (batches_for context.now.n context.now.profile reader.old (S.left src.old)) (K.taken sink.old) (K.taken sink.new) result }
+    ensures text { RunsAll context.now.report watched.old watched.new (batches_for context.now.n context.now.profile reader.old (S.left src.old)) (K.taken sink.old) (K.taken sink.new) result }
     ensures store { store_of watched.new.audience ≡ store_of watched.old.audience }
     ensures abreast { OnOk result (IsAbreast watched.new.audience watched.new.engine.state) }
     ensures open { OnOk result (IsOpen watched.new.engine) }
@@ -120,17 +110,17 @@ pub fn run_batches<R: Threads + Sync, S: Source, K: Sink, G: Gate + Sync>(
     let alloc = context.alloc;
     let n = context.n;
     let profile = context.profile;
-    let mut reporter = Reporter::new(alloc, report);
-    let mut counts = Counts::none();
+    let mut reporter = Reporter::new(alloc, context.report);
     loop {
         let next = await_batch(alloc, reader, src, sink, n, profile, MAX_ITEMS)?;
         if let Next::End = next {
-            return Ok(counts);
+            return Ok(reporter.counts);
         }
         let last = is_last(&next);
-        counts = run_batch(context, watched, sink, &mut reporter, counts, next)?;
+        let counts = run_batch(context, watched, sink, &mut reporter, next)?;
         if last {
             return Ok(counts);
         }
+        reporter.counts = counts;
     }
 }

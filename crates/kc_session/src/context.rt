@@ -3,13 +3,14 @@ ghost use Rattle.std.specs.Prelude.{◌≤◌};
 ghost use Rattle.kc_graph.specs.declared.limits.TheConstants.{MAX_VERTICES};
 
 use crate::progress::Progress;
+use crate::report::Report;
 use kc_levels::Profile;
 use std::alloc::Global;
 
 /// The values that stay the same while the batches of one input are run, and the progress of the batches.
 ///
-/// They are the runtime of threads, the allocator, the gate, the number of workers, and the number of vertices and the
-/// profile of the graph. Readers look at the progress.
+/// They are the runtime of threads, the allocator, the gate, the number of workers, and the text for batches. The
+/// number of vertices and the profile are those of the graph. Readers look at the progress.
 #[derive(Drop)]
 pub struct SessionContext<'a, R, G> {
     /// The runtime that starts threads.
@@ -24,6 +25,8 @@ pub struct SessionContext<'a, R, G> {
     pub n: u32,
     /// The profile of the levels' thresholds.
     pub profile: Profile,
+    /// The text that is written for each batch.
+    pub report: Report,
     /// The progress of the batches.
     pub progress: Progress,
     ghost few_workers: { (1 ≤ workers) × (workers ≤ 64) },

@@ -78,7 +78,7 @@ fn run_told<R: Threads + Sync, S: Source, K: Sink, G: Gate + Sync>(
     requires abreast { IsAbreast watched.old.audience watched.old.engine.state }
     requires open { IsOpen watched.old.engine }
     requires vertices { watched.old.engine.state.graph.vertices ≡ context.now.n }
-    ensures text { RunsAll Report.Lines watched.old watched.new (batches_for context.now.n context.now.profile reader.old (S.left src.old)) (K.taken sink.old) (K.taken sink.new) result }
+    ensures text { RunsAll context.now.report watched.old watched.new (batches_for context.now.n context.now.profile reader.old (S.left src.old)) (K.taken sink.old) (K.taken sink.new) result }
     ensures store { store_of watched.new.audience ≡ store_of watched.old.audience }
     ensures abreast { OnOk result (IsAbreast watched.new.audience watched.new.engine.state) }
     ensures open { OnOk result (IsOpen watched.new.engine) }
@@ -87,7 +87,7 @@ fn run_told<R: Threads + Sync, S: Source, K: Sink, G: Gate + Sync>(
     ensures cause { FaultCause (S.faults src.old) (S.faults src.new) (K.faults sink.old) (K.faults sink.new) result }
 {
     context.progress.begin();
-    let counts = run_batches(context, watched, reader, src, sink, Report::Lines);
+    let counts = run_batches(context, watched, reader, src, sink);
     context.progress.end();
     counts
 }
@@ -106,7 +106,7 @@ fn side_by_side<R: Threads + Sync, S: Source + Send, K: Sink + Send, G: Gate + S
     requires open { IsOpen watched.old.engine }
     requires vertices { watched.old.engine.state.graph.vertices ≡ context.now.n }
     requires agents { All (λ a. (a.store ≡ askers.old.store.now) × (a.has_run ≡ false)) askers.old.agents.items }
-    ensures text { RunsAll Report.Lines watched.old watched.new (batches_for context.now.n context.now.profile reader.old (S.left src.old)) (K.taken sink.old) (K.taken sink.new) result }
+    ensures text { RunsAll context.now.report watched.old watched.new (batches_for context.now.n context.now.profile reader.old (S.left src.old)) (K.taken sink.old) (K.taken sink.new) result }
     ensures store { store_of watched.new.audience ≡ store_of watched.old.audience }
     ensures abreast { OnOk result (IsAbreast watched.new.audience watched.new.engine.state) }
     ensures open { OnOk result (IsOpen watched.new.engine) }
@@ -175,6 +175,7 @@ fn run_opened<'a, R: Threads + Sync, S: Source + Send, K: Sink + Send, G: Gate +
     requires open { IsOpen watched.old.engine }
     requires start { watched.old.engine.state ≡ start context.now.profile context.now.n }
     requires asks { IsAskList context.now.n opened.asks }
+    requires lines { context.now.report ≡ Report.Lines }
     ensures text { WritesBody (header_for context.now.n context.now.profile opened.entry.asks) reader (S.left src.old) (K.taken sink.old) (K.taken sink.new) result }
     ensures cause { FaultCause (S.faults src.old) (S.faults src.new) (K.faults sink.old) (K.faults sink.new) result }
 {
@@ -210,6 +211,7 @@ fn run_beside_readers<R: Threads + Sync, S: Source + Send, K: Sink + Send, G: Ga
     sink: &mut K,
 ) -> Result<Ended, SessionFault>
     requires asks { IsAskList context.now.n asks }
+    requires lines { context.now.report ≡ Report.Lines }
     ensures text { WritesBody (header_for context.now.n context.now.profile asks) reader (S.left src.old) (K.taken sink.old) (K.taken sink.new) result }
     ensures cause { FaultCause (S.faults src.old) (S.faults src.new) (K.faults sink.old) (K.faults sink.new) result }
 {
@@ -239,10 +241,11 @@ fn run_alone<R: Threads + Sync, S: Source, K: Sink, G: Gate + Sync>(
     requires nobody { watched.old.audience ≡ Nobody }
     requires open { IsOpen watched.old.engine }
     requires start { watched.old.engine.state ≡ start context.now.profile context.now.n }
+    requires lines { context.now.report ≡ Report.Lines }
     ensures text { WritesBody (header_for context.now.n context.now.profile []) reader.old (S.left src.old) (K.taken sink.old) (K.taken sink.new) result }
     ensures cause { FaultCause (S.faults src.old) (S.faults src.new) (K.faults sink.old) (K.faults sink.new) result }
 {
-    let counts = run_batches(context, watched, reader, src, sink, Report::Lines)?;
+    let counts = run_batches(context, watched, reader, src, sink)?;
     let engine = &watched.engine;
     let levels = engine.levels().as_slice();
     let mut buf = LineBuf::new(context.alloc);
@@ -257,6 +260,7 @@ fn run_without_readers<R: Threads + Sync, S: Source, K: Sink, G: Gate + Sync>(
     src: &mut S,
     sink: &mut K,
 ) -> Result<Ended, SessionFault>
+    requires lines { context.now.report ≡ Report.Lines }
     ensures text { WritesBody (header_for context.now.n context.now.profile []) reader (S.left src.old) (K.taken sink.old) (K.taken sink.new) result }
     ensures cause { FaultCause (S.faults src.old) (S.faults src.new) (K.faults sink.old) (K.faults sink.new) result }
 {
@@ -310,6 +314,7 @@ pub fn run_session<R: Threads + Sync, S: Source + Send, K: Sink + Send, G: Gate 
         workers,
         n,
         profile,
+        report: Report::Lines,
         progress: Progress::new(LOOKS),
     };
     if asks.as_slice().is_empty() {

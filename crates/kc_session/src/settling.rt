@@ -65,6 +65,7 @@ pub fn settle<R: Threads + Sync, S: Source, K: Sink, G: Gate + Sync>(
         workers,
         n,
         profile,
+        report: Report::Notes,
         progress: Progress::new(0),
     };
     let engine = open(alloc, profile, n, workers)?;
@@ -72,14 +73,7 @@ pub fn settle<R: Threads + Sync, S: Source, K: Sink, G: Gate + Sync>(
         engine,
         audience: Audience::Nobody,
     };
-    let counts = run_batches(
-        &context,
-        &mut watched,
-        &mut reader,
-        src,
-        sink,
-        Report::Notes,
-    )?;
+    let counts = run_batches(&context, &mut watched, &mut reader, src, sink)?;
     Ok(Settled {
         engine: watched.into_engine(),
         refused: counts.refused,

@@ -27,6 +27,15 @@ fn submit<R: Threads + Wait + Sync>(rt: &R, intake: &Intake, client: &mut Client
     unreachable!()
 }
 
+// The script of a client.
+#[derive(Clone, Copy)]
+struct Script<'a> {
+    // The number of the client.
+    number: u32,
+    // The items that the client submits, in order.
+    items: &'a [Item],
+}
+
 // Submits the items of a script in order. The gate gets `Asking` before the first try of each, and `Replied` once it is
 // submitted.
 fn submit_script<R: Threads + Wait + Sync, G: Gate + Sync>(
@@ -34,20 +43,20 @@ fn submit_script<R: Threads + Wait + Sync, G: Gate + Sync>(
     gate: &G,
     intake: &Intake,
     client: &mut Client,
-    number: u32,
-    script: &[Item],
+    script: Script<'_>,
 )
-    requires client { client.old ≡ new_client intake.now number }
-    requires few { length script.now ≤ MAX_ITEMS }
-    ensures { client.new ≡ ended_client intake.now number script.now }
+    requires client { client.old ≡ new_client intake.now script.number }
+    requires few { length script.items.now ≤ MAX_ITEMS }
+    ensures { client.new ≡ ended_client intake.now script.entry.number script.entry.items.now }
 {
-    for i in 0..script.len() {
+    let Script { number, items } = script;
+    for i in 0..items.len() {
         let ask = i as u32;
         gate.at(Spot::Asking {
             reader: number,
             ask,
         });
-        submit(rt, intake, client, script[i]);
+        submit(rt, intake, client, items[i]);
         gate.at(Spot::Replied {
             reader: number,
             ask,
@@ -75,7 +84,13 @@ fn run_each<R: Threads + Wait + Sync, G: Gate + Sync>(
         &|i, client: &mut Client|
             requires { IsSync R.row × IsSync G.row × (i < length scripts.now) × (length scripts.now ≤ MAX_CLIENTS) × All (λ script. length script ≤ MAX_ITEMS) scripts.now × (client.old ≡ new_client intake.now i) }
             ensures { client.new ≡ ended_client intake.entry.now i (slice_index_or scripts.entry.now i []) }
-        { submit_script(rt, gate, intake, client, i as u32, scripts[i].as_slice()) },
+        {
+            let script = Script {
+                number: i as u32,
+                items: scripts[i].as_slice(),
+            };
+            submit_script(rt, gate, intake, client, script)
+        },
     );
 }
 

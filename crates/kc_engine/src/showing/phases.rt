@@ -5,9 +5,9 @@ ghost use Rattle.kc_store.specs.private.Showing.{HasShown};
 ghost use Rattle.kc_store.specs.Showing.{IsIdle};
 ghost use Rattle.kc_engine.specs.Showing.{GoOn, AreShown};
 
-use crate::showing::crew::Crew;
 use crate::showing::places::MarkerPlaces;
 use crate::showing::planned::PlannedGroup;
+use crate::showing::show::Show;
 use crate::showing::sizes::groups_of;
 use kc_groups::PhasePlan;
 use kc_history::MAX_PHASE;
@@ -17,28 +17,28 @@ use std::thread::Threads;
 
 // Begins the phase of a plan, and shows each of its groups.
 fn show_phase<R: Threads + Sync, G: Gate + Sync>(
-    crew: &Crew<'_, R, G>,
+    show: &Show<'_, R, G>,
     store: &Store,
     writer: &mut Writer,
     plan: &PhasePlan,
     places: &mut MarkerPlaces,
-    n: u32,
 )
     requires table { writer.old.table ≡ store.now.table }
-    requires vertices { n ≡ writer.old.state.vertices }
+    requires vertices { show.now.n ≡ writer.old.state.vertices }
     requires begins { MayBegin writer.old.state plan.now }
     ensures same { places.new ≡ places.old }
     ensures table { writer.new.table ≡ writer.old.table }
     ensures shown { HasShown plan.now (length plan.now.groups) writer.old.state writer.new.state }
 {
+    let n = show.n;
     writer.begin(store, plan);
     for g in 0..groups_of(plan, n) {
         let group = PlannedGroup::new(plan, n, g);
-        places.show_group(crew, store, writer, &group);
+        places.show_group(show, store, writer, &group);
     }
 }
 
-// Shows phases, one after another: the writer's history grows by their entries (`AreShown`).
+// Shows the phases of a show, one after another: the writer's history grows by their entries (`AreShown`).
 //
 // The store is the writer's and for n vertices. Each group of the last begun phase is published, and each of its moves
 // is cleared. No marker is out. All of that holds again afterwards. The phases go on from the writer's history
@@ -51,23 +51,22 @@ fn show_phase<R: Threads + Sync, G: Gate + Sync>(
 // The gate gets `Piece` with the range's index at the start of each range, for marking and for clearing, and
 // `Publishing` before each publication. Takes no memory, and never waits.
 pub(crate) fn show_phases<R: Threads + Sync, G: Gate + Sync>(
-    crew: &Crew<'_, R, G>,
+    show: &Show<'_, R, G>,
     store: &Store,
     writer: &mut Writer,
-    phases: &[PhasePlan],
     places: &mut MarkerPlaces,
-    n: u32,
 )
     requires table { writer.old.table ≡ store.now.table }
-    requires vertices { n ≡ writer.old.state.vertices }
+    requires vertices { show.now.n ≡ writer.old.state.vertices }
     requires idle { IsIdle writer.old.state }
-    requires phases { GoOn n writer.old.state.phase writer.old.state.history phases.now }
-    requires few { writer.old.state.phase + length phases.now ≤ MAX_PHASE }
+    requires phases { GoOn show.now.n writer.old.state.phase writer.old.state.history show.now.phases.now }
+    requires few { writer.old.state.phase + length show.now.phases.now ≤ MAX_PHASE }
     ensures same { places.new ≡ places.old }
     ensures table { writer.new.table ≡ writer.old.table }
-    ensures shown { AreShown phases.now writer.old.state writer.new.state }
+    ensures shown { AreShown show.now.phases.now writer.old.state writer.new.state }
 {
+    let phases = show.phases;
     for i in 0..phases.len() {
-        show_phase(crew, store, writer, &phases[i], places, n);
+        show_phase(show, store, writer, &phases[i], places);
     }
 }

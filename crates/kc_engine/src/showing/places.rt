@@ -3,9 +3,9 @@ ghost use Rattle.std.specs.Prelude.{◌≡◌, ◌≤◌, ◌<◌, [], IfOk, len
 ghost use Rattle.kc_store.specs.private.Showing.{HasShownGroup};
 ghost use Rattle.kc_engine.specs.private.Lending.{HasMarkedGroup, HasClearedGroup};
 
-use crate::showing::crew::Crew;
 use crate::showing::lending::{give_back_all, lend_all};
 use crate::showing::planned::PlannedGroup;
+use crate::showing::show::Show;
 use crate::showing::side_by_side::{clear_lent, mark_lent};
 use kc_rounds::{Gate, Spot};
 use kc_store::{Marker, Store, Writer};
@@ -75,58 +75,54 @@ impl MarkerPlaces {
         }
     }
 
-    // Marks the moves of a group that isn't published yet, in at most `threads` threads. No marker is out before or
-    // afterwards.
+    // Marks the moves of a group that isn't published yet. No marker is out before or afterwards.
     fn mark_group<R: Threads + Sync, G: Gate + Sync>(
         &mut self,
-        crew: &Crew<'_, R, G>,
+        show: &Show<'_, R, G>,
         store: &Store,
         writer: &mut Writer,
         group: &PlannedGroup<'_>,
-        threads: usize,
     )
         requires table { writer.old.table ≡ store.now.table }
         requires plan { group.now.plan.now ≡ writer.old.state.plan }
         requires early { writer.old.state.published ≤ group.now.g }
-        requires threads { 0 < threads }
         requires none_out { writer.old.state.loans ≡ [] }
         ensures same { self.new ≡ self.old }
         ensures table { writer.new.table ≡ writer.old.table }
         ensures marked { HasMarkedGroup group.now.g group.now.moves writer.old.state writer.new.state }
     {
+        let threads = self.threads_for(group.moves);
         lend_all(store, writer, group, self.workers, &mut self.markers);
-        mark_lent(crew, store, group.plan, threads, &mut self.markers);
+        mark_lent(show, store, group.plan, threads, &mut self.markers);
         give_back_all(store, writer, &mut self.markers);
     }
 
-    // Clears the moves of a group that is published, in at most `threads` threads. No marker is out before or
-    // afterwards.
+    // Clears the moves of a group that is published. No marker is out before or afterwards.
     fn clear_group<R: Threads + Sync, G: Gate + Sync>(
         &mut self,
-        crew: &Crew<'_, R, G>,
+        show: &Show<'_, R, G>,
         store: &Store,
         writer: &mut Writer,
         group: &PlannedGroup<'_>,
-        threads: usize,
     )
         requires table { writer.old.table ≡ store.now.table }
         requires plan { group.now.plan.now ≡ writer.old.state.plan }
         requires late { group.now.g < writer.old.state.published }
-        requires threads { 0 < threads }
         requires none_out { writer.old.state.loans ≡ [] }
         ensures same { self.new ≡ self.old }
         ensures table { writer.new.table ≡ writer.old.table }
         ensures cleared { HasClearedGroup group.now.g group.now.moves writer.old.state writer.new.state }
     {
+        let threads = self.threads_for(group.moves);
         lend_all(store, writer, group, self.workers, &mut self.markers);
-        clear_lent(crew, store, group.plan, threads, &mut self.markers);
+        clear_lent(show, store, group.plan, threads, &mut self.markers);
         give_back_all(store, writer, &mut self.markers);
     }
 
     // Marks, publishes and clears the next group. No marker is out before or afterwards.
     pub(crate) fn show_group<R: Threads + Sync, G: Gate + Sync>(
         &mut self,
-        crew: &Crew<'_, R, G>,
+        show: &Show<'_, R, G>,
         store: &Store,
         writer: &mut Writer,
         group: &PlannedGroup<'_>,
@@ -139,11 +135,10 @@ impl MarkerPlaces {
         ensures table { writer.new.table ≡ writer.old.table }
         ensures shown { HasShownGroup group.now.g writer.old.state writer.new.state }
     {
-        let threads = self.threads_for(group.moves);
-        self.is_first_ahead = false;
-        self.mark_group(crew, store, writer, group, threads);
-        tell_publishing(crew.gate, group);
+        self.mark_group(show, store, writer, group);
+        tell_publishing(show.gate, group);
         writer.publish(store, group.plan, group.g);
-        self.clear_group(crew, store, writer, group, threads);
+        self.clear_group(show, store, writer, group);
+        self.is_first_ahead = false;
     }
 }

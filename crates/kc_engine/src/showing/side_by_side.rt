@@ -2,7 +2,7 @@
 ghost use Rattle.std.specs.Prelude.{◌≡◌, ℕ, ◌<◌, ◌≤◌, ◌^◌, length, vec_len, vec_capacity, All, slice_index_or};
 ghost use Rattle.kc_engine.specs.private.Lending.{MayMark, MayClear, HasMarkedRange, HasClearedRange, AreMarked, AreCleared};
 
-use crate::showing::crew::Crew;
+use crate::showing::show::Show;
 use kc_groups::PhasePlan;
 use kc_rounds::{Gate, Spot};
 use kc_store::{Marker, Store};
@@ -41,7 +41,7 @@ fn clear_range<G: Gate>(
 
 // Lets each marker mark its range, in at most `threads` threads.
 fn mark_each<R: Threads + Sync, G: Gate + Sync>(
-    crew: &Crew<'_, R, G>,
+    show: &Show<'_, R, G>,
     store: &Store,
     plan: &PhasePlan,
     threads: usize,
@@ -52,9 +52,9 @@ fn mark_each<R: Threads + Sync, G: Gate + Sync>(
     requires may { All (MayMark store.now.table plan.now) markers.old }
     ensures { (i : ℕ) (d : _) → i < length markers.old → HasMarkedRange (slice_index_or markers.old i d) (slice_index_or markers.new i d) }
 {
-    let gate = crew.gate;
+    let gate = show.gate;
     thread::for_each_mut(
-        crew.rt,
+        show.rt,
         markers,
         threads,
         &|index: usize, marker: &mut Marker| mark_range(gate, store, plan, index, marker),
@@ -63,7 +63,7 @@ fn mark_each<R: Threads + Sync, G: Gate + Sync>(
 
 // Lets each marker clear its range, in at most `threads` threads.
 fn clear_each<R: Threads + Sync, G: Gate + Sync>(
-    crew: &Crew<'_, R, G>,
+    show: &Show<'_, R, G>,
     store: &Store,
     plan: &PhasePlan,
     threads: usize,
@@ -74,9 +74,9 @@ fn clear_each<R: Threads + Sync, G: Gate + Sync>(
     requires may { All (MayClear store.now.table plan.now) markers.old }
     ensures { (i : ℕ) (d : _) → i < length markers.old → HasClearedRange (slice_index_or markers.old i d) (slice_index_or markers.new i d) }
 {
-    let gate = crew.gate;
+    let gate = show.gate;
     thread::for_each_mut(
-        crew.rt,
+        show.rt,
         markers,
         threads,
         &|index: usize, marker: &mut Marker| clear_range(gate, store, plan, index, marker),
@@ -85,7 +85,7 @@ fn clear_each<R: Threads + Sync, G: Gate + Sync>(
 
 // Lets each marker of the list mark its range, in at most `threads` threads.
 pub(crate) fn mark_lent<R: Threads + Sync, G: Gate + Sync>(
-    crew: &Crew<'_, R, G>,
+    show: &Show<'_, R, G>,
     store: &Store,
     plan: &PhasePlan,
     threads: usize,
@@ -97,12 +97,12 @@ pub(crate) fn mark_lent<R: Threads + Sync, G: Gate + Sync>(
     ensures marked { AreMarked markers.old.items markers.new.items }
     ensures room { vec_capacity markers.new ≡ vec_capacity markers.old }
 {
-    mark_each(crew, store, plan, threads, markers.as_mut_slice());
+    mark_each(show, store, plan, threads, markers.as_mut_slice());
 }
 
 // Lets each marker of the list clear its range, in at most `threads` threads.
 pub(crate) fn clear_lent<R: Threads + Sync, G: Gate + Sync>(
-    crew: &Crew<'_, R, G>,
+    show: &Show<'_, R, G>,
     store: &Store,
     plan: &PhasePlan,
     threads: usize,
@@ -114,5 +114,5 @@ pub(crate) fn clear_lent<R: Threads + Sync, G: Gate + Sync>(
     ensures cleared { AreCleared markers.old.items markers.new.items }
     ensures room { vec_capacity markers.new ≡ vec_capacity markers.old }
 {
-    clear_each(crew, store, plan, threads, markers.as_mut_slice());
+    clear_each(show, store, plan, threads, markers.as_mut_slice());
 }

@@ -8,17 +8,17 @@ use Rattle.kc_cert.proofs.read.read_edges.Goals as goal
 pub returns-in-Err-clause-document : goal.returns-in-Err-clause-document
 returns-in-Err-clause-document g c =
     let t = c.in_ok-token.token in
-    let n = c.args.n in
+    let n = c.args.head.n in
     let es = c.loop-i.graph.edges ++ c.loop-i.waiting.items in
-    let step = edge_step c.args.profile (record { vertices = n; edges = es }) n c.args.count c.loop-i.i c.loop-i.a c.loop-i.b t.kind _ refl c.loop-i-test.true (sym c.in-Err.is ∙ c.edge_of.ensures) in
+    let step = edge_step c.args.head.profile (record { vertices = n; edges = es }) n c.args.head.edges c.loop-i.i c.loop-i.a c.loop-i.b t.kind _ refl c.loop-i-test.true (sym c.in-Err.is ∙ c.edge_of.ensures) in
     c.loop-i.invariant.answers (Err (Refused t.number c.in-Err.reason)) (answers_refused _ t _ _ c.in-Err.reason step c.in_ok-token.ensures.token)
 
 pub loop-i-preserved : goal.loop-i-preserved
 loop-i-preserved g c =
     let t = c.in_ok-token.token in
-    let p = c.args.profile in
-    let n = c.args.n in
-    let count = c.args.count in
+    let p = c.args.head.profile in
+    let n = c.args.head.n in
+    let count = c.args.head.edges in
     let es = c.loop-i.graph.edges ++ c.loop-i.waiting.items in
     let i = c.loop-i.i in
     let a = c.loop-i.a in
@@ -39,6 +39,6 @@ loop-i-preserved g c =
 
 pub returns-clause-document : goal.returns-clause-document
 returns-clause-document g c =
-    let all = all_read c.args.profile c.let_in.new.graph c.args.n c.args.count c.loop-i.i c.loop-i.a c.loop-i.b (c.loop-i.graph.edges ++ c.loop-i.waiting.items)
+    let all = all_read c.args.head.profile c.let_in.new.graph c.args.head.n c.args.head.edges c.loop-i.i c.loop-i.a c.loop-i.b (c.loop-i.graph.edges ++ c.loop-i.waiting.items)
     (c.in_ok-let_in.ensures.vertices ∙ c.loop-i.invariant.vertices) c.in_ok-let_in.ensures.edges (omega (arith, c.loop-i-test.false)) in
     c.loop-i.invariant.answers c.read_levels.result (rw all (c.read_levels.ensures.document _ _))

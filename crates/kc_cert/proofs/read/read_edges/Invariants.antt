@@ -10,10 +10,10 @@ use Rattle.kc_cert.proofs.read.read_edges.Given as goal
 
 abbrev pub invariant-loop-i : goal.invariant-loop-i
 invariant-loop-i g l = record {
-  answers : (r : Result Certificate CertFault) → Answers (edges_due l.profile (record { vertices = l.n; edges = l.graph.edges ++ l.waiting.items }) l.n l.count l.i l.a l.b) (tokens_left l.reader (g.S.Source.left l.src)) r
-      → Answers (AtBody (empty_certificate l.profile l.n) l.count 0 0 l.n) (tokens_left l.fn.reader (g.S.Source.left l.fn.src)) r;
-  vertices : l.graph.vertices ≡ l.n;
-  follow : MayFollow l.n l.a l.b (l.graph.edges ++ l.waiting.items);
+  answers : (r : Result Certificate CertFault) → Answers (edges_due l.head.profile (record { vertices = l.head.n; edges = l.graph.edges ++ l.waiting.items }) l.head.n l.head.edges l.i l.a l.b) (tokens_left l.reader (g.S.Source.left l.src)) r
+      → Answers (AtBody (empty_certificate l.head.profile l.head.n) l.head.edges 0 0 l.head.n) (tokens_left l.fn.reader (g.S.Source.left l.fn.src)) r;
+  vertices : l.graph.vertices ≡ l.head.n;
+  follow : MayFollow l.head.n l.a l.b (l.graph.edges ++ l.waiting.items);
   counted : length (l.graph.edges ++ l.waiting.items) ≡ l.i;
   faults : g.S.Source.faults l.src ≡ g.S.Source.faults l.fn.src;
 }

@@ -20,49 +20,49 @@ pub write_accepted-requires-clause-few_quiet : goal.write_accepted-requires-clau
 write_accepted-requires-clause-few_quiet g c =
     let o = rw (c.as_slice.ensures, c.in-Accepted.is) at c.in_ok-cleaned-in-Items.ensures.outcome in
     let b = rw c.in-Items.is at c.requires.batch.1 in
-    rw c.as_slice-phases.ensures (few_quiet c.args.watched.now.engine.state c.apply.new.engine.state c.in-Items.batch.items c.in-Accepted.plan.phases c.requires.open.sound.graph c.requires.open.sound.few_edges b.inside b.few o.2)
+    rw c.as_slice-phases.ensures (few_quiet c.args.watched.now.engine.state c.apply.new.watched.engine.state c.in-Items.batch.items c.in-Accepted.plan.phases c.requires.open.sound.graph c.requires.open.sound.few_edges b.inside b.few o.2)
 
 pub write_accepted-requires-clause-well_formed : goal.write_accepted-requires-clause-well_formed
 write_accepted-requires-clause-well_formed g c =
     let o = rw (c.as_slice.ensures, c.in-Accepted.is) at c.in_ok-cleaned-in-Items.ensures.outcome in
-    rw c.as_slice-phases.ensures (well_formed c.args.watched.now.engine.state c.apply.new.engine.state c.in-Items.batch.items c.in-Accepted.plan.phases o.2)
+    rw c.as_slice-phases.ensures (well_formed c.args.watched.now.engine.state c.apply.new.watched.engine.state c.in-Items.batch.items c.in-Accepted.plan.phases o.2)
 
 pub returns-in_err-write_accepted-in-Accepted-clause-step : goal.returns-in_err-write_accepted-in-Accepted-clause-step
 returns-in_err-write_accepted-in-Accepted-clause-step g c =
     let o = rw (c.as_slice.ensures, c.in-Accepted.is) at c.in_ok-cleaned-in-Items.ensures.outcome in
     let p = err_from_is_err_and c.from_residual-in_err-write_accepted-in-Accepted.result c.from_residual-in_err-write_accepted-in-Accepted.ensures.1 in
     rw (p.1, c.in-Items.is)
-    (accepted_prefix c.args.reporter.now.report (c.args.counts.batches + 1) c.args.watched.now.engine.state c.apply.new.engine.state c.in-Items.batch c.in-Accepted.cleaned c.in-Accepted.plan.phases _ _ o.0 o.1 o.2
+    (accepted_prefix c.args.reporter.now.report (c.args.reporter.now.counts.batches + 1) c.args.watched.now.engine.state c.apply.new.watched.engine.state c.in-Items.batch c.in-Accepted.cleaned c.in-Accepted.plan.phases _ _ o.0 o.1 o.2
     (rw c.as_slice-phases.ensures at c.in_err-write_accepted-in-Accepted.ensures.text))
 
 pub returns-in-Accepted-clause-step : goal.returns-in-Accepted-clause-step
 returns-in-Accepted-clause-step g c =
     let o = rw (c.as_slice.ensures, c.in-Accepted.is) at c.in_ok-cleaned-in-Items.ensures.outcome in
     rw c.in-Items.is
-    (accepted_step c.args.reporter.now.report c.args.watched.now.engine.state c.apply.new.engine.state c.in-Items.batch c.in-Accepted.cleaned c.in-Accepted.plan.phases _ _ c.args.counts _ (shown_to c.args.watched.now.audience) _ o.0 o.1 o.2
+    (accepted_step c.args.reporter.now.report c.args.watched.now.engine.state c.apply.new.watched.engine.state c.in-Items.batch c.in-Accepted.cleaned c.in-Accepted.plan.phases _ _ c.args.reporter.now.counts _ (shown_to c.args.watched.now.audience) _ o.0 o.1 o.2
     (rw c.as_slice-phases.ensures at c.in_ok-write_accepted-in-Accepted.ensures.text) (rw c.as_slice-phases.ensures at c.with_accepted.ensures) o.3)
 
 pub returns-in_err-write_refusal-in-Refused-2-clause-step : goal.returns-in_err-write_refusal-in-Refused-2-clause-step
 returns-in_err-write_refusal-in-Refused-2-clause-step g c =
     let o = rw (c.as_slice.ensures, c.in-Refused-2.is) at c.in_ok-cleaned-in-Items.ensures.outcome in
     let p = err_from_is_err_and c.from_residual-in_err-write_refusal-in-Refused-2.result c.from_residual-in_err-write_refusal-in-Refused-2.ensures.1 in
-    rw (p.1, c.in-Items.is) (refused_prefix c.args.reporter.now.report (c.args.counts.batches + 1) c.args.watched.now.engine.state c.apply.new.engine.state c.in-Items.batch c.in-Refused-2.reason _ _ o.0 c.in_err-write_refusal-in-Refused-2.ensures.text)
+    rw (p.1, c.in-Items.is) (refused_prefix c.args.reporter.now.report (c.args.reporter.now.counts.batches + 1) c.args.watched.now.engine.state c.apply.new.watched.engine.state c.in-Items.batch c.in-Refused-2.reason _ _ o.0 c.in_err-write_refusal-in-Refused-2.ensures.text)
 
 pub returns-in-Items-clause-step : goal.returns-in-Items-clause-step
 returns-in-Items-clause-step g c =
     let o = rw (c.as_slice.ensures, c.in-Refused-2.is) at c.in_ok-cleaned-in-Items.ensures.outcome in
-    rw c.in-Items.is (refused_step c.args.reporter.now.report c.args.watched.now.engine.state c.apply.new.engine.state c.in-Items.batch c.in-Refused-2.reason _ _ c.args.counts _ (shown_to c.args.watched.now.audience) _ o.0 c.in_ok-write_refusal-in-Refused-2.ensures.text c.with_refused.ensures o.1)
+    rw c.in-Items.is (refused_step c.args.reporter.now.report c.args.watched.now.engine.state c.apply.new.watched.engine.state c.in-Items.batch c.in-Refused-2.reason _ _ c.args.reporter.now.counts _ (shown_to c.args.watched.now.audience) _ o.0 c.in_ok-write_refusal-in-Refused-2.ensures.text c.with_refused.ensures o.1)
 
 pub returns-in_err-cleaned-in-Items-clause-step : goal.returns-in_err-cleaned-in-Items-clause-step
 returns-in_err-cleaned-in-Items-clause-step g c =
     let p = err_from_is_err_and c.from_residual.result c.from_residual.ensures.1 in
-    rw p.1 (nothing_of c.args.reporter.now.report (c.args.counts.batches + 1) (record { profile = c.requires.batch.0; n = c.args.watched.now.engine.state.graph.vertices; asks = [] }) c.args.next c.args.watched.now.engine.state _ _ c.requires.open.sound refl c.requires.batch.1 refl)
+    rw p.1 (nothing_of c.args.reporter.now.report (c.args.reporter.now.counts.batches + 1) (record { profile = c.requires.batch.0; n = c.args.watched.now.engine.state.graph.vertices; asks = [] }) c.args.next c.args.watched.now.engine.state _ _ c.requires.open.sound refl c.requires.batch.1 refl)
 
 pub returns-in_err-write_refusal-in-Refused-clause-step : goal.returns-in_err-write_refusal-in-Refused-clause-step
 returns-in_err-write_refusal-in-Refused-clause-step g c =
     let p = err_from_is_err_and c.from_residual-in_err-write_refusal-in-Refused.result c.from_residual-in_err-write_refusal-in-Refused.ensures.1 in
-    rw (p.1, c.in-Refused.is) (refused_line_prefix c.args.reporter.now.report (c.args.counts.batches + 1) c.in-Refused.line c.in-Refused.reason c.args.watched.now.engine.state _ _ c.in_err-write_refusal-in-Refused.ensures.text)
+    rw (p.1, c.in-Refused.is) (refused_line_prefix c.args.reporter.now.report (c.args.reporter.now.counts.batches + 1) c.in-Refused.line c.in-Refused.reason c.args.watched.now.engine.state _ _ c.in_err-write_refusal-in-Refused.ensures.text)
 
 pub returns-in-Refused-clause-step : goal.returns-in-Refused-clause-step
 returns-in-Refused-clause-step g c =
-    rw c.in-Refused.is (refused_line_written c.args.reporter.now.report c.in-Refused.line c.in-Refused.reason c.args.watched.now.engine.state _ _ c.args.counts _ (shown_to c.args.watched.now.audience) c.in_ok-write_refusal-in-Refused.ensures.text c.with_refused-in-Refused.ensures)
+    rw c.in-Refused.is (refused_line_written c.args.reporter.now.report c.in-Refused.line c.in-Refused.reason c.args.watched.now.engine.state _ _ c.args.reporter.now.counts _ (shown_to c.args.watched.now.audience) c.in_ok-write_refusal-in-Refused.ensures.text c.with_refused-in-Refused.ensures)

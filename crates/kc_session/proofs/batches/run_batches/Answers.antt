@@ -12,14 +12,14 @@ use Rattle.kc_session.proofs.Runs.{told_first, told_step, told_last, told_end, t
 use Rattle.kc_session.proofs.batches.run_batches.Goals as goal
 
 pub loop-reporter-init : goal.loop-reporter-init
-loop-reporter-init g c = let none = c.none-counts.ensures in record {
+loop-reporter-init g c = let none = c.new-reporter.ensures.counts in record {
   store = refl;
   abreast = c.requires.abreast;
   open_for = c.requires.open;
   vertices = c.requires.vertices;
   profile = refl;
-  report = c.new-reporter.ensures;
-  told = told_first c.args.report _ _ _ _ _ none;
+  report = c.new-reporter.ensures.report;
+  told = told_first c.args.context.now.report _ _ _ _ _ none;
   few = rw none (omega (arith, c.has_budget.ensures.budget));
   fewer = rw none (omega arith);
   read_faults = refl;
@@ -31,8 +31,8 @@ returns-in_err-next-clause-text g c =
     let i = c.loop-reporter.invariant in
     let p = err_from_is_err_and c.from_residual.result c.from_residual.ensures.1 in
     rw (p.1, c.in_err-next.ensures.taken)
-    (told_unread c.args.report (record { profile = c.args.context.now.profile; n = c.args.context.now.n; asks = [] }) c.args.watched.now.engine.state c.loop-reporter.watched.engine.state _ c.loop-reporter.watched.engine.state (tokens_left c.loop-reporter.reader (g.S.Source.left c.loop-reporter.src))
-    _ _ _ (shown_to c.loop-reporter.watched.audience) _ c.loop-reporter.counts p.0 i.open_for.sound i.vertices i.told)
+    (told_unread c.args.context.now.report (record { profile = c.args.context.now.profile; n = c.args.context.now.n; asks = [] }) c.args.watched.now.engine.state c.loop-reporter.watched.engine.state _ c.loop-reporter.watched.engine.state (tokens_left c.loop-reporter.reader (g.S.Source.left c.loop-reporter.src))
+    _ _ _ (shown_to c.loop-reporter.watched.audience) _ c.loop-reporter.reporter.counts p.0 i.open_for.sound i.vertices i.told)
 
 pub returns-in_err-next-clause-cause : goal.returns-in_err-next-clause-cause
 returns-in_err-next-clause-cause g c =
@@ -44,21 +44,21 @@ pub returns-in-End-clause-text : goal.returns-in-End-clause-text
 returns-in-End-clause-text g c =
     let i = c.loop-reporter.invariant in
     rw c.in_ok-next.ensures.taken
-    (told_end c.args.report c.args.watched.now.engine.state _ c.loop-reporter.watched.engine.state c.in_ok-next.next _ _ _ _ _ (shown_to c.loop-reporter.watched.audience) c.loop-reporter.counts c.in_ok-next.ensures.batches (rw c.in-End.is tt) i.told)
+    (told_end c.args.context.now.report c.args.watched.now.engine.state _ c.loop-reporter.watched.engine.state c.in_ok-next.next _ _ _ _ _ (shown_to c.loop-reporter.watched.audience) c.loop-reporter.reporter.counts c.in_ok-next.ensures.batches (rw c.in-End.is tt) i.told)
 
 pub returns-in_err-counts-clause-text : goal.returns-in_err-counts-clause-text
 returns-in_err-counts-clause-text g c =
     let i = c.loop-reporter.invariant in
     let p = err_from_is_err_and c.from_residual-in_err-counts.result c.from_residual-in_err-counts.ensures.1 in
     rw p.1
-    (told_stopped c.args.report (record { profile = c.args.context.now.profile; n = c.args.context.now.n; asks = [] }) c.args.watched.now.engine.state c.run_batch.new.watched.engine.state _ c.loop-reporter.watched.engine.state c.in_ok-next.next
-    (tokens_left c.loop-reporter.reader (g.S.Source.left c.loop-reporter.src)) _ _ _ _ _ (shown_to c.loop-reporter.watched.audience) _ c.loop-reporter.counts p.0 i.open_for.sound i.vertices c.in_ok-next.ensures.batches (not_end c.in_ok-next.next c.in_default.not-End) i.told
+    (told_stopped c.args.context.now.report (record { profile = c.args.context.now.profile; n = c.args.context.now.n; asks = [] }) c.args.watched.now.engine.state c.run_batch.new.watched.engine.state _ c.loop-reporter.watched.engine.state c.in_ok-next.next
+    (tokens_left c.loop-reporter.reader (g.S.Source.left c.loop-reporter.src)) _ _ _ _ _ (shown_to c.loop-reporter.watched.audience) _ c.loop-reporter.reporter.counts p.0 i.open_for.sound i.vertices c.in_ok-next.ensures.batches (not_end c.in_ok-next.next c.in_default.not-End) i.told
     (rw (i.report, c.in_ok-next.ensures.taken) at c.in_err-counts.ensures.step))
 
 pub returns-then-last-clause-text : goal.returns-then-last-clause-text
 returns-then-last-clause-text g c =
     let i = c.loop-reporter.invariant in
-    told_last c.args.report c.args.watched.now.engine.state _ c.loop-reporter.watched.engine.state c.run_batch.new.watched.engine.state c.in_ok-next.next _ _ _ _ _ _ (shown_to c.loop-reporter.watched.audience) _ c.loop-reporter.counts c.in_ok-counts.counts
+    told_last c.args.context.now.report c.args.watched.now.engine.state _ c.loop-reporter.watched.engine.state c.run_batch.new.watched.engine.state c.in_ok-next.next _ _ _ _ _ _ (shown_to c.loop-reporter.watched.audience) _ c.loop-reporter.reporter.counts c.in_ok-counts.counts
     c.in_ok-next.ensures.batches (sym c.is_last-last.ensures ∙ c.if-last.true) i.told (rw (i.report, c.in_ok-next.ensures.taken) at c.in_ok-counts.ensures.step)
 
 pub run_batch-requires-clause-batch : goal.run_batch-requires-clause-batch
@@ -83,10 +83,10 @@ loop-reporter-preserved g c =
       profile = ap (λ (z : State). z.profile) step.last ∙ (profile_step c.loop-reporter.watched.engine.state c.in_ok-next.next step.step step.is_step ∙ i.profile);
       report = c.in_ok-counts.ensures.report ∙ i.report;
       told =
-          told_step c.args.report c.args.watched.now.engine.state _ c.loop-reporter.watched.engine.state c.run_batch.new.watched.engine.state c.in_ok-next.next _ _ _ _ _ _ (shown_to c.loop-reporter.watched.audience) _ c.loop-reporter.counts c.in_ok-counts.counts
+          told_step c.args.context.now.report c.args.watched.now.engine.state _ c.loop-reporter.watched.engine.state c.run_batch.new.watched.engine.state c.in_ok-next.next _ _ _ _ _ _ (shown_to c.loop-reporter.watched.audience) _ c.loop-reporter.reporter.counts c.in_ok-counts.counts
           c.in_ok-next.ensures.batches more last i.told step;
       few = few_more _ _ _ _ _ (ap (λ (z : Counts). z.batches) step.counts) takes i.few;
-      fewer = fewer_more c.loop-reporter.watched.engine.state c.in_ok-next.next step.step c.loop-reporter.counts c.in_ok-counts.counts step.counts i.fewer;
+      fewer = fewer_more c.loop-reporter.watched.engine.state c.in_ok-next.next step.step c.loop-reporter.reporter.counts c.in_ok-counts.counts step.counts i.fewer;
       read_faults = c.in_ok-next.ensures.cause.0 ∙ i.read_faults;
       write_faults = c.in_ok-counts.ensures.cause ∙ (c.in_ok-next.ensures.cause.1 ∙ i.write_faults);
     }

@@ -14,10 +14,10 @@ invariant-loop-reporter g l = record {
   open_for : IsOpen l.watched.engine;
   vertices : l.watched.engine.state.graph.vertices ≡ l.fn.context.n;
   profile : l.watched.engine.state.profile ≡ l.fn.watched.engine.state.profile;
-  report : l.reporter.report ≡ l.fn.report;
-  told : LeadsTold l.fn.report l.fn.watched.engine.state (batches_left (record { n = l.fn.context.n; profile = l.fn.context.profile; item_limit = MAX_ITEMS }) l.fn.reader (g.S.Source.left l.fn.src)) l.watched.engine.state (batches_left (record { n = l.fn.context.n; profile = l.fn.context.profile; item_limit = MAX_ITEMS }) l.reader (g.S.Source.left l.src)) (g.K.Sink.taken l.fn.sink) (g.K.Sink.taken l.sink) (shown_to l.fn.watched.audience) (shown_to l.watched.audience) l.counts;
-  few : l.counts.batches + budget l.reader ≤ 2 ^ 30 + 1;
-  fewer : l.counts.refused ≤ l.counts.batches;
+  report : l.reporter.report ≡ l.fn.context.report;
+  told : LeadsTold l.fn.context.report l.fn.watched.engine.state (batches_left (record { n = l.fn.context.n; profile = l.fn.context.profile; item_limit = MAX_ITEMS }) l.fn.reader (g.S.Source.left l.fn.src)) l.watched.engine.state (batches_left (record { n = l.fn.context.n; profile = l.fn.context.profile; item_limit = MAX_ITEMS }) l.reader (g.S.Source.left l.src)) (g.K.Sink.taken l.fn.sink) (g.K.Sink.taken l.sink) (shown_to l.fn.watched.audience) (shown_to l.watched.audience) l.reporter.counts;
+  few : l.reporter.counts.batches + budget l.reader ≤ 2 ^ 30 + 1;
+  fewer : l.reporter.counts.refused ≤ l.reporter.counts.batches;
   read_faults : g.S.Source.faults l.src ≡ g.S.Source.faults l.fn.src;
   write_faults : g.K.Sink.faults l.sink ≡ g.K.Sink.faults l.fn.sink;
 }

@@ -7,8 +7,8 @@ pub loop-i-init : goal.loop-i-init
 loop-i-init g c = (
   refl,
   refl,
-  subst (λ (zs : List PhasePlan). IsOnTheWay c.args.n c.args.phases.now zs c.args.writer.now.state c.args.writer.now.state) (sym (drop_none c.args.phases.now))
-      (way_begins c.args.n c.args.phases.now c.args.writer.now.state c.requires.idle c.requires.phases),
+  subst (λ (zs : List PhasePlan). IsOnTheWay c.args.show.now.n c.args.show.now.phases.now zs c.args.writer.now.state c.args.writer.now.state) (sym (drop_none c.args.show.now.phases.now))
+      (way_begins c.args.show.now.n c.args.show.now.phases.now c.args.writer.now.state c.requires.idle c.requires.phases),
 )
 
 pub show_phase-requires-clause-vertices : goal.show_phase-requires-clause-vertices
@@ -16,18 +16,18 @@ show_phase-requires-clause-vertices g c κs within = c.requires.vertices ∙ sym
 
 pub show_phase-requires-clause-begins : goal.show_phase-requires-clause-begins
 show_phase-requires-clause-begins g c κs within =
-    may_begin c.args.n c.args.phases.now (drop (c.loop-i.i + 1) c.args.phases.now) c.index-phases-i.result c.args.writer.now.state c.loop-i.writer.state (sym c.requires.vertices) c.requires.few
-    (way_at c.args.n c.args.phases.now c.loop-i.i c.index-phases-i.result c.args.writer.now.state c.loop-i.writer.state c.loop-i-test.true c.index-phases-i.is c.loop-i.invariant.2)
+    may_begin c.args.show.now.n c.args.show.now.phases.now (drop (c.loop-i.i + 1) c.args.show.now.phases.now) c.index-phases-i.result c.args.writer.now.state c.loop-i.writer.state (sym c.requires.vertices) c.requires.few
+    (way_at c.args.show.now.n c.args.show.now.phases.now c.loop-i.i c.index-phases-i.result c.args.writer.now.state c.loop-i.writer.state c.loop-i-test.true c.index-phases-i.is c.loop-i.invariant.2)
 
 pub loop-i-preserved : goal.loop-i-preserved
 loop-i-preserved g c = (
   c.show_phase.ensures.same ∙ c.loop-i.invariant.0,
   c.show_phase.ensures.table ∙ c.loop-i.invariant.1,
-  way_more c.args.n c.args.phases.now (drop (c.loop-i.i + 1) c.args.phases.now) c.index-phases-i.result c.args.writer.now.state c.loop-i.writer.state c.show_phase.new.writer.state
-      (way_at c.args.n c.args.phases.now c.loop-i.i c.index-phases-i.result c.args.writer.now.state c.loop-i.writer.state c.loop-i-test.true c.index-phases-i.is c.loop-i.invariant.2) c.show_phase.ensures.shown,
+  way_more c.args.show.now.n c.args.show.now.phases.now (drop (c.loop-i.i + 1) c.args.show.now.phases.now) c.index-phases-i.result c.args.writer.now.state c.loop-i.writer.state c.show_phase.new.writer.state
+      (way_at c.args.show.now.n c.args.show.now.phases.now c.loop-i.i c.index-phases-i.result c.args.writer.now.state c.loop-i.writer.state c.loop-i-test.true c.index-phases-i.is c.loop-i.invariant.2) c.show_phase.ensures.shown,
 )
 
 pub returns-clause-shown : goal.returns-clause-shown
 returns-clause-shown g c =
     let end = c.loop-i-test.false in
-    way_ends c.args.n c.args.phases.now (drop c.loop-i.i c.args.phases.now) c.args.writer.now.state c.loop-i.writer.state (drop_all c.args.phases.now c.loop-i.i (omega (arith, end))) c.loop-i.invariant.2
+    way_ends c.args.show.now.n c.args.show.now.phases.now (drop c.loop-i.i c.args.show.now.phases.now) c.args.writer.now.state c.loop-i.writer.state (drop_all c.args.show.now.phases.now c.loop-i.i (omega (arith, end))) c.loop-i.invariant.2
