@@ -16,7 +16,7 @@ pub record IsReady (a : LeveledGraph) (w : Working) : Type 0 where
   pub none_waits : w.waits ≡ replicate a.graph.vertices false
   pub none_fallen : w.fallen ≡ []
 
--- the workspace `old` became `new` by these moves: ready for a graph, and then ready for the graph after the moves
+-- if the workspace `old` is ready for a graph, `new` is ready for the graph after these moves
 --
 -- The second graph has as many vertices as the first, and the moves lead from the levels of the first to its own.
 abbrev pub Follows : List Move → Working → Working → Type 0

@@ -23,7 +23,7 @@ level_words level e =
     codes " level " ++ (decimal level ++ (codes " est " ++ (decimal e.est
     ++ (codes " low " ++ (decimal e.lo ++ (codes " high " ++ (decimal e.hi ++ codes " up ")))))))
 
--- each list has the words of its place as a level
+-- the list at each place has the words of the level of that number
 abbrev pub AreLevelWords : Profile → ℕ → List (List ℕ) → Type 0
 AreLevelWords p n words = (level : ℕ) → level < length words → get_or words level [] ≡ level_words level (estimate_of p n level)
 

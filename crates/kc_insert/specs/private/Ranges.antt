@@ -12,7 +12,7 @@ use Rattle.kc_insert.specs.private.Watched.{count_at, is_few}
 abbrev pub count_of : Cut → ℕ → ℕ
 count_of r v = count_at (part_of r v).watch v
 
--- the ranges where v counts `count`
+-- the ranges, with `count` as the count of v
 abbrev pub with_count : Cut → ℕ → ℕ → Cut
 with_count r v count = record r { parts = set r.parts (range_of r.bits v) (record (part_of r v) { watch = record (part_of r v).watch { counts = set (part_of r v).watch.counts (v - (part_of r v).watch.first) count } }) }
 

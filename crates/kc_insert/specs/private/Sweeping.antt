@@ -82,8 +82,8 @@ pub record IsQueued (p : Profile) (g : GraphShape) (x : List ℕ) (waits : ℕ �
   pub waiting : (k v : ℕ) → has_number v (waits k) ≡ true → (v < g.vertices) × (get_or x v 0 ≡ k)
   pub found : (v : ℕ) → v < g.vertices → (has_number v (waits (get_or x v 0)) ≡ true) ⊎ MeetsUpper p g x v
 
--- The graph has these levels, and the ranges its counts. No vertex rises, and each that breaks the upper invariant
--- waits on its level.
+-- The graph has these levels, none of them above the top, and the ranges have its counts. No vertex rises, and each
+-- that breaks the upper invariant waits on its level.
 pub record CanSweep (p : Profile) (g : GraphShape) (y : List ℕ) (r : Cut) : Type 0 where
   pub quiet : AreQuiet p g r
   pub sized : length y ≡ g.vertices
