@@ -7,7 +7,7 @@ ghost use Rattle.kc_cert.specs.private.Texts.{row_lines};
 
 use kc_graph::Graph;
 use kc_levels::{Levels, Profile};
-use kc_text::{LineBuf, SendFault, Sink, fill_named};
+use kc_text::{LineBuf, SendFault, Sink};
 use std::alloc::{AllocError, Global};
 
 // Writes a line with this text.
@@ -37,7 +37,7 @@ fn write_named<K: Sink>(
     ensures cause { WriteCause (K.faults sink.old) (K.faults sink.new) result }
 {
     buf.clear();
-    fill_named(alloc, buf, name, value)?;
+    buf.put_named(name, value)?;
     buf.send(alloc, sink)
 }
 
@@ -52,8 +52,8 @@ fn fill_pair(
     ensures { OnOk result (buf.new ≡ ((name.now ++ decimal first) ++ codes " ") ++ decimal second) }
 {
     buf.clear();
-    fill_named(alloc, buf, name, first)?;
-    fill_named(alloc, buf, b" ", second)
+    buf.put_named(name, first)?;
+    buf.put_named(b" ", second)
 }
 
 // Writes the line of the edge between v and w.

@@ -9,7 +9,7 @@ ghost use Rattle.kc_report.specs.Lines.{batch_line, batch_text, refused_line};
 use crate::phases::write_phases;
 use kc_graph::Cleaned;
 use kc_groups::PhasePlan;
-use kc_text::{LineBuf, Reason, SendFault, Sink, fill_named};
+use kc_text::{LineBuf, Reason, SendFault, Sink};
 use std::alloc::{AllocError, Global};
 
 // Appends the number of a batch and the counts of its cleaning.
@@ -24,10 +24,10 @@ fn fill_counts(
         ++ codes " repeats ") ++ decimal cleaned.now.repeats)
         ++ codes " idle ") ++ decimal cleaned.now.idle) }
 {
-    fill_named(alloc, buf, b"batch ", number)?;
-    fill_named(alloc, buf, b" loops ", cleaned.loops)?;
-    fill_named(alloc, buf, b" repeats ", cleaned.repeats)?;
-    fill_named(alloc, buf, b" idle ", cleaned.idle)
+    buf.put_named(b"batch ", number)?;
+    buf.put_named(b" loops ", cleaned.loops)?;
+    buf.put_named(b" repeats ", cleaned.repeats)?;
+    buf.put_named(b" idle ", cleaned.idle)
 }
 
 fn fill_batch(
@@ -42,8 +42,8 @@ fn fill_batch(
 {
     buf.clear();
     fill_counts(alloc, buf, number, cleaned)?;
-    fill_named(alloc, buf, b" removed ", cleaned.removed.len() as u32)?;
-    fill_named(alloc, buf, b" added ", cleaned.added.len() as u32)
+    buf.put_named(b" removed ", cleaned.removed.len() as u32)?;
+    buf.put_named(b" added ", cleaned.added.len() as u32)
 }
 
 // Writes the line of an accepted batch.
@@ -104,8 +104,8 @@ pub fn fill_refused(
 ) -> Result<(), AllocError>
     ensures { OnOk result (buf.new ++ 10 ∷ [] ≡ buf.old ++ refused_line number line reason) }
 {
-    fill_named(alloc, buf, b"batch ", number)?;
-    fill_named(alloc, buf, b" refused line ", line)?;
+    buf.put_named(b"batch ", number)?;
+    buf.put_named(b" refused line ", line)?;
     buf.text(alloc, b" ")?;
     buf.text(alloc, reason.word())
 }

@@ -6,7 +6,7 @@ ghost use Rattle.kc_report.specs.Lines.{exact_magic_line, exact_head_text, coren
 
 use crate::head::write_vertex_count;
 use kc_levels::Estimate;
-use kc_text::{LineBuf, SendFault, Sink, fill_named};
+use kc_text::{LineBuf, SendFault, Sink};
 use std::alloc::{AllocError, Global};
 
 // Writes the first line.
@@ -53,11 +53,11 @@ fn fill_coreness(
     ensures { OnOk result (buf.new ++ 10 ∷ [] ≡ coreness_line v coreness estimate) }
 {
     buf.clear();
-    fill_named(alloc, buf, b"vertex ", v)?;
-    fill_named(alloc, buf, b" coreness ", coreness)?;
-    fill_named(alloc, buf, b" low ", estimate.lo)?;
-    fill_named(alloc, buf, b" est ", estimate.est)?;
-    fill_named(alloc, buf, b" high ", estimate.hi)
+    buf.put_named(b"vertex ", v)?;
+    buf.put_named(b" coreness ", coreness)?;
+    buf.put_named(b" low ", estimate.lo)?;
+    buf.put_named(b" est ", estimate.est)?;
+    buf.put_named(b" high ", estimate.hi)
 }
 
 /// Writes the line of vertex `v` in an exact text (`coreness_line`): its coreness, and the bounds and the estimate that

@@ -4,7 +4,7 @@ ghost use Rattle.kc_text.specs.Writing.{Appends, WriteCause};
 ghost use Rattle.kc_report.specs.Buffer.{IsCleared};
 ghost use Rattle.kc_report.specs.Lines.{magic_line, vertices_line, head_text, header_refused_line, end_line};
 
-use kc_text::{LineBuf, SendFault, Sink, fill_named};
+use kc_text::{LineBuf, SendFault, Sink};
 use std::alloc::{AllocError, Global};
 
 // Writes the first line.
@@ -32,7 +32,7 @@ pub fn write_vertex_count<K: Sink>(
     ensures cause { WriteCause (K.faults sink.old) (K.faults sink.new) result }
 {
     buf.clear();
-    fill_named(alloc, buf, b"vertices ", n)?;
+    buf.put_named(b"vertices ", n)?;
     buf.send(alloc, sink)
 }
 
@@ -57,7 +57,7 @@ pub fn write_head<K: Sink>(
 fn fill_header_refused(alloc: Global, buf: &mut LineBuf, line: u32) -> Result<(), AllocError>
     ensures { OnOk result (buf.new ≡ ((buf.old ++ codes "refused line ") ++ decimal line) ++ codes " header") }
 {
-    fill_named(alloc, buf, b"refused line ", line)?;
+    buf.put_named(b"refused line ", line)?;
     buf.text(alloc, b" header")
 }
 

@@ -4,7 +4,7 @@ ghost use Rattle.kc_levels.specs.Thresholds.{top_level};
 ghost use Rattle.kc_report.specs.VertexLines.{level_words, AreLevelWords};
 
 use kc_levels::{Estimate, Thresholds};
-use kc_text::{LineBuf, fill_named};
+use kc_text::LineBuf;
 use std::alloc::{AllocError, Global};
 use std::marker::Model;
 
@@ -20,10 +20,10 @@ pub fn fill_bounds(
         ++ codes " low ") ++ decimal estimate.lo)
         ++ codes " high ") ++ decimal estimate.hi) }
 {
-    fill_named(alloc, buf, b" level ", u32::from(level))?;
-    fill_named(alloc, buf, b" est ", estimate.est)?;
-    fill_named(alloc, buf, b" low ", estimate.lo)?;
-    fill_named(alloc, buf, b" high ", estimate.hi)
+    buf.put_named(b" level ", u32::from(level))?;
+    buf.put_named(b" est ", estimate.est)?;
+    buf.put_named(b" low ", estimate.lo)?;
+    buf.put_named(b" high ", estimate.hi)
 }
 
 // Composes the words of a level, from its name to the name of the count after them.

@@ -8,7 +8,7 @@ ghost use Rattle.kc_report.specs.Lines.{direction_word, member_word, phase_line,
 
 use kc_groups::PhasePlan;
 use kc_history::{Entry, Move};
-use kc_text::{LineBuf, SendFault, Sink, fill_named};
+use kc_text::{LineBuf, SendFault, Sink};
 use std::alloc::{AllocError, Global};
 
 // Returns the words of a phase between its number and its count of quiet edges, with their blanks.
@@ -28,8 +28,8 @@ fn fill_phase(alloc: Global, buf: &mut LineBuf, plan: &PhasePlan) -> Result<(), 
 {
     buf.clear();
     let quiet = plan.quiet.edges.len() as u32;
-    fill_named(alloc, buf, b"phase ", plan.quiet.phase)?;
-    fill_named(alloc, buf, direction(plan.quiet.add), quiet)
+    buf.put_named(b"phase ", plan.quiet.phase)?;
+    buf.put_named(direction(plan.quiet.add), quiet)
 }
 
 // Writes the line of a phase.
@@ -53,8 +53,8 @@ fn fill_members(alloc: Global, buf: &mut LineBuf, moves: &[Move]) -> Result<(), 
     ensures { OnOk result (buf.new ≡ buf.old ++ flat_map (λ m. 32 ∷ member_word m) moves.now) }
 {
     for m in moves {
-        fill_named(alloc, buf, b" ", m.vertex)?;
-        fill_named(alloc, buf, b":", u32::from(m.new))?;
+        buf.put_named(b" ", m.vertex)?;
+        buf.put_named(b":", u32::from(m.new))?;
     }
     Ok(())
 }
@@ -64,8 +64,8 @@ fn fill_group(alloc: Global, buf: &mut LineBuf, group: &Entry) -> Result<(), All
     ensures { OnOk result (buf.new ++ 10 ∷ [] ≡ group_line group.now) }
 {
     buf.clear();
-    fill_named(alloc, buf, b"group ", group.phase)?;
-    fill_named(alloc, buf, b" ", group.label.unwrap())?;
+    buf.put_named(b"group ", group.phase)?;
+    buf.put_named(b" ", group.label.unwrap())?;
     fill_members(alloc, buf, group.moves.as_slice())
 }
 

@@ -6,7 +6,7 @@ ghost use Rattle.kc_report.specs.Buffer.{IsCleared};
 ghost use Rattle.kc_report.specs.Lines.{reply_word, reader_line};
 
 use kc_history::Reply;
-use kc_text::{LineBuf, SendFault, Sink, fill_named};
+use kc_text::{LineBuf, SendFault, Sink};
 use std::alloc::{AllocError, Global};
 
 // Appends for each reply a blank, its vertex and its level.
@@ -14,8 +14,8 @@ fn fill_replies(alloc: Global, buf: &mut LineBuf, replies: &[Reply]) -> Result<(
     ensures { OnOk result (buf.new ≡ buf.old ++ flat_map (λ r. 32 ∷ reply_word r) replies.now) }
 {
     for r in replies {
-        fill_named(alloc, buf, b" ", r.vertex)?;
-        fill_named(alloc, buf, b"=", u32::from(r.level))?;
+        buf.put_named(b" ", r.vertex)?;
+        buf.put_named(b"=", u32::from(r.level))?;
     }
     Ok(())
 }
@@ -29,7 +29,7 @@ fn fill_reader(
     ensures { OnOk result (buf.new ++ 10 ∷ [] ≡ reader_line reader replies.now) }
 {
     buf.clear();
-    fill_named(alloc, buf, b"reader ", reader)?;
+    buf.put_named(b"reader ", reader)?;
     fill_replies(alloc, buf, replies)
 }
 

@@ -8,7 +8,7 @@ ghost use Rattle.kc_report.specs.VertexLines.{counted_line, AreLevelWords};
 
 use crate::level_words::{LevelWords, fill_bounds};
 use kc_levels::Estimate;
-use kc_text::{LineBuf, SendFault, Sink, fill_named};
+use kc_text::{LineBuf, SendFault, Sink};
 use std::alloc::{AllocError, Global};
 
 // The numbers of a vertex line.
@@ -30,10 +30,10 @@ fn fill_vertex(alloc: Global, buf: &mut LineBuf, line: VertexLine) -> Result<(),
     ensures { OnOk result (buf.new ++ 10 ∷ [] ≡ vertex_line line.v line.level line.estimate line.up line.down) }
 {
     buf.clear();
-    fill_named(alloc, buf, b"vertex ", line.v)?;
+    buf.put_named(b"vertex ", line.v)?;
     fill_bounds(alloc, buf, line.level, line.estimate)?;
-    fill_named(alloc, buf, b" up ", line.up)?;
-    fill_named(alloc, buf, b" down ", line.down)
+    buf.put_named(b" up ", line.up)?;
+    buf.put_named(b" down ", line.down)
 }
 
 /// Writes the line of vertex `v` (`vertex_line`): its level, the estimate and the bounds of its coreness, and two
@@ -90,10 +90,10 @@ fn fill_counts(
     ensures { (p : Profile) (n : ℕ) → AreLevelWords p n words.now → OnOk result (buf.new ++ 10 ∷ [] ≡ counted_line p n counts) }
 {
     buf.clear();
-    fill_named(alloc, buf, b"vertex ", counts.v)?;
+    buf.put_named(b"vertex ", counts.v)?;
     buf.text(alloc, words.of(counts.level))?;
     buf.number(alloc, counts.up)?;
-    fill_named(alloc, buf, b" down ", counts.down)
+    buf.put_named(b" down ", counts.down)
 }
 
 /// Writes the line of a vertex as `write_vertex` does, with words that were composed for its level (`counted_line`).
