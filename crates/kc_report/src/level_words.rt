@@ -9,12 +9,7 @@ use std::alloc::{AllocError, Global};
 use std::marker::Model;
 
 /// Appends the words of a vertex line for the level and its estimate.
-pub fn fill_bounds(
-    alloc: Global,
-    buf: &mut LineBuf,
-    level: u16,
-    estimate: Estimate,
-) -> Result<(), AllocError>
+pub fn fill_bounds(buf: &mut LineBuf, level: u16, estimate: Estimate) -> Result<(), AllocError>
     ensures { OnOk result (buf.new ≡ (((((((buf.old ++ codes " level ") ++ decimal level)
         ++ codes " est ") ++ decimal estimate.est)
         ++ codes " low ") ++ decimal estimate.lo)
@@ -27,17 +22,12 @@ pub fn fill_bounds(
 }
 
 // Composes the words of a level, from its name to the name of the count after them.
-fn fill_level(
-    alloc: Global,
-    buf: &mut LineBuf,
-    level: u16,
-    estimate: Estimate,
-) -> Result<(), AllocError>
+fn fill_level(buf: &mut LineBuf, level: u16, estimate: Estimate) -> Result<(), AllocError>
     ensures { OnOk result (buf.new ≡ level_words level estimate) }
 {
     buf.clear();
-    fill_bounds(alloc, buf, level, estimate)?;
-    buf.text(alloc, b" up ")
+    fill_bounds(buf, level, estimate)?;
+    buf.put(b" up ")
 }
 
 /// The words of a vertex line from its level to the name of its first count, for each level from 0 to a greatest one.
@@ -71,7 +61,7 @@ fn compose_up_to(
 {
     for next in words.len()..level as usize + 1 {
         let mut buf = LineBuf::new(alloc);
-        fill_level(alloc, &mut buf, next as u16, th.estimate(next as u16))?;
+        fill_level(&mut buf, next as u16, th.estimate(next as u16))?;
         words.push(buf)?;
     }
     Ok(())
