@@ -13,11 +13,11 @@ ghost use Rattle.kc_adj.specs.LeveledGraph.{LeveledGraph, IsCounted};
 
 use crate::counts::Counts;
 use crate::lifting::{Lift, lift_counts, take_up};
-use crate::passes::{Lifters, par_lift_counts};
+use crate::passes::par_lift_counts;
 use crate::standing::Standing;
 use crate::steps::Steps;
 use crate::{desired, links, moves};
-use kc_graph::{Edge, Graph, MAX_EDGES, MAX_VERTICES};
+use kc_graph::{Crew, Edge, Graph, MAX_EDGES, MAX_VERTICES};
 use kc_levels::{Levels, Move, Thresholds};
 use std::alloc::{AllocError, Global};
 use std::marker::Model;
@@ -214,16 +214,13 @@ impl LevelAdj {
     ///
     /// Counts 3 steps an edge. Fails only if memory runs out; then all is unchanged, the steps too.
     ///
-    /// Costs what `Graph::par_insert_all` costs. `workers` is 1 to 64, and only the time depends on it.
+    /// Costs what `Graph::par_insert_all` costs. Only the time depends on the crew.
     pub fn link_all<R: Threads + Sync, L: Ledger>(
         &mut self,
-        rt: &R,
-        alloc: Global,
-        workers: u32,
+        crew: &Crew<'_, R>,
         edges: &[Edge],
         steps: &mut Steps<L>,
     ) -> Result<(), AllocError>
-        requires few_workers { (1 ≤ workers) × (workers ≤ 64) }
         requires ascending { EdgesFrom self.old.graph.vertices 0 0 edges.now }
         requires absent { AllAbsent self.old.graph edges.now }
         requires room { length self.old.graph.edges + length edges.now ≤ MAX_EDGES }
@@ -232,7 +229,7 @@ impl LevelAdj {
         ensures err { OnErr result (self.new ≡ self.old) }
         ensures steps_kept { OnErr result (steps.new ≡ steps.old) }
     {
-        self.graph.par_insert_all(rt, alloc, workers, edges)?;
+        self.graph.par_insert_all(crew, edges)?;
         links::link_all(&self.graph, &self.levels, &mut self.counts, edges);
         steps.add(edges.len());
         steps.add(edges.len());
@@ -244,16 +241,13 @@ impl LevelAdj {
     ///
     /// Counts 3 steps an edge. Fails only if memory runs out; then all is unchanged, the steps too.
     ///
-    /// Costs what `Graph::par_remove_all` costs. `workers` is 1 to 64, and only the time depends on it.
+    /// Costs what `Graph::par_remove_all` costs. Only the time depends on the crew.
     pub fn unlink_all<R: Threads + Sync, L: Ledger>(
         &mut self,
-        rt: &R,
-        alloc: Global,
-        workers: u32,
+        crew: &Crew<'_, R>,
         edges: &[Edge],
         steps: &mut Steps<L>,
     ) -> Result<(), AllocError>
-        requires few_workers { (1 ≤ workers) × (workers ≤ 64) }
         requires ascending { EdgesFrom self.old.graph.vertices 0 0 edges.now }
         requires present { AllPresent self.old.graph edges.now }
         ensures ok { OnOk result (self.new ≡ record self.old { graph = without_edges self.old.graph edges.now }) }
@@ -261,7 +255,7 @@ impl LevelAdj {
         ensures err { OnErr result (self.new ≡ self.old) }
         ensures steps_kept { OnErr result (steps.new ≡ steps.old) }
     {
-        self.graph.par_remove_all(rt, alloc, workers, edges)?;
+        self.graph.par_remove_all(crew, edges)?;
         links::unlink_all(&self.graph, &self.levels, &mut self.counts, edges);
         steps.add(edges.len());
         steps.add(edges.len());
@@ -329,9 +323,8 @@ impl LevelAdj {
 
     /// Does what `lift_all` does, by threads if the list is long.
     ///
-    /// `workers` is 1 to 64, and only the time depends on it. The vertices are cut into a piece for each worker, but at
-    /// most one for each full 4,096 vertices. So with one worker, or fewer than 8,192 vertices, it is `lift_all`, and
-    /// takes no memory.
+    /// Only the time depends on the crew. The vertices are cut into a piece for each worker, but at most one for each
+    /// full 4,096 vertices. So with one worker, or fewer than 8,192 vertices, it is `lift_all`, and takes no memory.
     ///
     /// Otherwise each piece goes to a thread of its own if one can be made. The thread passes over the neighbours and
     /// writes nothing. Then one thread writes what the others found. Memory is taken for that:
@@ -343,14 +336,11 @@ impl LevelAdj {
     /// Fails only if memory runs out; then all is unchanged, the steps too. Counts what `lift_all` counts.
     pub fn par_lift_all<R: Threads + Sync, L: Ledger>(
         &mut self,
-        rt: &R,
-        alloc: Global,
-        workers: u32,
+        crew: &Crew<'_, R>,
         vertices: &[u32],
         new: &Levels,
         steps: &mut Steps<L>,
     ) -> Result<(), AllocError>
-        requires few_workers { (1 ≤ workers) × (workers ≤ 64) }
         requires sized { length new.now ≡ self.old.graph.vertices }
         requires vertices { (v : ℕ) → has_number v vertices.now ≡ true → v < self.old.graph.vertices }
         requires over { IsBelow self.old.graph.vertices self.old.levels new.now }
@@ -361,9 +351,8 @@ impl LevelAdj {
         ensures err { OnErr result (self.new ≡ self.old) }
         ensures steps_kept { OnErr result (steps.new ≡ steps.old) }
     {
-        let lifters = Lifters { rt, alloc, workers };
         let lift = Lift::new(&self.graph, &self.levels, new);
-        par_lift_counts(&lifters, &lift, &mut self.counts, vertices, steps)?;
+        par_lift_counts(crew, &lift, &mut self.counts, vertices, steps)?;
         take_up(&mut self.levels, vertices, new);
         Ok(())
     }

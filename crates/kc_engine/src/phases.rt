@@ -16,8 +16,8 @@ use crate::plans::BatchPlan;
 use crate::work::PhaseWork;
 use kc_adj::{LevelAdj, Steps};
 use kc_delete::delete_phase;
-use kc_graph::{Cleaned, Edges, MAX_EDGES};
-use kc_groups::{Phase, Planners, plan_moves};
+use kc_graph::{Cleaned, Crew, Edges, MAX_EDGES};
+use kc_groups::{Phase, plan_moves};
 use kc_history::MAX_PHASE;
 use kc_insert::insert_phase;
 use kc_levels::Thresholds;
@@ -33,7 +33,7 @@ pub(crate) struct PhaseContext<'a, R, G> {
     // Tests candidates, and passes their spots to the gate.
     pub(crate) rounds: Rounds<'a, R, G>,
     // Gathers the moves of a phase into groups. Its allocator is also that of moves and plans.
-    pub(crate) planners: Planners<'a, R>,
+    pub(crate) crew: Crew<'a, R>,
     // The thresholds for the number of vertices of the graph that the phases change.
     pub(crate) th: &'a Thresholds,
 }
@@ -84,13 +84,13 @@ fn deletion_phase<R: Threads + Sync, G: Gate + Sync, L: Ledger>(
     ensures moves { IfOk result (λ plan. plan.moves ≡ moved_count adj.old.graph.vertices adj.old.levels adj.new.levels) }
 {
     if removed.is_empty() {
-        return Ok(BatchPlan::empty(context.planners.alloc));
+        return Ok(BatchPlan::empty(context.crew.alloc));
     }
     // Evidence for the check: the edges of the graph ascend, its vertices are at most `MAX_VERTICES`, and each has a
     // level.
     let _n = adj.graph().vertices();
     let _levels = adj.levels();
-    let alloc = context.planners.alloc;
+    let alloc = context.crew.alloc;
     let th = context.th;
     let edges = removed.as_slice();
     let mut steps = Steps::<L>::new(blank);
@@ -104,7 +104,7 @@ fn deletion_phase<R: Threads + Sync, G: Gate + Sync, L: Ledger>(
         edges,
         moves: &moves,
     };
-    let plan = plan_moves(&context.planners, &leaving, adj.graph(), edges, groups)?;
+    let plan = plan_moves(&context.crew, &leaving, adj.graph(), edges, groups)?;
     BatchPlan::of_phase(alloc, plan, moves.len() as u32)
 }
 
@@ -131,12 +131,12 @@ fn insertion_phase<R: Threads + Sync, G: Gate + Sync, L: Ledger>(
     ensures moves { IfOk result (λ plan. plan.moves ≡ moved_count adj.old.graph.vertices adj.old.levels adj.new.levels) }
 {
     if added.is_empty() {
-        return Ok(BatchPlan::empty(context.planners.alloc));
+        return Ok(BatchPlan::empty(context.crew.alloc));
     }
     // Evidence for the check, as in a phase of deletions.
     let _n = adj.graph().vertices();
     let _levels = adj.levels();
-    let alloc = context.planners.alloc;
+    let alloc = context.crew.alloc;
     let th = context.th;
     let edges = added.as_slice();
     let mut steps = Steps::<L>::new(blank);
@@ -158,7 +158,7 @@ fn insertion_phase<R: Threads + Sync, G: Gate + Sync, L: Ledger>(
         edges,
         moves: &moves,
     };
-    let plan = plan_moves(&context.planners, &coming, adj.graph(), &[], groups)?;
+    let plan = plan_moves(&context.crew, &coming, adj.graph(), &[], groups)?;
     BatchPlan::of_phase(alloc, plan, moves.len() as u32)
 }
 
