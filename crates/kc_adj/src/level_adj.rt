@@ -5,8 +5,7 @@ ghost use Rattle.std.specs.Prelude.{◌≡◌, ◌+◌, ◌*◌, ◌-◌, ◌<�
 ghost use Rattle.kc_graph.specs.Shape.{EdgesFrom, IsGraph, neighbours_of, has_edge, with_edge, without_edge, with_edges, without_edges};
 ghost use Rattle.kc_graph.specs.Numbers.{has_number};
 ghost use Rattle.kc_graph.specs.Changes.{AllAbsent, AllPresent};
-ghost use Rattle.kc_levels.specs.Thresholds.{top_level};
-ghost use Rattle.kc_levels.specs.LevelList.{at_least, IsBelow, IsDesired};
+ghost use Rattle.kc_levels.specs.LevelList.{at_least, IsBelow, IsDesired, IsWithinAt};
 ghost use Rattle.kc_levels.specs.Following.{AreDistinct};
 ghost use Rattle.kc_adj.specs.Degrees.{degrees};
 ghost use Rattle.kc_adj.specs.LeveledGraph.{LeveledGraph, IsCounted};
@@ -136,8 +135,7 @@ impl LevelAdj {
     /// - otherwise about two more passes for each doubling of the number of levels that it would fall, at most 27.
     pub fn desired(&self, th: &Thresholds, v: u32) -> u16
         requires vertex { v < self.now.graph.vertices }
-        requires scale { th.now.vertices ≡ self.now.graph.vertices }
-        requires capped { slice_index self.now.levels v ≤ top_level th.now.profile th.now.vertices }
+        requires within { IsWithinAt th.now self.now.graph self.now.levels v }
         ensures { IsDesired th.now.profile self.now.graph self.now.levels v result }
     {
         let at = Standing { adj: self, th, v };
@@ -153,8 +151,7 @@ impl LevelAdj {
     /// that is too high costs about two more for each doubling of its distance in levels.
     pub fn desired_near(&self, th: &Thresholds, v: u32, guess: u16) -> u16
         requires vertex { v < self.now.graph.vertices }
-        requires scale { th.now.vertices ≡ self.now.graph.vertices }
-        requires capped { slice_index self.now.levels v ≤ top_level th.now.profile th.now.vertices }
+        requires within { IsWithinAt th.now self.now.graph self.now.levels v }
         ensures { IsDesired th.now.profile self.now.graph self.now.levels v result }
     {
         let at = Standing { adj: self, th, v };

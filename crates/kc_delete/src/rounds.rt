@@ -5,7 +5,7 @@ ghost use Rattle.std.specs.Prelude.{◌≡◌, ℕ, ◌<◌, ◌≤◌, OnOk, If
 ghost use Rattle.kc_graph.specs.Numbers.{has_number};
 ghost use Rattle.kc_graph.specs.Shape.{EdgesFrom, without_edges};
 ghost use Rattle.kc_graph.specs.Changes.{AllPresent, CanRemove};
-ghost use Rattle.kc_levels.specs.LevelList.{MeetsLower, IsCapped, IsLowered};
+ghost use Rattle.kc_levels.specs.LevelList.{MeetsLower, IsLowered, IsWithin};
 ghost use Rattle.kc_levels.specs.Moved.{moved_count, moves_between};
 ghost use Rattle.kc_delete.specs.Working.{IsReady};
 ghost use Rattle.kc_delete.specs.private.Capped.{profile_of, graph_of, levels_of};
@@ -127,8 +127,7 @@ pub fn delete_phase<R: Threads + Sync, G: Gate + Sync, L: Ledger>(
     removed: &[Edge],
     steps: &mut Steps<L>,
 ) -> Result<Moves, AllocError>
-    requires scale { th.now.vertices ≡ adj.old.graph.vertices }
-    requires capped { IsCapped th.now.profile adj.old.graph.vertices adj.old.levels }
+    requires within { IsWithin th.now adj.old.graph adj.old.levels }
     requires lower { (v : ℕ) → v < adj.old.graph.vertices → MeetsLower th.now.profile adj.old.graph adj.old.levels v }
     requires ready { IsReady adj.old work.old }
     requires ascending { EdgesFrom adj.old.graph.vertices 0 0 removed.now }
@@ -161,8 +160,7 @@ pub fn delete_rounds<R: Threads + Sync, G: Gate + Sync, L: Ledger>(
     steps: &mut Steps<L>,
 ) -> Result<Tally, AllocError>
     requires few_workers { (1 ≤ workers) × (workers ≤ 64) }
-    requires scale { th.now.vertices ≡ adj.old.graph.vertices }
-    requires capped { IsCapped th.now.profile adj.old.graph.vertices adj.old.levels }
+    requires within { IsWithin th.now adj.old.graph adj.old.levels }
     requires lower { (v : ℕ) → v < adj.old.graph.vertices → MeetsLower th.now.profile adj.old.graph adj.old.levels v }
     requires ascending { EdgesFrom adj.old.graph.vertices 0 0 removed.now }
     requires present { AllPresent adj.old.graph removed.now }

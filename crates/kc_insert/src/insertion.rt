@@ -3,7 +3,7 @@
 ghost use Rattle.std.specs.Prelude.{◌≡◌, ℕ, ◌+◌, ◌*◌, ◌<◌, ◌≤◌, OnOk, IfOk, length};
 ghost use Rattle.kc_graph.specs.Shape.{EdgesFrom, with_edges};
 ghost use Rattle.kc_graph.specs.Changes.{AllAbsent};
-ghost use Rattle.kc_levels.specs.LevelList.{MeetsUpper, IsCapped, IsRaised};
+ghost use Rattle.kc_levels.specs.LevelList.{MeetsUpper, IsRaised, IsWithin};
 ghost use Rattle.kc_levels.specs.Moved.{moved_count, moves_between};
 ghost use Rattle.kc_insert.specs.Effort.{effort};
 ghost use Rattle.kc_insert.specs.Working.{IsReady};
@@ -69,8 +69,7 @@ pub fn insert_phase<R: Threads + Sync, G: Gate + Sync, L: Ledger>(
     added: &[Edge],
     steps: &mut Steps<L>,
 ) -> Result<Moves, AllocError>
-    requires scale { th.now.vertices ≡ adj.old.graph.vertices }
-    requires capped { IsCapped th.now.profile adj.old.graph.vertices adj.old.levels }
+    requires within { IsWithin th.now adj.old.graph adj.old.levels }
     requires upper { (v : ℕ) → v < adj.old.graph.vertices → MeetsUpper th.now.profile adj.old.graph adj.old.levels v }
     requires ready { IsReady th.now.profile adj.old work.old }
     requires ascending { EdgesFrom adj.old.graph.vertices 0 0 added.now }
@@ -117,8 +116,7 @@ pub fn insert_rounds<R: Threads + Sync, G: Gate + Sync, L: Ledger>(
     steps: &mut Steps<L>,
 ) -> Result<Tally, AllocError>
     requires few_workers { (1 ≤ workers) × (workers ≤ 64) }
-    requires scale { th.now.vertices ≡ adj.old.graph.vertices }
-    requires capped { IsCapped th.now.profile adj.old.graph.vertices adj.old.levels }
+    requires within { IsWithin th.now adj.old.graph adj.old.levels }
     requires upper { (v : ℕ) → v < adj.old.graph.vertices → MeetsUpper th.now.profile adj.old.graph adj.old.levels v }
     requires ascending { EdgesFrom adj.old.graph.vertices 0 0 added.now }
     requires absent { AllAbsent adj.old.graph added.now }
