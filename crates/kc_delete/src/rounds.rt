@@ -46,7 +46,6 @@ fn unlink_each<L: Ledger>(adj: &mut LevelAdj, removed: &[Edge], steps: &mut Step
 // Removes the edges, many of them by the workers of `rounds`. Levels stay. Fails only if memory runs out.
 fn unlink_edges<R: Threads + Sync, G: Gate + Sync, L: Ledger>(
     rounds: &Rounds<R, G>,
-    alloc: Global,
     adj: &mut LevelAdj,
     removed: &[Edge],
     steps: &mut Steps<L>,
@@ -61,7 +60,7 @@ fn unlink_edges<R: Threads + Sync, G: Gate + Sync, L: Ledger>(
     }
     let crew = Crew {
         rt: rounds.runtime(),
-        alloc,
+        alloc: rounds.alloc(),
         workers: rounds.workers(),
     };
     adj.unlink_all(&crew, removed, steps)?;
@@ -120,7 +119,6 @@ fn add_short_ends(
 /// while the halves of the edges are sorted.
 pub fn delete_phase<R: Threads + Sync, G: Gate + Sync, L: Ledger>(
     rounds: &Rounds<R, G>,
-    alloc: Global,
     th: &Thresholds,
     adj: &mut LevelAdj,
     work: &mut DeletionWork,
@@ -139,10 +137,10 @@ pub fn delete_phase<R: Threads + Sync, G: Gate + Sync, L: Ledger>(
 {
     let _n = adj.graph().vertices();
     let _levels = adj.levels();
-    unlink_edges(rounds, alloc, adj, removed, steps)?;
+    unlink_edges(rounds, adj, removed, steps)?;
     add_short_ends(Capped { adj, th }, removed, &mut work.waiting)?;
     settle(rounds, th, adj, work, steps)?;
-    let moves = work.fallen.take_moves(alloc, adj.levels())?;
+    let moves = work.fallen.take_moves(rounds.alloc(), adj.levels())?;
     Ok(moves)
 }
 
@@ -171,7 +169,7 @@ pub fn delete_rounds<R: Threads + Sync, G: Gate + Sync, L: Ledger>(
     let _n = adj.graph().vertices();
     let mut work = DeletionWork::new(alloc, adj)?;
     let rounds = Rounds::new(rt, alloc, gate, workers);
-    let moves = delete_phase(&rounds, alloc, th, adj, &mut work, removed, steps)?;
+    let moves = delete_phase(&rounds, th, adj, &mut work, removed, steps)?;
     Ok(Tally {
         moves: moves.len() as u32,
     })

@@ -95,7 +95,7 @@ fn deletion_phase<R: Threads + Sync, G: Gate + Sync, L: Ledger>(
     let edges = removed.as_slice();
     let mut steps = Steps::<L>::new(blank);
     let deletion = &mut work.deletion;
-    let moves = delete_phase(&context.rounds, alloc, th, adj, deletion, edges, &mut steps)?;
+    let moves = delete_phase(&context.rounds, th, adj, deletion, edges, &mut steps)?;
     work.insertion.follow(adj, edges, &moves);
     let groups = &mut work.groups;
     let leaving = Phase {
@@ -141,15 +141,7 @@ fn insertion_phase<R: Threads + Sync, G: Gate + Sync, L: Ledger>(
     let edges = added.as_slice();
     let mut steps = Steps::<L>::new(blank);
     let insertion = &mut work.insertion;
-    let moves = insert_phase(
-        &context.rounds,
-        alloc,
-        th,
-        adj,
-        insertion,
-        edges,
-        &mut steps,
-    )?;
+    let moves = insert_phase(&context.rounds, th, adj, insertion, edges, &mut steps)?;
     work.deletion.follow(&moves);
     let groups = &mut work.groups;
     let coming = Phase {

@@ -62,7 +62,6 @@ pub struct Tally {
 /// their halves are sorted. If 8,192 vertices or more rose, it takes what `LevelAdj::par_lift_all` takes.
 pub fn insert_phase<R: Threads + Sync, G: Gate + Sync, L: Ledger>(
     rounds: &Rounds<R, G>,
-    alloc: Global,
     th: &Thresholds,
     adj: &mut LevelAdj,
     work: &mut InsertionWork,
@@ -85,7 +84,7 @@ pub fn insert_phase<R: Threads + Sync, G: Gate + Sync, L: Ledger>(
     let _levels = adj.levels();
     let _top = th.top();
     let sweep = &mut work.sweep;
-    link_edges(rounds, alloc, adj, added, steps)?;
+    link_edges(rounds, adj, added, steps)?;
     let fresh = Fresh {
         th,
         levels: adj.levels(),
@@ -96,8 +95,8 @@ pub fn insert_phase<R: Threads + Sync, G: Gate + Sync, L: Ledger>(
         graph: adj.graph(),
         th,
     };
-    raise_queued(rounds, alloc, scaled, sweep, steps)?;
-    let moves = take_moves(rounds, alloc, adj, sweep, steps)?;
+    raise_queued(rounds, scaled, sweep, steps)?;
+    let moves = take_moves(rounds, adj, sweep, steps)?;
     Ok(moves)
 }
 
@@ -130,7 +129,7 @@ pub fn insert_rounds<R: Threads + Sync, G: Gate + Sync, L: Ledger>(
     let _n = adj.graph().vertices();
     let mut work = InsertionWork::new(alloc, th, adj)?;
     let rounds = Rounds::new(rt, alloc, gate, workers);
-    let moves = insert_phase(&rounds, alloc, th, adj, &mut work, added, steps)?;
+    let moves = insert_phase(&rounds, th, adj, &mut work, added, steps)?;
     Ok(Tally {
         moves: moves.len() as u32,
     })
