@@ -170,11 +170,6 @@ impl Engine {
         self.halted = true;
         let context = PhaseContext {
             rounds: Rounds::new(rt, alloc, gate, self.workers),
-            crew: Crew {
-                rt,
-                alloc,
-                workers: self.workers,
-            },
             th: &self.thresholds,
         };
         let before = self.phases;

@@ -16,7 +16,7 @@ use crate::plans::BatchPlan;
 use crate::work::PhaseWork;
 use kc_adj::{LevelAdj, Steps};
 use kc_delete::delete_phase;
-use kc_graph::{Cleaned, Crew, Edges, MAX_EDGES};
+use kc_graph::{Cleaned, Edges, MAX_EDGES};
 use kc_groups::{Phase, plan_moves};
 use kc_history::MAX_PHASE;
 use kc_insert::insert_phase;
@@ -30,10 +30,8 @@ use std::thread::Threads;
 // The values that stay the same through the phases of a batch. Contracts see the thresholds alone.
 #[derive(Drop)]
 pub(crate) struct PhaseContext<'a, R, G> {
-    // Tests candidates, and passes their spots to the gate.
+    // Tests candidates, passes their spots to the gate, and has the workers that link edges and gather moves.
     pub(crate) rounds: Rounds<'a, R, G>,
-    // Gathers the moves of a phase into groups. Its allocator is also that of moves and plans.
-    pub(crate) crew: Crew<'a, R>,
     // The thresholds for the number of vertices of the graph that the phases change.
     pub(crate) th: &'a Thresholds,
 }
@@ -84,13 +82,13 @@ fn deletion_phase<R: Threads + Sync, G: Gate + Sync, L: Ledger>(
     ensures moves { IfOk result (λ plan. plan.moves ≡ moved_count adj.old.graph.vertices adj.old.levels adj.new.levels) }
 {
     if removed.is_empty() {
-        return Ok(BatchPlan::empty(context.crew.alloc));
+        return Ok(BatchPlan::empty(context.rounds.alloc()));
     }
     // Evidence for the check: the edges of the graph ascend, its vertices are at most `MAX_VERTICES`, and each has a
     // level.
     let _n = adj.graph().vertices();
     let _levels = adj.levels();
-    let alloc = context.crew.alloc;
+    let alloc = context.rounds.alloc();
     let th = context.th;
     let edges = removed.as_slice();
     let mut steps = Steps::<L>::new(blank);
@@ -104,7 +102,7 @@ fn deletion_phase<R: Threads + Sync, G: Gate + Sync, L: Ledger>(
         edges,
         moves: &moves,
     };
-    let plan = plan_moves(&context.crew, &leaving, adj.graph(), edges, groups)?;
+    let plan = plan_moves(context.rounds.crew(), &leaving, adj.graph(), edges, groups)?;
     BatchPlan::of_phase(alloc, plan, moves.len() as u32)
 }
 
@@ -131,12 +129,12 @@ fn insertion_phase<R: Threads + Sync, G: Gate + Sync, L: Ledger>(
     ensures moves { IfOk result (λ plan. plan.moves ≡ moved_count adj.old.graph.vertices adj.old.levels adj.new.levels) }
 {
     if added.is_empty() {
-        return Ok(BatchPlan::empty(context.crew.alloc));
+        return Ok(BatchPlan::empty(context.rounds.alloc()));
     }
     // Evidence for the check, as in a phase of deletions.
     let _n = adj.graph().vertices();
     let _levels = adj.levels();
-    let alloc = context.crew.alloc;
+    let alloc = context.rounds.alloc();
     let th = context.th;
     let edges = added.as_slice();
     let mut steps = Steps::<L>::new(blank);
@@ -150,7 +148,7 @@ fn insertion_phase<R: Threads + Sync, G: Gate + Sync, L: Ledger>(
         edges,
         moves: &moves,
     };
-    let plan = plan_moves(&context.crew, &coming, adj.graph(), &[], groups)?;
+    let plan = plan_moves(context.rounds.crew(), &coming, adj.graph(), &[], groups)?;
     BatchPlan::of_phase(alloc, plan, moves.len() as u32)
 }
 
