@@ -273,6 +273,26 @@ impl LevelAdj {
         self.lift(v, to, steps);
     }
 
+    // Moves `v` to the level `to`. Takes no memory. Costs and counts what `lift` does.
+    fn shift<L: Ledger>(&mut self, v: u32, to: u16, steps: &mut Steps<L>)
+        requires { v < self.old.graph.vertices }
+        ensures value { self.new ≡ record self.old { levels = slice_set self.old.levels v to } }
+        ensures cost { steps.new ≡ steps.old + (length (neighbours_of v self.old.graph.edges) + 1) }
+    {
+        let moved = Move {
+            vertex: v,
+            old: self.level(v),
+            new: to,
+        };
+        moves::shift(
+            &self.graph,
+            &mut self.levels,
+            &mut self.counts,
+            moved,
+            steps,
+        );
+    }
+
     /// Moves `v` up to the level `to`, which is at least its own. Takes no memory.
     ///
     /// Costs one pass over its neighbours, however far it rises. Counts a step for each of them, and one more.
@@ -282,18 +302,7 @@ impl LevelAdj {
         ensures value { self.new ≡ record self.old { levels = slice_set self.old.levels v to } }
         ensures cost { steps.new ≡ steps.old + (length (neighbours_of v self.old.graph.edges) + 1) }
     {
-        let moved = Move {
-            vertex: v,
-            old: self.level(v),
-            new: to,
-        };
-        moves::lift(
-            &self.graph,
-            &mut self.levels,
-            &mut self.counts,
-            moved,
-            steps,
-        );
+        self.shift(v, to, steps);
     }
 
     /// Moves each vertex of the list up to its level in `new`; all other levels in `new` are the present ones. Takes no
@@ -363,17 +372,6 @@ impl LevelAdj {
         ensures value { self.new ≡ record self.old { levels = slice_set self.old.levels v to } }
         ensures cost { steps.new ≡ steps.old + (length (neighbours_of v self.old.graph.edges) + 1) }
     {
-        let moved = Move {
-            vertex: v,
-            old: self.level(v),
-            new: to,
-        };
-        moves::fall(
-            &self.graph,
-            &mut self.levels,
-            &mut self.counts,
-            moved,
-            steps,
-        );
+        self.shift(v, to, steps);
     }
 }
