@@ -183,9 +183,7 @@ impl LevelAdj {
         self.graph.insert(alloc, e)?;
         links::link(&self.levels, &mut self.counts.own, 0, e.a, e.b);
         links::link(&self.levels, &mut self.counts.below, 1, e.a, e.b);
-        steps.tick();
-        steps.tick();
-        steps.tick();
+        steps.add_edges(1);
         Ok(())
     }
 
@@ -201,9 +199,7 @@ impl LevelAdj {
         self.graph.remove(e);
         links::unlink(&self.levels, &mut self.counts.own, 0, e.a, e.b);
         links::unlink(&self.levels, &mut self.counts.below, 1, e.a, e.b);
-        steps.tick();
-        steps.tick();
-        steps.tick();
+        steps.add_edges(1);
     }
 
     /// Adds ascending edges that are not there (`with_edges`); at most `MAX_EDGES` edges are there afterwards. Levels
@@ -228,9 +224,7 @@ impl LevelAdj {
     {
         self.graph.par_insert_all(crew, edges)?;
         links::link_all(&self.graph, &self.levels, &mut self.counts, edges);
-        steps.add(edges.len());
-        steps.add(edges.len());
-        steps.add(edges.len());
+        steps.add_edges(edges.len());
         Ok(())
     }
 
@@ -254,9 +248,7 @@ impl LevelAdj {
     {
         self.graph.par_remove_all(crew, edges)?;
         links::unlink_all(&self.graph, &self.levels, &mut self.counts, edges);
-        steps.add(edges.len());
-        steps.add(edges.len());
-        steps.add(edges.len());
+        steps.add_edges(edges.len());
         Ok(())
     }
 
