@@ -5,19 +5,18 @@ ghost use Rattle.std.specs.Prelude.{◌≡◌, ◌+◌, ◌*◌, ◌-◌, ◌<�
 ghost use Rattle.kc_graph.specs.Shape.{EdgesFrom, IsGraph, neighbours_of, has_edge, with_edge, without_edge, with_edges, without_edges};
 ghost use Rattle.kc_graph.specs.Numbers.{has_number};
 ghost use Rattle.kc_graph.specs.Changes.{AllAbsent, AllPresent};
-ghost use Rattle.kc_levels.specs.Thresholds.{top_level};
-ghost use Rattle.kc_levels.specs.LevelList.{at_least, IsBelow, IsDesired};
+ghost use Rattle.kc_levels.specs.LevelList.{at_least, IsBelow, IsDesired, IsWithinAt};
 ghost use Rattle.kc_levels.specs.Following.{AreDistinct};
 ghost use Rattle.kc_adj.specs.Degrees.{degrees};
 ghost use Rattle.kc_adj.specs.LeveledGraph.{LeveledGraph, IsCounted};
 
 use crate::counts::Counts;
 use crate::lifting::{Lift, lift_counts, take_up};
-use crate::passes::{Lifters, par_lift_counts};
+use crate::passes::par_lift_counts;
 use crate::standing::Standing;
 use crate::steps::Steps;
 use crate::{desired, links, moves};
-use kc_graph::{Edge, Graph, MAX_EDGES, MAX_VERTICES};
+use kc_graph::{Crew, Edge, Graph, MAX_EDGES, MAX_VERTICES};
 use kc_levels::{Levels, Move, Thresholds};
 use std::alloc::{AllocError, Global};
 use std::marker::Model;
@@ -136,8 +135,7 @@ impl LevelAdj {
     /// - otherwise about two more passes for each doubling of the number of levels that it would fall, at most 27.
     pub fn desired(&self, th: &Thresholds, v: u32) -> u16
         requires vertex { v < self.now.graph.vertices }
-        requires scale { th.now.vertices ≡ self.now.graph.vertices }
-        requires capped { slice_index self.now.levels v ≤ top_level th.now.profile th.now.vertices }
+        requires within { IsWithinAt th.now self.now.graph self.now.levels v }
         ensures { IsDesired th.now.profile self.now.graph self.now.levels v result }
     {
         let at = Standing { adj: self, th, v };
@@ -153,8 +151,7 @@ impl LevelAdj {
     /// that is too high costs about two more for each doubling of its distance in levels.
     pub fn desired_near(&self, th: &Thresholds, v: u32, guess: u16) -> u16
         requires vertex { v < self.now.graph.vertices }
-        requires scale { th.now.vertices ≡ self.now.graph.vertices }
-        requires capped { slice_index self.now.levels v ≤ top_level th.now.profile th.now.vertices }
+        requires within { IsWithinAt th.now self.now.graph self.now.levels v }
         ensures { IsDesired th.now.profile self.now.graph self.now.levels v result }
     {
         let at = Standing { adj: self, th, v };
@@ -186,9 +183,7 @@ impl LevelAdj {
         self.graph.insert(alloc, e)?;
         links::link(&self.levels, &mut self.counts.own, 0, e.a, e.b);
         links::link(&self.levels, &mut self.counts.below, 1, e.a, e.b);
-        steps.tick();
-        steps.tick();
-        steps.tick();
+        steps.add_edges(1);
         Ok(())
     }
 
@@ -204,9 +199,7 @@ impl LevelAdj {
         self.graph.remove(e);
         links::unlink(&self.levels, &mut self.counts.own, 0, e.a, e.b);
         links::unlink(&self.levels, &mut self.counts.below, 1, e.a, e.b);
-        steps.tick();
-        steps.tick();
-        steps.tick();
+        steps.add_edges(1);
     }
 
     /// Adds ascending edges that are not there (`with_edges`); at most `MAX_EDGES` edges are there afterwards. Levels
@@ -214,16 +207,13 @@ impl LevelAdj {
     ///
     /// Counts 3 steps an edge. Fails only if memory runs out; then all is unchanged, the steps too.
     ///
-    /// Costs what `Graph::par_insert_all` costs. `workers` is 1 to 64, and only the time depends on it.
+    /// Costs what `Graph::par_insert_all` costs. Only the time depends on the crew.
     pub fn link_all<R: Threads + Sync, L: Ledger>(
         &mut self,
-        rt: &R,
-        alloc: Global,
-        workers: u32,
+        crew: &Crew<'_, R>,
         edges: &[Edge],
         steps: &mut Steps<L>,
     ) -> Result<(), AllocError>
-        requires few_workers { (1 ≤ workers) × (workers ≤ 64) }
         requires ascending { EdgesFrom self.old.graph.vertices 0 0 edges.now }
         requires absent { AllAbsent self.old.graph edges.now }
         requires room { length self.old.graph.edges + length edges.now ≤ MAX_EDGES }
@@ -232,11 +222,9 @@ impl LevelAdj {
         ensures err { OnErr result (self.new ≡ self.old) }
         ensures steps_kept { OnErr result (steps.new ≡ steps.old) }
     {
-        self.graph.par_insert_all(rt, alloc, workers, edges)?;
+        self.graph.par_insert_all(crew, edges)?;
         links::link_all(&self.graph, &self.levels, &mut self.counts, edges);
-        steps.add(edges.len());
-        steps.add(edges.len());
-        steps.add(edges.len());
+        steps.add_edges(edges.len());
         Ok(())
     }
 
@@ -244,16 +232,13 @@ impl LevelAdj {
     ///
     /// Counts 3 steps an edge. Fails only if memory runs out; then all is unchanged, the steps too.
     ///
-    /// Costs what `Graph::par_remove_all` costs. `workers` is 1 to 64, and only the time depends on it.
+    /// Costs what `Graph::par_remove_all` costs. Only the time depends on the crew.
     pub fn unlink_all<R: Threads + Sync, L: Ledger>(
         &mut self,
-        rt: &R,
-        alloc: Global,
-        workers: u32,
+        crew: &Crew<'_, R>,
         edges: &[Edge],
         steps: &mut Steps<L>,
     ) -> Result<(), AllocError>
-        requires few_workers { (1 ≤ workers) × (workers ≤ 64) }
         requires ascending { EdgesFrom self.old.graph.vertices 0 0 edges.now }
         requires present { AllPresent self.old.graph edges.now }
         ensures ok { OnOk result (self.new ≡ record self.old { graph = without_edges self.old.graph edges.now }) }
@@ -261,11 +246,9 @@ impl LevelAdj {
         ensures err { OnErr result (self.new ≡ self.old) }
         ensures steps_kept { OnErr result (steps.new ≡ steps.old) }
     {
-        self.graph.par_remove_all(rt, alloc, workers, edges)?;
+        self.graph.par_remove_all(crew, edges)?;
         links::unlink_all(&self.graph, &self.levels, &mut self.counts, edges);
-        steps.add(edges.len());
-        steps.add(edges.len());
-        steps.add(edges.len());
+        steps.add_edges(edges.len());
         Ok(())
     }
 
@@ -282,6 +265,26 @@ impl LevelAdj {
         self.lift(v, to, steps);
     }
 
+    // Moves `v` to the level `to`. Takes no memory. Costs and counts what `lift` does.
+    fn shift<L: Ledger>(&mut self, v: u32, to: u16, steps: &mut Steps<L>)
+        requires { v < self.old.graph.vertices }
+        ensures value { self.new ≡ record self.old { levels = slice_set self.old.levels v to } }
+        ensures cost { steps.new ≡ steps.old + (length (neighbours_of v self.old.graph.edges) + 1) }
+    {
+        let moved = Move {
+            vertex: v,
+            old: self.level(v),
+            new: to,
+        };
+        moves::shift(
+            &self.graph,
+            &mut self.levels,
+            &mut self.counts,
+            moved,
+            steps,
+        );
+    }
+
     /// Moves `v` up to the level `to`, which is at least its own. Takes no memory.
     ///
     /// Costs one pass over its neighbours, however far it rises. Counts a step for each of them, and one more.
@@ -291,18 +294,7 @@ impl LevelAdj {
         ensures value { self.new ≡ record self.old { levels = slice_set self.old.levels v to } }
         ensures cost { steps.new ≡ steps.old + (length (neighbours_of v self.old.graph.edges) + 1) }
     {
-        let moved = Move {
-            vertex: v,
-            old: self.level(v),
-            new: to,
-        };
-        moves::lift(
-            &self.graph,
-            &mut self.levels,
-            &mut self.counts,
-            moved,
-            steps,
-        );
+        self.shift(v, to, steps);
     }
 
     /// Moves each vertex of the list up to its level in `new`; all other levels in `new` are the present ones. Takes no
@@ -329,9 +321,8 @@ impl LevelAdj {
 
     /// Does what `lift_all` does, by threads if the list is long.
     ///
-    /// `workers` is 1 to 64, and only the time depends on it. The vertices are cut into a piece for each worker, but at
-    /// most one for each full 4,096 vertices. So with one worker, or fewer than 8,192 vertices, it is `lift_all`, and
-    /// takes no memory.
+    /// Only the time depends on the crew. The vertices are cut into a piece for each worker, but at most one for each
+    /// full 4,096 vertices. So with one worker, or fewer than 8,192 vertices, it is `lift_all`, and takes no memory.
     ///
     /// Otherwise each piece goes to a thread of its own if one can be made. The thread passes over the neighbours and
     /// writes nothing. Then one thread writes what the others found. Memory is taken for that:
@@ -343,14 +334,11 @@ impl LevelAdj {
     /// Fails only if memory runs out; then all is unchanged, the steps too. Counts what `lift_all` counts.
     pub fn par_lift_all<R: Threads + Sync, L: Ledger>(
         &mut self,
-        rt: &R,
-        alloc: Global,
-        workers: u32,
+        crew: &Crew<'_, R>,
         vertices: &[u32],
         new: &Levels,
         steps: &mut Steps<L>,
     ) -> Result<(), AllocError>
-        requires few_workers { (1 ≤ workers) × (workers ≤ 64) }
         requires sized { length new.now ≡ self.old.graph.vertices }
         requires vertices { (v : ℕ) → has_number v vertices.now ≡ true → v < self.old.graph.vertices }
         requires over { IsBelow self.old.graph.vertices self.old.levels new.now }
@@ -361,9 +349,8 @@ impl LevelAdj {
         ensures err { OnErr result (self.new ≡ self.old) }
         ensures steps_kept { OnErr result (steps.new ≡ steps.old) }
     {
-        let lifters = Lifters { rt, alloc, workers };
         let lift = Lift::new(&self.graph, &self.levels, new);
-        par_lift_counts(&lifters, &lift, &mut self.counts, vertices, steps)?;
+        par_lift_counts(crew, &lift, &mut self.counts, vertices, steps)?;
         take_up(&mut self.levels, vertices, new);
         Ok(())
     }
@@ -377,17 +364,6 @@ impl LevelAdj {
         ensures value { self.new ≡ record self.old { levels = slice_set self.old.levels v to } }
         ensures cost { steps.new ≡ steps.old + (length (neighbours_of v self.old.graph.edges) + 1) }
     {
-        let moved = Move {
-            vertex: v,
-            old: self.level(v),
-            new: to,
-        };
-        moves::fall(
-            &self.graph,
-            &mut self.levels,
-            &mut self.counts,
-            moved,
-            steps,
-        );
+        self.shift(v, to, steps);
     }
 }

@@ -6,11 +6,13 @@
 //! of them.
 //!
 //! Floor: graph and levels, the lowest crate there. Every crate above may call it. Sessions and `kserve` clean batches
-//! by [`clean_by`], and phases link and unlink edges by the calls of [`Graph`].
+//! by [`clean_by`], and phases link and unlink edges by the calls of [`Graph`]. A [`Crew`] is the workers of a call that
+//! threads share, here and above.
 #![tactic(auto)]
 
 mod buckets;
 mod cleaning;
+mod crew;
 mod edge_lists;
 mod edges;
 mod graphs;
@@ -31,6 +33,7 @@ mod sorting;
 mod touched;
 
 pub use cleaning::{Cleaned, clean, clean_by};
+pub use crew::Crew;
 pub use edge_lists::Edges;
 pub use edges::Edge;
 pub use graphs::Graph;
