@@ -188,8 +188,8 @@ impl Graph {
     ///
     /// Fails only if memory runs out; the graph is then unchanged.
     ///
-    /// Costs what `insert_all` costs, but threads share the passes over neighbours. From 16,384 edges on there are two
-    /// of them, and up to one a worker with 8,192 edges for each. To share the passes costs a few passes over the
+    /// Costs what `insert_all` costs, but threads share the passes over neighbours. From 4,096 edges on there are two
+    /// of them, and up to one a worker with 2,048 edges for each. To share the passes costs a few passes over the
     /// pairs.
     pub fn par_insert_all<R: Threads + Sync>(
         &mut self,
