@@ -24,4 +24,5 @@ mod BucketLemmas
 mod HalfLemmas
 mod GivenLemmas
 mod SharingLemmas
+mod TurningLemmas
 mod DealtLemmas

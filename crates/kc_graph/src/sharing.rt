@@ -14,9 +14,9 @@ use crate::rows::Row;
 use std::alloc::AllocError;
 use std::thread::{Threads, join_mut};
 
-// The least number of halves of a part. Fewer than twice as many aren't cut: a thread costs about a hundred
-// microseconds.
-const LEAST_PART: usize = 16_384;
+// The least number of halves of a part. Fewer than twice as many aren't cut. To start two threads costs 30 to 40
+// microseconds, and a part of this length about a hundred or more.
+const LEAST_PART: usize = 4_096;
 
 // Halves of vertices from `first` on, for rows of which the first is that of `first`.
 #[derive(Clone, Copy)]
