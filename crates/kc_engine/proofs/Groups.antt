@@ -10,9 +10,10 @@ use Rattle.kc_store.specs.States.{AllMovesIn, MayPublish, with_entry_if, with_pu
 use Rattle.kc_store.specs.private.Showing.{HasShownGroup}
 use Rattle.std.proofs.lemmas.Option.{slice_get-get_or}
 use Rattle.kc_store.proofs.lemmas.Shows.{all_moves}
-use Rattle.kc_engine.specs.private.Lending.{HasMarkedGroup, HasClearedGroup}
+use Rattle.kc_engine.specs.private.Lending.{HasDoneGroup}
+use Rattle.kc_engine.specs.declared.showing.side_by_side.Task.TheVariants.{Mark, Clear}
 
-pub may_publish : (g count : ℕ) (old new : WriterState) → HasMarkedGroup g count old new → count ≡ length (group_at old.plan g).moves → g < length old.plan.groups → g ≡ old.published → MayPublish new g
+pub may_publish : (g count : ℕ) (old new : WriterState) → HasDoneGroup Mark g count old new → count ≡ length (group_at old.plan g).moves → g < length old.plan.groups → g ≡ old.published → MayPublish new g
 may_publish g count old new h size inside next =
     let plan : new.plan ≡ old.plan = ap (λ (s : WriterState). s.plan) h.same in record {
       inside = subst (λ (p : PhasePlan). g < length p.groups) (sym plan) inside;
@@ -21,7 +22,7 @@ may_publish g count old new h size inside next =
       all_marked = subst (λ (p : PhasePlan). AllMovesIn new.marked (group_at p g)) (sym plan) (all_moves new.marked old.plan g count size h.each);
     }
 
-pub group_shown : (g count : ℕ) (old mid last new : WriterState) → HasMarkedGroup g count old mid → last ≡ with_published mid → HasClearedGroup g count last new → count ≡ length (group_at old.plan g).moves → g < length old.plan.groups → g ≡ old.published → HasShownGroup g old new
+pub group_shown : (g count : ℕ) (old mid last new : WriterState) → HasDoneGroup Mark g count old mid → last ≡ with_published mid → HasDoneGroup Clear g count last new → count ≡ length (group_at old.plan g).moves → g < length old.plan.groups → g ≡ old.published → HasShownGroup g old new
 group_shown g count old mid last new marked is cleared size inside next =
     let group : slice_get old.plan.groups old.published ≡ Some (group_at old.plan g) = ap (slice_get old.plan.groups) (sym next) ∙ slice_get-get_or old.plan.groups g old.plan.quiet inside in
     let after : last ≡ with_published (record old { noted = mid.noted; marked = mid.marked; cleared = mid.cleared; loans = mid.loans; lent = mid.lent }) = is ∙ ap with_published marked.same in

@@ -13,7 +13,9 @@ use Rattle.kc_store.specs.declared.roles.MarkerState.{MarkerState}
 use Rattle.kc_store.specs.Seats.{MarkerShape}
 use Rattle.kc_store.specs.States.{loan_of, with_loan, without_loan, with_returned, marker_for, AreNotLent}
 use Rattle.kc_store.proofs.lemmas.Shows.{lent_marked, lent_cleared}
-use Rattle.kc_engine.specs.private.Lending.{IsHeld, IsLentBy, AreLent, MayMark, MayClear, HasMarkedRange, HasClearedRange, AreMarked, AreCleared, all_returned, HasMarkedGroup, HasClearedGroup}
+use Rattle.kc_engine.specs.private.Lending.{IsHeld, IsLentBy, AreLent, is_late, IsDue, MayDo, HasDoneRange, AreDone, all_returned, done_in, HasDoneGroup}
+use Rattle.kc_engine.specs.declared.showing.side_by_side.Task.{Task}
+use Rattle.kc_engine.specs.declared.showing.side_by_side.Task.TheVariants.{Mark, Clear}
 
 cases_of : {A : Type 0} → (x y : A) (xs : List A) → Contains (x ∷ xs) y → (x ≡ y) ⊎ Contains xs y
 cases_of x y xs on = go on.0 on.1 on.2
@@ -90,13 +92,13 @@ late_test g p lt = go (nat_lt g p) refl
     go true t = t
     go false t = absurd (let le : p ≤ g = grind (arith, nat_tests, t) in omega (arith, lt, le))
 
-pub may_mark : (table other : TableId) (plan : PhasePlan) (g end : ℕ) (old new : WriterState) (ms : List MarkerShape) → table ≡ other → plan ≡ old.plan → old.published ≤ g → AreLent table g end old new ms → All (MayMark other plan) ms
-may_mark table other plan g end old new ms t is le h k d lt =
-    let m = h.each k d lt in record { table_is = m.table_is ∙ t; plan_is = is ∙ sym m.plan_is; early = m.published_is ∙ early_test g old.published le }
+due_test : (task : Task) (g p : ℕ) → IsDue task g p → nat_lt g p ≡ is_late task
+due_test Mark g p le = early_test g p le
+due_test Clear g p lt = late_test g p lt
 
-pub may_clear : (table other : TableId) (plan : PhasePlan) (g end : ℕ) (old new : WriterState) (ms : List MarkerShape) → table ≡ other → plan ≡ old.plan → g < old.published → AreLent table g end old new ms → All (MayClear other plan) ms
-may_clear table other plan g end old new ms t is lt h k d inside =
-    let m = h.each k d inside in record { table_is = m.table_is ∙ t; plan_is = is ∙ sym m.plan_is; late = m.published_is ∙ late_test g old.published lt }
+pub may_do : (table other : TableId) (plan : PhasePlan) (task : Task) (g end : ℕ) (old new : WriterState) (ms : List MarkerShape) → table ≡ other → plan ≡ old.plan → IsDue task g old.published → AreLent table g end old new ms → All (MayDo other plan task) ms
+may_do table other plan task g end old new ms t is due h k d lt =
+    let m = h.each k d lt in record { table_is = m.table_is ∙ t; plan_is = is ∙ sym m.plan_is; published_is = m.published_is ∙ due_test task g old.published due }
 
 -- what each marker became
 partner : (R : MarkerShape → MarkerShape → Type 0) (ms ns : List MarkerShape) (m : MarkerShape) → length ns ≡ length ms → ((i : ℕ) (d : MarkerShape) → i < length ms → R (get_or ms i d) (get_or ns i d)) → Contains ms m → (n : MarkerShape) × Contains ns n × R m n
@@ -109,11 +111,13 @@ held_on : (R : MarkerShape → MarkerShape → Type 0) (ms ns : List MarkerShape
     → ((i : ℕ) (d : MarkerShape) → i < length ms → R (get_or ms i d) (get_or ns i d)) → All (IsHeld ms) ls → All (IsHeld ns) ls
 held_on R ms ns ls number long each h = All-weaker (IsHeld ms) (IsHeld ns) (λ l q. let p = partner R ms ns q.0 long each q.1 in (p.0, p.1, number q.0 p.0 p.2 ∙ q.2)) ls h
 
-pub marked_tables : (table other : TableId) (g end : ℕ) (old new : WriterState) (ms ns : List MarkerShape) → table ≡ other → AreLent table g end old new ms → AreMarked ms ns → All (λ (m : MarkerShape). m.table ≡ other) ns
-marked_tables table other g end old new ms ns t h a k d lt = let long = a.long in let inside : k < length ms = omega (arith, lt, long) in (a.each k d inside).table ∙ ((h.each k d inside).table_is ∙ t)
+pub done_tables : (table other : TableId) (task : Task) (g end : ℕ) (old new : WriterState) (ms ns : List MarkerShape) → table ≡ other → AreLent table g end old new ms → AreDone task ms ns → All (λ (m : MarkerShape). m.table ≡ other) ns
+done_tables table other task g end old new ms ns t h a k d lt = let long = a.long in let inside : k < length ms = omega (arith, lt, long) in (a.each k d inside).table ∙ ((h.each k d inside).table_is ∙ t)
 
-pub cleared_tables : (table other : TableId) (g end : ℕ) (old new : WriterState) (ms ns : List MarkerShape) → table ≡ other → AreLent table g end old new ms → AreCleared ms ns → All (λ (m : MarkerShape). m.table ≡ other) ns
-cleared_tables table other g end old new ms ns t h a k d lt = let long = a.long in let inside : k < length ms = omega (arith, lt, long) in (a.each k d inside).table ∙ ((h.each k d inside).table_is ∙ t)
+-- a marker that did its task has the loan that it had
+same_number : (task : Task) (m n : MarkerShape) → HasDoneRange task m n → n.state.loan.number ≡ m.state.loan.number
+same_number Mark m n r = ap (λ (z : MarkerState). z.loan.number) r.done
+same_number Clear m n r = ap (λ (z : MarkerState). z.loan.number) r.done
 
 -- giving back
 pub returned_last : (ms : List MarkerShape) (m : MarkerShape) (s : WriterState) → all_returned (ms ++ m ∷ []) s ≡ all_returned ms (with_returned m.state s)
@@ -195,31 +199,21 @@ returned_over table g count old mid ms ns h =
     let lent : a.lent ≡ mid.lent = ap (λ (s : WriterState). s.lent) (returned_same ns mid) in
     returned_same ns mid ∙ (ap (λ (s : WriterState). record s { noted = a.noted; marked = a.marked; cleared = a.cleared; loans = a.loans }) h.same ∙ ap (λ (k : ℕ). record old { noted = a.noted; marked = a.marked; cleared = a.cleared; loans = a.loans; lent = k }) (sym lent))
 
-pub group_marked : (table : TableId) (g count : ℕ) (old mid new : WriterState) (ms ns : List MarkerShape) → AreLent table g count old mid ms → AreMarked ms ns → new ≡ all_returned ns mid → HasMarkedGroup g count old new
-group_marked table g count old mid new ms ns h a is = subst (HasMarkedGroup g count old) (sym is) record {
-  same = returned_over table g count old mid ms ns h;
-  loans = returned_none ns mid (held_on HasMarkedRange ms ns mid.loans (λ m n r. ap (λ (z : MarkerState). z.loan.number) r.marked) a.long a.each h.held);
-  kept = λ v on. returned_kept ns mid v (subst (λ (s : WriterState). Contains s.cleared v) (sym h.same) on);
-  each = λ i lt.
-      let c = h.covered i lt in
-      let p = partner HasMarkedRange ms ns c.0 a.long a.each c.1 in
-      let b = lent_of c.0 c.1 in
-      returned_marked ns mid p.0 (vertex_at old.plan g i) p.1 (subst (λ (z : PhasePlan × ℕ). Contains p.0.state.marked (vertex_at z.0 z.1 i)) (λ t. (b.plan_is t, b.group_is t)) (lent_marked c.0.state.loan.to i c.0.state p.0.state p.2.marked c.2 c.3));
-}
-  where
-    lent_of : (m : MarkerShape) → Contains ms m → IsLentBy table g old m
-    lent_of m on = subst (IsLentBy table g old) on.2 (h.each on.0 m on.1)
+-- what one of the markers did counts once all are given back
+returned_done : (task : Task) (ns : List MarkerShape) (s : WriterState) (m n : MarkerShape) (i : ℕ) → Contains ns n → HasDoneRange task m n → m.state.loan.from ≤ i → i < m.state.loan.to → Contains (done_in task (all_returned ns s)) (vertex_at m.state.plan m.state.loan.group i)
+returned_done Mark ns s m n i on r from to = returned_marked ns s n (vertex_at m.state.plan m.state.loan.group i) on (lent_marked m.state.loan.to i m.state n.state r.done from to)
+returned_done Clear ns s m n i on r from to = returned_cleared ns s n (vertex_at m.state.plan m.state.loan.group i) on (lent_cleared m.state.loan.to i m.state n.state r.done from to)
 
-pub group_cleared : (table : TableId) (g count : ℕ) (old mid new : WriterState) (ms ns : List MarkerShape) → AreLent table g count old mid ms → AreCleared ms ns → new ≡ all_returned ns mid → HasClearedGroup g count old new
-group_cleared table g count old mid new ms ns h a is = subst (HasClearedGroup g count old) (sym is) record {
+pub group_done : (table : TableId) (task : Task) (g count : ℕ) (old mid new : WriterState) (ms ns : List MarkerShape) → AreLent table g count old mid ms → AreDone task ms ns → new ≡ all_returned ns mid → HasDoneGroup task g count old new
+group_done table task g count old mid new ms ns h a is = subst (HasDoneGroup task g count old) (sym is) record {
   same = returned_over table g count old mid ms ns h;
-  loans = returned_none ns mid (held_on HasClearedRange ms ns mid.loans (λ m n r. ap (λ (z : MarkerState). z.loan.number) r.cleared) a.long a.each h.held);
+  loans = returned_none ns mid (held_on (HasDoneRange task) ms ns mid.loans (same_number task) a.long a.each h.held);
   kept = λ v on. returned_kept ns mid v (subst (λ (s : WriterState). Contains s.cleared v) (sym h.same) on);
   each = λ i lt.
       let c = h.covered i lt in
-      let p = partner HasClearedRange ms ns c.0 a.long a.each c.1 in
+      let p = partner (HasDoneRange task) ms ns c.0 a.long a.each c.1 in
       let b = lent_of c.0 c.1 in
-      returned_cleared ns mid p.0 (vertex_at old.plan g i) p.1 (subst (λ (z : PhasePlan × ℕ). Contains p.0.state.cleared (vertex_at z.0 z.1 i)) (λ t. (b.plan_is t, b.group_is t)) (lent_cleared c.0.state.loan.to i c.0.state p.0.state p.2.cleared c.2 c.3));
+      subst (λ (z : PhasePlan × ℕ). Contains (done_in task (all_returned ns mid)) (vertex_at z.0 z.1 i)) (λ t. (b.plan_is t, b.group_is t)) (returned_done task ns mid c.0 p.0 i p.1 p.2 c.2 c.3);
 }
   where
     lent_of : (m : MarkerShape) → Contains ms m → IsLentBy table g old m

@@ -3,3 +3,4 @@ pub mod Batches
 pub mod Blanks
 pub mod Lending
 pub mod Rest
+pub mod Shows

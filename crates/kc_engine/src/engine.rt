@@ -222,10 +222,11 @@ impl Engine {
         let show = Show {
             rt,
             gate,
+            store,
             phases,
             n,
         };
-        show_phases(&show, store, writer, &mut self.places);
+        show_phases(&show, writer, &mut self.places);
         self.waits = false;
     }
 

@@ -1,13 +1,16 @@
 -- The markers of one group: they are lent, work side by side, and are given back.
-use Rattle.std.specs.Prelude.{◌≡◌, ℕ, ◌<◌, ◌≤◌, true, false, List, [], ◌∷◌, length, get_or, All, Contains, nat_lt}
+use Rattle.std.specs.Prelude.{◌≡◌, ℕ, ◌<◌, ◌≤◌, Bool, true, false, List, [], ◌∷◌, length, get_or, All, Contains, nat_lt}
 use Rattle.atomic_table.specs.Seated.{TableId}
 use Rattle.kc_groups.specs.declared.plans.PhasePlan.{PhasePlan}
 use Rattle.kc_groups.specs.WellFormed.{vertex_at}
 use Rattle.kc_store.specs.declared.roles.Loan.{Loan}
+use Rattle.kc_store.specs.declared.roles.MarkerState.{MarkerState}
 use Rattle.kc_store.specs.declared.roles.WriterState.{WriterState}
 use Rattle.kc_store.specs.Seats.{MarkerShape}
 use Rattle.kc_store.specs.States.{with_returned}
 use Rattle.kc_store.specs.Showing.{HasMarkedLent, HasClearedLent}
+use Rattle.kc_engine.specs.declared.showing.side_by_side.Task.{Task}
+use Rattle.kc_engine.specs.declared.showing.side_by_side.Task.TheVariants.{Mark, Clear}
 
 -- one of the markers has this loan
 abbrev pub IsHeld : List MarkerShape → Loan → Type 0
@@ -32,53 +35,50 @@ pub record AreLent (table : TableId) (g end : ℕ) (old new : WriterState) (ms :
   pub each : All (IsLentBy table g old) ms
   pub covered : (i : ℕ) → i < end → IsCovered ms i
 
--- the marker may mark
-pub record MayMark (table : TableId) (plan : PhasePlan) (m : MarkerShape) : Type 0 where
+-- whether the task is done after the group was published
+abbrev pub is_late : Task → Bool
+is_late Mark = false
+is_late Clear = true
+
+-- the task may be done on the group at place g, when `published` groups of the plan are published
+abbrev pub IsDue : Task → ℕ → ℕ → Type 0
+IsDue Mark g published = published ≤ g
+IsDue Clear g published = g < published
+
+-- the marker may do the task
+pub record MayDo (table : TableId) (plan : PhasePlan) (task : Task) (m : MarkerShape) : Type 0 where
   pub table_is : m.table ≡ table
   pub plan_is : plan ≡ m.state.plan
-  pub early : m.state.loan.published ≡ false
+  pub published_is : m.state.loan.published ≡ is_late task
 
--- the marker may clear
-pub record MayClear (table : TableId) (plan : PhasePlan) (m : MarkerShape) : Type 0 where
-  pub table_is : m.table ≡ table
-  pub plan_is : plan ≡ m.state.plan
-  pub late : m.state.loan.published ≡ true
+-- the marker did the task on its first moves, up to the number `end`, without `end`
+abbrev pub HasDoneLent : Task → ℕ → MarkerState → MarkerState → Type 0
+HasDoneLent Mark end old new = HasMarkedLent end old new
+HasDoneLent Clear end old new = HasClearedLent end old new
 
--- the marker marked each move of its range
-pub record HasMarkedRange (old new : MarkerShape) : Type 0 where
+-- the marker did the task on each move of its range
+pub record HasDoneRange (task : Task) (old new : MarkerShape) : Type 0 where
   pub table : new.table ≡ old.table
-  pub marked : HasMarkedLent old.state.loan.to old.state new.state
+  pub done : HasDoneLent task old.state.loan.to old.state new.state
 
--- the marker cleared each move of its range
-pub record HasClearedRange (old new : MarkerShape) : Type 0 where
-  pub table : new.table ≡ old.table
-  pub cleared : HasClearedLent old.state.loan.to old.state new.state
-
--- each marker marked its range
-pub record AreMarked (old new : List MarkerShape) : Type 0 where
+-- each marker did the task on its range
+pub record AreDone (task : Task) (old new : List MarkerShape) : Type 0 where
   pub long : length new ≡ length old
-  pub each : (i : ℕ) (d : MarkerShape) → i < length old → HasMarkedRange (get_or old i d) (get_or new i d)
-
--- each marker cleared its range
-pub record AreCleared (old new : List MarkerShape) : Type 0 where
-  pub long : length new ≡ length old
-  pub each : (i : ℕ) (d : MarkerShape) → i < length old → HasClearedRange (get_or old i d) (get_or new i d)
+  pub each : (i : ℕ) (d : MarkerShape) → i < length old → HasDoneRange task (get_or old i d) (get_or new i d)
 
 -- the markers are given back, the last one first
 abbrev pub all_returned : List MarkerShape → WriterState → WriterState
 all_returned [] s = s
 all_returned (m ∷ ms) s = with_returned m.state (all_returned ms s)
 
--- the first `count` moves of the group at place g are marked, and no marker is out
-pub record HasMarkedGroup (g count : ℕ) (old new : WriterState) : Type 0 where
-  pub same : new ≡ record old { noted = new.noted; marked = new.marked; cleared = new.cleared; loans = new.loans; lent = new.lent }
-  pub loans : new.loans ≡ []
-  pub kept : (v : ℕ) → Contains old.cleared v → Contains new.cleared v
-  pub each : (i : ℕ) → i < count → Contains new.marked (vertex_at old.plan g i)
+-- the vertices whose moves the task was done on
+abbrev pub done_in : Task → WriterState → List ℕ
+done_in Mark s = s.marked
+done_in Clear s = s.cleared
 
--- the first `count` moves of the group at place g are cleared, and no marker is out
-pub record HasClearedGroup (g count : ℕ) (old new : WriterState) : Type 0 where
+-- the task was done on the first `count` moves of the group at place g, and no marker is out
+pub record HasDoneGroup (task : Task) (g count : ℕ) (old new : WriterState) : Type 0 where
   pub same : new ≡ record old { noted = new.noted; marked = new.marked; cleared = new.cleared; loans = new.loans; lent = new.lent }
   pub loans : new.loans ≡ []
   pub kept : (v : ℕ) → Contains old.cleared v → Contains new.cleared v
-  pub each : (i : ℕ) → i < count → Contains new.cleared (vertex_at old.plan g i)
+  pub each : (i : ℕ) → i < count → Contains (done_in task new) (vertex_at old.plan g i)

@@ -12,18 +12,17 @@ use crate::showing::sizes::groups_of;
 use kc_groups::PhasePlan;
 use kc_history::MAX_PHASE;
 use kc_rounds::Gate;
-use kc_store::{Store, Writer};
+use kc_store::Writer;
 use std::thread::Threads;
 
 // Begins the phase of a plan, and shows each of its groups.
 fn show_phase<R: Threads + Sync, G: Gate + Sync>(
     show: &Show<'_, R, G>,
-    store: &Store,
     writer: &mut Writer,
     plan: &PhasePlan,
     places: &mut MarkerPlaces,
 )
-    requires table { writer.old.table ≡ store.now.table }
+    requires table { writer.old.table ≡ show.now.table }
     requires vertices { show.now.n ≡ writer.old.state.vertices }
     requires begins { MayBegin writer.old.state plan.now }
     ensures same { places.new ≡ places.old }
@@ -31,18 +30,18 @@ fn show_phase<R: Threads + Sync, G: Gate + Sync>(
     ensures shown { HasShown plan.now (length plan.now.groups) writer.old.state writer.new.state }
 {
     let n = show.n;
-    writer.begin(store, plan);
+    writer.begin(show.store, plan);
     for g in 0..groups_of(plan, n) {
         let group = PlannedGroup::new(plan, n, g);
-        places.show_group(show, store, writer, &group);
+        places.show_group(show, writer, &group);
     }
 }
 
 // Shows the phases of a show, one after another: the writer's history grows by their entries (`AreShown`).
 //
-// The store is the writer's and for n vertices. Each group of the last begun phase is published, and each of its moves
-// is cleared. No marker is out. All of that holds again afterwards. The phases go on from the writer's history
-// (`GoOn`), and the number of the last is at most `MAX_PHASE`.
+// The store of the show is the writer's and for n vertices. Each group of the last begun phase is published, and each
+// of its moves is cleared. No marker is out. All of that holds again afterwards. The phases go on from the writer's
+// history (`GoOn`), and the number of the last is at most `MAX_PHASE`.
 //
 // The moves of a group are cut into ranges. A range has the number of moves divided by the workers, rounded up. Each
 // range is marked and cleared in a thread of its own if one can be made. If the group is short and not the first one
@@ -52,21 +51,20 @@ fn show_phase<R: Threads + Sync, G: Gate + Sync>(
 // `Publishing` before each publication. Takes no memory, and never waits.
 pub(crate) fn show_phases<R: Threads + Sync, G: Gate + Sync>(
     show: &Show<'_, R, G>,
-    store: &Store,
     writer: &mut Writer,
     places: &mut MarkerPlaces,
 )
-    requires table { writer.old.table ≡ store.now.table }
+    requires table { writer.old.table ≡ show.now.table }
     requires vertices { show.now.n ≡ writer.old.state.vertices }
     requires idle { IsIdle writer.old.state }
-    requires phases { GoOn show.now.n writer.old.state.phase writer.old.state.history show.now.phases.now }
-    requires few { writer.old.state.phase + length show.now.phases.now ≤ MAX_PHASE }
+    requires phases { GoOn show.now.n writer.old.state.phase writer.old.state.history show.now.phases }
+    requires few { writer.old.state.phase + length show.now.phases ≤ MAX_PHASE }
     ensures same { places.new ≡ places.old }
     ensures table { writer.new.table ≡ writer.old.table }
-    ensures shown { AreShown show.now.phases.now writer.old.state writer.new.state }
+    ensures shown { AreShown show.now.phases writer.old.state writer.new.state }
 {
     let phases = show.phases;
     for i in 0..phases.len() {
-        show_phase(show, store, writer, &phases[i], places);
+        show_phase(show, writer, &phases[i], places);
     }
 }

@@ -1,14 +1,14 @@
 //! Showing of one group: several markers mark its moves, it is published, and the moves are cleared.
-ghost use Rattle.std.specs.Prelude.{◌≡◌, ◌≤◌, ◌<◌, [], IfOk, length};
+ghost use Rattle.std.specs.Prelude.{◌≡◌, ◌≤◌, ◌<◌, [], IfOk};
 ghost use Rattle.kc_store.specs.private.Showing.{HasShownGroup};
-ghost use Rattle.kc_engine.specs.private.Lending.{HasMarkedGroup, HasClearedGroup};
+ghost use Rattle.kc_engine.specs.private.Lending.{IsDue, HasDoneGroup};
 
 use crate::showing::lending::{give_back_all, lend_all};
 use crate::showing::planned::PlannedGroup;
 use crate::showing::show::Show;
-use crate::showing::side_by_side::{clear_lent, mark_lent};
+use crate::showing::side_by_side::{Task, do_lent};
 use kc_rounds::{Gate, Spot};
-use kc_store::{Marker, Store, Writer};
+use kc_store::{Marker, Writer};
 use std::alloc::{AllocError, Global};
 use std::marker::Model;
 use std::thread::Threads;
@@ -75,59 +75,37 @@ impl MarkerPlaces {
         }
     }
 
-    // Marks the moves of a group that isn't published yet. No marker is out before or afterwards.
-    fn mark_group<R: Threads + Sync, G: Gate + Sync>(
+    // Does the task on the moves of a group (`IsDue`): it isn't published yet if they are marked, and is published if
+    // they are cleared. No marker is out before or afterwards.
+    fn do_group<R: Threads + Sync, G: Gate + Sync>(
         &mut self,
         show: &Show<'_, R, G>,
-        store: &Store,
         writer: &mut Writer,
         group: &PlannedGroup<'_>,
+        task: Task,
     )
-        requires table { writer.old.table ≡ store.now.table }
+        requires table { writer.old.table ≡ show.now.table }
         requires plan { group.now.plan.now ≡ writer.old.state.plan }
-        requires early { writer.old.state.published ≤ group.now.g }
+        requires due { IsDue task group.now.g writer.old.state.published }
         requires none_out { writer.old.state.loans ≡ [] }
         ensures same { self.new ≡ self.old }
         ensures table { writer.new.table ≡ writer.old.table }
-        ensures marked { HasMarkedGroup group.now.g group.now.moves writer.old.state writer.new.state }
+        ensures done { HasDoneGroup task group.now.g group.now.moves writer.old.state writer.new.state }
     {
         let threads = self.threads_for(group.moves);
-        lend_all(store, writer, group, self.workers, &mut self.markers);
-        mark_lent(show, store, group.plan, threads, &mut self.markers);
-        give_back_all(store, writer, &mut self.markers);
-    }
-
-    // Clears the moves of a group that is published. No marker is out before or afterwards.
-    fn clear_group<R: Threads + Sync, G: Gate + Sync>(
-        &mut self,
-        show: &Show<'_, R, G>,
-        store: &Store,
-        writer: &mut Writer,
-        group: &PlannedGroup<'_>,
-    )
-        requires table { writer.old.table ≡ store.now.table }
-        requires plan { group.now.plan.now ≡ writer.old.state.plan }
-        requires late { group.now.g < writer.old.state.published }
-        requires none_out { writer.old.state.loans ≡ [] }
-        ensures same { self.new ≡ self.old }
-        ensures table { writer.new.table ≡ writer.old.table }
-        ensures cleared { HasClearedGroup group.now.g group.now.moves writer.old.state writer.new.state }
-    {
-        let threads = self.threads_for(group.moves);
-        lend_all(store, writer, group, self.workers, &mut self.markers);
-        clear_lent(show, store, group.plan, threads, &mut self.markers);
-        give_back_all(store, writer, &mut self.markers);
+        lend_all(show.store, writer, group, self.workers, &mut self.markers);
+        do_lent(show, group.plan, task, threads, &mut self.markers);
+        give_back_all(show.store, writer, &mut self.markers);
     }
 
     // Marks, publishes and clears the next group. No marker is out before or afterwards.
     pub(crate) fn show_group<R: Threads + Sync, G: Gate + Sync>(
         &mut self,
         show: &Show<'_, R, G>,
-        store: &Store,
         writer: &mut Writer,
         group: &PlannedGroup<'_>,
     )
-        requires table { writer.old.table ≡ store.now.table }
+        requires table { writer.old.table ≡ show.now.table }
         requires plan { group.now.plan.now ≡ writer.old.state.plan }
         requires next { group.now.g ≡ writer.old.state.published }
         requires none_out { writer.old.state.loans ≡ [] }
@@ -135,10 +113,10 @@ impl MarkerPlaces {
         ensures table { writer.new.table ≡ writer.old.table }
         ensures shown { HasShownGroup group.now.g writer.old.state writer.new.state }
     {
-        self.mark_group(show, store, writer, group);
+        self.do_group(show, writer, group, Task::Mark);
         tell_publishing(show.gate, group);
-        writer.publish(store, group.plan, group.g);
-        self.clear_group(show, store, writer, group);
+        writer.publish(show.store, group.plan, group.g);
+        self.do_group(show, writer, group, Task::Clear);
         self.is_first_ahead = false;
     }
 }
