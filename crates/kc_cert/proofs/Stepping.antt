@@ -1,7 +1,9 @@
 -- One line of a certificate, and what the lines say after it.
-use Rattle.std.proofs.Common.{zero, suc, ◌≡◌, List, refl, sym, ap, subst, ◌∙◌}
+use Rattle.std.proofs.Common.{ℕ, zero, suc, ◌≡◌, List, [], ◌∷◌, length, refl, sym, ap, subst, ◌∙◌}
 use Rattle.std.specs.Prelude.{Option, Some, None, Result, Ok, Err}
 use Rattle.std.specs.Option.{option_map}
+use Rattle.std.proofs.lemmas.Option.{same_Some}
+use Rattle.kc_levels.specs.Thresholds.{top_level}
 use Rattle.kc_text.specs.declared.reason.Reason.{Reason}
 use Rattle.kc_cert.specs.declared.certificate.Certificate.{Certificate}
 use Rattle.kc_cert.specs.declared.read.CertFault.{CertFault}
@@ -10,9 +12,8 @@ use Rattle.kc_cert.specs.declared.token.Token.{Token}
 use Rattle.kc_cert.specs.declared.token.Kind.{Kind}
 use Rattle.kc_cert.specs.declared.token.Kind.TheVariants as kind
 use Rattle.kc_cert.specs.private.Tokens.{onto_token}
-use Rattle.kc_cert.specs.Documents.{Stage, AtMagic, AtProfile, AtVertices, AtEdgeCount, AtBody, AtInputEnd, Done, Accepted, Refused, stage_after, input_end_of, read_from}
-use Rattle.kc_cert.specs.Reads.{IsAnswer}
-use Rattle.kc_cert.specs.private.Reads.{Answers}
+use Rattle.kc_cert.specs.Documents.{Stage, AtMagic, AtProfile, AtVertices, AtEdgeCount, AtBody, AtInputEnd, Done, Accepted, Refused, with_last_level, level_of, input_end_of, onward, stage_after, act, read_from}
+use Rattle.kc_cert.specs.private.Reads.{Answers, Fits}
 use Rattle.kc_cert.proofs.Saying.{GoesOn}
 
 -- a line is due
@@ -69,9 +70,15 @@ pub reads_on : (s s' : Stage) (t : Token) (rest : List Token) → stage_after s 
 unfolding read_from
 reads_on s s' t rest e h = rw (e, goes_on s s' t.kind e h rest) refl
 
-pub answers_on : (s s' : Stage) (t : Token) (old new : Option (List Token)) (r : Result Certificate CertFault) → stage_after s t.kind ≡ Ok s' → IsOpen s' → old ≡ option_map (onto_token t) new → Answers s' new r → Answers s old r
-answers_on s s' t old None r e h told a = rw told tt
-answers_on s s' t old (Some rest) r e h told a = rw told (subst (λ d. IsAnswer r d) (sym (reads_on s s' t rest e h)) a)
+pub reaches_on : (s s' : Stage) (t : Token) (old new : Option (List Token)) → stage_after s t.kind ≡ Ok s' → IsOpen s' → old ≡ option_map (onto_token t) new → option_map (read_from s) old ≡ option_map (read_from s') new
+reaches_on s s' t old None e h told = rw told refl
+reaches_on s s' t old (Some rest) e h told = rw told (ap Some (reads_on s s' t rest e h))
+
+-- the result of the lines from a later stage on
+pub answers_before : (s s' : Stage) (old new : Option (List Token)) (r : Result Certificate CertFault) → option_map (read_from s) old ≡ option_map (read_from s') new → Answers s' new r → Answers s old r
+answers_before s s' None new r e a = tt
+answers_before s s' (Some ts) None r e a = absurd cc
+answers_before s s' (Some ts) (Some rest) r e a = rw (same_Some _ _ e) a
 
 refused : (s : Stage) (t : Token) (rest : List Token) (reason : Reason) → stage_after s t.kind ≡ Err reason → read_from s (onto_token t rest) ≡ Refused t.number reason
 unfolding read_from
@@ -82,24 +89,47 @@ pub answers_refused : (s : Stage) (t : Token) (old new : Option (List Token)) (r
 answers_refused s t old None reason e told = rw told tt
 answers_refused s t old (Some rest) reason e told = rw told (refused s t rest reason e)
 
-ends_input : (k : Kind) → input_end_of k ≡ Ok tt → k ≡ kind.InputEnd
-ends_input kind.Magic e = cc
-ends_input (kind.Profile p) e = cc
-ends_input (kind.Vertices n) e = cc
-ends_input (kind.EdgeCount m) e = cc
-ends_input (kind.Edge a b) e = cc
-ends_input (kind.Level v l) e = cc
-ends_input kind.Close e = cc
-ends_input kind.Other e = cc
-ends_input kind.TooLong e = cc
-ends_input kind.Limit e = cc
-ends_input kind.InputEnd e = refl
+pub answers_misfit : {T : Type 0} (s : Stage) (next : T → Stage) (t : Token) (old new : Option (List Token)) (found : Result T Reason) (f : CertFault) → stage_after s t.kind ≡ onward next found → old ≡ option_map (onto_token t) new → Fits t.number found (Err f)
+    → Answers s old (Err f)
+answers_misfit s next t old new found (fault.Refused line reason) e told h = rw h.0 (answers_refused s t old new reason (e ∙ ap (onward next) h.1) told)
+answers_misfit s next t old new found fault.ReadFault e told h = absurd h
+answers_misfit s next t old new found (fault.Memory m) e told h = absurd h
+
+after_level : (cert : Certificate) (a b levels number : ℕ) (rest : List Token) (x : Result ℕ Reason) → ((c : Certificate) → read_from (AtBody c zero a b levels) rest ≡ read_from (AtBody c zero 0 0 levels) rest)
+    → act number (onward (λ l. AtBody (with_last_level cert l) zero a b levels) x) (λ next. read_from next rest) ≡ act number (onward (λ l. AtBody (with_last_level cert l) zero 0 0 levels) x) (λ next. read_from next rest)
+after_level cert a b levels number rest (Ok l) h = h (with_last_level cert l)
+after_level cert a b levels number rest (Err reason) h = refl
+
+no_edge_due : (cert : Certificate) (a b levels : ℕ) (ts : List Token) → read_from (AtBody cert zero a b levels) ts ≡ read_from (AtBody cert zero 0 0 levels) ts
+unfolding read_from
+no_edge_due cert a b levels [] = refl
+no_edge_due cert a b zero (t ∷ rest) = refl
+no_edge_due cert a b (suc levels) (t ∷ rest) =
+    after_level cert a b levels t.number rest (level_of cert.graph.vertices (top_level cert.profile cert.graph.vertices) (length cert.levels) t.kind) (λ c. no_edge_due c a b levels rest)
+
+-- after the last edge it doesn't matter which edge could follow
+pub all_edges_read : (cert : Certificate) (a b levels : ℕ) (told : Option (List Token)) → option_map (read_from (AtBody cert 0 a b levels)) told ≡ option_map (read_from (AtBody cert 0 0 0 levels)) told
+all_edges_read cert a b levels None = refl
+all_edges_read cert a b levels (Some ts) = ap Some (no_edge_due cert a b levels ts)
+
+ends_input : (k : Kind) (u : Unit {0}) → input_end_of k ≡ Ok u → k ≡ kind.InputEnd
+ends_input kind.Magic u e = cc
+ends_input (kind.Profile p) u e = cc
+ends_input (kind.Vertices n) u e = cc
+ends_input (kind.EdgeCount m) u e = cc
+ends_input (kind.Edge a b) u e = cc
+ends_input (kind.Level v l) u e = cc
+ends_input kind.Close u e = cc
+ends_input kind.Other u e = cc
+ends_input kind.TooLong u e = cc
+ends_input kind.Limit u e = cc
+ends_input kind.InputEnd u e = refl
 
 accepted : (cert : Certificate) (t : Token) (rest : List Token) → t.kind ≡ kind.InputEnd → read_from (AtInputEnd cert) (onto_token t rest) ≡ Accepted cert
 unfolding read_from
 accepted cert t rest e = rw e refl
 
 -- the end of the input after `end`
-pub answers_accepted : (cert : Certificate) (t : Token) (old new : Option (List Token)) → input_end_of t.kind ≡ Ok tt → old ≡ option_map (onto_token t) new → Answers (AtInputEnd cert) old (Ok cert)
-answers_accepted cert t old None e told = rw told tt
-answers_accepted cert t old (Some rest) e told = rw told (accepted cert t rest (ends_input t.kind e))
+pub answers_accepted : (cert : Certificate) (t : Token) (old new : Option (List Token)) (u : Unit {0}) → input_end_of t.kind ≡ Ok u → old ≡ option_map (onto_token t) new → Answers (AtInputEnd cert) old (Ok cert)
+answers_accepted cert t old None u e told = rw told tt
+answers_accepted cert t old (Some rest) u e told = rw told (accepted cert t rest (ends_input t.kind u e))

@@ -1,9 +1,9 @@
 //! Reads a certificate line by line into a graph and its levels, or refuses it at its first line that doesn't fit.
-ghost use Rattle.std.specs.Prelude.{◌≡◌, ℕ, ◌≤◌, [], length, IfOk, IfSome};
+ghost use Rattle.std.specs.Prelude.{◌≡◌, ℕ, ◌≤◌, length, IfOk, IfSome};
 ghost use Rattle.kc_graph.specs.declared.limits.TheConstants.{MAX_EDGES, MAX_VERTICES};
 ghost use Rattle.kc_cert.specs.Tokens.{tokens_left};
-ghost use Rattle.kc_cert.specs.Documents.{AtProfile, AtVertices, AtEdgeCount, AtBody, AtInputEnd, empty_certificate, document_of};
-ghost use Rattle.kc_cert.specs.private.Reads.{Answers};
+ghost use Rattle.kc_cert.specs.Documents.{AtMagic, AtBody, document_of};
+ghost use Rattle.kc_cert.specs.private.Reads.{at_edges, at_levels, at_close, Answers, Fits, Reaches};
 ghost use Rattle.kc_cert.specs.Reads.{IsAnswer, CertCause};
 ghost use Rattle.kc_cert.specs.Texts.{IsCertificate};
 
@@ -57,82 +57,16 @@ impl From<AllocError> for CertFault {
     }
 }
 
-// Reads the end of the input.
-fn read_input_end<S: Source>(
-    alloc: Global,
-    reader: &mut LineReader,
-    src: &mut S,
-    cert: Certificate,
-) -> Result<Certificate, CertFault>
-    requires { IsCertificate cert }
-    ensures document { Answers (AtInputEnd cert) (tokens_left reader.old (S.left src.old)) result }
-    ensures sound { IfOk result IsCertificate }
-    ensures cause { CertCause (S.faults src.old) (S.faults src.new) result }
+// Returns what the line with this number says if it fits in its place, and refuses the line otherwise.
+#[inline(always)]
+fn fit_at<T: Drop>(line: u32, found: Result<T, Reason>) -> Result<T, CertFault>
+    ensures fits { Fits line found result }
+    ensures cause { (count : ℕ) → CertCause count count result }
 {
-    let token = next_token(alloc, reader, src)?;
-    match input_end_of(token.kind) {
-        Ok(()) => Ok(cert),
-        Err(reason) => {
-            let line = token.number;
-            Err(CertFault::Refused { line, reason })
-        }
+    match found {
+        Ok(value) => Ok(value),
+        Err(reason) => Err(CertFault::Refused { line, reason }),
     }
-}
-
-// Reads `end` and the lines after it.
-fn read_end<S: Source>(
-    alloc: Global,
-    reader: &mut LineReader,
-    src: &mut S,
-    cert: Certificate,
-) -> Result<Certificate, CertFault>
-    requires { IsCertificate cert }
-    ensures document { (a b : ℕ) → Answers (AtBody cert 0 a b 0) (tokens_left reader.old (S.left src.old)) result }
-    ensures sound { IfOk result IsCertificate }
-    ensures cause { CertCause (S.faults src.old) (S.faults src.new) result }
-{
-    let token = next_token(alloc, reader, src)?;
-    match close_of(token.kind) {
-        Ok(()) => read_input_end(alloc, reader, src, cert),
-        Err(reason) => {
-            let line = token.number;
-            Err(CertFault::Refused { line, reason })
-        }
-    }
-}
-
-// Reads the levels and the lines after them.
-fn read_levels<S: Source>(
-    alloc: Global,
-    reader: &mut LineReader,
-    src: &mut S,
-    profile: Profile,
-    graph: Graph,
-) -> Result<Certificate, CertFault>
-    requires { length graph.edges ≤ MAX_EDGES }
-    ensures document { (a b : ℕ) → Answers (AtBody (record { profile = profile; graph = graph; levels = [] }) 0 a b graph.vertices) (tokens_left reader.old (S.left src.old)) result }
-    ensures sound { IfOk result IsCertificate }
-    ensures cause { CertCause (S.faults src.old) (S.faults src.new) result }
-{
-    let n = graph.vertices();
-    let top = Thresholds::new(alloc, profile, n)?.top();
-    let mut levels = Levels::zeros(alloc, n)?;
-    for v in 0..n {
-        let token = next_token(alloc, reader, src)?;
-        match level_of(n, top, v, token.kind) {
-            Ok(level) => levels.set(v, level),
-            Err(reason) => {
-                let line = token.number;
-                return Err(CertFault::Refused { line, reason });
-            }
-        }
-    }
-    let cert = Certificate {
-        profile,
-        graph,
-        levels,
-    };
-    read_end(alloc, reader, src, cert)
 }
 
 // What the first lines of a certificate say of its body.
@@ -149,15 +83,35 @@ struct Head {
     ghost few: { edges ≤ MAX_EDGES },
 }
 
-// Reads the edges and the lines after them.
+// Reads the four lines before the edges.
+fn read_head<S: Source>(
+    alloc: Global,
+    reader: &mut LineReader,
+    src: &mut S,
+) -> Result<Head, CertFault>
+    ensures head { Reaches AtMagic (λ h. at_edges h.profile h.n h.edges) (tokens_left reader.old (S.left src.old)) (tokens_left reader.new (S.left src.new)) result }
+    ensures cause { CertCause (S.faults src.old) (S.faults src.new) result }
+{
+    let first = next_token(alloc, reader, src)?;
+    fit_at(first.number, magic_of(first.kind))?;
+    let second = next_token(alloc, reader, src)?;
+    let profile = fit_at(second.number, profile_of(second.kind))?;
+    let third = next_token(alloc, reader, src)?;
+    let n = fit_at(third.number, vertices_of(third.kind))?;
+    let fourth = next_token(alloc, reader, src)?;
+    let edges = fit_at(fourth.number, edge_count_of(fourth.kind))?;
+    Ok(Head { profile, n, edges })
+}
+
+// Reads the edges.
 fn read_edges<S: Source>(
     alloc: Global,
     reader: &mut LineReader,
     src: &mut S,
     head: Head,
-) -> Result<Certificate, CertFault>
-    ensures document { Answers (AtBody (empty_certificate head.profile head.n) head.edges 0 0 head.n) (tokens_left reader.old (S.left src.old)) result }
-    ensures sound { IfOk result IsCertificate }
+) -> Result<Graph, CertFault>
+    ensures edges { Reaches (at_edges head.profile head.n head.edges) (at_levels head.profile) (tokens_left reader.old (S.left src.old)) (tokens_left reader.new (S.left src.new)) result }
+    ensures few { IfOk result (λ graph. length graph.edges ≤ MAX_EDGES) }
     ensures cause { CertCause (S.faults src.old) (S.faults src.new) result }
 {
     let n = head.n;
@@ -167,85 +121,56 @@ fn read_edges<S: Source>(
     let mut b = 0;
     for i in 0..head.edges {
         let token = next_token(alloc, reader, src)?;
-        match edge_of(n, a, b, token.kind) {
-            Ok(edge) => {
-                add_edge(alloc, &mut graph, &mut waiting, edge)?;
-                a = edge.a;
-                b = edge.b + 1;
-            }
-            Err(reason) => {
-                let line = token.number;
-                return Err(CertFault::Refused { line, reason });
-            }
-        }
+        let edge = fit_at(token.number, edge_of(n, a, b, token.kind))?;
+        add_edge(alloc, &mut graph, &mut waiting, edge)?;
+        a = edge.a;
+        b = edge.b + 1;
     }
     let_in(alloc, &mut graph, &mut waiting)?;
-    read_levels(alloc, reader, src, head.profile, graph)
+    Ok(graph)
 }
 
-// Reads the number of edges and the lines after it.
-fn read_edge_count<S: Source>(
+// Reads the level of each vertex.
+fn read_levels<S: Source>(
     alloc: Global,
     reader: &mut LineReader,
     src: &mut S,
     profile: Profile,
-    n: u32,
-) -> Result<Certificate, CertFault>
-    requires some { 1 ≤ n }
-    requires small { n ≤ MAX_VERTICES }
-    ensures document { Answers (AtEdgeCount profile n) (tokens_left reader.old (S.left src.old)) result }
-    ensures sound { IfOk result IsCertificate }
+    graph: &Graph,
+) -> Result<Levels, CertFault>
+    requires { length graph.now.edges ≤ MAX_EDGES }
+    ensures levels { Reaches (at_levels profile graph.now) (at_close profile graph.now) (tokens_left reader.old (S.left src.old)) (tokens_left reader.new (S.left src.new)) result }
+    ensures sound { IfOk result (λ levels. IsCertificate (record { profile = profile; graph = graph.now; levels = levels })) }
     ensures cause { CertCause (S.faults src.old) (S.faults src.new) result }
 {
-    let token = next_token(alloc, reader, src)?;
-    match edge_count_of(token.kind) {
-        Ok(edges) => read_edges(alloc, reader, src, Head { profile, n, edges }),
-        Err(reason) => {
-            let line = token.number;
-            Err(CertFault::Refused { line, reason })
-        }
+    let n = graph.vertices();
+    let top = Thresholds::new(alloc, profile, n)?.top();
+    let mut levels = Levels::zeros(alloc, n)?;
+    for v in 0..n {
+        let token = next_token(alloc, reader, src)?;
+        let level = fit_at(token.number, level_of(n, top, v, token.kind))?;
+        levels.set(v, level);
     }
+    Ok(levels)
 }
 
-// Reads the number of vertices and the lines after it.
-fn read_vertices<S: Source>(
+// Reads `end`, and then the end of the input.
+fn read_end<S: Source>(
     alloc: Global,
     reader: &mut LineReader,
     src: &mut S,
-    profile: Profile,
+    cert: Certificate,
 ) -> Result<Certificate, CertFault>
-    ensures document { Answers (AtVertices profile) (tokens_left reader.old (S.left src.old)) result }
+    requires { IsCertificate cert }
+    ensures document { Answers (AtBody cert 0 0 0 0) (tokens_left reader.old (S.left src.old)) result }
     ensures sound { IfOk result IsCertificate }
     ensures cause { CertCause (S.faults src.old) (S.faults src.new) result }
 {
-    let token = next_token(alloc, reader, src)?;
-    match vertices_of(token.kind) {
-        Ok(n) => read_edge_count(alloc, reader, src, profile, n),
-        Err(reason) => {
-            let line = token.number;
-            Err(CertFault::Refused { line, reason })
-        }
-    }
-}
-
-// Reads the profile and the lines after it.
-fn read_profile<S: Source>(
-    alloc: Global,
-    reader: &mut LineReader,
-    src: &mut S,
-) -> Result<Certificate, CertFault>
-    ensures document { Answers AtProfile (tokens_left reader.old (S.left src.old)) result }
-    ensures sound { IfOk result IsCertificate }
-    ensures cause { CertCause (S.faults src.old) (S.faults src.new) result }
-{
-    let token = next_token(alloc, reader, src)?;
-    match profile_of(token.kind) {
-        Ok(profile) => read_vertices(alloc, reader, src, profile),
-        Err(reason) => {
-            let line = token.number;
-            Err(CertFault::Refused { line, reason })
-        }
-    }
+    let close = next_token(alloc, reader, src)?;
+    fit_at(close.number, close_of(close.kind))?;
+    let last = next_token(alloc, reader, src)?;
+    fit_at(last.number, input_end_of(last.kind))?;
+    Ok(cert)
 }
 
 /// Reads a certificate up to the end of the input (`document_of` of `specs/Documents`).
@@ -275,12 +200,13 @@ pub fn read_certificate<S: Source>(
     ensures sound { IfOk result IsCertificate }
     ensures cause { CertCause (S.faults src.old) (S.faults src.new) result }
 {
-    let token = next_token(alloc, reader, src)?;
-    match magic_of(token.kind) {
-        Ok(()) => read_profile(alloc, reader, src),
-        Err(reason) => {
-            let line = token.number;
-            Err(CertFault::Refused { line, reason })
-        }
-    }
+    let head = read_head(alloc, reader, src)?;
+    let graph = read_edges(alloc, reader, src, head)?;
+    let levels = read_levels(alloc, reader, src, head.profile, &graph)?;
+    let cert = Certificate {
+        profile: head.profile,
+        graph,
+        levels,
+    };
+    read_end(alloc, reader, src, cert)
 }

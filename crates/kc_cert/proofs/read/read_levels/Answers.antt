@@ -1,40 +1,41 @@
-use Rattle.std.proofs.Common.{ℕ, ◌-◌, ◌<◌, ◌≡◌, ◌∙◌, length, take, length-set, sym, arith}
-use Rattle.std.specs.Prelude.{Err}
+use Rattle.std.proofs.Common.{◌+◌, ◌-◌, ◌<◌, ◌≡◌, ◌∙◌, ◌++◌, ◌∷◌, [], length, take, length-set, sym, arith}
 use Rattle.std.proofs.lemmas.List.{take_all, take_more_set}
-use Rattle.kc_cert.specs.declared.read.CertFault.TheVariants.{Refused}
+use Rattle.std.specs.Prelude.{Err}
+use Rattle.std.proofs.lemmas.Result.{err_from_is_err_and}
+use Rattle.kc_cert.specs.Documents.{AtBody}
 use Rattle.kc_cert.proofs.LevelSteps.{level_fits, level_step, capped_more}
-use Rattle.kc_cert.proofs.Stepping.{answers_on, answers_refused}
+use Rattle.kc_cert.proofs.Stepping.{reaches_on, answers_before, answers_misfit}
 use Rattle.kc_cert.proofs.read.read_levels.Goals as goal
 
-pub returns-in-Err-clause-document : goal.returns-in-Err-clause-document
-returns-in-Err-clause-document g c a b =
+pub returns-in_err-level-clause-levels : goal.returns-in_err-level-clause-levels
+returns-in_err-level-clause-levels g c =
     let t = c.in_ok-token.token in
-    let p = c.args.profile in
     let n = c.vertices-n.result in
     let v = c.loop-v.v in
-    let x_is = sym c.in-Err.is ∙ c.level_of.ensures in
-    let step = level_step p c.args.graph c.loop-v.levels a b v n c.top-top.result t.kind _ c.vertices-n.ensures.count c.loop-v.invariant.top c.loop-v.invariant.sized c.loop-v-test.true x_is in
-    c.loop-v.invariant.answers a b (Err (Refused t.number c.in-Err.reason)) (answers_refused _ t _ _ c.in-Err.reason step c.in_ok-token.ensures.token)
+    let xs = c.loop-v.levels in
+    let step = level_step c.args.profile c.args.graph.now xs 0 0 v n c.top-top.result t.kind _ c.vertices-n.ensures.count c.loop-v.invariant.top c.loop-v.invariant.sized c.loop-v-test.true c.level_of.ensures in
+    let p = err_from_is_err_and c.from_residual-in_err-level.result c.from_residual-in_err-level.ensures.1 in
+    rw (p.1, p.2) (answers_before _ _ _ _ (Err c.in_err-level.field-0.0) c.loop-v.invariant.same (answers_misfit (AtBody (record { profile = c.args.profile; graph = c.args.graph.now; levels = take v xs }) 0 0 0 (n - v)) (λ l. AtBody (record { profile = c.args.profile; graph = c.args.graph.now; levels = take v xs ++ l ∷ [] }) 0 0 0 (n - (v + 1))) t _ _ _ _ step c.in_ok-token.ensures.token c.in_err-level.ensures.fits))
 
-pub returns-clause-document : goal.returns-clause-document
-returns-clause-document g c a b =
+pub returns-clause-levels : goal.returns-clause-levels
+returns-clause-levels g c =
     let n = c.vertices-n.result in
     let v = c.loop-v.v in
     let none : n - v ≡ 0 = omega (arith, c.loop-v-test.false) in
     let all : take v c.loop-v.levels ≡ c.loop-v.levels = take_all v c.loop-v.levels (omega (arith, c.loop-v-test.false, c.loop-v.invariant.sized)) in
-    c.loop-v.invariant.answers a b c.read_end.result (rw (none, all) (c.read_end.ensures.document a b))
+    rw (none, all) at c.loop-v.invariant.same
 
 pub loop-v-preserved : goal.loop-v-preserved
 loop-v-preserved g c =
     let t = c.in_ok-token.token in
     let xs = c.loop-v.levels in
     let v = c.loop-v.v in
-    let l = c.in-Ok.level in
-    let x_is = sym c.in-Ok.is ∙ c.level_of.ensures in
+    let l = c.in_ok-level.level in
+    let x_is = sym c.in_ok-level.ensures.fits ∙ c.level_of.ensures in
     let inside : v < length xs = omega (arith, c.loop-v-test.true, c.loop-v.invariant.sized) in
-    let step = λ (a b : ℕ). level_step c.args.profile c.args.graph xs a b v c.vertices-n.result c.top-top.result t.kind _ c.vertices-n.ensures.count c.loop-v.invariant.top c.loop-v.invariant.sized c.loop-v-test.true x_is in
+    let step = level_step c.args.profile c.args.graph.now xs 0 0 v c.vertices-n.result c.top-top.result t.kind _ c.vertices-n.ensures.count c.loop-v.invariant.top c.loop-v.invariant.sized c.loop-v-test.true x_is in
     record {
-      answers = λ a b r h. c.loop-v.invariant.answers a b r (answers_on _ _ t _ _ r (step a b) tt c.in_ok-token.ensures.token (rw (c.set.ensures, take_more_set xs v l inside) at h));
+      same = rw (c.set.ensures, take_more_set xs v l inside) (c.loop-v.invariant.same ∙ reaches_on _ _ t _ _ step tt c.in_ok-token.ensures.token);
       top = c.loop-v.invariant.top;
       sized = rw c.set.ensures (length-set xs v l ∙ c.loop-v.invariant.sized);
       capped = rw c.set.ensures (capped_more xs v l c.top-top.result c.loop-v.invariant.capped inside (level_fits c.vertices-n.result c.top-top.result v t.kind l (sym x_is)));
