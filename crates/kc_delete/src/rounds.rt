@@ -16,7 +16,7 @@ use crate::settling::{add_if_short, settle};
 use crate::waiting::Waiting;
 use crate::work::DeletionWork;
 use kc_adj::{LevelAdj, Steps};
-use kc_graph::Edge;
+use kc_graph::{Crew, Edge};
 use kc_levels::{Moves, Thresholds};
 use kc_rounds::{Gate, Rounds};
 use std::alloc::{AllocError, Global};
@@ -58,7 +58,8 @@ fn unlink_edges<R: Threads + Sync, G: Gate + Sync, L: Ledger>(
         unlink_each(adj, removed, steps);
         return Ok(());
     }
-    adj.unlink_all(rounds.crew(), removed, steps)?;
+    let crew = Crew::new(rounds.runtime(), rounds.alloc(), rounds.workers());
+    adj.unlink_all(&crew, removed, steps)?;
     Ok(())
 }
 

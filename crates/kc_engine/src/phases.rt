@@ -16,7 +16,7 @@ use crate::plans::BatchPlan;
 use crate::work::PhaseWork;
 use kc_adj::{LevelAdj, Steps};
 use kc_delete::delete_phase;
-use kc_graph::{Cleaned, Edges, MAX_EDGES};
+use kc_graph::{Cleaned, Crew, Edges, MAX_EDGES};
 use kc_groups::{Phase, plan_moves};
 use kc_history::MAX_PHASE;
 use kc_insert::insert_phase;
@@ -42,6 +42,14 @@ impl<'a, R, G> Model for PhaseContext<'a, R, G> {
     ghost Value = { Scale };
 
     ghost view = { λ c. c.th.now };
+}
+
+impl<R: Threads + Sync, G: Gate + Sync> PhaseContext<'_, R, G> {
+    // Returns the workers that gather the moves of a phase.
+    fn crew(&self) -> Crew<'_, R> {
+        let rounds = &self.rounds;
+        Crew::new(rounds.runtime(), rounds.alloc(), rounds.workers())
+    }
 }
 
 // Returns the number of phases in which these edges leave, or come in: 0 or 1.
@@ -102,7 +110,8 @@ fn deletion_phase<R: Threads + Sync, G: Gate + Sync, L: Ledger>(
         edges,
         moves: &moves,
     };
-    let plan = plan_moves(context.rounds.crew(), &leaving, adj.graph(), edges, groups)?;
+    let crew = context.crew();
+    let plan = plan_moves(&crew, &leaving, adj.graph(), edges, groups)?;
     BatchPlan::of_phase(alloc, plan, moves.len() as u32)
 }
 
@@ -148,7 +157,8 @@ fn insertion_phase<R: Threads + Sync, G: Gate + Sync, L: Ledger>(
         edges,
         moves: &moves,
     };
-    let plan = plan_moves(context.rounds.crew(), &coming, adj.graph(), &[], groups)?;
+    let crew = context.crew();
+    let plan = plan_moves(&crew, &coming, adj.graph(), &[], groups)?;
     BatchPlan::of_phase(alloc, plan, moves.len() as u32)
 }
 

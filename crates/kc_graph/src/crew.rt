@@ -16,6 +16,13 @@ pub struct Crew<'a, R> {
 }
 
 impl<'a, R> Crew<'a, R> {
+    /// Makes a crew of this many workers.
+    pub fn new(rt: &'a R, alloc: Global, workers: u32) -> Crew<'a, R>
+        ensures { result.workers ≡ workers }
+    {
+        Crew { rt, alloc, workers }
+    }
+
     /// Returns the same crew with this number of workers.
     pub fn with(&self, workers: u32) -> Crew<'a, R>
         ensures { result.workers ≡ workers }

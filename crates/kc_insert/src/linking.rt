@@ -5,7 +5,7 @@ ghost use Rattle.kc_graph.specs.Shape.{EdgesFrom, with_edges};
 ghost use Rattle.kc_graph.specs.Changes.{AllAbsent, CanAdd};
 
 use kc_adj::{LevelAdj, Steps};
-use kc_graph::{Edge, MAX_EDGES};
+use kc_graph::{Crew, Edge, MAX_EDGES};
 use kc_rounds::{Gate, Rounds};
 use std::alloc::{AllocError, Global};
 use std::sync::ledger::Ledger;
@@ -51,6 +51,7 @@ pub fn link_edges<R: Threads + Sync, G: Gate + Sync, L: Ledger>(
         link_each(rounds.alloc(), adj, added, steps)?;
         return Ok(());
     }
-    adj.link_all(rounds.crew(), added, steps)?;
+    let crew = Crew::new(rounds.runtime(), rounds.alloc(), rounds.workers());
+    adj.link_all(&crew, added, steps)?;
     Ok(())
 }

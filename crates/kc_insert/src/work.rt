@@ -18,7 +18,7 @@ use crate::ranges::Ranges;
 use crate::rising::RisingLevels;
 use crate::sweep::Sweep;
 use kc_adj::{LevelAdj, Steps};
-use kc_graph::Edge;
+use kc_graph::{Crew, Edge};
 use kc_levels::{Moves, Thresholds, moves_of};
 use kc_rounds::{FirstRound, Gate, Rounds};
 use std::alloc::{AllocError, Global};
@@ -125,7 +125,8 @@ pub fn take_moves<R: Threads + Sync, G: Gate + Sync, L: Ledger>(
     let new = &sweep.levels.stored;
     let mut risen = sweep.ranges.risen(alloc)?;
     let moves = moves_of(alloc, adj.levels(), new, &mut risen)?;
-    adj.par_lift_all(rounds.crew(), &risen, new, steps)?;
+    let crew = Crew::new(rounds.runtime(), rounds.alloc(), rounds.workers());
+    adj.par_lift_all(&crew, &risen, new, steps)?;
     sweep.ranges.forget(alloc);
     Ok(moves)
 }

@@ -2,7 +2,6 @@
 ghost use Rattle.std.specs.Prelude.{◌≡◌, ◌≤◌, ◌<◌, All, IfOk, filter};
 
 use crate::{Gate, RoundTest, filter_round};
-use kc_graph::Crew;
 use std::alloc::{AllocError, Global};
 use std::thread::Threads;
 
@@ -34,11 +33,32 @@ impl FirstRound {
 /// depends on it.
 #[derive(Drop)]
 pub struct Rounds<'a, R, G> {
-    // The threads that share a list, 1 to 64, and the allocator of the answers.
-    crew: Crew<'a, R>,
+    // Starts the threads.
+    rt: &'a R,
+    // The allocator of the answers.
+    alloc: Global,
     // Called at each piece of candidates, before the first test.
     gate: &'a G,
-    ghost few_workers: { (1 ≤ crew.workers) × (crew.workers ≤ 64) },
+    // The most pieces of a list: 1 to 64.
+    workers: u32,
+    ghost few_workers: { (1 ≤ workers) × (workers ≤ 64) },
+}
+
+// Returns how many workers share a list: one for each full `least_piece` items, at least one.
+fn workers_for(workers: u32, items: usize, least_piece: usize) -> u32
+    requires some_workers { 1 ≤ workers }
+    requires some_length { 1 ≤ least_piece }
+    ensures some { 1 ≤ result }
+    ensures few { result ≤ workers }
+{
+    let long_pieces = items / least_piece;
+    if workers as usize <= long_pieces {
+        workers
+    } else if long_pieces == 0 {
+        1
+    } else {
+        long_pieces as u32
+    }
 }
 
 impl<'a, R: Threads + Sync, G: Gate + Sync> Rounds<'a, R, G> {
@@ -46,28 +66,17 @@ impl<'a, R: Threads + Sync, G: Gate + Sync> Rounds<'a, R, G> {
     pub fn new(rt: &'a R, alloc: Global, gate: &'a G, workers: u32) -> Self
         requires { (1 ≤ workers) × (workers ≤ 64) }
     {
-        let crew = Crew { rt, alloc, workers };
-        Rounds { crew, gate }
-    }
-
-    /// Returns the workers that rounds may use, 1 to 64, for other calls that threads share.
-    pub fn crew(&self) -> &Crew<'a, R> {
-        &self.crew
+        Rounds {
+            rt,
+            alloc,
+            gate,
+            workers,
+        }
     }
 
     /// Returns what starts the threads.
     pub fn runtime(&self) -> &R {
-        self.crew.rt
-    }
-
-    /// Returns the allocator of the answers.
-    pub fn alloc(&self) -> Global {
-        self.crew.alloc
-    }
-
-    /// Returns the gate that rounds call.
-    pub fn gate(&self) -> &G {
-        self.gate
+        self.rt
     }
 
     /// Returns the allocator of the answers.
@@ -84,7 +93,7 @@ impl<'a, R: Threads + Sync, G: Gate + Sync> Rounds<'a, R, G> {
     pub fn workers(&self) -> u32
         ensures { (1 ≤ result) × (result ≤ 64) }
     {
-        self.crew.workers
+        self.workers
     }
 
     /// Tests the candidates in one round and returns those that pass, in order (`filter_round`).
@@ -99,13 +108,12 @@ impl<'a, R: Threads + Sync, G: Gate + Sync> Rounds<'a, R, G> {
         requires { All (F.may_ask test.now) candidates.now }
         ensures { IfOk result (λ v. v.items ≡ filter (F.keeps test.now) candidates.now) }
     {
-        let crew = &self.crew;
         let workers = if first.is_ahead {
-            crew.workers
+            self.workers
         } else {
-            crew.pieces(candidates.len(), LEAST_TESTS) as u32
+            workers_for(self.workers, candidates.len(), LEAST_TESTS)
         };
         first.is_ahead = first.is_ahead && candidates.is_empty();
-        filter_round(crew.rt, crew.alloc, self.gate, workers, candidates, test)
+        filter_round(self.rt, self.alloc, self.gate, workers, candidates, test)
     }
 }
