@@ -14,7 +14,6 @@ mod form;
 mod groups;
 pub mod laws;
 mod read;
-mod readers;
 mod run_text;
 mod stage;
 mod verdict;
@@ -23,7 +22,6 @@ mod words;
 
 pub use groups::{GroupLine, GroupLines};
 pub use read::{AuditFault, read_run};
-pub use readers::Readers;
-pub use run_text::RunText;
+pub use run_text::{Readers, RunText};
 pub use verdict::AuditVerdict;
 pub use walk::audit;

@@ -2,7 +2,7 @@
 ghost use Rattle.std.specs.Prelude.{◌≡◌, IfOk};
 ghost use Rattle.kc_text.specs.Kept.{kept_left};
 ghost use Rattle.kc_audit.specs.Runs.{IsAuditable};
-ghost use Rattle.kc_audit.specs.Documents.{empty_run, first_place, read_from, after_head, document_of};
+ghost use Rattle.kc_audit.specs.Documents.{empty_run, first_place, read_from, document_of};
 ghost use Rattle.kc_audit.specs.Reads.{Answers, AuditCause};
 ghost use Rattle.kc_audit.specs.declared.stage.Stage.TheVariants.{Batches};
 
@@ -98,26 +98,6 @@ fn read_lines<S: Source>(
     }
 }
 
-// Reads the line `vertices N` and those after it.
-fn read_vertices<S: Source>(
-    alloc: Global,
-    reader: &mut LineReader,
-    src: &mut S,
-) -> Result<RunText, AuditFault>
-    ensures document { Answers after_head (kept_left reader.old (S.left src.old)) result }
-    ensures sound { IfOk result IsAuditable }
-    ensures cause { AuditCause (S.faults src.old) (S.faults src.new) result }
-{
-    let line = next_kept(alloc, reader, src)?;
-    match vertices_of(form_of(&line)) {
-        Ok(n) => read_lines(alloc, reader, src, n),
-        Err(reason) => Err(AuditFault::Refused {
-            line: line.number,
-            reason,
-        }),
-    }
-}
-
 /// Reads a run text up to the end of the input, as `document_of` of `specs/Documents` defines. Its lines are, in this
 /// order:
 ///
@@ -147,12 +127,15 @@ pub fn read_run<S: Source>(
     ensures sound { IfOk result IsAuditable }
     ensures cause { AuditCause (S.faults src.old) (S.faults src.new) result }
 {
-    let line = next_kept(alloc, reader, src)?;
-    match head_of(form_of(&line)) {
-        Ok(()) => read_vertices(alloc, reader, src),
-        Err(reason) => Err(AuditFault::Refused {
-            line: line.number,
-            reason,
-        }),
+    let first = next_kept(alloc, reader, src)?;
+    let line = first.number;
+    if let Err(reason) = head_of(form_of(&first)) {
+        return Err(AuditFault::Refused { line, reason });
+    }
+    let second = next_kept(alloc, reader, src)?;
+    let line = second.number;
+    match vertices_of(form_of(&second)) {
+        Ok(n) => read_lines(alloc, reader, src, n),
+        Err(reason) => Err(AuditFault::Refused { line, reason }),
     }
 }

@@ -2,8 +2,12 @@
 ghost use Rattle.std.specs.Prelude.{◌↔◌, ◌≡◌, ◌<◌, ◌≤◌, length, All, IsTrue};
 ghost use Rattle.kc_audit.specs.Runs.{are_below, AreBelow, IsAuditable};
 
-use crate::{GroupLines, Readers};
+use crate::GroupLines;
+use kc_graph::List;
 use kc_history::{Replies, Reply};
+
+/// The replies of reader 0, of reader 1 and so on. Contracts see them as a list of lists of replies.
+pub type Readers = List<Replies>;
 
 /// A run as it was recorded.
 #[derive(Drop)]

@@ -295,15 +295,15 @@ struct OpenPhase {
 fn groups_turn(
     alloc: Global,
     run: &mut RunText,
-    open: OpenPhase,
+    current: OpenPhase,
     line: &FormLine<'_>,
     members: &mut Vec<Reply>,
 ) -> Result<Turn, AllocError>
     requires { IsWithin line.now.text.now line.now.form }
-    ensures step { IfOk result (λ turn. groups_step run.old open.place open.low (kind_told line.now.text.now line.now.form) ≡ step_told run.new turn) }
+    ensures step { IfOk result (λ turn. groups_step run.old current.place current.low (kind_told line.now.text.now line.now.form) ≡ step_told run.new turn) }
     ensures sound { IsAuditable run.old → OnOk result (IsAuditable run.new) }
 {
-    let OpenPhase { place, low } = open;
+    let OpenPhase { place, low } = current;
     match line.form {
         Form::Group { phase, label, from } => {
             if phase == place.phase && low <= label && read_pairs(line.text, from, b':', members)? {

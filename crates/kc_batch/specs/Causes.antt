@@ -15,11 +15,6 @@ abbrev pub header_fault_of : LineFault → HeaderFault
 header_fault_of line.ReadFault = header.ReadFault
 header_fault_of (line.Memory e) = header.Memory e
 
--- the fault of a wait for a batch for the fault of a line
-abbrev pub await_fault_of : LineFault → AwaitFault
-await_fault_of line.ReadFault = await.ReadFault
-await_fault_of (line.Memory e) = await.Memory e
-
 -- a read fault comes only if the count rose, and otherwise the count stays
 abbrev pub HeaderCause : {T : Type 0} → ℕ → ℕ → Result T HeaderFault → Type 0
 HeaderCause before now (Err header.ReadFault) = Rose before now

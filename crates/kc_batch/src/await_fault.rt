@@ -1,7 +1,5 @@
 //! The faults of a wait for a batch.
-ghost use Rattle.std.specs.Prelude.{◌≡◌};
 
-use kc_text::LineFault;
 use std::alloc::AllocError;
 use thiserror::Error;
 
@@ -17,17 +15,4 @@ pub enum AwaitFault {
     /// There was no memory for a line or for the items.
     #[error(transparent)]
     Memory(AllocError),
-}
-
-impl From<LineFault> for AwaitFault {
-    ghost use Rattle.kc_batch.specs.Causes.{await_fault_of};
-
-    ghost from_gives = { λ f s. s ≡ await_fault_of f };
-
-    fn from(fault: LineFault) -> AwaitFault {
-        match fault {
-            LineFault::ReadFault => AwaitFault::ReadFault,
-            LineFault::Memory(e) => AwaitFault::Memory(e),
-        }
-    }
 }

@@ -11,7 +11,7 @@ use kc_levels::Profile;
 use kc_text::{
     LineFault, LineReader, Source, is_named, next_kept, next_word, read_number, text_of,
 };
-use std::alloc::{AllocError, AllocFailed, Global};
+use std::alloc::{AllocError, Global};
 use std::marker::Model;
 use thiserror::Error;
 
@@ -77,7 +77,7 @@ impl From<AllocError> for HeaderFault {
     }
 }
 
-ghost use Rattle.kc_batch.specs.Headers.{profile_of, profile_in, vertices_in, header_of, after_profile, asks_from, Answers, IsHeader};
+ghost use Rattle.kc_batch.specs.Headers.{profile_of, profile_in, vertices_in, header_of, asks_from, Answers, IsHeader};
 ghost use Rattle.kc_batch.specs.Causes.{HeaderCause};
 
 fn profile_of(version: &[u8]) -> Option<Profile>
@@ -158,27 +158,6 @@ fn read_asks<S: Source>(
     }
 }
 
-// Reads the line `vertices N` and the ask lines after it.
-fn read_vertices<S: Source>(
-    alloc: Global,
-    reader: &mut LineReader,
-    src: &mut S,
-    profile: Profile,
-) -> Result<Header, HeaderFault>
-    ensures header { Answers (after_profile profile) (kept_left reader.old (S.left src.old)) (kept_left reader.new (S.left src.new)) result }
-    ensures range { IfOk result IsHeader }
-    ensures budget { OnOk result (budget reader.new ≤ budget reader.old + 1) }
-    ensures cause { HeaderCause (S.faults src.old) (S.faults src.new) result }
-{
-    let second = next_kept(alloc, reader, src)?;
-    match vertices_in(text_of(&second)) {
-        Some(n) => read_asks(alloc, reader, src, profile, n),
-        None => Err(HeaderFault::Refused {
-            line: second.number,
-        }),
-    }
-}
-
 impl Header {
     /// Reads the header: `kcore 1` or `kcore 2`, `vertices N` and up to 64 ask lines, as `header_of` of `specs/Headers`
     /// defines it. Afterwards the reader stands at the first line after the header.
@@ -205,9 +184,15 @@ impl Header {
         ensures cause { HeaderCause (S.faults src.old) (S.faults src.new) result }
     {
         let first = next_kept(alloc, reader, src)?;
-        match profile_in(text_of(&first)) {
-            Some(profile) => read_vertices(alloc, reader, src, profile),
-            None => Err(HeaderFault::Refused { line: first.number }),
-        }
+        let Some(profile) = profile_in(text_of(&first)) else {
+            return Err(HeaderFault::Refused { line: first.number });
+        };
+        let second = next_kept(alloc, reader, src)?;
+        let Some(n) = vertices_in(text_of(&second)) else {
+            return Err(HeaderFault::Refused {
+                line: second.number,
+            });
+        };
+        read_asks(alloc, reader, src, profile, n)
     }
 }

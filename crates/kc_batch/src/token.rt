@@ -9,7 +9,9 @@ ghost use Rattle.kc_batch.specs.private.Tokens.{kind_of_text, item_of, onto_toke
 
 use crate::await_fault::AwaitFault;
 use kc_graph::Item;
-use kc_text::{Body, LineReader, NumberLine, Sign, Sink, Source, is_named, next_word, read_number};
+use kc_text::{
+    Body, LineFault, LineReader, NumberLine, Sign, Sink, Source, is_named, next_word, read_number,
+};
 use std::alloc::Global;
 
 /// The meaning of a line of batches by itself, in whatever place it stands.
@@ -197,7 +199,11 @@ pub fn next_token<S: Source, K: Sink>(
         let Ok(()) = sink.flush() else {
             return Err(AwaitFault::WriteFault);
         };
-        let line = reader.next_line(alloc, src)?;
+        let line = match reader.next_line(alloc, src) {
+            Ok(line) => line,
+            Err(LineFault::ReadFault) => return Err(AwaitFault::ReadFault),
+            Err(LineFault::Memory(e)) => return Err(AwaitFault::Memory(e)),
+        };
         let number = line.number;
         let kind = match line.body {
             Body::Text(text) => {

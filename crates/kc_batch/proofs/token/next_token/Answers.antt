@@ -8,12 +8,12 @@ pub loop-numbers-preserved : goal.loop-numbers-preserved
 loop-numbers-preserved g c =
     let e : c.as_slice.result.now ≡ c.in-Text.text = c.as_slice.ensures ∙ c.in-Text.text-is in
     let s = says_nothing c.in-Text.text (sym (rw e at c.in-None.ensures)) in
-    let t = rw c.in-Text.is at c.in_ok-line.ensures.takes in
+    let t = rw c.in-Text.is at c.in-Ok-next_line.ensures.takes in
     record {
-      tokens = rw c.reuse.ensures (sym (told_no_token c.in_ok-line.line _ _ (rw c.in-Text.is s) c.in_ok-line.ensures.line) ∙ c.loop-numbers.invariant.tokens);
+      tokens = rw c.reuse.ensures (sym (told_no_token c.in-Ok-next_line.line _ _ (rw c.in-Text.is s) c.in-Ok-next_line.ensures.line) ∙ c.loop-numbers.invariant.tokens);
       budget = rw c.reuse.ensures (omega (arith, t, c.loop-numbers.invariant.budget));
       taken = c.in-Ok.ensures.taken ∙ c.loop-numbers.invariant.taken;
-      read_faults = c.in_ok-line.ensures.cause ∙ c.loop-numbers.invariant.read_faults;
+      read_faults = c.in-Ok-next_line.ensures.cause ∙ c.loop-numbers.invariant.read_faults;
       write_faults = c.in-Ok.ensures.quiet ∙ c.loop-numbers.invariant.write_faults;
     }
 
@@ -21,7 +21,7 @@ pub returns-in-Some-said-clause-token : goal.returns-in-Some-said-clause-token
 returns-in-Some-said-clause-token g c =
     let e : c.as_slice.result.now ≡ c.in-Text.text = c.as_slice.ensures ∙ c.in-Text.text-is in
     let s = says c.in-Text.text c.in-Some-said.kind (sym (rw e at c.in-Some-said.ensures)) in
-    rw c.reuse.ensures (sym c.loop-numbers.invariant.tokens ∙ told_token c.in_ok-line.line c.in-Some-said.kind _ _ (rw c.in-Text.is s.kept) (rw c.in-Text.is s.kind) c.in_ok-line.ensures.line)
+    rw c.reuse.ensures (sym c.loop-numbers.invariant.tokens ∙ told_token c.in-Ok-next_line.line c.in-Some-said.kind _ _ (rw c.in-Text.is s.kept) (rw c.in-Text.is s.kind) c.in-Ok-next_line.ensures.line)
 
 pub returns-in-Some-said-clause-last : goal.returns-in-Some-said-clause-last
 returns-in-Some-said-clause-last g c =
