@@ -30,4 +30,4 @@ pub use level_words::LevelWords;
 pub use readers::write_reader;
 pub use refusals::{write_header_refused, write_note, write_refusal, write_refused};
 pub use tail::{VertexLines, write_tail};
-pub use vertices::{VertexCounts, write_counts, write_vertex};
+pub use vertices::{VertexCounts, write_counts, write_level_tail, write_vertex};
