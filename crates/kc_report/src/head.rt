@@ -1,23 +1,10 @@
 //! The first two lines of a run and of other texts, and the last line.
 ghost use Rattle.kc_text.specs.Writing.{Appends, WriteCause};
 ghost use Rattle.kc_report.specs.Buffer.{IsCleared};
-ghost use Rattle.kc_report.specs.Lines.{vertices_line, opening_text, head_text, end_line};
+ghost use Rattle.kc_report.specs.Lines.{opening_text, head_text, end_line};
 
 use kc_text::{LineBuf, SendFault, Sink};
 use std::alloc::Global;
-
-/// Writes the line with the number of vertices (`vertices_line`), which several texts share; any number is written.
-///
-/// `WriteFault` comes only from a failed write. After `WriteFault` or `Memory` the sink took a prefix of the line.
-pub fn write_vertex_count<K: Sink>(buf: &mut LineBuf, sink: &mut K, n: u32) -> Result<(), SendFault>
-    ensures text { Appends (K.taken sink.old) (K.taken sink.new) (vertices_line n) result }
-    ensures buffer { IsCleared buf.new result }
-    ensures cause { WriteCause (K.faults sink.old) (K.faults sink.new) result }
-{
-    buf.clear();
-    buf.put_named(b"vertices ", n)?;
-    buf.send_to(sink)
-}
 
 /// Writes the first two lines of a text with `n` vertices (`opening_text`), one after the other. The first has the
 /// words that say what text it is, the second the number. Any words and any number are written.
@@ -37,7 +24,8 @@ pub fn write_opening<K: Sink>(
     buf.clear();
     buf.put(words)?;
     buf.send_to(sink)?;
-    write_vertex_count(buf, sink, n)
+    buf.put_named(b"vertices ", n)?;
+    buf.send_to(sink)
 }
 
 /// Writes the first two lines of a run with `n` vertices (`head_text`), one after the other; any number is written.

@@ -25,9 +25,9 @@ mod vertices;
 
 pub use batches::write_batch;
 pub use exact::{write_coreness, write_exact_head};
-pub use head::{write_end, write_head, write_opening, write_vertex_count};
+pub use head::{write_end, write_head, write_opening};
 pub use level_words::LevelWords;
 pub use readers::write_reader;
 pub use refusals::{write_header_refused, write_note, write_refusal, write_refused};
 pub use tail::{VertexLines, write_tail};
-pub use vertices::{VertexCounts, write_counts, write_vertex};
+pub use vertices::{VertexCounts, write_counts, write_level_tail, write_vertex};

@@ -4,10 +4,12 @@ ghost use Rattle.kc_levels.specs.declared.profile.Profile.{Profile};
 ghost use Rattle.kc_text.specs.Writing.{Appends, WriteCause};
 ghost use Rattle.kc_report.specs.Buffer.{IsCleared};
 ghost use Rattle.kc_report.specs.Lines.{vertex_line};
-ghost use Rattle.kc_report.specs.VertexLines.{counted_line, AreLevelWords};
+ghost use Rattle.kc_report.specs.VertexLines.{counted_line, AreLevelWords, AreLevels, GivesCounts, tail_text};
 
+use crate::head::put_end;
 use crate::level_words::{LevelWords, fill_bounds};
-use kc_levels::Estimate;
+use kc_graph::Graph;
+use kc_levels::{Estimate, Thresholds};
 use kc_text::{LineBuf, SendFault, Sink};
 use std::alloc::{AllocError, Global};
 
@@ -96,4 +98,37 @@ pub fn write_counts<K: Sink>(
 {
     fill_counts(buf, words, counts)?;
     buf.send_to(sink)
+}
+
+/// Writes the end of a text of levels (`tail_text`): the line of each vertex in ascending order, and the last line.
+///
+/// `counts` gives the two counts of neighbours of a vertex (`AreCounts`), and `th` are the graph's thresholds. There is
+/// a level for each vertex, at most the top. `WriteFault` comes only from a failed write. After `WriteFault` or
+/// `Memory` the sink took a prefix of the lines.
+///
+/// Composes what a level says once for each level. Takes the memory of one line, and some 100 bytes a level.
+pub fn write_level_tail<K: Sink, F: Fn(u32) -> (u32, u32)>(
+    alloc: Global,
+    buf: &mut LineBuf,
+    sink: &mut K,
+    graph: &Graph,
+    th: &Thresholds,
+    levels: &[u16],
+    counts: F,
+) -> Result<(), SendFault>
+    requires levels { AreLevels th.now graph.now levels.now }
+    requires callable { (v : ℕ) → v < graph.now.vertices → F.pre counts v }
+    requires counts { GivesCounts (F.post counts) graph.now levels.now }
+    ensures text { Appends (K.taken sink.old) (K.taken sink.new) (tail_text th.now.profile graph.now levels.now) result }
+    ensures buffer { IsCleared buf.new result }
+    ensures cause { WriteCause (K.faults sink.old) (K.faults sink.new) result }
+{
+    let words = LevelWords::new(alloc, th, levels)?;
+    for v in 0..graph.vertices() {
+        let (up, down) = counts(v);
+        let level = levels[v as usize];
+        let counted = VertexCounts { v, level, up, down };
+        write_counts(buf, sink, &words, counted)?;
+    }
+    put_end(buf, sink)
 }

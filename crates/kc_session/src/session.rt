@@ -154,8 +154,7 @@ fn write_rest<K: Sink>(
     let mut buf = LineBuf::new(alloc);
     write_readers(alloc, &mut buf, sink, lists)?;
     let levels = read_all(alloc, store, writer)?;
-    let n = engine.graph().vertices();
-    write_tail(alloc, &mut buf, sink, n, engine, levels.as_slice())?;
+    write_tail(alloc, &mut buf, sink, engine, levels.as_slice())?;
     Ok(levels)
 }
 
@@ -249,7 +248,7 @@ fn run_alone<R: Threads + Sync, S: Source, K: Sink, G: Gate + Sync>(
     let engine = &watched.engine;
     let levels = engine.levels().as_slice();
     let mut buf = LineBuf::new(context.alloc);
-    write_tail(context.alloc, &mut buf, sink, context.n, engine, levels)?;
+    write_tail(context.alloc, &mut buf, sink, engine, levels)?;
     Ok(Ended::with(counts, engine, 0, levels))
 }
 
