@@ -30,7 +30,6 @@ impl VertexLines for EngineLines<'_> {
 
     fn write_line<K: Sink>(
         &self,
-        alloc: Global,
         buf: &mut LineBuf,
         sink: &mut K,
         v: u32,
@@ -43,7 +42,7 @@ impl VertexLines for EngineLines<'_> {
             up: self.engine.at_least_own(v),
             down: self.engine.at_least_below(v),
         };
-        write_counts(alloc, buf, sink, &self.words, counts)
+        write_counts(buf, sink, &self.words, counts)
     }
 }
 
@@ -72,5 +71,5 @@ pub fn write_tail<K: Sink>(
         levels,
         words,
     };
-    kc_report::write_tail(alloc, buf, sink, n, &lines)
+    kc_report::write_tail(buf, sink, n, &lines)
 }
