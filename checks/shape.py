@@ -24,7 +24,7 @@ import sys
 TOP = os.path.normpath(os.path.join(os.path.dirname(os.path.abspath(__file__)), ".."))
 PAGE = os.path.join(TOP, "checks", "shape.txt")
 MOST_PARAMETERS, MOST_REQUIRES, MOST_CLAUSE = 5, 8, 180
-CARRIED = {"rt", "alloc", "gate", "workers", "threads", "rounds", "planners", "lifters"}
+CARRIED = {"rt", "alloc", "gate", "workers", "threads", "rounds", "crew"}
 
 
 def split(text):

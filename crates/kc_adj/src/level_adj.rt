@@ -5,19 +5,18 @@ ghost use Rattle.std.specs.Prelude.{◌≡◌, ◌+◌, ◌*◌, ◌-◌, ◌<�
 ghost use Rattle.kc_graph.specs.Shape.{EdgesFrom, IsGraph, neighbours_of, has_edge, with_edge, without_edge, with_edges, without_edges};
 ghost use Rattle.kc_graph.specs.Numbers.{has_number};
 ghost use Rattle.kc_graph.specs.Changes.{AllAbsent, AllPresent};
-ghost use Rattle.kc_levels.specs.Thresholds.{top_level};
-ghost use Rattle.kc_levels.specs.LevelList.{at_least, IsBelow, IsDesired};
+ghost use Rattle.kc_levels.specs.LevelList.{at_least, IsBelow, IsDesired, IsWithinAt};
 ghost use Rattle.kc_levels.specs.Following.{AreDistinct};
 ghost use Rattle.kc_adj.specs.Degrees.{degrees};
 ghost use Rattle.kc_adj.specs.LeveledGraph.{LeveledGraph, IsCounted};
 
 use crate::counts::Counts;
 use crate::lifting::{Lift, lift_counts, take_up};
-use crate::passes::{Lifters, par_lift_counts};
+use crate::passes::par_lift_counts;
 use crate::standing::Standing;
 use crate::steps::Steps;
 use crate::{desired, links, moves};
-use kc_graph::{Edge, Graph, MAX_EDGES, MAX_VERTICES};
+use kc_graph::{Crew, Edge, Graph, MAX_EDGES, MAX_VERTICES};
 use kc_levels::{Levels, Move, Thresholds};
 use std::alloc::{AllocError, Global};
 use std::marker::Model;
@@ -136,8 +135,7 @@ impl LevelAdj {
     /// - otherwise about two more passes for each doubling of the number of levels that it would fall, at most 27.
     pub fn desired(&self, th: &Thresholds, v: u32) -> u16
         requires vertex { v < self.now.graph.vertices }
-        requires scale { th.now.vertices ≡ self.now.graph.vertices }
-        requires capped { slice_index self.now.levels v ≤ top_level th.now.profile th.now.vertices }
+        requires within { IsWithinAt th.now self.now.graph self.now.levels v }
         ensures { IsDesired th.now.profile self.now.graph self.now.levels v result }
     {
         let at = Standing { adj: self, th, v };
@@ -153,8 +151,7 @@ impl LevelAdj {
     /// that is too high costs about two more for each doubling of its distance in levels.
     pub fn desired_near(&self, th: &Thresholds, v: u32, guess: u16) -> u16
         requires vertex { v < self.now.graph.vertices }
-        requires scale { th.now.vertices ≡ self.now.graph.vertices }
-        requires capped { slice_index self.now.levels v ≤ top_level th.now.profile th.now.vertices }
+        requires within { IsWithinAt th.now self.now.graph self.now.levels v }
         ensures { IsDesired th.now.profile self.now.graph self.now.levels v result }
     {
         let at = Standing { adj: self, th, v };
@@ -214,16 +211,13 @@ impl LevelAdj {
     ///
     /// Counts 3 steps an edge. Fails only if memory runs out; then all is unchanged, the steps too.
     ///
-    /// Costs what `Graph::par_insert_all` costs. `workers` is 1 to 64, and only the time depends on it.
+    /// Costs what `Graph::par_insert_all` costs. Only the time depends on the crew.
     pub fn link_all<R: Threads + Sync, L: Ledger>(
         &mut self,
-        rt: &R,
-        alloc: Global,
-        workers: u32,
+        crew: &Crew<'_, R>,
         edges: &[Edge],
         steps: &mut Steps<L>,
     ) -> Result<(), AllocError>
-        requires few_workers { (1 ≤ workers) × (workers ≤ 64) }
         requires ascending { EdgesFrom self.old.graph.vertices 0 0 edges.now }
         requires absent { AllAbsent self.old.graph edges.now }
         requires room { length self.old.graph.edges + length edges.now ≤ MAX_EDGES }
@@ -232,7 +226,7 @@ impl LevelAdj {
         ensures err { OnErr result (self.new ≡ self.old) }
         ensures steps_kept { OnErr result (steps.new ≡ steps.old) }
     {
-        self.graph.par_insert_all(rt, alloc, workers, edges)?;
+        self.graph.par_insert_all(crew, edges)?;
         links::link_all(&self.graph, &self.levels, &mut self.counts, edges);
         steps.add(edges.len());
         steps.add(edges.len());
@@ -244,16 +238,13 @@ impl LevelAdj {
     ///
     /// Counts 3 steps an edge. Fails only if memory runs out; then all is unchanged, the steps too.
     ///
-    /// Costs what `Graph::par_remove_all` costs. `workers` is 1 to 64, and only the time depends on it.
+    /// Costs what `Graph::par_remove_all` costs. Only the time depends on the crew.
     pub fn unlink_all<R: Threads + Sync, L: Ledger>(
         &mut self,
-        rt: &R,
-        alloc: Global,
-        workers: u32,
+        crew: &Crew<'_, R>,
         edges: &[Edge],
         steps: &mut Steps<L>,
     ) -> Result<(), AllocError>
-        requires few_workers { (1 ≤ workers) × (workers ≤ 64) }
         requires ascending { EdgesFrom self.old.graph.vertices 0 0 edges.now }
         requires present { AllPresent self.old.graph edges.now }
         ensures ok { OnOk result (self.new ≡ record self.old { graph = without_edges self.old.graph edges.now }) }
@@ -261,7 +252,7 @@ impl LevelAdj {
         ensures err { OnErr result (self.new ≡ self.old) }
         ensures steps_kept { OnErr result (steps.new ≡ steps.old) }
     {
-        self.graph.par_remove_all(rt, alloc, workers, edges)?;
+        self.graph.par_remove_all(crew, edges)?;
         links::unlink_all(&self.graph, &self.levels, &mut self.counts, edges);
         steps.add(edges.len());
         steps.add(edges.len());
@@ -329,9 +320,8 @@ impl LevelAdj {
 
     /// Does what `lift_all` does, by threads if the list is long.
     ///
-    /// `workers` is 1 to 64, and only the time depends on it. The vertices are cut into a piece for each worker, but at
-    /// most one for each full 4,096 vertices. So with one worker, or fewer than 8,192 vertices, it is `lift_all`, and
-    /// takes no memory.
+    /// Only the time depends on the crew. The vertices are cut into a piece for each worker, but at most one for each
+    /// full 4,096 vertices. So with one worker, or fewer than 8,192 vertices, it is `lift_all`, and takes no memory.
     ///
     /// Otherwise each piece goes to a thread of its own if one can be made. The thread passes over the neighbours and
     /// writes nothing. Then one thread writes what the others found. Memory is taken for that:
@@ -343,14 +333,11 @@ impl LevelAdj {
     /// Fails only if memory runs out; then all is unchanged, the steps too. Counts what `lift_all` counts.
     pub fn par_lift_all<R: Threads + Sync, L: Ledger>(
         &mut self,
-        rt: &R,
-        alloc: Global,
-        workers: u32,
+        crew: &Crew<'_, R>,
         vertices: &[u32],
         new: &Levels,
         steps: &mut Steps<L>,
     ) -> Result<(), AllocError>
-        requires few_workers { (1 ≤ workers) × (workers ≤ 64) }
         requires sized { length new.now ≡ self.old.graph.vertices }
         requires vertices { (v : ℕ) → has_number v vertices.now ≡ true → v < self.old.graph.vertices }
         requires over { IsBelow self.old.graph.vertices self.old.levels new.now }
@@ -361,9 +348,8 @@ impl LevelAdj {
         ensures err { OnErr result (self.new ≡ self.old) }
         ensures steps_kept { OnErr result (steps.new ≡ steps.old) }
     {
-        let lifters = Lifters { rt, alloc, workers };
         let lift = Lift::new(&self.graph, &self.levels, new);
-        par_lift_counts(&lifters, &lift, &mut self.counts, vertices, steps)?;
+        par_lift_counts(crew, &lift, &mut self.counts, vertices, steps)?;
         take_up(&mut self.levels, vertices, new);
         Ok(())
     }

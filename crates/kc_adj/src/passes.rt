@@ -13,6 +13,7 @@ use crate::counts::{Counts, as_one, gain, is_reached};
 use crate::lifting::{Lift, lift_counts, renew};
 use crate::runs::{put_where, run_of};
 use crate::steps::Steps;
+use kc_graph::Crew;
 use std::alloc::{AllocError, Global};
 use std::sync::ledger::Ledger;
 use std::thread;
@@ -21,17 +22,6 @@ use std::thread::Threads;
 // A list is cut into at most one piece for each full `LEAST_LIFTED` vertices. So a piece costs far more than to start
 // and join a thread.
 const LEAST_LIFTED: usize = 4_096;
-
-/// The threads, the memory and the number of workers for lifts. No count depends on the number of workers.
-#[derive(Drop)]
-pub struct Lifters<'a, R> {
-    /// The runtime that starts the threads.
-    pub rt: &'a R,
-    /// The allocator of what the threads find.
-    pub alloc: Global,
-    /// The greatest number of pieces of a list of vertices; 0 counts as 1.
-    pub workers: u32,
-}
 
 /// The result of a pass over the neighbours of a vertex.
 #[derive(Clone, Copy)]
@@ -166,17 +156,10 @@ fn are_made(pieces: &[Result<Passed, AllocError>]) -> bool
     true
 }
 
-// Returns the number of pieces of a list with this number of vertices.
-fn piece_count(workers: u32, vertices: usize) -> usize
-    ensures { 1 ≤ result }
-{
-    (vertices / LEAST_LIFTED).min(workers as usize).max(1)
-}
-
 // Updates all counts to the new levels, by pieces. The pieces have one length, but the last may be shorter. Each goes
 // to a thread of its own if one can be made. Nothing is written before all pieces are done.
 fn lift_counts_by<R: Threads + Sync, L: Ledger>(
-    lifters: &Lifters<'_, R>,
+    crew: &Crew<'_, R>,
     lift: &Lift<'_>,
     counts: &mut Counts,
     vertices: &[u32],
@@ -190,13 +173,12 @@ fn lift_counts_by<R: Threads + Sync, L: Ledger>(
     ensures err { OnErr result (counts.new ≡ counts.old) }
     ensures steps_kept { OnErr result (steps.new ≡ steps.old) }
 {
-    let alloc = lifters.alloc;
+    let alloc = crew.alloc;
     let _n = lift.graph.vertices();
-    let size = vertices
-        .len()
-        .div_ceil(piece_count(lifters.workers, vertices.len()));
+    let pieces = crew.pieces(vertices.len(), LEAST_LIFTED);
+    let size = vertices.len().div_ceil(pieces);
     let found = thread::map_chunks(
-        lifters.rt,
+        crew.rt,
         alloc,
         vertices,
         size,
@@ -224,7 +206,7 @@ fn lift_counts_by<R: Threads + Sync, L: Ledger>(
 /// Does what `lift_counts` does, but threads share the passes if the list is long. Fails only if memory runs out; then
 /// all is unchanged.
 pub fn par_lift_counts<R: Threads + Sync, L: Ledger>(
-    lifters: &Lifters<'_, R>,
+    crew: &Crew<'_, R>,
     lift: &Lift<'_>,
     counts: &mut Counts,
     vertices: &[u32],
@@ -237,9 +219,9 @@ pub fn par_lift_counts<R: Threads + Sync, L: Ledger>(
     ensures err { OnErr result (counts.new ≡ counts.old) }
     ensures steps_kept { OnErr result (steps.new ≡ steps.old) }
 {
-    if vertices.is_empty() || piece_count(lifters.workers, vertices.len()) == 1 {
+    if vertices.is_empty() || crew.pieces(vertices.len(), LEAST_LIFTED) == 1 {
         lift_counts(lift, counts, vertices, steps);
         return Ok(());
     }
-    lift_counts_by(lifters, lift, counts, vertices, steps)
+    lift_counts_by(crew, lift, counts, vertices, steps)
 }

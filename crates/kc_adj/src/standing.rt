@@ -1,7 +1,7 @@
 //! A vertex that stands on its level.
 
-ghost use Rattle.std.specs.Prelude.{◌≡◌, ◌<◌, ◌≤◌, slice_index};
-ghost use Rattle.kc_levels.specs.Thresholds.{top_level};
+ghost use Rattle.std.specs.Prelude.{◌<◌};
+ghost use Rattle.kc_levels.specs.LevelList.{IsWithinAt};
 
 use crate::level_adj::LevelAdj;
 use kc_levels::Thresholds;
@@ -16,6 +16,5 @@ pub struct Standing<'a> {
     /// The vertex.
     pub v: u32,
     ghost vertex: { v < adj.now.graph.vertices },
-    ghost scale: { th.now.vertices ≡ adj.now.graph.vertices },
-    ghost capped: { slice_index adj.now.levels v ≤ top_level th.now.profile th.now.vertices },
+    ghost within: { IsWithinAt th.now adj.now.graph adj.now.levels v },
 }

@@ -1,6 +1,6 @@
 //! Decides whether the levels of a certificate meet both invariants.
 ghost use Rattle.std.specs.Prelude.{◌≡◌, ◌<◌, ◌-◌, ◌^◌, All, length, get_or, nat_le, count_by};
-ghost use Rattle.kc_levels.specs.LevelList.{IsCapped};
+ghost use Rattle.kc_levels.specs.LevelList.{IsWithin};
 ghost use Rattle.kc_cert.specs.Verdicts.{IsVerdict};
 ghost use Rattle.kc_cert.specs.private.Verdicts.{IsVerdictAt};
 
@@ -46,8 +46,7 @@ fn verdict_at(cert: &Certificate, th: &Thresholds, v: u32) -> Verdict
     requires vertex { v < cert.now.graph.vertices }
     requires sized { length cert.now.levels ≡ cert.now.graph.vertices }
     requires profile { th.now.profile ≡ cert.now.profile }
-    requires scale { th.now.vertices ≡ cert.now.graph.vertices }
-    requires capped { IsCapped cert.now.profile cert.now.graph.vertices cert.now.levels }
+    requires within { IsWithin th.now cert.now.graph cert.now.levels }
     ensures { IsVerdictAt cert.now v result }
 {
     let level = cert.levels.get(v);
@@ -75,8 +74,7 @@ fn verdict_at(cert: &Certificate, th: &Thresholds, v: u32) -> Verdict
 pub fn verify(cert: &Certificate, th: &Thresholds) -> Verdict
     requires sized { length cert.now.levels ≡ cert.now.graph.vertices }
     requires profile { th.now.profile ≡ cert.now.profile }
-    requires scale { th.now.vertices ≡ cert.now.graph.vertices }
-    requires capped { IsCapped cert.now.profile cert.now.graph.vertices cert.now.levels }
+    requires within { IsWithin th.now cert.now.graph cert.now.levels }
     ensures { IsVerdict cert.now result }
 {
     for v in 0..cert.graph.vertices() {

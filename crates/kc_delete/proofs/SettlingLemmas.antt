@@ -14,13 +14,12 @@ use Rattle.kc_graph.proofs.lemmas.Neighbours.{neighbours_both, neighbours_of_rem
 use Rattle.kc_graph.proofs.lemmas.Changes.{vertices-without_edges}
 use Rattle.kc_levels.specs.declared.profile.Profile.{Profile}
 use Rattle.kc_levels.specs.Thresholds.{Scale, low}
-use Rattle.kc_levels.specs.LevelList.{at_least, IsHeld, MeetsLower, IsDesired, IsCapped, IsLowered}
+use Rattle.kc_levels.specs.LevelList.{at_least, IsHeld, MeetsLower, IsDesired, IsLowered, IsWithin}
 use Rattle.kc_levels.proofs.lemmas.Writes.{changed}
 use Rattle.kc_levels.proofs.lemmas.AtLeast.{at_least-set, at_least-kept}
 use Rattle.kc_levels.proofs.lemmas.Lowering.{lowering_first, lowering_more, lowering_done}
 use Rattle.kc_adj.specs.LeveledGraph.{LeveledGraph}
 use Rattle.kc_delete.specs.private.Waiting.{IsSifted, IsTaken}
-use Rattle.kc_delete.specs.private.Within.{IsWithin}
 use Rattle.kc_delete.specs.private.Settling.{WaitsOrMeets, IsSettling, StillWait, IsUntouched, IsLookedAt, ends_of}
 
 -- a mark more
@@ -39,10 +38,10 @@ looked_at_still p g from to y before after v still (inl untouched) = inl untouch
 looked_at_still p g from to y before after v still (inr looked) = inr (waits_or_meets_still p g y before after v still looked)
 
 -- levels stay within the top when edges leave
-pub within_after : (th : Scale) (a : LeveledGraph) (es : List Pair) → th.vertices ≡ a.graph.vertices → IsCapped th.profile a.graph.vertices a.levels → IsWithin th (record a { graph = without_edges a.graph es })
-within_after th a es scale capped = record {
-  scale = scale ∙ sym (vertices-without_edges a.graph es);
-  capped = λ v h. rw scale (capped v (omega (arith, h, vertices-without_edges a.graph es)));
+pub within_after : (th : Scale) (a : LeveledGraph) (es : List Pair) → IsWithin th a.graph a.levels → IsWithin th (without_edges a.graph es) a.levels
+within_after th a es within = record {
+  scale = within.scale ∙ sym (vertices-without_edges a.graph es);
+  capped = λ v h. within.capped v (omega (arith, h, vertices-without_edges a.graph es));
 }
 
 -- where the count from the level below on is the same, v is held as before

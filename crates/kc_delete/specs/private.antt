@@ -3,4 +3,3 @@ pub mod Capped
 pub mod Fallen
 pub mod Settling
 pub mod Waiting
-pub mod Within

@@ -1,6 +1,6 @@
 //! A graph with levels, none of which is above the top of the thresholds.
 
-ghost use Rattle.kc_delete.specs.private.Within.{IsWithin};
+ghost use Rattle.kc_levels.specs.LevelList.{IsWithin};
 
 use kc_adj::LevelAdj;
 use kc_levels::Thresholds;
@@ -12,5 +12,5 @@ pub struct Capped<'a> {
     pub adj: &'a LevelAdj,
     /// How many neighbours each group of levels needs.
     pub th: &'a Thresholds,
-    ghost within: { IsWithin th.now adj.now },
+    ghost within: { IsWithin th.now adj.now.graph adj.now.levels },
 }

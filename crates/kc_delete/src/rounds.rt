@@ -5,7 +5,7 @@ ghost use Rattle.std.specs.Prelude.{◌≡◌, ℕ, ◌<◌, ◌≤◌, OnOk, If
 ghost use Rattle.kc_graph.specs.Numbers.{has_number};
 ghost use Rattle.kc_graph.specs.Shape.{EdgesFrom, without_edges};
 ghost use Rattle.kc_graph.specs.Changes.{AllPresent, CanRemove};
-ghost use Rattle.kc_levels.specs.LevelList.{MeetsLower, IsCapped, IsLowered};
+ghost use Rattle.kc_levels.specs.LevelList.{MeetsLower, IsLowered, IsWithin};
 ghost use Rattle.kc_levels.specs.Moved.{moved_count, moves_between};
 ghost use Rattle.kc_delete.specs.Working.{IsReady};
 ghost use Rattle.kc_delete.specs.private.Capped.{profile_of, graph_of, levels_of};
@@ -46,7 +46,6 @@ fn unlink_each<L: Ledger>(adj: &mut LevelAdj, removed: &[Edge], steps: &mut Step
 // Removes the edges, many of them by the workers of `rounds`. Levels stay. Fails only if memory runs out.
 fn unlink_edges<R: Threads + Sync, G: Gate + Sync, L: Ledger>(
     rounds: &Rounds<R, G>,
-    alloc: Global,
     adj: &mut LevelAdj,
     removed: &[Edge],
     steps: &mut Steps<L>,
@@ -59,7 +58,7 @@ fn unlink_edges<R: Threads + Sync, G: Gate + Sync, L: Ledger>(
         unlink_each(adj, removed, steps);
         return Ok(());
     }
-    adj.unlink_all(rounds.runtime(), alloc, rounds.workers(), removed, steps)?;
+    adj.unlink_all(rounds.crew(), removed, steps)?;
     Ok(())
 }
 
@@ -115,15 +114,13 @@ fn add_short_ends(
 /// while the halves of the edges are sorted.
 pub fn delete_phase<R: Threads + Sync, G: Gate + Sync, L: Ledger>(
     rounds: &Rounds<R, G>,
-    alloc: Global,
     th: &Thresholds,
     adj: &mut LevelAdj,
     work: &mut DeletionWork,
     removed: &[Edge],
     steps: &mut Steps<L>,
 ) -> Result<Moves, AllocError>
-    requires scale { th.now.vertices ≡ adj.old.graph.vertices }
-    requires capped { IsCapped th.now.profile adj.old.graph.vertices adj.old.levels }
+    requires within { IsWithin th.now adj.old.graph adj.old.levels }
     requires lower { (v : ℕ) → v < adj.old.graph.vertices → MeetsLower th.now.profile adj.old.graph adj.old.levels v }
     requires ready { IsReady adj.old work.old }
     requires ascending { EdgesFrom adj.old.graph.vertices 0 0 removed.now }
@@ -135,10 +132,10 @@ pub fn delete_phase<R: Threads + Sync, G: Gate + Sync, L: Ledger>(
 {
     let _n = adj.graph().vertices();
     let _levels = adj.levels();
-    unlink_edges(rounds, alloc, adj, removed, steps)?;
+    unlink_edges(rounds, adj, removed, steps)?;
     add_short_ends(Capped { adj, th }, removed, &mut work.waiting)?;
     settle(rounds, th, adj, work, steps)?;
-    let moves = work.fallen.take_moves(alloc, adj.levels())?;
+    let moves = work.fallen.take_moves(rounds.alloc(), adj.levels())?;
     Ok(moves)
 }
 
@@ -156,8 +153,7 @@ pub fn delete_rounds<R: Threads + Sync, G: Gate + Sync, L: Ledger>(
     steps: &mut Steps<L>,
 ) -> Result<Tally, AllocError>
     requires few_workers { (1 ≤ workers) × (workers ≤ 64) }
-    requires scale { th.now.vertices ≡ adj.old.graph.vertices }
-    requires capped { IsCapped th.now.profile adj.old.graph.vertices adj.old.levels }
+    requires within { IsWithin th.now adj.old.graph adj.old.levels }
     requires lower { (v : ℕ) → v < adj.old.graph.vertices → MeetsLower th.now.profile adj.old.graph adj.old.levels v }
     requires ascending { EdgesFrom adj.old.graph.vertices 0 0 removed.now }
     requires present { AllPresent adj.old.graph removed.now }
@@ -168,7 +164,7 @@ pub fn delete_rounds<R: Threads + Sync, G: Gate + Sync, L: Ledger>(
     let _n = adj.graph().vertices();
     let mut work = DeletionWork::new(alloc, adj)?;
     let rounds = Rounds::new(rt, alloc, gate, workers);
-    let moves = delete_phase(&rounds, alloc, th, adj, &mut work, removed, steps)?;
+    let moves = delete_phase(&rounds, th, adj, &mut work, removed, steps)?;
     Ok(Tally {
         moves: moves.len() as u32,
     })

@@ -3,11 +3,10 @@
 ghost use Rattle.std.specs.Prelude.{◌≡◌, ℕ, ◌<◌, ◌≤◌, ◌-◌, [], false, OnOk, length, slice_index_or};
 ghost use Rattle.std.specs.Bool.{OnTrue, OnFalse};
 ghost use Rattle.kc_graph.specs.Shape.{IsGraph};
-ghost use Rattle.kc_levels.specs.LevelList.{IsLowered};
+ghost use Rattle.kc_levels.specs.LevelList.{IsLowered, IsWithin};
 ghost use Rattle.kc_delete.specs.private.Capped.{profile_of, graph_of, levels_of};
 ghost use Rattle.kc_delete.specs.private.Fallen.{AreFallen};
 ghost use Rattle.kc_delete.specs.private.Settling.{IsSettling, WaitsOrMeets, StillWait, IsUntouched, AreLookedAt};
-ghost use Rattle.kc_delete.specs.private.Within.{IsWithin};
 
 use crate::capped::Capped;
 use crate::short::is_short;
@@ -84,7 +83,7 @@ pub fn settle<R: Threads + Sync, G: Gate + Sync, L: Ledger>(
     steps: &mut Steps<L>,
 ) -> Result<(), AllocError>
     requires graph { IsGraph adj.old.graph }
-    requires within { IsWithin th.now adj.old }
+    requires within { IsWithin th.now adj.old.graph adj.old.levels }
     requires settling { IsSettling th.now.profile adj.old.graph adj.old.levels adj.old.levels work.old.waits }
     requires before { work.old.before ≡ adj.old.levels }
     requires nobody { work.old.fallen ≡ [] }

@@ -16,7 +16,6 @@ use crate::showing::{MarkerPlaces, Show, show_phases};
 use crate::work::PhaseWork;
 use kc_adj::LevelAdj;
 use kc_graph::{Cleaned, Graph, MAX_EDGES, MAX_VERTICES};
-use kc_groups::Planners;
 use kc_history::MAX_PHASE;
 use kc_levels::{Levels, Thresholds};
 use kc_rounds::{Gate, Rounds};
@@ -171,11 +170,6 @@ impl Engine {
         self.halted = true;
         let context = PhaseContext {
             rounds: Rounds::new(rt, alloc, gate, self.workers),
-            planners: Planners {
-                rt,
-                alloc,
-                workers: self.workers,
-            },
             th: &self.thresholds,
         };
         let before = self.phases;

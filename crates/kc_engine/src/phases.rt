@@ -17,7 +17,7 @@ use crate::work::PhaseWork;
 use kc_adj::{LevelAdj, Steps};
 use kc_delete::delete_phase;
 use kc_graph::{Cleaned, Edges, MAX_EDGES};
-use kc_groups::{Phase, Planners, plan_moves};
+use kc_groups::{Phase, plan_moves};
 use kc_history::MAX_PHASE;
 use kc_insert::insert_phase;
 use kc_levels::Thresholds;
@@ -30,10 +30,8 @@ use std::thread::Threads;
 // The values that stay the same through the phases of a batch. Contracts see the thresholds alone.
 #[derive(Drop)]
 pub(crate) struct PhaseContext<'a, R, G> {
-    // Tests candidates, and passes their spots to the gate.
+    // Tests candidates, passes their spots to the gate, and has the workers that link edges and gather moves.
     pub(crate) rounds: Rounds<'a, R, G>,
-    // Gathers the moves of a phase into groups. Its allocator is also that of moves and plans.
-    pub(crate) planners: Planners<'a, R>,
     // The thresholds for the number of vertices of the graph that the phases change.
     pub(crate) th: &'a Thresholds,
 }
@@ -84,18 +82,18 @@ fn deletion_phase<R: Threads + Sync, G: Gate + Sync, L: Ledger>(
     ensures moves { IfOk result (λ plan. plan.moves ≡ moved_count adj.old.graph.vertices adj.old.levels adj.new.levels) }
 {
     if removed.is_empty() {
-        return Ok(BatchPlan::empty(context.planners.alloc));
+        return Ok(BatchPlan::empty(context.rounds.alloc()));
     }
     // Evidence for the check: the edges of the graph ascend, its vertices are at most `MAX_VERTICES`, and each has a
     // level.
     let _n = adj.graph().vertices();
     let _levels = adj.levels();
-    let alloc = context.planners.alloc;
+    let alloc = context.rounds.alloc();
     let th = context.th;
     let edges = removed.as_slice();
     let mut steps = Steps::<L>::new(blank);
     let deletion = &mut work.deletion;
-    let moves = delete_phase(&context.rounds, alloc, th, adj, deletion, edges, &mut steps)?;
+    let moves = delete_phase(&context.rounds, th, adj, deletion, edges, &mut steps)?;
     work.insertion.follow(adj, edges, &moves);
     let groups = &mut work.groups;
     let leaving = Phase {
@@ -104,7 +102,7 @@ fn deletion_phase<R: Threads + Sync, G: Gate + Sync, L: Ledger>(
         edges,
         moves: &moves,
     };
-    let plan = plan_moves(&context.planners, &leaving, adj.graph(), edges, groups)?;
+    let plan = plan_moves(context.rounds.crew(), &leaving, adj.graph(), edges, groups)?;
     BatchPlan::of_phase(alloc, plan, moves.len() as u32)
 }
 
@@ -131,25 +129,17 @@ fn insertion_phase<R: Threads + Sync, G: Gate + Sync, L: Ledger>(
     ensures moves { IfOk result (λ plan. plan.moves ≡ moved_count adj.old.graph.vertices adj.old.levels adj.new.levels) }
 {
     if added.is_empty() {
-        return Ok(BatchPlan::empty(context.planners.alloc));
+        return Ok(BatchPlan::empty(context.rounds.alloc()));
     }
     // Evidence for the check, as in a phase of deletions.
     let _n = adj.graph().vertices();
     let _levels = adj.levels();
-    let alloc = context.planners.alloc;
+    let alloc = context.rounds.alloc();
     let th = context.th;
     let edges = added.as_slice();
     let mut steps = Steps::<L>::new(blank);
     let insertion = &mut work.insertion;
-    let moves = insert_phase(
-        &context.rounds,
-        alloc,
-        th,
-        adj,
-        insertion,
-        edges,
-        &mut steps,
-    )?;
+    let moves = insert_phase(&context.rounds, th, adj, insertion, edges, &mut steps)?;
     work.deletion.follow(&moves);
     let groups = &mut work.groups;
     let coming = Phase {
@@ -158,7 +148,7 @@ fn insertion_phase<R: Threads + Sync, G: Gate + Sync, L: Ledger>(
         edges,
         moves: &moves,
     };
-    let plan = plan_moves(&context.planners, &coming, adj.graph(), &[], groups)?;
+    let plan = plan_moves(context.rounds.crew(), &coming, adj.graph(), &[], groups)?;
     BatchPlan::of_phase(alloc, plan, moves.len() as u32)
 }
 

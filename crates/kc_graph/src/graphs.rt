@@ -5,6 +5,7 @@ ghost use Rattle.kc_graph.specs.Numbers.{RisesFrom};
 ghost use Rattle.kc_graph.specs.Shape.{GraphShape, EdgesFrom, IsGraph, neighbours_of, has_edge, with_edge, without_edge, with_edges, without_edges};
 ghost use Rattle.kc_graph.specs.Changes.{AllAbsent, AllPresent};
 
+use crate::crew::Crew;
 use crate::edges::Edge;
 use crate::halves::{Halves, greater_halves};
 use crate::limits::{MAX_EDGES, MAX_VERTICES};
@@ -182,41 +183,37 @@ impl Graph {
         Ok(())
     }
 
-    /// Does what `insert_all` does, with threads if the edges are many, each at rows of its own. `workers` is 1 to 64,
-    /// and the graph doesn't depend on it.
+    /// Does what `insert_all` does, with the threads of the crew if the edges are many, each at rows of its own. The
+    /// graph doesn't depend on them.
     ///
     /// Fails only if memory runs out; the graph is then unchanged.
     ///
     /// Costs what `insert_all` costs, but threads share the passes over neighbours. From 16,384 edges on there are two
-    /// of them, and up to `workers` with 8,192 edges for each. To share the passes costs a few passes over the pairs.
+    /// of them, and up to one a worker with 8,192 edges for each. To share the passes costs a few passes over the
+    /// pairs.
     pub fn par_insert_all<R: Threads + Sync>(
         &mut self,
-        rt: &R,
-        alloc: Global,
-        workers: u32,
+        crew: &Crew<'_, R>,
         edges: &[Edge],
     ) -> Result<(), AllocError>
-        requires few_workers { (1 ≤ workers) × (workers ≤ 64) }
         requires ascending { EdgesFrom self.old.vertices 0 0 edges.now }
         requires absent { AllAbsent self.old edges.now }
         requires room { length self.old.edges + length edges.now ≤ MAX_EDGES }
         ensures ok { OnOk result (self.new ≡ with_edges self.old edges.now) }
         ensures err { OnErr result (self.new ≡ self.old) }
     {
-        let greater = greater_halves(alloc, edges)?;
+        let greater = greater_halves(crew.alloc, edges)?;
         let halves = Halves::of(&greater, edges);
-        if let Err(error) = give_by(rt, workers, halves, &mut self.rows) {
-            take_by(rt, workers, halves, &mut self.rows);
+        if let Err(error) = give_by(crew, halves, &mut self.rows) {
+            take_by(crew, halves, &mut self.rows);
             return Err(error);
         }
         self.count += edges.len() as u32;
         Ok(())
     }
 
-    /// Takes out ascending edges that are there (`without_edges`).
-    ///
-    /// `workers` is 1 to 64: the most threads that take out edges if these are many, each at rows of its own. The graph
-    /// doesn't depend on it.
+    /// Takes out ascending edges that are there (`without_edges`). If they are many, the threads of the crew do it,
+    /// each at rows of its own. The graph doesn't depend on them.
     ///
     /// Fails only if memory runs out; the graph is then unchanged.
     ///
@@ -225,20 +222,17 @@ impl Graph {
     /// that stay. Threads share these passes as in `par_insert_all`, and the sort is that of `insert_all`.
     pub fn par_remove_all<R: Threads + Sync>(
         &mut self,
-        rt: &R,
-        alloc: Global,
-        workers: u32,
+        crew: &Crew<'_, R>,
         edges: &[Edge],
     ) -> Result<(), AllocError>
-        requires few_workers { (1 ≤ workers) × (workers ≤ 64) }
         requires ascending { EdgesFrom self.old.vertices 0 0 edges.now }
         requires present { AllPresent self.old edges.now }
         ensures ok { OnOk result (self.new ≡ without_edges self.old edges.now) }
         ensures err { OnErr result (self.new ≡ self.old) }
     {
-        let greater = greater_halves(alloc, edges)?;
+        let greater = greater_halves(crew.alloc, edges)?;
         let halves = Halves::of(&greater, edges);
-        take_by(rt, workers, halves, &mut self.rows);
+        take_by(crew, halves, &mut self.rows);
         self.count -= edges.len() as u32;
         Ok(())
     }

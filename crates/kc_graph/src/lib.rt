@@ -11,6 +11,7 @@
 
 mod buckets;
 mod cleaning;
+mod crew;
 mod edge_lists;
 mod edges;
 mod graphs;
@@ -31,6 +32,7 @@ mod sorting;
 mod touched;
 
 pub use cleaning::{Cleaned, clean, clean_by};
+pub use crew::Crew;
 pub use edge_lists::Edges;
 pub use edges::Edge;
 pub use graphs::Graph;

@@ -7,6 +7,7 @@ ghost use Rattle.std.specs.Thread.{IsSync};
 ghost use Rattle.kc_graph.specs.private.HalfLists.{halves_of};
 ghost use Rattle.kc_graph.specs.private.Halves.{IsCut, AreInside, AreGiven, AreGivenSome, AreTaken};
 
+use crate::crew::Crew;
 use crate::halves::Halves;
 use crate::links::{give_all, take_all};
 use crate::rows::Row;
@@ -16,30 +17,6 @@ use std::thread::{Threads, join_mut};
 // The least number of halves of a part. Fewer than twice as many aren't cut: a thread costs about a hundred
 // microseconds.
 const LEAST_PART: usize = 16_384;
-
-// The threads that go through the halves.
-#[derive(Drop)]
-struct Crew<'a, R> {
-    // Starts the threads.
-    rt: &'a R,
-    // The most threads; 0 counts as 1.
-    threads: u32,
-    // The least number of halves of a part: fewer than twice as many aren't cut.
-    least: usize,
-}
-
-impl<'a, R> Crew<'a, R> {
-    // Returns the same crew with this number of threads.
-    fn with(&self, threads: u32) -> Crew<'a, R>
-        ensures { result.threads ≡ threads }
-    {
-        Crew {
-            rt: self.rt,
-            threads,
-            least: self.least,
-        }
-    }
-}
 
 // Halves of vertices from `first` on, for rows of which the first is that of `first`.
 #[derive(Clone, Copy)]
@@ -171,7 +148,7 @@ fn give_parts<R: Threads + Sync>(
     ensures ok { OnOk result (AreGiven part.entry.first rows.old rows.new (halves_of part.entry.halves)) }
     ensures some { AreGivenSome part.entry.first rows.old rows.new (halves_of part.entry.halves) }
 {
-    if crew.threads >= 2 && crew.least <= part.halves.len() / 2 {
+    if crew.workers >= 2 && LEAST_PART <= part.halves.len() / 2 {
         if let Some(cut) = cut_in_two(part.halves) {
             let low = Part {
                 first: part.first,
@@ -196,7 +173,7 @@ fn give_both<R: Threads + Sync>(
     front: &mut [Row],
     back: &mut [Row],
 ) -> Result<(), AllocError>
-    requires several { 2 ≤ crew.now.threads }
+    requires several { 2 ≤ crew.now.workers }
     requires front { AreInside low.first (length front.old) (halves_of low.halves) }
     requires back { AreInside high.first (length back.old) (halves_of high.halves) }
     ensures front { OnOk result (AreGiven low.entry.first front.old front.new (halves_of low.entry.halves)) }
@@ -205,15 +182,15 @@ fn give_both<R: Threads + Sync>(
     ensures some_back { AreGivenSome high.entry.first back.old back.new (halves_of high.entry.halves) }
 {
     let mut left = || -> Result<(), AllocError>
-        requires { IsSync R.row × (2 ≤ crew.now.threads) × AreInside low.first (length front.now) (halves_of low.halves) }
+        requires { IsSync R.row × (2 ≤ crew.now.workers) × AreInside low.first (length front.now) (halves_of low.halves) }
         ensures ok { OnOk result (AreGiven low.entry.first front.entry.now front.exit.now (halves_of low.entry.halves)) }
         ensures some { AreGivenSome low.entry.first front.entry.now front.exit.now (halves_of low.entry.halves) }
-    { give_parts(&crew.with(crew.threads / 2), low, front) };
+    { give_parts(&crew.with(crew.workers / 2), low, front) };
     let mut right = || -> Result<(), AllocError>
-        requires { IsSync R.row × (2 ≤ crew.now.threads) × AreInside high.first (length back.now) (halves_of high.halves) }
+        requires { IsSync R.row × (2 ≤ crew.now.workers) × AreInside high.first (length back.now) (halves_of high.halves) }
         ensures ok { OnOk result (AreGiven high.entry.first back.entry.now back.exit.now (halves_of high.entry.halves)) }
         ensures some { AreGivenSome high.entry.first back.entry.now back.exit.now (halves_of high.entry.halves) }
-    { give_parts(&crew.with(crew.threads - crew.threads / 2), high, back) };
+    { give_parts(&crew.with(crew.workers - crew.workers / 2), high, back) };
     let (given_front, given_back) = join_mut(crew.rt, &mut left, &mut right);
     given_front?;
     given_back
@@ -226,7 +203,7 @@ fn take_parts<R: Threads + Sync>(crew: &Crew<'_, R>, part: Part<'_>, rows: &mut 
     requires { AreInside part.first (length rows.old) (halves_of part.halves) }
     ensures { AreTaken part.entry.first rows.old rows.new (halves_of part.entry.halves) }
 {
-    if crew.threads >= 2 && crew.least <= part.halves.len() / 2 {
+    if crew.workers >= 2 && LEAST_PART <= part.halves.len() / 2 {
         if let Some(cut) = cut_in_two(part.halves) {
             let low = Part {
                 first: part.first,
@@ -252,20 +229,20 @@ fn take_both<R: Threads + Sync>(
     front: &mut [Row],
     back: &mut [Row],
 )
-    requires several { 2 ≤ crew.now.threads }
+    requires several { 2 ≤ crew.now.workers }
     requires front { AreInside low.first (length front.old) (halves_of low.halves) }
     requires back { AreInside high.first (length back.old) (halves_of high.halves) }
     ensures front { AreTaken low.entry.first front.old front.new (halves_of low.entry.halves) }
     ensures back { AreTaken high.entry.first back.old back.new (halves_of high.entry.halves) }
 {
     let mut left = ||
-        requires { IsSync R.row × (2 ≤ crew.now.threads) × AreInside low.first (length front.now) (halves_of low.halves) }
+        requires { IsSync R.row × (2 ≤ crew.now.workers) × AreInside low.first (length front.now) (halves_of low.halves) }
         ensures { AreTaken low.entry.first front.entry.now front.exit.now (halves_of low.entry.halves) }
-    { take_parts(&crew.with(crew.threads / 2), low, front) };
+    { take_parts(&crew.with(crew.workers / 2), low, front) };
     let mut right = ||
-        requires { IsSync R.row × (2 ≤ crew.now.threads) × AreInside high.first (length back.now) (halves_of high.halves) }
+        requires { IsSync R.row × (2 ≤ crew.now.workers) × AreInside high.first (length back.now) (halves_of high.halves) }
         ensures { AreTaken high.entry.first back.entry.now back.exit.now (halves_of high.entry.halves) }
-    { take_parts(&crew.with(crew.threads - crew.threads / 2), high, back) };
+    { take_parts(&crew.with(crew.workers - crew.workers / 2), high, back) };
     join_mut(crew.rt, &mut left, &mut right);
 }
 
@@ -287,10 +264,9 @@ pub fn take_alone(halves: Halves<'_>, rows: &mut Vec<Row>)
     take_all(0, halves, rows.as_mut_slice());
 }
 
-/// Does what `give_alone` does. If the halves are many, up to `threads` threads do it, each at rows of its own.
+/// Does what `give_alone` does. If the halves are many, the threads of the crew do it, each at rows of its own.
 pub fn give_by<R: Threads + Sync>(
-    rt: &R,
-    threads: u32,
+    crew: &Crew<'_, R>,
     halves: Halves<'_>,
     rows: &mut Vec<Row>,
 ) -> Result<(), AllocError>
@@ -298,29 +274,13 @@ pub fn give_by<R: Threads + Sync>(
     ensures ok { OnOk result (AreGiven 0 rows.old.items rows.new.items (halves_of halves.entry)) }
     ensures some { AreGivenSome 0 rows.old.items rows.new.items (halves_of halves.entry) }
 {
-    give_parts(
-        &Crew {
-            rt,
-            threads,
-            least: LEAST_PART,
-        },
-        Part { first: 0, halves },
-        rows.as_mut_slice(),
-    )
+    give_parts(crew, Part { first: 0, halves }, rows.as_mut_slice())
 }
 
-/// Does what `take_alone` does. If the halves are many, up to `threads` threads do it, each at rows of its own.
-pub fn take_by<R: Threads + Sync>(rt: &R, threads: u32, halves: Halves<'_>, rows: &mut Vec<Row>)
+/// Does what `take_alone` does. If the halves are many, the threads of the crew do it, each at rows of its own.
+pub fn take_by<R: Threads + Sync>(crew: &Crew<'_, R>, halves: Halves<'_>, rows: &mut Vec<Row>)
     requires { AreInside 0 (length rows.old.items) (halves_of halves) }
     ensures { AreTaken 0 rows.old.items rows.new.items (halves_of halves.entry) }
 {
-    take_parts(
-        &Crew {
-            rt,
-            threads,
-            least: LEAST_PART,
-        },
-        Part { first: 0, halves },
-        rows.as_mut_slice(),
-    );
+    take_parts(crew, Part { first: 0, halves }, rows.as_mut_slice());
 }

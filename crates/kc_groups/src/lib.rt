@@ -2,9 +2,9 @@
 //!
 //! Two vertices that move in a phase are linked if they share an edge before or after the phase. A group is the
 //! vertices that links connect, and its label is its least vertex. [`plan_moves`] makes a [`PhasePlan`] of a [`Phase`],
-//! by [`Planners`] and with a [`GroupWork`] that is kept between phases. The plan has a quiet entry, of the edges
-//! without an end that moves, and an entry for each group. [`plan_phase`] makes the same from the levels before and
-//! after.
+//! with the threads of a crew and with a [`GroupWork`] that is kept between phases. The plan has a quiet entry, of the
+//! edges without an end that moves, and an entry for each group. [`plan_phase`] makes the same from the levels before
+//! and after.
 //!
 //! `specs/` has the definitions: read `Links` first, then `Entries` and `WellFormed`; `Gathering` has what is required
 //! of moves. [`laws`] says what follows from them.
@@ -24,7 +24,6 @@ mod plans;
 pub mod sizes;
 mod work;
 
-pub use pieces::Planners;
 pub use planning::{plan_moves, plan_phase};
 pub use plans::{Phase, PhasePlan};
 pub use work::GroupWork;

@@ -15,10 +15,10 @@ ghost use Rattle.kc_groups.specs.WellFormed.{IsWellFormed};
 use crate::dealing::{deal_edges, deal_moves, open_groups};
 use crate::linking::{link_edges, link_rows};
 use crate::moved::find_moves;
-use crate::pieces::{Planners, gather_rows, piece_count};
+use crate::pieces::gather_rows;
 use crate::work::{GroupWork, clear, label, number};
 use crate::{Phase, PhasePlan};
-use kc_graph::{Edge, Graph, MAX_VERTICES};
+use kc_graph::{Crew, Edge, Graph, MAX_VERTICES};
 use kc_history::{Entries, Entry, Move};
 use kc_levels::Levels;
 use std::alloc::{AllocError, Global};
@@ -88,7 +88,7 @@ fn plan_labelled(
 /// One thread does all other work. The plan doesn't depend on the workers. The workspace is clean before and
 /// afterwards. Fails only if memory runs out; the workspace is then of no further use.
 pub fn plan_moves<R: Threads + Sync>(
-    planners: &Planners<'_, R>,
+    crew: &Crew<'_, R>,
     phase: &Phase<'_>,
     graph: &Graph,
     gone: &[Edge],
@@ -106,10 +106,9 @@ pub fn plan_moves<R: Threads + Sync>(
     let moves = phase.moves.as_slice();
     let places = &mut work.places;
     number(moves, places);
-    let pieces = piece_count(planners.workers, moves.len());
-    let mut parents = gather_rows(planners, graph, moves, places, pieces)?;
+    let mut parents = gather_rows(crew, graph, moves, places)?;
     label_groups(graph, gone, moves, places, &mut parents);
-    let plan = plan_labelled(planners.alloc, phase, places)?;
+    let plan = plan_labelled(crew.alloc, phase, places)?;
     Ok(plan)
 }
 

@@ -3,7 +3,7 @@
 ghost use Rattle.std.specs.Prelude.{◌≡◌, ℕ, ◌+◌, ◌*◌, ◌<◌, ◌≤◌, OnOk, IfOk, length};
 ghost use Rattle.kc_graph.specs.Shape.{EdgesFrom, with_edges};
 ghost use Rattle.kc_graph.specs.Changes.{AllAbsent};
-ghost use Rattle.kc_levels.specs.LevelList.{MeetsUpper, IsCapped, IsRaised};
+ghost use Rattle.kc_levels.specs.LevelList.{MeetsUpper, IsRaised, IsWithin};
 ghost use Rattle.kc_levels.specs.Moved.{moved_count, moves_between};
 ghost use Rattle.kc_insert.specs.Effort.{effort};
 ghost use Rattle.kc_insert.specs.Working.{IsReady};
@@ -62,15 +62,13 @@ pub struct Tally {
 /// their halves are sorted. If 8,192 vertices or more rose, it takes what `LevelAdj::par_lift_all` takes.
 pub fn insert_phase<R: Threads + Sync, G: Gate + Sync, L: Ledger>(
     rounds: &Rounds<R, G>,
-    alloc: Global,
     th: &Thresholds,
     adj: &mut LevelAdj,
     work: &mut InsertionWork,
     added: &[Edge],
     steps: &mut Steps<L>,
 ) -> Result<Moves, AllocError>
-    requires scale { th.now.vertices ≡ adj.old.graph.vertices }
-    requires capped { IsCapped th.now.profile adj.old.graph.vertices adj.old.levels }
+    requires within { IsWithin th.now adj.old.graph adj.old.levels }
     requires upper { (v : ℕ) → v < adj.old.graph.vertices → MeetsUpper th.now.profile adj.old.graph adj.old.levels v }
     requires ready { IsReady th.now.profile adj.old work.old }
     requires ascending { EdgesFrom adj.old.graph.vertices 0 0 added.now }
@@ -86,7 +84,7 @@ pub fn insert_phase<R: Threads + Sync, G: Gate + Sync, L: Ledger>(
     let _levels = adj.levels();
     let _top = th.top();
     let sweep = &mut work.sweep;
-    link_edges(rounds, alloc, adj, added, steps)?;
+    link_edges(rounds, adj, added, steps)?;
     let fresh = Fresh {
         th,
         levels: adj.levels(),
@@ -97,8 +95,8 @@ pub fn insert_phase<R: Threads + Sync, G: Gate + Sync, L: Ledger>(
         graph: adj.graph(),
         th,
     };
-    raise_queued(rounds, alloc, scaled, sweep, steps)?;
-    let moves = take_moves(rounds, alloc, adj, sweep, steps)?;
+    raise_queued(rounds, scaled, sweep, steps)?;
+    let moves = take_moves(rounds, adj, sweep, steps)?;
     Ok(moves)
 }
 
@@ -117,8 +115,7 @@ pub fn insert_rounds<R: Threads + Sync, G: Gate + Sync, L: Ledger>(
     steps: &mut Steps<L>,
 ) -> Result<Tally, AllocError>
     requires few_workers { (1 ≤ workers) × (workers ≤ 64) }
-    requires scale { th.now.vertices ≡ adj.old.graph.vertices }
-    requires capped { IsCapped th.now.profile adj.old.graph.vertices adj.old.levels }
+    requires within { IsWithin th.now adj.old.graph adj.old.levels }
     requires upper { (v : ℕ) → v < adj.old.graph.vertices → MeetsUpper th.now.profile adj.old.graph adj.old.levels v }
     requires ascending { EdgesFrom adj.old.graph.vertices 0 0 added.now }
     requires absent { AllAbsent adj.old.graph added.now }
@@ -132,7 +129,7 @@ pub fn insert_rounds<R: Threads + Sync, G: Gate + Sync, L: Ledger>(
     let _n = adj.graph().vertices();
     let mut work = InsertionWork::new(alloc, th, adj)?;
     let rounds = Rounds::new(rt, alloc, gate, workers);
-    let moves = insert_phase(&rounds, alloc, th, adj, &mut work, added, steps)?;
+    let moves = insert_phase(&rounds, th, adj, &mut work, added, steps)?;
     Ok(Tally {
         moves: moves.len() as u32,
     })

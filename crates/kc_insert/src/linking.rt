@@ -37,7 +37,6 @@ fn link_each<L: Ledger>(
 /// Fails only if memory runs out; the graph is then unspecified.
 pub fn link_edges<R: Threads + Sync, G: Gate + Sync, L: Ledger>(
     rounds: &Rounds<R, G>,
-    alloc: Global,
     adj: &mut LevelAdj,
     added: &[Edge],
     steps: &mut Steps<L>,
@@ -49,9 +48,9 @@ pub fn link_edges<R: Threads + Sync, G: Gate + Sync, L: Ledger>(
     ensures cost { OnOk result (steps.new ≡ steps.old + 3 * length added.now) }
 {
     if added.len() < LEAST_TOGETHER {
-        link_each(alloc, adj, added, steps)?;
+        link_each(rounds.alloc(), adj, added, steps)?;
         return Ok(());
     }
-    adj.link_all(rounds.runtime(), alloc, rounds.workers(), added, steps)?;
+    adj.link_all(rounds.crew(), added, steps)?;
     Ok(())
 }

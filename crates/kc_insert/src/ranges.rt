@@ -371,7 +371,6 @@ impl Ranges {
     pub fn rise<R: Threads + Sync, G: Gate + Sync>(
         &mut self,
         rounds: &Rounds<R, G>,
-        alloc: Global,
         step: &Step<'_>,
         most: u32,
     ) -> Result<(), AllocError>
@@ -383,7 +382,7 @@ impl Ranges {
         let rt = rounds.runtime();
         let items = self.items.as_mut_slice();
         let told = self.told.as_mut_slice();
-        rise_each(rt, alloc, step, items);
+        rise_each(rt, rounds.alloc(), step, items);
         check(items)?;
         collect(items, told);
         hear_more(rt, step, most, told, items)?;

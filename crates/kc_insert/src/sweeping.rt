@@ -17,7 +17,7 @@ use crate::sweep::{Over, Sweep};
 use kc_adj::Steps;
 use kc_levels::Thresholds;
 use kc_rounds::{FirstRound, Gate, Rounds};
-use std::alloc::{AllocError, Global};
+use std::alloc::AllocError;
 use std::sync::ledger::Ledger;
 use std::thread::Threads;
 
@@ -85,7 +85,6 @@ fn movers<R: Threads + Sync, G: Gate + Sync>(
 // The step from the level of the sweep to the next. Fails only if memory runs out.
 fn raise_level<R: Threads + Sync, G: Gate + Sync, L: Ledger>(
     rounds: &Rounds<R, G>,
-    alloc: Global,
     scaled: Scaled<'_>,
     sweep: &mut Sweep,
     steps: &mut Steps<L>,
@@ -104,7 +103,7 @@ fn raise_level<R: Threads + Sync, G: Gate + Sync, L: Ledger>(
     let level = sweep.levels.level;
     let most = th.high(th.group(level));
     let above = th.high(th.group(level + 1));
-    let waiting = sweep.ranges.take_waiting(alloc, level)?;
+    let waiting = sweep.ranges.take_waiting(rounds.alloc(), level)?;
     let starting = movers(rounds, &mut sweep.first, &sweep.ranges, most, &waiting)?;
     let staying = sweep.ranges.let_stay(&mut sweep.levels)?;
     let ranges = &sweep.ranges;
@@ -132,7 +131,7 @@ fn raise_level<R: Threads + Sync, G: Gate + Sync, L: Ledger>(
         is_dealt: is_dealt_up,
         threads: layout.threads(work, rounds.workers()),
     };
-    sweep.ranges.rise(rounds, alloc, &rising, above)?;
+    sweep.ranges.rise(rounds, &rising, above)?;
     steps.add(sweep.ranges.take_steps());
     Ok(())
 }
@@ -141,7 +140,6 @@ fn raise_level<R: Threads + Sync, G: Gate + Sync, L: Ledger>(
 // to the next. Fails only if memory runs out.
 fn rise_on<R: Threads + Sync, G: Gate + Sync, L: Ledger>(
     rounds: &Rounds<R, G>,
-    alloc: Global,
     scaled: Scaled<'_>,
     sweep: &mut Sweep,
     steps: &mut Steps<L>,
@@ -156,7 +154,7 @@ fn rise_on<R: Threads + Sync, G: Gate + Sync, L: Ledger>(
     if rise_together(scaled, sweep) {
         return Ok(());
     }
-    raise_level(rounds, alloc, scaled, sweep, steps)?;
+    raise_level(rounds, scaled, sweep, steps)?;
     Ok(())
 }
 
@@ -167,7 +165,6 @@ fn rise_on<R: Threads + Sync, G: Gate + Sync, L: Ledger>(
 /// unspecified.
 pub fn raise_queued<R: Threads + Sync, G: Gate + Sync, L: Ledger>(
     rounds: &Rounds<R, G>,
-    alloc: Global,
     scaled: Scaled<'_>,
     sweep: &mut Sweep,
     steps: &mut Steps<L>,
@@ -180,7 +177,7 @@ pub fn raise_queued<R: Threads + Sync, G: Gate + Sync, L: Ledger>(
     sweep.levels.go_to(0);
     sweep.go_on();
     while sweep.levels.level < top {
-        rise_on(rounds, alloc, scaled, sweep, steps)?;
+        rise_on(rounds, scaled, sweep, steps)?;
         sweep.go_on();
     }
     sweep.settle_all();

@@ -107,7 +107,6 @@ impl InsertionWork {
 /// graph. Afterwards the ranges have forgotten the phase. Fails only if memory runs out.
 pub fn take_moves<R: Threads + Sync, G: Gate + Sync, L: Ledger>(
     rounds: &Rounds<R, G>,
-    alloc: Global,
     adj: &mut LevelAdj,
     sweep: &mut Sweep,
     steps: &mut Steps<L>,
@@ -122,17 +121,11 @@ pub fn take_moves<R: Threads + Sync, G: Gate + Sync, L: Ledger>(
     ensures cost { OnOk result (steps.new ≡ steps.old + lift_cost adj.old.graph sweep.old.ranges) }
 {
     let _levels = adj.levels();
+    let alloc = rounds.alloc();
     let new = &sweep.levels.stored;
     let mut risen = sweep.ranges.risen(alloc)?;
     let moves = moves_of(alloc, adj.levels(), new, &mut risen)?;
-    adj.par_lift_all(
-        rounds.runtime(),
-        alloc,
-        rounds.workers(),
-        &risen,
-        new,
-        steps,
-    )?;
+    adj.par_lift_all(rounds.crew(), &risen, new, steps)?;
     sweep.ranges.forget(alloc);
     Ok(moves)
 }

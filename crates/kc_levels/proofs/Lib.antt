@@ -6,6 +6,7 @@ mod Groups
 mod TableLemmas
 mod Places
 mod AtLeast
+mod Capped
 mod Raising
 mod RaisedLaw
 mod Lowering

@@ -1,5 +1,6 @@
 pub mod AtLeast
 pub mod Both
+pub mod Capped
 pub mod Least
 pub mod Lowering
 pub mod Moves

@@ -5,7 +5,7 @@ use Rattle.std.specs.Prelude.{ℕ, ◌≤◌, ◌<◌, ◌≡◌, nat_le, List, 
 use Rattle.std.proofs.Common.{suc, zero}
 use Rattle.kc_graph.specs.Shape.{GraphShape, neighbours_of}
 use Rattle.kc_levels.specs.declared.profile.Profile.{Profile}
-use Rattle.kc_levels.specs.Thresholds.{low, high, group_of, top_level}
+use Rattle.kc_levels.specs.Thresholds.{Scale, low, high, group_of, top_level}
 
 -- how many neighbours of v have a level of at least l
 unfoldable pub at_least : GraphShape → List ℕ → ℕ → ℕ → ℕ
@@ -43,6 +43,16 @@ IsBelow n x y = (v : ℕ) → v < n → get_or x v 0 ≤ get_or y v 0
 -- no level of x is above the top
 abbrev pub IsCapped : Profile → ℕ → List ℕ → Type 0
 IsCapped p n x = (v : ℕ) → v < n → get_or x v 0 ≤ top_level p n
+
+-- the thresholds are for the graph's number of vertices, and the level of v is at most their top
+pub record IsWithinAt (th : Scale) (g : GraphShape) (x : List ℕ) (v : ℕ) : Type 0 where
+  pub scale : th.vertices ≡ g.vertices
+  pub capped : get_or x v 0 ≤ top_level th.profile th.vertices
+
+-- the thresholds are for the graph's number of vertices, and no level is above their top
+pub record IsWithin (th : Scale) (g : GraphShape) (x : List ℕ) : Type 0 where
+  pub scale : th.vertices ≡ g.vertices
+  pub capped : (v : ℕ) → v < g.vertices → get_or x v 0 ≤ top_level th.profile th.vertices
 
 -- y is at least x, within the top, and meets the upper invariant
 pub record IsRaisable (p : Profile) (g : GraphShape) (x y : List ℕ) : Type 0 where

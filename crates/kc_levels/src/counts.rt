@@ -2,7 +2,7 @@
 ghost use Rattle.std.specs.Prelude.{◌≡◌, ℕ, ◌<◌, ◌≤◌, ◌↔◌, IsTrue, length, slice_index};
 ghost use Rattle.std.specs.Bool.{OnFalse};
 ghost use Rattle.kc_levels.specs.Thresholds.{top_level};
-ghost use Rattle.kc_levels.specs.LevelList.{at_least, MeetsUpper, MeetsLower};
+ghost use Rattle.kc_levels.specs.LevelList.{at_least, IsWithinAt, MeetsUpper, MeetsLower};
 
 use crate::{Levels, Thresholds};
 use kc_graph::Graph;
@@ -34,8 +34,7 @@ pub fn at_least(graph: &Graph, levels: &Levels, v: u32, level: u16) -> u32
 pub fn check_upper(graph: &Graph, levels: &Levels, th: &Thresholds, v: u32) -> bool
     requires vertex { v < graph.now.vertices }
     requires sized { length levels.now ≡ graph.now.vertices }
-    requires scale { th.now.vertices ≡ graph.now.vertices }
-    requires capped { slice_index levels.now v ≤ top_level th.now.profile th.now.vertices }
+    requires within { IsWithinAt th.now graph.now levels.now v }
     ensures meets { IsTrue result ↔ MeetsUpper th.now.profile graph.now levels.now v }
     ensures can_rise { OnFalse result (slice_index levels.now v < top_level th.now.profile th.now.vertices) }
     ensures small { top_level th.now.profile th.now.vertices < 65535 }
@@ -51,8 +50,7 @@ pub fn check_upper(graph: &Graph, levels: &Levels, th: &Thresholds, v: u32) -> b
 pub fn check_lower(graph: &Graph, levels: &Levels, th: &Thresholds, v: u32) -> bool
     requires vertex { v < graph.now.vertices }
     requires sized { length levels.now ≡ graph.now.vertices }
-    requires scale { th.now.vertices ≡ graph.now.vertices }
-    requires capped { slice_index levels.now v ≤ top_level th.now.profile th.now.vertices }
+    requires within { IsWithinAt th.now graph.now levels.now v }
     ensures { IsTrue result ↔ MeetsLower th.now.profile graph.now levels.now v }
 {
     let level = levels.get(v);

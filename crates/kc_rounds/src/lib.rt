@@ -4,8 +4,8 @@
 //! Rounds of tests, publications and readers call a [`Gate`] at each [`Spot`]. A program passes an [`OpenGate`]. A test
 //! passes a gate of its own, which may hold a thread at a spot until another thread has reached one.
 //!
-//! Floor: phases. It stands on std alone. From above: [`Rounds`] for phases and plans, [`Gate`] for whatever runs in
-//! threads.
+//! Floor: phases. It knows no graph, but has `Crew` from `kc_graph`. From above: [`Rounds`] for phases and plans,
+//! [`Gate`] for whatever runs in threads.
 #![tactic(auto)]
 
 mod filtering;

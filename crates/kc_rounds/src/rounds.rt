@@ -2,6 +2,7 @@
 ghost use Rattle.std.specs.Prelude.{◌≡◌, ◌≤◌, ◌<◌, All, IfOk, filter};
 
 use crate::{Gate, RoundTest, filter_round};
+use kc_graph::Crew;
 use std::alloc::{AllocError, Global};
 use std::thread::Threads;
 
@@ -33,32 +34,11 @@ impl FirstRound {
 /// depends on it.
 #[derive(Drop)]
 pub struct Rounds<'a, R, G> {
-    // Starts the threads.
-    rt: &'a R,
-    // The allocator of the answers.
-    alloc: Global,
+    // The threads that share a list, 1 to 64, and the allocator of the answers.
+    crew: Crew<'a, R>,
     // Called at each piece of candidates, before the first test.
     gate: &'a G,
-    // The most pieces of a list: 1 to 64.
-    workers: u32,
-    ghost few_workers: { (1 ≤ workers) × (workers ≤ 64) },
-}
-
-// Returns how many workers share a list: one for each full `least_piece` items, at least one.
-fn workers_for(workers: u32, items: usize, least_piece: usize) -> u32
-    requires some_workers { 1 ≤ workers }
-    requires some_length { 1 ≤ least_piece }
-    ensures some { 1 ≤ result }
-    ensures few { result ≤ workers }
-{
-    let long_pieces = items / least_piece;
-    if workers as usize <= long_pieces {
-        workers
-    } else if long_pieces == 0 {
-        1
-    } else {
-        long_pieces as u32
-    }
+    ghost few_workers: { (1 ≤ crew.workers) × (crew.workers ≤ 64) },
 }
 
 impl<'a, R: Threads + Sync, G: Gate + Sync> Rounds<'a, R, G> {
@@ -66,24 +46,35 @@ impl<'a, R: Threads + Sync, G: Gate + Sync> Rounds<'a, R, G> {
     pub fn new(rt: &'a R, alloc: Global, gate: &'a G, workers: u32) -> Self
         requires { (1 ≤ workers) × (workers ≤ 64) }
     {
-        Rounds {
-            rt,
-            alloc,
-            gate,
-            workers,
-        }
+        let crew = Crew { rt, alloc, workers };
+        Rounds { crew, gate }
+    }
+
+    /// Returns the workers that rounds may use, 1 to 64, for other calls that threads share.
+    pub fn crew(&self) -> &Crew<'a, R> {
+        &self.crew
     }
 
     /// Returns what starts the threads.
     pub fn runtime(&self) -> &R {
-        self.rt
+        self.crew.rt
+    }
+
+    /// Returns the allocator of the answers.
+    pub fn alloc(&self) -> Global {
+        self.crew.alloc
+    }
+
+    /// Returns the gate that rounds call.
+    pub fn gate(&self) -> &G {
+        self.gate
     }
 
     /// Returns the number of workers that rounds may use, 1 to 64.
     pub fn workers(&self) -> u32
         ensures { (1 ≤ result) × (result ≤ 64) }
     {
-        self.workers
+        self.crew.workers
     }
 
     /// Tests the candidates in one round and returns those that pass, in order (`filter_round`).
@@ -98,12 +89,13 @@ impl<'a, R: Threads + Sync, G: Gate + Sync> Rounds<'a, R, G> {
         requires { All (F.may_ask test.now) candidates.now }
         ensures { IfOk result (λ v. v.items ≡ filter (F.keeps test.now) candidates.now) }
     {
+        let crew = &self.crew;
         let workers = if first.is_ahead {
-            self.workers
+            crew.workers
         } else {
-            workers_for(self.workers, candidates.len(), LEAST_TESTS)
+            crew.pieces(candidates.len(), LEAST_TESTS) as u32
         };
         first.is_ahead = first.is_ahead && candidates.is_empty();
-        filter_round(self.rt, self.alloc, self.gate, workers, candidates, test)
+        filter_round(crew.rt, crew.alloc, self.gate, workers, candidates, test)
     }
 }

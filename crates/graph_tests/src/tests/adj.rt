@@ -5,7 +5,7 @@ ghost use Rattle.kc_levels.specs.Following.{AreDistinct};
 
 use super::support::{check_row, levelled, levels};
 use kc_adj::{LevelAdj, LevelLists, Steps};
-use kc_graph::{Edge, MAX_EDGES, MAX_VERTICES};
+use kc_graph::{Crew, Edge, MAX_EDGES, MAX_VERTICES};
 use kc_levels::{Levels, Profile, Thresholds, at_least};
 use std::alloc::{AllocError, Global};
 use std::marker::Brand;
@@ -271,7 +271,7 @@ fn check_lifted<R: Abort + Threads + Sync, L: Ledger>(rt: &R, alloc: Global, n: 
             together.lift_all(&vertices, &new, &mut steps);
         } else {
             together
-                .par_lift_all(rt, alloc, workers, &vertices, &new, &mut steps)
+                .par_lift_all(&Crew { rt, alloc, workers }, &vertices, &new, &mut steps)
                 .expect(rt, "memory");
         }
         assert!(rt; have_same_counts(&together, &one_by_one));

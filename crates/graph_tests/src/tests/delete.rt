@@ -58,7 +58,7 @@ fn leave_once<R: Threads + Sync + Abort, G: Gate + Sync, L: Ledger>(
     let n = adj.graph().vertices();
     let removed = support::edges(rt, alloc, n, pairs);
     assert!(rt; are_present(adj.graph(), &removed) && can_fall(adj, th));
-    let moves = delete_phase(rounds, alloc, th, adj, work, &removed, steps).expect(rt, "memory");
+    let moves = delete_phase(rounds, th, adj, work, &removed, steps).expect(rt, "memory");
     assert!(rt; adj.graph().vertices() == n);
     moves
 }

@@ -1,7 +1,7 @@
 // Edges come into graphs and leave them, one by one and together. Rows were worked out by hand.
 
 use super::support::{Pairs, check_row, edges, graph};
-use kc_graph::{Edge, Edges, Graph, MAX_EDGES, sort_numbers};
+use kc_graph::{Crew, Edge, Edges, Graph, MAX_EDGES, sort_numbers};
 use std::alloc::Global;
 use std::process::Abort;
 use std::thread::Threads;
@@ -119,9 +119,8 @@ fn put_in<R: Threads + Sync + Abort>(
     if workers == 0 {
         graph.insert_all(alloc, &edges).expect(rt, "memory");
     } else {
-        assert!(rt; workers <= 64);
         graph
-            .par_insert_all(rt, alloc, workers, &edges)
+            .par_insert_all(&Crew { rt, alloc, workers }, &edges)
             .expect(rt, "memory");
     }
 }
@@ -135,9 +134,9 @@ fn take_out<R: Threads + Sync + Abort>(
     pairs: &[(u32, u32)],
 ) {
     let edges = edges(rt, alloc, graph.vertices(), pairs);
-    assert!(rt; are_present(graph, &edges) && 1 <= workers && workers <= 64);
+    assert!(rt; are_present(graph, &edges));
     graph
-        .par_remove_all(rt, alloc, workers, &edges)
+        .par_remove_all(&Crew { rt, alloc, workers }, &edges)
         .expect(rt, "memory");
 }
 

@@ -9,8 +9,8 @@ use super::drawing::{dealt, drawn_pairs};
 use super::insert::WORKERS;
 use super::plainly::{count_of, level_of};
 use super::support;
-use kc_graph::{Edge, Graph, MAX_VERTICES};
-use kc_groups::{GroupWork, Phase, PhasePlan, Planners, plan_moves, plan_phase};
+use kc_graph::{Crew, Edge, Graph, MAX_VERTICES};
+use kc_groups::{GroupWork, Phase, PhasePlan, plan_moves, plan_phase};
 use kc_history::{Entries, Entry, Move, Moves};
 use std::alloc::Global;
 use std::process::Abort;
@@ -57,7 +57,7 @@ fn moves_from<R: Abort>(rt: &R, alloc: Global, before: &[u16], after: &[u16]) ->
 
 // Returns the plan of a phase whose edges the graph lacks, by a workspace that other phases use too.
 fn plan_lacking<R: Threads + Sync + Abort>(
-    planners: &Planners<'_, R>,
+    crew: &Crew<'_, R>,
     case: &Case<'_>,
     edges: &[Edge],
     graph: &Graph,
@@ -69,16 +69,16 @@ fn plan_lacking<R: Threads + Sync + Abort>(
     requires clean { work.old ≡ clean graph.now.vertices }
     ensures clean { work.new ≡ clean graph.now.vertices }
 {
-    let rt = planners.rt;
+    let rt = crew.rt;
     let _n = graph.vertices();
-    let moves = moves_from(rt, planners.alloc, case.before, case.after);
+    let moves = moves_from(rt, crew.alloc, case.before, case.after);
     let phase = Phase {
         number: 7,
         add: case.add,
         edges,
         moves: &moves,
     };
-    plan_moves(planners, &phase, graph, edges, work).expect(rt, "memory")
+    plan_moves(crew, &phase, graph, edges, work).expect(rt, "memory")
 }
 
 // Spreads the lesser label of each pair to both ends, if both move. Returns whether a label changed.
@@ -216,7 +216,7 @@ fn plan_having<R: Abort>(
 
 // Checks that the plans of a phase are the plain one.
 fn check<R: Threads + Sync + Abort>(
-    planners: &Planners<'_, R>,
+    crew: &Crew<'_, R>,
     n: u32,
     case: &Case<'_>,
     work: &mut GroupWork,
@@ -224,15 +224,15 @@ fn check<R: Threads + Sync + Abort>(
     requires clean { work.old ≡ clean n }
     ensures clean { work.new ≡ clean n }
 {
-    let rt = planners.rt;
-    let alloc = planners.alloc;
+    let rt = crew.rt;
+    let alloc = crew.alloc;
     assert!(rt; case.before.len() == n as usize && case.after.len() == n as usize);
     let want = plan_plainly(rt, alloc, case);
     let graph = support::graph(rt, alloc, n, case.others);
     let edges = support::edges(rt, alloc, n, case.edges);
-    let plan = plan_lacking(planners, case, &edges, &graph, work);
+    let plan = plan_lacking(crew, case, &edges, &graph, work);
     assert!(rt; is_same_plan(&plan, &want));
-    if planners.workers <= 1 {
+    if crew.workers <= 1 {
         let plan = plan_having(rt, alloc, n, case, &edges);
         assert!(rt; is_same_plan(&plan, &want));
     }
@@ -246,10 +246,10 @@ fn check_all<R: Threads + Sync + Abort>(
     n: u32,
     cases: &[Case<'_>],
 ) {
-    let planners = Planners { rt, alloc, workers };
+    let crew = Crew { rt, alloc, workers };
     let mut work = GroupWork::new(alloc, n).expect(rt, "memory");
     for case in cases {
-        check(&planners, n, case, &mut work);
+        check(&crew, n, case, &mut work);
     }
 }
 

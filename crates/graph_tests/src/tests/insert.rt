@@ -62,7 +62,7 @@ fn come_in_once<R: Threads + Sync + Abort, G: Gate + Sync, L: Ledger>(
     let added = support::edges(rt, alloc, n, pairs);
     assert!(rt; are_absent(adj.graph(), &added) && can_rise(adj, th));
     assert!(rt; adj.graph().edge_count() as usize + added.len() <= MAX_EDGES as usize);
-    let moves = insert_phase(rounds, alloc, th, adj, work, &added, steps).expect(rt, "memory");
+    let moves = insert_phase(rounds, th, adj, work, &added, steps).expect(rt, "memory");
     assert!(rt; adj.graph().vertices() == n);
     moves
 }

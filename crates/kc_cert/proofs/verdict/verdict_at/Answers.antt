@@ -6,13 +6,13 @@ use Rattle.kc_cert.proofs.verdict.verdict_at.Goals as goal
 pub returns-then-up-high : goal.returns-then-up-high
 returns-then-up-high c =
     let up = count_is c.args.cert.now.graph c.args.cert.now.levels c.as_slice.result.now c.neighbours.result.now c.args.v c.get-level.result _ c.neighbours.ensures.value c.as_slice.ensures c.counts-up.ensures.up in
-    let bound = bound_is high _ _ _ _ c.get-level.result _ _ c.requires.profile c.requires.scale c.group.ensures.value c.high.ensures.value in
+    let bound = bound_is high _ _ _ _ c.get-level.result _ _ c.requires.profile c.requires.within.scale c.group.ensures.value c.high.ensures.value in
     (refl, breaks_upper c.args.cert.now c.args.v c.get-level.result _ _ c.get-level.ensures up bound c.if-up-high.true)
 
 pub returns-then-level-eq0 : goal.returns-then-level-eq0
 returns-then-level-eq0 c =
     let up = count_is c.args.cert.now.graph c.args.cert.now.levels c.as_slice.result.now c.neighbours.result.now c.args.v c.get-level.result _ c.neighbours.ensures.value c.as_slice.ensures c.counts-up.ensures.up in
-    let bound = bound_is high _ _ _ _ c.get-level.result _ _ c.requires.profile c.requires.scale c.group.ensures.value c.high.ensures.value in
+    let bound = bound_is high _ _ _ _ c.get-level.result _ _ c.requires.profile c.requires.within.scale c.group.ensures.value c.high.ensures.value in
     (meets_upper c.args.cert.now c.args.v c.get-level.result _ _ c.get-level.ensures up bound c.if-up-high.false, meets_lower_at_zero c.args.cert.now c.args.v c.get-level.result c.get-level.ensures c.if-level-eq0.true)
 
 pub returns-then-down-low : goal.returns-then-down-low
@@ -20,7 +20,7 @@ returns-then-down-low c =
     let level = c.get-level.result in
     let some : 0 < level = grind (arith, c.if-level-eq0.false) in
     let down = count_is c.args.cert.now.graph c.args.cert.now.levels c.as_slice.result.now c.neighbours.result.now c.args.v (level - 1) _ c.neighbours.ensures.value c.as_slice.ensures c.counts-up.ensures.down in
-    let bound = bound_is low _ _ _ _ (level - 1) _ _ c.requires.profile c.requires.scale c.group-2.ensures.value c.low.ensures.value in
+    let bound = bound_is low _ _ _ _ (level - 1) _ _ c.requires.profile c.requires.within.scale c.group-2.ensures.value c.low.ensures.value in
     (refl, breaks_lower c.args.cert.now c.args.v level _ _ c.get-level.ensures some down bound c.if-down-low.true)
 
 pub returns : goal.returns
@@ -28,7 +28,7 @@ returns c =
     let level = c.get-level.result in
     let some : 0 < level = grind (arith, c.if-level-eq0.false) in
     let up = count_is c.args.cert.now.graph c.args.cert.now.levels c.as_slice.result.now c.neighbours.result.now c.args.v level _ c.neighbours.ensures.value c.as_slice.ensures c.counts-up.ensures.up in
-    let most = bound_is high _ _ _ _ level _ _ c.requires.profile c.requires.scale c.group.ensures.value c.high.ensures.value in
+    let most = bound_is high _ _ _ _ level _ _ c.requires.profile c.requires.within.scale c.group.ensures.value c.high.ensures.value in
     let down = count_is c.args.cert.now.graph c.args.cert.now.levels c.as_slice.result.now c.neighbours.result.now c.args.v (level - 1) _ c.neighbours.ensures.value c.as_slice.ensures c.counts-up.ensures.down in
-    let least = bound_is low _ _ _ _ (level - 1) _ _ c.requires.profile c.requires.scale c.group-2.ensures.value c.low.ensures.value in
+    let least = bound_is low _ _ _ _ (level - 1) _ _ c.requires.profile c.requires.within.scale c.group-2.ensures.value c.low.ensures.value in
     (meets_upper c.args.cert.now c.args.v level _ _ c.get-level.ensures up most c.if-up-high.false, meets_lower c.args.cert.now c.args.v level _ _ c.get-level.ensures some down least c.if-down-low.false)

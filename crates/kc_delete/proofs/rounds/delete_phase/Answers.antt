@@ -10,7 +10,7 @@ use Rattle.kc_delete.proofs.FallenLemmas.{none_marked}
 use Rattle.kc_delete.proofs.rounds.delete_phase.Goals as goal
 
 pub invariant_of-add_short_ends : goal.invariant_of-add_short_ends
-invariant_of-add_short_ends g c = record { within = rw c.in_ok-unlink_edges.ensures (within_after c.args.th.now c.args.adj.now c.args.removed.now c.requires.scale c.requires.capped) }
+invariant_of-add_short_ends g c = record { within = rw c.in_ok-unlink_edges.ensures (within_after c.args.th.now c.args.adj.now c.args.removed.now c.requires.within) }
 
 pub add_short_ends-requires-clause-sized : goal.add_short_ends-requires-clause-sized
 add_short_ends-requires-clause-sized g c =
@@ -27,7 +27,7 @@ settle-requires-clause-graph g c κs o =
     rw c.in_ok-unlink_edges.ensures (removals_keep_graph c.args.adj.now.graph c.args.removed.now (rw c.graph.ensures at c.vertices-n.ensures.graph))
 
 pub settle-requires-clause-within : goal.settle-requires-clause-within
-settle-requires-clause-within g c κs o = rw c.in_ok-unlink_edges.ensures (within_after c.args.th.now c.args.adj.now c.args.removed.now c.requires.scale c.requires.capped)
+settle-requires-clause-within g c κs o = rw c.in_ok-unlink_edges.ensures (within_after c.args.th.now c.args.adj.now c.args.removed.now c.requires.within)
 
 pub settle-requires-clause-settling : goal.settle-requires-clause-settling
 settle-requires-clause-settling g c κs o =

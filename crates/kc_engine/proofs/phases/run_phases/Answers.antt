@@ -5,6 +5,7 @@ use Rattle.kc_graph.specs.Shape.{GraphShape}
 use Rattle.kc_graph.proofs.lemmas.Changes.{vertices-without_edges}
 use Rattle.kc_graph.proofs.lemmas.Counts.{count_below-le}
 use Rattle.kc_levels.specs.Moved.{is_moved}
+use Rattle.kc_levels.proofs.lemmas.Capped.{capped_of, within_of}
 use Rattle.kc_engine.specs.declared.plans.BatchPlan.{BatchPlan}
 use Rattle.kc_engine.specs.private.Batches.{IsPlanOf}
 use Rattle.kc_engine.proofs.BatchLemmas.{IsAt, after_lowered}
@@ -17,11 +18,12 @@ insertion_phase-requires-clause-rest g c κs within =
     let p = c.args.context.now.profile in
     let graph = c.args.adj.now.graph in
     let levels = c.args.adj.now.levels in
-    let at : IsAt p graph levels = record { graph = rw c.graph.ensures at c.vertices-n.ensures.graph; both = c.requires.both; capped = c.requires.rest.capped } in
+    let at : IsAt p graph levels = record { graph = rw c.graph.ensures at c.vertices-n.ensures.graph; both = c.requires.both; capped = capped_of c.args.context.now graph levels c.requires.rest.within } in
     let between = after_lowered p graph c.args.cleaned.now.removed levels c.deletion_phase.new.adj.levels at c.in_ok-fallen.ensures.lowered in
     record {
-      scale = rw c.in_ok-fallen.ensures.graph (c.requires.rest.scale ∙ sym (vertices-without_edges graph c.args.cleaned.now.removed));
-      capped = rw c.in_ok-fallen.ensures.graph between.capped;
+      within = within_of c.args.context.now c.deletion_phase.new.adj.graph c.deletion_phase.new.adj.levels
+          (rw c.in_ok-fallen.ensures.graph (c.requires.rest.within.scale ∙ sym (vertices-without_edges graph c.args.cleaned.now.removed)))
+          (rw c.in_ok-fallen.ensures.graph between.capped);
       ready = c.in_ok-fallen.ensures.ready;
     }
 
@@ -30,7 +32,7 @@ insertion_phase-requires-clause-upper g c κs within =
     let p = c.args.context.now.profile in
     let graph = c.args.adj.now.graph in
     let levels = c.args.adj.now.levels in
-    let at : IsAt p graph levels = record { graph = rw c.graph.ensures at c.vertices-n.ensures.graph; both = c.requires.both; capped = c.requires.rest.capped } in
+    let at : IsAt p graph levels = record { graph = rw c.graph.ensures at c.vertices-n.ensures.graph; both = c.requires.both; capped = capped_of c.args.context.now graph levels c.requires.rest.within } in
     let between = after_lowered p graph c.args.cleaned.now.removed levels c.deletion_phase.new.adj.levels at c.in_ok-fallen.ensures.lowered in
     rw c.in_ok-fallen.ensures.graph between.both.upper
 

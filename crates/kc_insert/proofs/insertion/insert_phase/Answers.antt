@@ -1,5 +1,6 @@
 use Rattle.std.proofs.Common.{◌≡◌, ap, ◌∙◌, arith}
 use Rattle.kc_graph.proofs.lemmas.Changes.{vertices-with_edges, inside_from_ascending}
+use Rattle.kc_levels.proofs.lemmas.Capped.{capped_of}
 use Rattle.kc_adj.specs.LeveledGraph.{LeveledGraph}
 use Rattle.kc_insert.proofs.Linked.{linked_can}
 use Rattle.kc_insert.proofs.Ready.{ready_taken}
@@ -11,7 +12,7 @@ file_ends-requires-clause-inside g c κs within =
     λ k d h. omega (arith, (inside_from_ascending c.args.adj.now.graph.vertices 0 0 c.args.added.now c.requires.ascending k d h).1, c.own_counts.ensures.sized, same)
 
 pub raise_queued-requires-after_bounds : goal.raise_queued-requires-after_bounds
-raise_queued-requires-after_bounds g c κs within = rw c.graph.ensures (linked_can c.args.th.now.profile c.args.th.now.vertices c.args.adj.now c.link_edges.new.adj c.work.inside.sweep.levels c.work.inside.sweep.ranges c.file_ends.new.ranges c.args.added.now c.levels.result.now c.own_counts.result.now (rw (← c.work.view_is) at c.requires.ready) c.in_ok-link_edges.ensures.value c.requires.scale c.levels.ensures.value c.own_counts.ensures c.in_ok-file_ends.ensures c.levels.ensures.sized c.requires.capped c.requires.upper)
+raise_queued-requires-after_bounds g c κs within = rw c.graph.ensures (linked_can c.args.th.now.profile c.args.th.now.vertices c.args.adj.now c.link_edges.new.adj c.work.inside.sweep.levels c.work.inside.sweep.ranges c.file_ends.new.ranges c.args.added.now c.levels.result.now c.own_counts.result.now (rw (← c.work.view_is) at c.requires.ready) c.in_ok-link_edges.ensures.value c.requires.within.scale c.levels.ensures.value c.own_counts.ensures c.in_ok-file_ends.ensures c.levels.ensures.sized (capped_of c.args.th.now c.args.adj.now.graph c.args.adj.now.levels c.requires.within) c.requires.upper)
 
 pub returns-clause-ready : goal.returns-clause-ready
 returns-clause-ready g c =

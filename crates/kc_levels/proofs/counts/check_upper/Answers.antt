@@ -11,5 +11,5 @@ returns-clause-can_rise c =
     OnFalse_from _ _ (λ none.
     let bound : c.high.result ≡ high p (group_of p n c.get-level.result) = c.high.ensures.value ∙ ap (high p) c.group.ensures.value in
     let breach : c.high.result < c.at_least.result = leb-false c.at_least.result c.high.result none in
-    let risen = below_top p n c.get-level.result c.at_least.result (omega (arith, c.requires.capped, c.get-level.ensures)) (omega (arith, c.at_least.ensures.few, c.requires.scale)) (omega arith) in
+    let risen = below_top p n c.get-level.result c.at_least.result (omega (arith, c.requires.within.capped, c.get-level.ensures)) (omega (arith, c.at_least.ensures.few, c.requires.within.scale)) (omega arith) in
     omega (arith, risen, c.get-level.ensures))

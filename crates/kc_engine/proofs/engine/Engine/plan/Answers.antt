@@ -1,6 +1,7 @@
 use Rattle.std.proofs.Common.{◌≡◌, ◌+◌, refl, sym, ap, ◌∙◌}
 use Rattle.std.specs.Prelude.{None, Ok}
 use Rattle.kc_graph.specs.Shape.{GraphShape}
+use Rattle.kc_levels.proofs.lemmas.Capped.{within_of}
 use Rattle.kc_engine.specs.States.{State}
 use Rattle.kc_engine.specs.Batches.{refusal_of}
 use Rattle.kc_engine.proofs.BatchLemmas.{fits, sound_behind, vertices_after, ok_before}
@@ -19,7 +20,7 @@ run_phases-requires-clause-fits g c κs within =
 
 pub run_phases-requires-clause-rest : goal.run_phases-requires-clause-rest
 run_phases-requires-clause-rest g c κs within =
-    record { scale = c.self.invariant.scale c.if-self.false; capped = (c.self.invariant.sound c.if-self.false).capped; ready = c.self.invariant.ready c.if-self.false }
+    record { within = within_of _ _ _ (c.self.invariant.scale c.if-self.false) (c.self.invariant.sound c.if-self.false).capped; ready = c.self.invariant.ready c.if-self.false }
 
 pub invariant_of-self-2 : goal.invariant_of-self-2
 invariant_of-self-2 g c =
