@@ -41,19 +41,12 @@ fn run_batch<R: Threads + Sync, K: Sink, G: Gate + Sync>(
     ensures open { OnOk result (IsOpen watched.new.engine) }
     ensures cause { StepCause (K.faults sink.old) (K.faults sink.new) result }
 {
-    let SessionContext {
-        rt,
-        alloc,
-        gate,
-        progress,
-        ..
-    } = context;
-    let alloc = *alloc;
+    let alloc = context.rounds.alloc();
     let counts = reporter.counts;
     match next {
-        Next::Items(batch) => match apply(*rt, alloc, *gate, watched, batch.items.as_slice())? {
+        Next::Items(batch) => match apply(&context.rounds, watched, batch.items.as_slice())? {
             Outcome::Accepted(cleaned, plan) => {
-                progress.advance(plan.moves);
+                context.progress.advance(plan.moves);
                 let phases = plan.phases.as_slice();
                 reporter.write_accepted(alloc, sink, &cleaned, phases)?;
                 Ok(counts.with_accepted(phases))
@@ -107,7 +100,7 @@ pub fn run_batches<R: Threads + Sync, S: Source, K: Sink, G: Gate + Sync>(
     ensures cause { FaultCause (S.faults src.old) (S.faults src.new) (K.faults sink.old) (K.faults sink.new) result }
 {
     reader.has_budget();
-    let alloc = context.alloc;
+    let alloc = context.rounds.alloc();
     let n = context.n;
     let profile = context.profile;
     let mut reporter = Reporter::new(alloc, context.report);

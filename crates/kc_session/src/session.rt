@@ -36,7 +36,7 @@ use kc_engine::Engine;
 use kc_graph::MAX_ITEMS;
 use kc_history::Replies;
 use kc_report::write_head;
-use kc_rounds::Gate;
+use kc_rounds::{Gate, Rounds};
 use kc_store::{Store, Writer};
 use kc_text::{LineBuf, LineReader, SendFault, Sink, Source};
 use std::alloc::Global;
@@ -115,8 +115,8 @@ fn side_by_side<R: Threads + Sync, S: Source + Send, K: Sink + Send, G: Gate + S
     ensures agents { HaveRun askers.old.agents.items askers.new.agents.items }
     ensures cause { FaultCause (S.faults src.old) (S.faults src.new) (K.faults sink.old) (K.faults sink.new) result }
 {
-    let rt = context.rt;
-    let gate = context.gate;
+    let rt = context.rounds.runtime();
+    let gate = context.rounds.gate();
     let store = askers.store;
     let progress = &context.progress;
     let agents = &mut askers.agents;
@@ -179,7 +179,7 @@ fn run_opened<'a, R: Threads + Sync, S: Source + Send, K: Sink + Send, G: Gate +
     ensures text { WritesBody (header_for context.now.n context.now.profile opened.entry.asks) reader (S.left src.old) (K.taken sink.old) (K.taken sink.new) result }
     ensures cause { FaultCause (S.faults src.old) (S.faults src.new) (K.faults sink.old) (K.faults sink.new) result }
 {
-    let alloc = context.alloc;
+    let alloc = context.rounds.alloc();
     let Opened {
         asks,
         store,
@@ -215,9 +215,9 @@ fn run_beside_readers<R: Threads + Sync, S: Source + Send, K: Sink + Send, G: Ga
     ensures text { WritesBody (header_for context.now.n context.now.profile asks) reader (S.left src.old) (K.taken sink.old) (K.taken sink.new) result }
     ensures cause { FaultCause (S.faults src.old) (S.faults src.new) (K.faults sink.old) (K.faults sink.new) result }
 {
-    let alloc = context.alloc;
+    let alloc = context.rounds.alloc();
     let (store, writer) = Store::open(alloc, context.n, 0)?;
-    let engine = open(alloc, context.profile, context.n, context.workers)?;
+    let engine = open(context)?;
     let mut watched = Watched {
         engine,
         audience: Audience::Nobody,
@@ -248,8 +248,9 @@ fn run_alone<R: Threads + Sync, S: Source, K: Sink, G: Gate + Sync>(
     let counts = run_batches(context, watched, reader, src, sink)?;
     let engine = &watched.engine;
     let levels = engine.levels().as_slice();
-    let mut buf = LineBuf::new(context.alloc);
-    write_tail(context.alloc, &mut buf, sink, context.n, engine, levels)?;
+    let alloc = context.rounds.alloc();
+    let mut buf = LineBuf::new(alloc);
+    write_tail(alloc, &mut buf, sink, context.n, engine, levels)?;
     Ok(Ended::with(counts, engine, 0, levels))
 }
 
@@ -265,7 +266,7 @@ fn run_without_readers<R: Threads + Sync, S: Source, K: Sink, G: Gate + Sync>(
     ensures cause { FaultCause (S.faults src.old) (S.faults src.new) (K.faults sink.old) (K.faults sink.new) result }
 {
     let mut reader = reader;
-    let engine = open(context.alloc, context.profile, context.n, context.workers)?;
+    let engine = open(context)?;
     let mut watched = Watched {
         engine,
         audience: Audience::Nobody,
@@ -308,10 +309,7 @@ pub fn run_session<R: Threads + Sync, S: Source + Send, K: Sink + Send, G: Gate 
     write_head(alloc, &mut buf, sink, header.n)?;
     let Header { profile, n, asks } = header;
     let context = SessionContext {
-        rt,
-        alloc,
-        gate,
-        workers,
+        rounds: Rounds::new(rt, alloc, gate, workers),
         n,
         profile,
         report: Report::Lines,
