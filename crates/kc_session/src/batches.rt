@@ -6,7 +6,7 @@ ghost use Rattle.kc_session.specs.States.{IsOpen};
 ghost use Rattle.kc_session.specs.private.States.{IsBatchFor};
 ghost use Rattle.kc_session.specs.Faults.{FaultCause};
 ghost use Rattle.kc_session.specs.private.Faults.{StepCause};
-ghost use Rattle.kc_session.specs.private.Running.{is_last_batch, RunsAll, RunsOne, batches_for};
+ghost use Rattle.kc_session.specs.private.Running.{is_last_batch, RunsOne, IsReadyFor, AreRun, batches_for};
 
 use crate::applying::{Outcome, apply};
 use crate::context::SessionContext;
@@ -88,15 +88,8 @@ pub fn run_batches<R: Threads + Sync, S: Source, K: Sink, G: Gate + Sync>(
     src: &mut S,
     sink: &mut K,
 ) -> Result<Counts, SessionFault>
-    requires abreast { IsAbreast watched.old.audience watched.old.engine.state }
-    requires open { IsOpen watched.old.engine }
-    requires vertices { watched.old.engine.state.graph.vertices ≡ context.now.n }
-    ensures text { RunsAll context.now.report watched.old watched.new (batches_for context.now.n context.now.profile reader.old (S.left src.old)) (K.taken sink.old) (K.taken sink.new) result }
-    ensures store { store_of watched.new.audience ≡ store_of watched.old.audience }
-    ensures abreast { OnOk result (IsAbreast watched.new.audience watched.new.engine.state) }
-    ensures open { OnOk result (IsOpen watched.new.engine) }
-    ensures vertices { OnOk result (watched.new.engine.state.graph.vertices ≡ context.now.n) }
-    ensures profile { OnOk result (watched.new.engine.state.profile ≡ watched.old.engine.state.profile) }
+    requires ready { IsReadyFor context.now.n watched.old }
+    ensures run { AreRun context.now.report watched.old watched.new (batches_for context.now.n context.now.profile reader.old (S.left src.old)) (K.taken sink.old) (K.taken sink.new) result }
     ensures cause { FaultCause (S.faults src.old) (S.faults src.new) (K.faults sink.old) (K.faults sink.new) result }
 {
     reader.has_budget();
