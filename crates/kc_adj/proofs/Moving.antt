@@ -15,7 +15,7 @@ use Rattle.kc_levels.specs.LevelList.{at_least}
 use Rattle.kc_levels.proofs.lemmas.Writes.{changed}
 use Rattle.kc_levels.proofs.lemmas.AtLeast.{at_least-few, at_least-set, at_least-change}
 use Rattle.kc_adj.specs.LeveledGraph.{IsCounted, IsAdjacency}
-use Rattle.kc_adj.specs.private.Moving.{is_passed, IsMoving}
+use Rattle.kc_adj.specs.private.Moving.{is_passed, recounted, IsMoving}
 
 -- all counts are those with v on the level k, but each vertex counts from its old level less d on
 pub record IsMoved (g : GraphShape) (x : List ℕ) (v k d : ℕ) (counts : List ℕ) : Type 0 where
@@ -76,11 +76,19 @@ pass_up m r o k le = elim (cases_lt o r) [
   | inr ge ↦ let within : r ≤ k = omega (arith, ge, le) in grind (arith, nat_tests, ge, within)
 ]
 
-pass_down : (m r o k : ℕ) → k ≤ o → cond (ltb k r && leb r o) 1 0 ≤ m → (m - cond (ltb k r && leb r o) 1 0) + cond (leb r o) 1 0 ≡ m + cond (leb r k) 1 0
-pass_down m r o k le some = elim (cases_lt k r) [
+-- a level that is passed is reached from above alone, whichever way the vertex goes
+pass_both : (m r o k : ℕ) → cond (ltb k r && leb r o) 1 0 ≤ m → recounted o k r m + cond (leb r o) 1 0 ≡ m + cond (leb r k) 1 0
+pass_both m r o k some = elim (cases_lt k r) [
   | inl lt ↦ elim (cases_lt o r) [ inl over ↦ grind (arith, nat_tests, lt, over, some) | inr within ↦ grind (arith, nat_tests, lt, within, some) ]
-  | inr ge ↦ let within : r ≤ o = omega (arith, ge, le) in grind (arith, nat_tests, ge, within, some)
+  | inr ge ↦ elim (cases_lt o r) [ inl over ↦ grind (arith, nat_tests, ge, over, some) | inr within ↦ grind (arith, nat_tests, ge, within, some) ]
 ]
+
+-- a count gains only by a way up, and loses only by a way down
+pub recounted_up : (k l r c : ℕ) → k < l → c + cond (is_passed k l r) 1 0 ≡ recounted k l r c
+recounted_up k l r c lt = elim (cases_lt l r) [ inl over ↦ grind (arith, nat_tests, lt, over) | inr within ↦ grind (arith, nat_tests, lt, within) ]
+
+pub recounted_down : (k l r c : ℕ) → l ≤ k → c - cond (is_passed l k r) 1 0 ≡ recounted k l r c
+recounted_down k l r c le = elim (cases_lt k r) [ inl over ↦ grind (arith, nat_tests, le, over) | inr within ↦ grind (arith, nat_tests, le, within) ]
 
 some_passed : (c m r o k : ℕ) → c + cond (leb r o) 1 0 ≡ m + cond (leb r k) 1 0 → cond (ltb k r && leb r o) 1 0 ≤ m
 some_passed c m r o k e = elim (cases_lt k r) [
@@ -96,14 +104,11 @@ module _ (g : GraphShape) (x : List ℕ) (v k d : ℕ) (counts items : List ℕ)
   pub next : IsMoving g x v k d counts (get_or items i 0 ∷ drop (suc i) items)
   next = rw (drop-cons items i 0 at) at s
 
-  pub up_at : old ≤ k → IsMoving g x v k d (set counts (get_or items i 0) (get_or counts (get_or items i 0) 0 + cond (is_passed old k reach) 1 0)) (drop (i + 1) items)
-  up_at le = rw add-one (moving_next g x v k d (get_or items i 0) counts (drop (suc i) items) graph inside next low (get_or counts (get_or items i 0) 0 + cond (is_passed old k reach) 1 0) (rw (← reach_is, ← old_is) (pass_up (get_or counts (get_or items i 0) 0) reach old k le)))
-
   pub some_at : cond (is_passed k old reach) 1 0 ≤ get_or counts (get_or items i 0) 0
   some_at = some_passed (at_least g (set x v k) (get_or items i 0) reach) (get_or counts (get_or items i 0) 0) reach old k (rw (reach_is, old_is) (next_changes g x v k d (get_or items i 0) counts (drop (suc i) items) graph inside next low))
 
-  pub down_at : k ≤ old → IsMoving g x v k d (set counts (get_or items i 0) (get_or counts (get_or items i 0) 0 - cond (is_passed k old reach) 1 0)) (drop (i + 1) items)
-  down_at le = rw add-one (moving_next g x v k d (get_or items i 0) counts (drop (suc i) items) graph inside next low (get_or counts (get_or items i 0) 0 - cond (is_passed k old reach) 1 0) (rw (← reach_is, ← old_is) (pass_down (get_or counts (get_or items i 0) 0) reach old k le some_at)))
+  pub recounted_at : IsMoving g x v k d (set counts (get_or items i 0) (recounted old k reach (get_or counts (get_or items i 0) 0))) (drop (i + 1) items)
+  recounted_at = rw add-one (moving_next g x v k d (get_or items i 0) counts (drop (suc i) items) graph inside next low (recounted old k reach (get_or counts (get_or items i 0) 0)) (rw (← reach_is, ← old_is) (pass_both (get_or counts (get_or items i 0) 0) reach old k some_at)))
 
 pub moving_last : (g : GraphShape) (x : List ℕ) (v k d : ℕ) (counts items : List ℕ) (i : ℕ) → IsMoving g x v k d counts (drop i items) → length items ≤ i → IsMoved g x v k d counts
 moving_last g x v k d counts items i s end =

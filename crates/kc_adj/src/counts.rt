@@ -2,7 +2,7 @@
 //! neighbour.
 
 ghost use Rattle.std.specs.Prelude.{◌≡◌, ◌+◌, ◌-◌, ◌<◌, ◌≤◌, ◌^◌, ◌&&◌, cond, nat_le, nat_lt, length, slice_index, slice_set};
-ghost use Rattle.kc_adj.specs.private.Moving.{is_passed};
+ghost use Rattle.kc_adj.specs.private.Moving.{is_passed, recounted};
 
 /// Two counts of neighbours for each vertex, each below the number of vertices.
 #[derive(Drop)]
@@ -49,11 +49,11 @@ pub fn gain(counts: &mut Counts, w: u32, from: u16, to: u16, level: u16)
     }
 }
 
-/// Counts a neighbour of w no more that goes down from a level to another; w is on `level`. Each count of w loses the
-/// neighbour if the count's level is above the new level and not above the old one.
-///
-/// A single branch skips the vertices whose counts don't change.
-pub fn lose(counts: &mut Counts, w: u32, from: u16, to: u16, level: u16)
+// Counts a neighbour of w no more that goes down from a level to another; w is on `level`. Each count of w loses the
+// neighbour if the count's level is above the new level and not above the old one.
+//
+// A single branch skips the vertices whose counts don't change.
+fn lose(counts: &mut Counts, w: u32, from: u16, to: u16, level: u16)
     requires own { w < length counts.old.own.items }
     requires below { w < length counts.old.below.items }
     requires own_some { cond (is_passed to from level) 1 0 ≤ slice_index counts.old.own.items w }
@@ -64,5 +64,23 @@ pub fn lose(counts: &mut Counts, w: u32, from: u16, to: u16, level: u16)
     if to < level && level - 1 <= from {
         counts.own[w as usize] -= as_one(level <= from);
         counts.below[w as usize] -= as_one(to < level - 1);
+    }
+}
+
+/// Counts a neighbour of w as it goes from a level to another; w is on `level`.
+pub fn recount(counts: &mut Counts, w: u32, from: u16, to: u16, level: u16)
+    requires own { w < length counts.old.own.items }
+    requires below { w < length counts.old.below.items }
+    requires own_small { slice_index counts.old.own.items w < 2 ^ 31 }
+    requires below_small { slice_index counts.old.below.items w < 2 ^ 31 }
+    requires own_some { cond (is_passed to from level) 1 0 ≤ slice_index counts.old.own.items w }
+    requires below_some { cond (is_passed to from (level - 1)) 1 0 ≤ slice_index counts.old.below.items w }
+    ensures own { counts.new.own.items ≡ slice_set counts.old.own.items w (recounted from to level (slice_index counts.old.own.items w)) }
+    ensures below { counts.new.below.items ≡ slice_set counts.old.below.items w (recounted from to (level - 1) (slice_index counts.old.below.items w)) }
+{
+    if from < to {
+        gain(counts, w, from, to, level);
+    } else {
+        lose(counts, w, from, to, level);
     }
 }

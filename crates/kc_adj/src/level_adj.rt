@@ -183,9 +183,7 @@ impl LevelAdj {
         self.graph.insert(alloc, e)?;
         links::link(&self.levels, &mut self.counts.own, 0, e.a, e.b);
         links::link(&self.levels, &mut self.counts.below, 1, e.a, e.b);
-        steps.tick();
-        steps.tick();
-        steps.tick();
+        steps.add_edges(1);
         Ok(())
     }
 
@@ -201,9 +199,7 @@ impl LevelAdj {
         self.graph.remove(e);
         links::unlink(&self.levels, &mut self.counts.own, 0, e.a, e.b);
         links::unlink(&self.levels, &mut self.counts.below, 1, e.a, e.b);
-        steps.tick();
-        steps.tick();
-        steps.tick();
+        steps.add_edges(1);
     }
 
     /// Adds ascending edges that are not there (`with_edges`); at most `MAX_EDGES` edges are there afterwards. Levels
@@ -228,9 +224,7 @@ impl LevelAdj {
     {
         self.graph.par_insert_all(crew, edges)?;
         links::link_all(&self.graph, &self.levels, &mut self.counts, edges);
-        steps.add(edges.len());
-        steps.add(edges.len());
-        steps.add(edges.len());
+        steps.add_edges(edges.len());
         Ok(())
     }
 
@@ -254,9 +248,7 @@ impl LevelAdj {
     {
         self.graph.par_remove_all(crew, edges)?;
         links::unlink_all(&self.graph, &self.levels, &mut self.counts, edges);
-        steps.add(edges.len());
-        steps.add(edges.len());
-        steps.add(edges.len());
+        steps.add_edges(edges.len());
         Ok(())
     }
 
@@ -273,6 +265,26 @@ impl LevelAdj {
         self.lift(v, to, steps);
     }
 
+    // Moves `v` to the level `to`. Takes no memory. Costs and counts what `lift` does.
+    fn shift<L: Ledger>(&mut self, v: u32, to: u16, steps: &mut Steps<L>)
+        requires { v < self.old.graph.vertices }
+        ensures value { self.new ≡ record self.old { levels = slice_set self.old.levels v to } }
+        ensures cost { steps.new ≡ steps.old + (length (neighbours_of v self.old.graph.edges) + 1) }
+    {
+        let moved = Move {
+            vertex: v,
+            old: self.level(v),
+            new: to,
+        };
+        moves::shift(
+            &self.graph,
+            &mut self.levels,
+            &mut self.counts,
+            moved,
+            steps,
+        );
+    }
+
     /// Moves `v` up to the level `to`, which is at least its own. Takes no memory.
     ///
     /// Costs one pass over its neighbours, however far it rises. Counts a step for each of them, and one more.
@@ -282,18 +294,7 @@ impl LevelAdj {
         ensures value { self.new ≡ record self.old { levels = slice_set self.old.levels v to } }
         ensures cost { steps.new ≡ steps.old + (length (neighbours_of v self.old.graph.edges) + 1) }
     {
-        let moved = Move {
-            vertex: v,
-            old: self.level(v),
-            new: to,
-        };
-        moves::lift(
-            &self.graph,
-            &mut self.levels,
-            &mut self.counts,
-            moved,
-            steps,
-        );
+        self.shift(v, to, steps);
     }
 
     /// Moves each vertex of the list up to its level in `new`; all other levels in `new` are the present ones. Takes no
@@ -363,17 +364,6 @@ impl LevelAdj {
         ensures value { self.new ≡ record self.old { levels = slice_set self.old.levels v to } }
         ensures cost { steps.new ≡ steps.old + (length (neighbours_of v self.old.graph.edges) + 1) }
     {
-        let moved = Move {
-            vertex: v,
-            old: self.level(v),
-            new: to,
-        };
-        moves::fall(
-            &self.graph,
-            &mut self.levels,
-            &mut self.counts,
-            moved,
-            steps,
-        );
+        self.shift(v, to, steps);
     }
 }

@@ -3,7 +3,7 @@
 //!
 //! `specs/private/Passing` defines what is found.
 
-ghost use Rattle.std.specs.Prelude.{◌≡◌, ◌+◌, ◌<◌, ◌≤◌, ◌++◌, All, IfOk, OnOk, OnErr, true, drop, take, length};
+ghost use Rattle.std.specs.Prelude.{◌≡◌, ◌+◌, ◌<◌, ◌++◌, All, IfOk, OnOk, OnErr, true, drop, take, length};
 ghost use Rattle.std.specs.Result.{is_ok};
 ghost use Rattle.kc_adj.specs.LeveledGraph.{IsAdjacency};
 ghost use Rattle.kc_adj.specs.private.Lifting.{lift_cost, AreLifted, CanGain, HaveGained, IsLifting};
@@ -156,16 +156,18 @@ fn are_made(pieces: &[Result<Passed, AllocError>]) -> bool
     true
 }
 
-// Updates all counts to the new levels, by pieces. The pieces have one length, but the last may be shorter. Each goes
-// to a thread of its own if one can be made. Nothing is written before all pieces are done.
-fn lift_counts_by<R: Threads + Sync, L: Ledger>(
+/// Does what `lift_counts` does, but threads share the passes if the list is long. Fails only if memory runs out; then
+/// all is unchanged.
+///
+/// The pieces have one length, but the last may be shorter. Each goes to a thread of its own if one can be made.
+/// Nothing is written before all pieces are done.
+pub fn par_lift_counts<R: Threads + Sync, L: Ledger>(
     crew: &Crew<'_, R>,
     lift: &Lift<'_>,
     counts: &mut Counts,
     vertices: &[u32],
     steps: &mut Steps<L>,
 ) -> Result<(), AllocError>
-    requires some { 0 < length vertices.now }
     requires adjacency { IsAdjacency lift.now.graph lift.now.old counts.old.own.items counts.old.below.items }
     requires vertices { AreLifted lift.now vertices.now }
     ensures adjacency { OnOk result (IsAdjacency lift.now.graph lift.now.new counts.new.own.items counts.new.below.items) }
@@ -173,9 +175,13 @@ fn lift_counts_by<R: Threads + Sync, L: Ledger>(
     ensures err { OnErr result (counts.new ≡ counts.old) }
     ensures steps_kept { OnErr result (steps.new ≡ steps.old) }
 {
+    let pieces = crew.pieces(vertices.len(), LEAST_LIFTED);
+    if vertices.is_empty() || pieces == 1 {
+        lift_counts(lift, counts, vertices, steps);
+        return Ok(());
+    }
     let alloc = crew.alloc;
     let _n = lift.graph.vertices();
-    let pieces = crew.pieces(vertices.len(), LEAST_LIFTED);
     let size = vertices.len().div_ceil(pieces);
     let found = thread::map_chunks(
         crew.rt,
@@ -201,27 +207,4 @@ fn lift_counts_by<R: Threads + Sync, L: Ledger>(
         }
     }
     Ok(())
-}
-
-/// Does what `lift_counts` does, but threads share the passes if the list is long. Fails only if memory runs out; then
-/// all is unchanged.
-pub fn par_lift_counts<R: Threads + Sync, L: Ledger>(
-    crew: &Crew<'_, R>,
-    lift: &Lift<'_>,
-    counts: &mut Counts,
-    vertices: &[u32],
-    steps: &mut Steps<L>,
-) -> Result<(), AllocError>
-    requires adjacency { IsAdjacency lift.now.graph lift.now.old counts.old.own.items counts.old.below.items }
-    requires vertices { AreLifted lift.now vertices.now }
-    ensures adjacency { OnOk result (IsAdjacency lift.now.graph lift.now.new counts.new.own.items counts.new.below.items) }
-    ensures cost { OnOk result (steps.new ≡ steps.old + lift_cost lift.now vertices.now) }
-    ensures err { OnErr result (counts.new ≡ counts.old) }
-    ensures steps_kept { OnErr result (steps.new ≡ steps.old) }
-{
-    if vertices.is_empty() || crew.pieces(vertices.len(), LEAST_LIFTED) == 1 {
-        lift_counts(lift, counts, vertices, steps);
-        return Ok(());
-    }
-    lift_counts_by(crew, lift, counts, vertices, steps)
 }

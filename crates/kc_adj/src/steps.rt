@@ -1,7 +1,7 @@
 //! A count of steps for bounds on the work of a call. Contracts and a proof see the count, and a running program has
 //! none of it.
 
-ghost use Rattle.std.specs.Prelude.{ℕ, ◌≡◌, ◌+◌, ◌<◌};
+ghost use Rattle.std.specs.Prelude.{ℕ, ◌≡◌, ◌+◌, ◌*◌, ◌<◌};
 
 use std::marker::Model;
 use std::sync::ledger::{Blank, Book, Ledger, Share};
@@ -51,5 +51,14 @@ impl<L: Ledger> Steps<L> {
         ensures { self.new ≡ self.old + count }
     {
         self.book.add(&mut self.share, count as u64);
+    }
+
+    // Counts three steps an edge: one for the edge itself, and one for each of its ends.
+    pub(crate) fn add_edges(&mut self, edges: usize)
+        ensures { self.new ≡ self.old + 3 * edges }
+    {
+        self.add(edges);
+        self.add(edges);
+        self.add(edges);
     }
 }

@@ -6,7 +6,8 @@
 //! of them.
 //!
 //! Floor: graph and levels, the lowest crate there. Every crate above may call it. Sessions and `kserve` clean batches
-//! by [`clean_by`], and phases link and unlink edges by the calls of [`Graph`].
+//! by [`clean_by`], and phases link and unlink edges by the calls of [`Graph`]. A [`Crew`] is the workers of a call
+//! that threads share, here and above.
 #![tactic(auto)]
 
 mod buckets;

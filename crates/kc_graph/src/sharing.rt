@@ -1,7 +1,7 @@
 //! Several threads put halves into rows or take them out. Halves are cut by vertices into parts, so each thread has
 //! rows of its own.
 
-ghost use Rattle.std.specs.Prelude.{◌≡◌, ◌<◌, ◌≤◌, length, All, IfSome, OnOk};
+ghost use Rattle.std.specs.Prelude.{◌<◌, ◌≤◌, length, All, IfSome, OnOk};
 ghost use Rattle.std.specs.Bool.{OnTrue};
 ghost use Rattle.std.specs.Thread.{IsSync};
 ghost use Rattle.kc_graph.specs.private.HalfLists.{halves_of};

@@ -1,5 +1,5 @@
 //! The links of the moves of a phase, which are found piece by piece, by a thread for each piece.
-ghost use Rattle.std.specs.Prelude.{◌≡◌, ◌+◌, ◌<◌, ◌≤◌, IfOk, length};
+ghost use Rattle.std.specs.Prelude.{◌+◌, ◌<◌, ◌≤◌, IfOk, length};
 ghost use Rattle.kc_groups.specs.private.Forest.{AreGathered};
 ghost use Rattle.kc_groups.specs.Gathering.{vertices};
 ghost use Rattle.kc_groups.specs.private.Gathering.{AreLinks, AreNumbered, in_rows, in_piece};
@@ -8,7 +8,7 @@ use crate::forest::join_links;
 use crate::linking::{link_rows, links_between, lone_places};
 use kc_graph::{Crew, Edge, Graph, MAX_VERTICES};
 use kc_history::Move;
-use std::alloc::{AllocError, Global};
+use std::alloc::AllocError;
 use std::thread;
 use std::thread::Threads;
 

@@ -2,7 +2,7 @@
 use Rattle.std.proofs.Common.{ℕ, ◌≡◌, List}
 use Rattle.kc_graph.specs.Shape.{GraphShape}
 use Rattle.kc_levels.specs.Thresholds.{Scale}
-use Rattle.kc_levels.specs.LevelList.{IsCapped, IsWithin, IsWithinAt}
+use Rattle.kc_levels.specs.LevelList.{IsCapped, IsWithin}
 
 -- levels within the top of thresholds are capped
 pub capped_of : (th : Scale) (g : GraphShape) (x : List ℕ) → IsWithin th g x → IsCapped th.profile g.vertices x

@@ -3,7 +3,7 @@
 
 ghost use Rattle.std.specs.Prelude.{◌≡◌, ℕ, ◌<◌, ◌≤◌};
 ghost use Rattle.std.specs.Bool.{OnTrue};
-ghost use Rattle.kc_levels.specs.LevelList.{MeetsLower, IsCapped};
+ghost use Rattle.kc_levels.specs.LevelList.{MeetsLower, IsWithin};
 ghost use Rattle.kc_delete.specs.Working.{IsReady};
 
 use super::drawing::{all_pairs, dealt, drawn_pairs};
@@ -28,7 +28,7 @@ use test_support::random::Random;
 // Returns whether no vertex is above the top, and each vertex meets the lower invariant.
 fn can_fall(adj: &LevelAdj, th: &Thresholds) -> bool
     requires scale { th.now.vertices ≡ adj.now.graph.vertices }
-    ensures capped { OnTrue result (IsCapped th.now.profile adj.now.graph.vertices adj.now.levels) }
+    ensures within { OnTrue result (IsWithin th.now adj.now.graph adj.now.levels) }
     ensures lower { OnTrue result ((v : ℕ) → v < adj.now.graph.vertices → MeetsLower th.now.profile adj.now.graph adj.now.levels v) }
 {
     for v in 0..adj.graph().vertices() {

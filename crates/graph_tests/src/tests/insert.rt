@@ -2,7 +2,7 @@
 
 ghost use Rattle.std.specs.Prelude.{◌≡◌, ℕ, ◌<◌, ◌≤◌};
 ghost use Rattle.std.specs.Bool.{OnTrue};
-ghost use Rattle.kc_levels.specs.LevelList.{MeetsUpper, IsCapped};
+ghost use Rattle.kc_levels.specs.LevelList.{MeetsUpper, IsWithin};
 ghost use Rattle.kc_insert.specs.Working.{IsReady};
 
 use super::drawing::{all_pairs, dealt, drawn_pairs};
@@ -25,7 +25,7 @@ use test_support::random::Random;
 // Returns whether no vertex is above the top, and each vertex meets the upper invariant.
 fn can_rise(adj: &LevelAdj, th: &Thresholds) -> bool
     requires scale { th.now.vertices ≡ adj.now.graph.vertices }
-    ensures capped { OnTrue result (IsCapped th.now.profile adj.now.graph.vertices adj.now.levels) }
+    ensures within { OnTrue result (IsWithin th.now adj.now.graph adj.now.levels) }
     ensures upper { OnTrue result ((v : ℕ) → v < adj.now.graph.vertices → MeetsUpper th.now.profile adj.now.graph adj.now.levels v) }
 {
     for v in 0..adj.graph().vertices() {

@@ -1,5 +1,5 @@
 -- The invariants of the loops that change the counts of a vertex's neighbours when the vertex moves to another level.
-use Rattle.std.specs.Prelude.{ℕ, ◌-◌, ◌<◌, ◌≡◌, nat_lt, nat_le, ◌&&◌, Bool, true, false, List, length, get_or, set}
+use Rattle.std.specs.Prelude.{ℕ, ◌+◌, ◌-◌, ◌<◌, ◌≡◌, cond, nat_lt, nat_le, ◌&&◌, Bool, true, false, List, length, get_or, set}
 use Rattle.kc_graph.specs.Numbers.{has_number, RisesFrom}
 use Rattle.kc_graph.specs.Shape.{GraphShape, neighbours_of}
 use Rattle.kc_levels.specs.LevelList.{at_least}
@@ -7,6 +7,10 @@ use Rattle.kc_levels.specs.LevelList.{at_least}
 -- the level r is passed or reached on the way up from the level k to the level l
 abbrev pub is_passed : ℕ → ℕ → ℕ → Bool
 is_passed k l r = nat_lt k r && nat_le r l
+
+-- a count of c neighbours on the level r or above, after one of them went from the level k to the level l
+abbrev pub recounted : ℕ → ℕ → ℕ → ℕ → ℕ
+recounted k l r c = (c + cond (is_passed k l r) 1 0) - cond (is_passed l k r) 1 0
 
 -- v goes to the level k, and its neighbours in `rest` have their counts with v on its old level
 --

@@ -1,7 +1,7 @@
 use Rattle.std.proofs.Common.{◌≡◌, ◌+◌, ◌≤◌, drop, take, leb, get_or}
 use Rattle.std.specs.Prelude.{count_by}
 use Rattle.kc_adj.specs.private.Moving.{IsMoving}
-use Rattle.kc_adj.proofs.moves.shift_up.Given as goal
+use Rattle.kc_adj.proofs.moves.pass.Given as goal
 
 abbrev pub invariant-loop-w : goal.invariant-loop-w
 invariant-loop-w g l =

@@ -1,7 +1,7 @@
 use Rattle.std.proofs.Common.{◌<◌, get_or, ap, ◌∙◌, arith, refl}
 use Rattle.kc_levels.specs.LevelList.{at_least}
-use Rattle.kc_adj.proofs.Moving.{moving_first, some_at, down_at, count_next, count_last, moving_last, adjacency_moved}
-use Rattle.kc_adj.proofs.moves.shift_down.Goals as goal
+use Rattle.kc_adj.proofs.Moving.{moving_first, moving-few, some_at, recounted_at, count_next, count_last, moving_last, adjacency_moved}
+use Rattle.kc_adj.proofs.moves.pass.Goals as goal
 
 pub loop-w-init : goal.loop-w-init
 loop-w-init g c = (
@@ -14,21 +14,33 @@ loop-w-init g c = (
   omega arith,
 )
 
-pub lose-requires-clause-own_some : goal.lose-requires-clause-own_some
-lose-requires-clause-own_some g c =
+pub recount-requires-clause-own_small : goal.recount-requires-clause-own_small
+recount-requires-clause-own_small g c =
+    let low : get_or c.neighbours-w-items.result.now c.loop-w.w-index 0 < c.args.graph.now.vertices = c.neighbours-w-items.ensures.below c.loop-w.w-index 0 (omega arith) in
+    let few : get_or c.loop-w.counts.own.items (get_or c.neighbours-w-items.result.now c.loop-w.w-index 0) 0 < c.args.graph.now.vertices = moving-few _ _ _ _ 0 _ _ _ c.requires.adjacency.graph c.loop-w.invariant.0 low in
+    omega (arith, few, c.requires.adjacency.small)
+
+pub recount-requires-clause-below_small : goal.recount-requires-clause-below_small
+recount-requires-clause-below_small g c =
+    let low : get_or c.neighbours-w-items.result.now c.loop-w.w-index 0 < c.args.graph.now.vertices = c.neighbours-w-items.ensures.below c.loop-w.w-index 0 (omega arith) in
+    let few : get_or c.loop-w.counts.below.items (get_or c.neighbours-w-items.result.now c.loop-w.w-index 0) 0 < c.args.graph.now.vertices = moving-few _ _ _ _ 1 _ _ _ c.requires.adjacency.graph c.loop-w.invariant.1 low in
+    omega (arith, few, c.requires.adjacency.small)
+
+pub recount-requires-clause-own_some : goal.recount-requires-clause-own_some
+recount-requires-clause-own_some g c =
     let low : get_or c.neighbours-w-items.result.now c.loop-w.w-index 0 < c.args.graph.now.vertices = c.neighbours-w-items.ensures.below c.loop-w.w-index 0 (omega arith) in
     some_at _ _ _ _ 0 c.loop-w.counts.own.items c.neighbours-w-items.result.now c.loop-w.w-index _ (get_or c.args.levels.now (get_or c.neighbours-w-items.result.now c.loop-w.w-index 0) 0) c.requires.adjacency.graph c.requires.vertex c.requires.adjacency.sized c.loop-w.invariant.0 (omega arith) low c.requires.from (omega arith)
 
-pub lose-requires-clause-below_some : goal.lose-requires-clause-below_some
-lose-requires-clause-below_some g c =
+pub recount-requires-clause-below_some : goal.recount-requires-clause-below_some
+recount-requires-clause-below_some g c =
     let low : get_or c.neighbours-w-items.result.now c.loop-w.w-index 0 < c.args.graph.now.vertices = c.neighbours-w-items.ensures.below c.loop-w.w-index 0 (omega arith) in
     some_at _ _ _ _ 1 c.loop-w.counts.below.items c.neighbours-w-items.result.now c.loop-w.w-index _ _ c.requires.adjacency.graph c.requires.vertex c.requires.adjacency.sized c.loop-w.invariant.1 (omega arith) low c.requires.from refl
 
 pub loop-w-preserved : goal.loop-w-preserved
 loop-w-preserved g c =
     let low : get_or c.neighbours-w-items.result.now c.loop-w.w-index 0 < c.args.graph.now.vertices = c.neighbours-w-items.ensures.below c.loop-w.w-index 0 (omega arith) in (
-      rw c.lose.ensures.own (down_at _ _ _ _ 0 c.loop-w.counts.own.items c.neighbours-w-items.result.now c.loop-w.w-index _ (get_or c.args.levels.now (get_or c.neighbours-w-items.result.now c.loop-w.w-index 0) 0) c.requires.adjacency.graph c.requires.vertex c.requires.adjacency.sized c.loop-w.invariant.0 (omega arith) low c.requires.from (omega arith) c.requires.under),
-      rw c.lose.ensures.below (down_at _ _ _ _ 1 c.loop-w.counts.below.items c.neighbours-w-items.result.now c.loop-w.w-index _ _ c.requires.adjacency.graph c.requires.vertex c.requires.adjacency.sized c.loop-w.invariant.1 (omega arith) low c.requires.from refl c.requires.under),
+      rw c.recount.ensures.own (recounted_at _ _ _ _ 0 c.loop-w.counts.own.items c.neighbours-w-items.result.now c.loop-w.w-index _ (get_or c.args.levels.now (get_or c.neighbours-w-items.result.now c.loop-w.w-index 0) 0) c.requires.adjacency.graph c.requires.vertex c.requires.adjacency.sized c.loop-w.invariant.0 (omega arith) low c.requires.from (omega arith)),
+      rw c.recount.ensures.below (recounted_at _ _ _ _ 1 c.loop-w.counts.below.items c.neighbours-w-items.result.now c.loop-w.w-index _ _ c.requires.adjacency.graph c.requires.vertex c.requires.adjacency.sized c.loop-w.invariant.1 (omega arith) low c.requires.from refl),
       count_next _ c.neighbours-w-items.result.now _ c.loop-w.w-index _ _ _ (omega arith) c.loop-w.invariant.2 refl c.as_one-own.ensures.value,
       omega (arith, c.loop-w.invariant.3, c.as_one-own.ensures.small),
       count_next _ c.neighbours-w-items.result.now _ c.loop-w.w-index _ _ _ (omega arith) c.loop-w.invariant.4 refl c.as_one-below.ensures.value,

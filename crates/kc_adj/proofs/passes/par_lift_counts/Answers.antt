@@ -8,7 +8,7 @@ use Rattle.kc_adj.specs.private.Lifting.{IsLift, lift_cost}
 use Rattle.kc_adj.specs.private.Passing.{turn_of}
 use Rattle.kc_adj.proofs.LiftLemmas.{lifting_first, lifting_last, cost_last}
 use Rattle.kc_adj.proofs.PassLemmas.{pieces_cover, rest_is, rest_next}
-use Rattle.kc_adj.proofs.passes.lift_counts_by.Goals as goal
+use Rattle.kc_adj.proofs.passes.par_lift_counts.Goals as goal
 
 pub map_chunks-requires-clause-accepts : goal.map_chunks-requires-clause-accepts
 map_chunks-requires-clause-accepts g c κs within = λ start p chunk. rw chunk.value (All-take (λ (v : ℕ). v < c.args.lift.now.graph.vertices) c.div_ceil-size.result _ (All-drop (λ (v : ℕ). v < c.args.lift.now.graph.vertices) start c.args.vertices.now c.requires.vertices.inside))

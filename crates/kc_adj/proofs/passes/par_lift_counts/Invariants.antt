@@ -1,6 +1,6 @@
 use Rattle.std.proofs.Common.{◌≡◌, ◌+◌, ◌*◌, drop}
 use Rattle.kc_adj.specs.private.Lifting.{lift_cost, IsLifting}
-use Rattle.kc_adj.proofs.passes.lift_counts_by.Given as goal
+use Rattle.kc_adj.proofs.passes.par_lift_counts.Given as goal
 
 abbrev pub invariant-loop-piece : goal.invariant-loop-piece
 invariant-loop-piece g l =

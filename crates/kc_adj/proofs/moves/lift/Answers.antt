@@ -1,4 +1,0 @@
-use Rattle.kc_adj.proofs.moves.lift.Goals as goal
-
-pub returns-clause-adjacency : goal.returns-clause-adjacency
-returns-clause-adjacency g c = rw c.set.ensures (rw c.as_slice.ensures at c.shift_up-own.ensures.adjacency)
