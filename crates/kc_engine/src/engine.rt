@@ -9,7 +9,7 @@ ghost use Rattle.kc_engine.specs.Showing.{AreShown, Continues};
 ghost use Rattle.kc_store.specs.Showing.{IsIdle};
 
 use crate::faults::EngineFault;
-use crate::phases::{PhaseContext, phase_count, run_phases};
+use crate::phases::{PhasedGraph, phase_count};
 use crate::plans::BatchPlan;
 use crate::shape::Shape;
 use crate::showing::{MarkerPlaces, Show, show_phases};
@@ -33,12 +33,9 @@ use std::thread::Threads;
 /// Besides the graph it keeps 25 bytes a vertex: 10 for levels and counts, and 15 for the workspaces of phases.
 #[derive(Drop)]
 pub struct Engine {
-    // The thresholds for the vertices of the graph.
-    thresholds: Thresholds,
-    // The graph with its levels and counts. Unless the engine has halted, the levels meet both invariants.
-    adj: LevelAdj,
-    // The workspaces of phases, ready for the graph and its levels unless the engine has halted.
-    work: PhaseWork,
+    // The graph with its levels, and what its phases work with. Unless the engine has halted, the levels meet both
+    // invariants, and the workspaces are ready.
+    phased: PhasedGraph,
     // The number of phases so far, at most `MAX_PHASE`.
     phases: u32,
     // The most threads that a phase uses, 1 to 64: the number of places for markers.
@@ -59,9 +56,9 @@ impl Model for Engine {
 
     ghost Value = { EngineView };
 
-    ghost view = { λ e. record { state = record { profile = e.thresholds.profile; graph = e.adj.graph; levels = e.adj.levels; phases = e.phases }; scale = e.thresholds; workers = e.workers; edge_limit = e.edge_limit; halted = e.halted; waits = e.waits } };
+    ghost view = { λ e. record { state = record { profile = e.phased.thresholds.profile; graph = e.phased.adj.graph; levels = e.phased.adj.levels; phases = e.phases }; scale = e.phased.thresholds; workers = e.workers; edge_limit = e.edge_limit; halted = e.halted; waits = e.waits } };
 
-    ghost invariant = { λ e. IsKept e.places e.work (record { state = record { profile = e.thresholds.profile; graph = e.adj.graph; levels = e.adj.levels; phases = e.phases }; scale = e.thresholds; workers = e.workers; edge_limit = e.edge_limit; halted = e.halted; waits = e.waits }) };
+    ghost invariant = { λ e. IsKept e.places e.phased.work (record { state = record { profile = e.phased.thresholds.profile; graph = e.phased.adj.graph; levels = e.phased.adj.levels; phases = e.phases }; scale = e.phased.thresholds; workers = e.workers; edge_limit = e.edge_limit; halted = e.halted; waits = e.waits }) };
 }
 
 impl Engine {
@@ -84,9 +81,11 @@ impl Engine {
         let work = PhaseWork::new(alloc, &thresholds, &adj)?;
         let places = MarkerPlaces::new(alloc, shape.workers)?;
         Ok(Engine {
-            thresholds,
-            adj,
-            work,
+            phased: PhasedGraph {
+                thresholds,
+                adj,
+                work,
+            },
             phases: shape.phases_before,
             workers: shape.workers,
             edge_limit: shape.edge_limit,
@@ -103,8 +102,8 @@ impl Engine {
         ensures { result ≡ refusal_of self.now.edge_limit self.now.state cleaned.now }
     {
         // Evidence for the check: the edges of the graph ascend.
-        let _n = self.adj.graph().vertices();
-        let left = self.adj.graph().edge_count() - cleaned.removed.len() as u32;
+        let _n = self.phased.adj.graph().vertices();
+        let left = self.phased.adj.graph().edge_count() - cleaned.removed.len() as u32;
         let edges = left + cleaned.added.len() as u32;
         if edges > self.edge_limit {
             return Some(EngineFault::EdgeLimit { edges });
@@ -168,14 +167,11 @@ impl Engine {
         }
         // The engine counts as halted until both phases are done.
         self.halted = true;
-        let context = PhaseContext {
-            rounds: Rounds::new(rt, alloc, gate, self.workers),
-            th: &self.thresholds,
-        };
-        let before = self.phases;
-        let plan = run_phases(&context, &mut self.adj, &mut self.work, before, cleaned).map_err(
-            EngineFault::Memory,
-        )?;
+        let rounds = Rounds::new(rt, alloc, gate, self.workers);
+        let plan = self
+            .phased
+            .run_phases(&rounds, self.phases, cleaned)
+            .map_err(EngineFault::Memory)?;
         self.phases += phase_count(cleaned);
         self.halted = false;
         self.waits = true;
@@ -217,7 +213,7 @@ impl Engine {
         ensures shown { AreShown plan.now.phases writer.old.state writer.new.state }
         ensures phase { writer.new.state.phase ≡ self.new.state.phases }
     {
-        let n = self.adj.graph().vertices();
+        let n = self.phased.adj.graph().vertices();
         let phases = plan.phases.as_slice();
         let show = Show {
             rt,
@@ -246,7 +242,7 @@ impl Engine {
         ensures sound { self.now.halted ≡ false → IsSound self.now.edge_limit self.now.state }
     {
         let _halted = self.halted;
-        self.adj.graph()
+        self.phased.adj.graph()
     }
 
     /// Returns the levels. Once the engine has halted, the levels are unspecified.
@@ -254,7 +250,7 @@ impl Engine {
         ensures value { result.now ≡ self.now.state.levels }
         ensures sound { self.now.halted ≡ false → IsSound self.now.edge_limit self.now.state }
     {
-        self.adj.levels()
+        self.phased.adj.levels()
     }
 
     /// Returns how many neighbours of `v` are on its level or above (`at_least`). Costs O(1).
@@ -262,7 +258,7 @@ impl Engine {
         requires { v < self.now.state.graph.vertices }
         ensures { result ≡ at_least self.now.state.graph self.now.state.levels v (slice_index self.now.state.levels v) }
     {
-        self.adj.at_least_own(v)
+        self.phased.adj.at_least_own(v)
     }
 
     /// Returns how many neighbours of `v` are on the level below its own or above (`at_least`); on level 0 all count.
@@ -271,7 +267,7 @@ impl Engine {
         requires { v < self.now.state.graph.vertices }
         ensures { result ≡ at_least self.now.state.graph self.now.state.levels v (slice_index self.now.state.levels v - 1) }
     {
-        self.adj.at_least_below(v)
+        self.phased.adj.at_least_below(v)
     }
 
     /// Returns the thresholds of the levels. Unless the engine has halted, they are for the vertices of the graph.
@@ -280,7 +276,7 @@ impl Engine {
         ensures profile { result.now.profile ≡ self.now.state.profile }
         ensures scale { self.now.halted ≡ false → result.now.vertices ≡ self.now.state.graph.vertices }
     {
-        &self.thresholds
+        &self.phased.thresholds
     }
 
     /// Returns the number of phases, 0 to `MAX_PHASE`. The phases before the engine was opened count too.

@@ -8,16 +8,14 @@ ghost use Rattle.kc_service.specs.private.Planning.{PlansAndShows};
 use kc_engine::laws::phases_continue;
 use kc_engine::{BatchPlan, Engine, EngineFault};
 use kc_graph::Cleaned;
-use kc_rounds::OpenGate;
+use kc_rounds::{OpenGate, Rounds};
 use kc_store::{Store, Writer};
-use std::alloc::Global;
 use std::thread::Threads;
 
 /// Plans a cleaned batch, and shows the plan in the store. Before the call the writer's history leads to the engine's
 /// state. Unless the engine has halted, it does so afterwards too.
 pub(crate) fn plan_and_show<R: Threads + Sync>(
-    rt: &R,
-    alloc: Global,
+    rounds: &Rounds<'_, R, OpenGate>,
     engine: &mut Engine,
     store: &Store,
     writer: &mut Writer,
@@ -35,8 +33,9 @@ pub(crate) fn plan_and_show<R: Threads + Sync>(
 {
     // Evidence for the check: the state is sound.
     let _graph = engine.graph();
-    let plan = engine.plan(rt, alloc, &OpenGate::new(), cleaned)?;
+    let (rt, gate) = (rounds.runtime(), rounds.gate());
+    let plan = engine.plan(rt, rounds.alloc(), gate, cleaned)?;
     phases_continue();
-    engine.show(rt, &OpenGate::new(), store, writer, &plan);
+    engine.show(rt, gate, store, writer, &plan);
     Ok(plan)
 }

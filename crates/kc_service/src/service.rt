@@ -24,6 +24,7 @@ use kc_cert::write_certificate;
 use kc_engine::{Engine, EngineFault, Shape};
 use kc_graph::{Graph, Item, MAX_ITEMS, clean_by};
 use kc_levels::Levels;
+use kc_rounds::{OpenGate, Rounds};
 use kc_store::Writer;
 use kc_text::{SendFault, Sink};
 use std::alloc::{AllocError, Global};
@@ -170,8 +171,10 @@ impl<'a, R: Threads + Sync> Service<'a, R> {
         let Ok(cleaned) = clean_by(rt, alloc, engine.workers(), engine.graph(), items) else {
             return Err(ApplyFault::Memory(AllocError));
         };
+        let gate = OpenGate::new();
+        let rounds = Rounds::new(rt, alloc, &gate, engine.workers());
         let store = &self.board.store;
-        match plan_and_show(rt, alloc, engine, store, &mut self.writer, &cleaned) {
+        match plan_and_show(&rounds, engine, store, &mut self.writer, &cleaned) {
             Ok(plan) => Ok(Applied {
                 added: cleaned.added.len(),
                 removed: cleaned.removed.len(),

@@ -51,6 +51,8 @@ abbrev pub session_text : HeaderShape → List Next → List Step → List (List
 session_text header batches steps replies = head_text header.n ++ body_text header batches steps replies
 
 -- the text of a session was written, and it ended with these counts
+--
+-- The text is `session_text`, or `body_text` if the head was written before.
 pub record WroteSession (text : HeaderShape → List Next → List Step → List (List Reply) → List ℕ) (header : HeaderShape) (batches : List Next) (before now : Option (List ℕ)) (ended : Ended) : Type 0 where
   pub session : IsSession header batches
   pub taken : now ≡ append_known before (text header batches session.steps session.replies)

@@ -6,13 +6,13 @@ ghost use Rattle.kc_session.specs.States.{start, IsOpen};
 ghost use Rattle.kc_session.specs.private.Outcomes.{Applies};
 
 use crate::audience::show;
+use crate::context::SessionContext;
 use crate::watched::Watched;
 use kc_engine::{BatchPlan, Engine, EngineFault, Shape};
-use kc_graph::{Cleaned, Item, MAX_EDGES, MAX_ITEMS, MAX_VERTICES, clean_by};
-use kc_levels::Profile;
-use kc_rounds::Gate;
+use kc_graph::{Cleaned, Item, MAX_EDGES, MAX_ITEMS, clean_by};
+use kc_rounds::{Gate, Rounds};
 use kc_text::Reason;
-use std::alloc::{AllocError, Global};
+use std::alloc::AllocError;
 use std::thread::Threads;
 
 /// The result of a batch without a fault.
@@ -24,22 +24,19 @@ pub enum Outcome {
     Refused(Reason),
 }
 
-/// Makes the engine before the first batch of a graph of n vertices. Its phases use up to `workers` threads, 1 to 64.
-/// Fails only if memory runs out.
-pub fn open(alloc: Global, profile: Profile, n: u32, workers: u32) -> Result<Engine, AllocError>
-    requires some { 1 ≤ n }
-    requires small { n ≤ MAX_VERTICES }
-    requires some_workers { 1 ≤ workers }
-    requires few_workers { workers ≤ 64 }
-    ensures state { IfOk result (λ e. e.state ≡ start profile n) }
+/// Makes the engine of a session before its first batch. Fails only if memory runs out.
+pub fn open<R: Threads + Sync, G: Gate + Sync>(
+    context: &SessionContext<'_, R, G>,
+) -> Result<Engine, AllocError>
+    ensures state { IfOk result (λ e. e.state ≡ start context.now.profile context.now.n) }
     ensures open { IfOk result IsOpen }
 {
     Engine::open(
-        alloc,
+        context.rounds.alloc(),
         Shape {
-            profile,
-            n,
-            workers,
+            profile: context.profile,
+            n: context.n,
+            workers: context.rounds.workers(),
             phases_before: 0,
             edge_limit: MAX_EDGES,
         },
@@ -52,9 +49,7 @@ pub fn open(alloc: Global, profile: Profile, n: u32, workers: u32) -> Result<Eng
 ///
 /// Cost: that of `clean_by` and `Engine::plan`, and that of `Engine::show` if there are readers.
 pub fn apply<R: Threads + Sync, G: Gate + Sync>(
-    rt: &R,
-    alloc: Global,
-    gate: &G,
+    rounds: &Rounds<'_, R, G>,
     watched: &mut Watched<'_>,
     items: &[Item],
 ) -> Result<Outcome, AllocError>
@@ -67,6 +62,7 @@ pub fn apply<R: Threads + Sync, G: Gate + Sync>(
     ensures abreast { OnOk result (IsAbreast watched.new.audience watched.new.engine.state) }
     ensures open { OnOk result (IsOpen watched.new.engine) }
 {
+    let (rt, alloc, gate) = (rounds.runtime(), rounds.alloc(), rounds.gate());
     let Watched { engine, audience } = watched;
     let cleaned = clean_by(rt, alloc, engine.workers(), engine.graph(), items)?;
     match engine.plan(rt, alloc, gate, &cleaned) {

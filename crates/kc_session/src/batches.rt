@@ -6,7 +6,7 @@ ghost use Rattle.kc_session.specs.States.{IsOpen};
 ghost use Rattle.kc_session.specs.private.States.{IsBatchFor};
 ghost use Rattle.kc_session.specs.Faults.{FaultCause};
 ghost use Rattle.kc_session.specs.private.Faults.{StepCause};
-ghost use Rattle.kc_session.specs.private.Running.{is_last_batch, RunsAll, RunsOne, batches_for};
+ghost use Rattle.kc_session.specs.private.Running.{is_last_batch, RunsOne, IsReadyFor, AreRun, batches_for};
 
 use crate::applying::{Outcome, apply};
 use crate::context::SessionContext;
@@ -41,19 +41,12 @@ fn run_batch<R: Threads + Sync, K: Sink, G: Gate + Sync>(
     ensures open { OnOk result (IsOpen watched.new.engine) }
     ensures cause { StepCause (K.faults sink.old) (K.faults sink.new) result }
 {
-    let SessionContext {
-        rt,
-        alloc,
-        gate,
-        progress,
-        ..
-    } = context;
-    let alloc = *alloc;
+    let alloc = context.rounds.alloc();
     let counts = reporter.counts;
     match next {
-        Next::Items(batch) => match apply(*rt, alloc, *gate, watched, batch.items.as_slice())? {
+        Next::Items(batch) => match apply(&context.rounds, watched, batch.items.as_slice())? {
             Outcome::Accepted(cleaned, plan) => {
-                progress.advance(plan.moves);
+                context.progress.advance(plan.moves);
                 let phases = plan.phases.as_slice();
                 reporter.write_accepted(alloc, sink, &cleaned, phases)?;
                 Ok(counts.with_accepted(phases))
@@ -95,19 +88,12 @@ pub fn run_batches<R: Threads + Sync, S: Source, K: Sink, G: Gate + Sync>(
     src: &mut S,
     sink: &mut K,
 ) -> Result<Counts, SessionFault>
-    requires abreast { IsAbreast watched.old.audience watched.old.engine.state }
-    requires open { IsOpen watched.old.engine }
-    requires vertices { watched.old.engine.state.graph.vertices ≡ context.now.n }
-    ensures text { RunsAll context.now.report watched.old watched.new (batches_for context.now.n context.now.profile reader.old (S.left src.old)) (K.taken sink.old) (K.taken sink.new) result }
-    ensures store { store_of watched.new.audience ≡ store_of watched.old.audience }
-    ensures abreast { OnOk result (IsAbreast watched.new.audience watched.new.engine.state) }
-    ensures open { OnOk result (IsOpen watched.new.engine) }
-    ensures vertices { OnOk result (watched.new.engine.state.graph.vertices ≡ context.now.n) }
-    ensures profile { OnOk result (watched.new.engine.state.profile ≡ watched.old.engine.state.profile) }
+    requires ready { IsReadyFor context.now.n watched.old }
+    ensures run { AreRun context.now.report watched.old watched.new (batches_for context.now.n context.now.profile reader.old (S.left src.old)) (K.taken sink.old) (K.taken sink.new) result }
     ensures cause { FaultCause (S.faults src.old) (S.faults src.new) (K.faults sink.old) (K.faults sink.new) result }
 {
     reader.has_budget();
-    let alloc = context.alloc;
+    let alloc = context.rounds.alloc();
     let n = context.n;
     let profile = context.profile;
     let mut reporter = Reporter::new(alloc, context.report);

@@ -1,5 +1,5 @@
 //! A session: batches beside readers.
-ghost use Rattle.std.specs.Prelude.{◌≡◌, ◌≤◌, ◌<◌, ◌^◌, ◌++◌, [], false, length, All, IfOk, OnOk};
+ghost use Rattle.std.specs.Prelude.{◌≡◌, ◌≤◌, ◌<◌, ◌^◌, ◌++◌, [], false, length, All, IfOk};
 ghost use Rattle.std.specs.Thread.{IsSync};
 ghost use Rattle.kc_text.specs.Writing.{Appends, WriteCause};
 ghost use Rattle.kc_batch.specs.Batches.{batches_left};
@@ -7,12 +7,11 @@ ghost use Rattle.kc_batch.specs.BatchInputs.{rules_of};
 ghost use Rattle.kc_report.specs.VertexLines.{tail_text};
 ghost use Rattle.kc_engine.specs.Showing as showing;
 ghost use Rattle.kc_session.specs.Asking.{HaveRun};
-ghost use Rattle.kc_session.specs.private.Audiences.{store_of, shown_to, IsAbreast};
 ghost use Rattle.kc_session.specs.declared.audience.Audience.TheVariants.{Nobody};
 ghost use Rattle.kc_session.specs.Faults.{FaultCause};
 ghost use Rattle.kc_session.specs.ReaderLines.{reader_lines};
 ghost use Rattle.kc_session.specs.private.AskLists.{IsAskList};
-ghost use Rattle.kc_session.specs.private.Running.{RunsAll, WritesBody, batches_for, header_for};
+ghost use Rattle.kc_session.specs.private.Running.{IsReadyFor, AreRun, WritesBody, batches_for, header_for};
 ghost use Rattle.kc_session.specs.SessionText.{session_text, WritesSession};
 ghost use Rattle.kc_session.specs.States.{start, IsOpen};
 
@@ -36,7 +35,7 @@ use kc_engine::Engine;
 use kc_graph::MAX_ITEMS;
 use kc_history::Replies;
 use kc_report::write_head;
-use kc_rounds::Gate;
+use kc_rounds::{Gate, Rounds};
 use kc_store::{Store, Writer};
 use kc_text::{LineBuf, LineReader, SendFault, Sink, Source};
 use std::alloc::Global;
@@ -75,15 +74,8 @@ fn run_told<R: Threads + Sync, S: Source, K: Sink, G: Gate + Sync>(
     src: &mut S,
     sink: &mut K,
 ) -> Result<Counts, SessionFault>
-    requires abreast { IsAbreast watched.old.audience watched.old.engine.state }
-    requires open { IsOpen watched.old.engine }
-    requires vertices { watched.old.engine.state.graph.vertices ≡ context.now.n }
-    ensures text { RunsAll context.now.report watched.old watched.new (batches_for context.now.n context.now.profile reader.old (S.left src.old)) (K.taken sink.old) (K.taken sink.new) result }
-    ensures store { store_of watched.new.audience ≡ store_of watched.old.audience }
-    ensures abreast { OnOk result (IsAbreast watched.new.audience watched.new.engine.state) }
-    ensures open { OnOk result (IsOpen watched.new.engine) }
-    ensures vertices { OnOk result (watched.new.engine.state.graph.vertices ≡ context.now.n) }
-    ensures profile { OnOk result (watched.new.engine.state.profile ≡ watched.old.engine.state.profile) }
+    requires ready { IsReadyFor context.now.n watched.old }
+    ensures run { AreRun context.now.report watched.old watched.new (batches_for context.now.n context.now.profile reader.old (S.left src.old)) (K.taken sink.old) (K.taken sink.new) result }
     ensures cause { FaultCause (S.faults src.old) (S.faults src.new) (K.faults sink.old) (K.faults sink.new) result }
 {
     context.progress.begin();
@@ -102,21 +94,14 @@ fn side_by_side<R: Threads + Sync, S: Source + Send, K: Sink + Send, G: Gate + S
     sink: &mut K,
     askers: &mut Askers<'_>,
 ) -> Result<Counts, SessionFault>
-    requires abreast { IsAbreast watched.old.audience watched.old.engine.state }
-    requires open { IsOpen watched.old.engine }
-    requires vertices { watched.old.engine.state.graph.vertices ≡ context.now.n }
+    requires ready { IsReadyFor context.now.n watched.old }
     requires agents { All (λ a. (a.store ≡ askers.old.store.now) × (a.has_run ≡ false)) askers.old.agents.items }
-    ensures text { RunsAll context.now.report watched.old watched.new (batches_for context.now.n context.now.profile reader.old (S.left src.old)) (K.taken sink.old) (K.taken sink.new) result }
-    ensures store { store_of watched.new.audience ≡ store_of watched.old.audience }
-    ensures abreast { OnOk result (IsAbreast watched.new.audience watched.new.engine.state) }
-    ensures open { OnOk result (IsOpen watched.new.engine) }
-    ensures vertices { OnOk result (watched.new.engine.state.graph.vertices ≡ context.now.n) }
-    ensures profile { OnOk result (watched.new.engine.state.profile ≡ watched.old.engine.state.profile) }
+    ensures run { AreRun context.now.report watched.old watched.new (batches_for context.now.n context.now.profile reader.old (S.left src.old)) (K.taken sink.old) (K.taken sink.new) result }
     ensures agents { HaveRun askers.old.agents.items askers.new.agents.items }
     ensures cause { FaultCause (S.faults src.old) (S.faults src.new) (K.faults sink.old) (K.faults sink.new) result }
 {
-    let rt = context.rt;
-    let gate = context.gate;
+    let rt = context.rounds.runtime();
+    let gate = context.rounds.gate();
     let store = askers.store;
     let progress = &context.progress;
     let agents = &mut askers.agents;
@@ -126,7 +111,7 @@ fn side_by_side<R: Threads + Sync, S: Source + Send, K: Sink + Send, G: Gate + S
             requires { IsSync R.row × IsSync G.row × All (λ a. (a.store ≡ store.now) × (a.has_run ≡ false)) agents.now.items }
         { run_agents(rt, gate, store, progress, agents) },
         &mut ||
-            requires { IsSync R.row × IsSync G.row × IsAbreast watched.now.audience watched.now.engine.state × IsOpen watched.now.engine × (watched.now.engine.state.graph.vertices ≡ context.now.n) }
+            requires { IsSync R.row × IsSync G.row × IsReadyFor context.now.n watched.now }
         { run_told(context, watched, reader, src, sink) },
     )
     .1
@@ -178,7 +163,7 @@ fn run_opened<'a, R: Threads + Sync, S: Source + Send, K: Sink + Send, G: Gate +
     ensures text { WritesBody (header_for context.now.n context.now.profile opened.entry.asks) reader (S.left src.old) (K.taken sink.old) (K.taken sink.new) result }
     ensures cause { FaultCause (S.faults src.old) (S.faults src.new) (K.faults sink.old) (K.faults sink.new) result }
 {
-    let alloc = context.alloc;
+    let alloc = context.rounds.alloc();
     let Opened {
         asks,
         store,
@@ -214,9 +199,9 @@ fn run_beside_readers<R: Threads + Sync, S: Source + Send, K: Sink + Send, G: Ga
     ensures text { WritesBody (header_for context.now.n context.now.profile asks) reader (S.left src.old) (K.taken sink.old) (K.taken sink.new) result }
     ensures cause { FaultCause (S.faults src.old) (S.faults src.new) (K.faults sink.old) (K.faults sink.new) result }
 {
-    let alloc = context.alloc;
+    let alloc = context.rounds.alloc();
     let (store, writer) = Store::open(alloc, context.n, 0)?;
-    let engine = open(alloc, context.profile, context.n, context.workers)?;
+    let engine = open(context)?;
     let mut watched = Watched {
         engine,
         audience: Audience::Nobody,
@@ -247,8 +232,9 @@ fn run_alone<R: Threads + Sync, S: Source, K: Sink, G: Gate + Sync>(
     let counts = run_batches(context, watched, reader, src, sink)?;
     let engine = &watched.engine;
     let levels = engine.levels().as_slice();
-    let mut buf = LineBuf::new(context.alloc);
-    write_tail(context.alloc, &mut buf, sink, engine, levels)?;
+    let alloc = context.rounds.alloc();
+    let mut buf = LineBuf::new(alloc);
+    write_tail(alloc, &mut buf, sink, engine, levels)?;
     Ok(Ended::with(counts, engine, 0, levels))
 }
 
@@ -264,7 +250,7 @@ fn run_without_readers<R: Threads + Sync, S: Source, K: Sink, G: Gate + Sync>(
     ensures cause { FaultCause (S.faults src.old) (S.faults src.new) (K.faults sink.old) (K.faults sink.new) result }
 {
     let mut reader = reader;
-    let engine = open(context.alloc, context.profile, context.n, context.workers)?;
+    let engine = open(context)?;
     let mut watched = Watched {
         engine,
         audience: Audience::Nobody,
@@ -307,10 +293,7 @@ pub fn run_session<R: Threads + Sync, S: Source + Send, K: Sink + Send, G: Gate 
     write_head(alloc, &mut buf, sink, header.n)?;
     let Header { profile, n, asks } = header;
     let context = SessionContext {
-        rt,
-        alloc,
-        gate,
-        workers,
+        rounds: Rounds::new(rt, alloc, gate, workers),
         n,
         profile,
         report: Report::Lines,

@@ -16,7 +16,7 @@ use crate::watched::Watched;
 use kc_batch::Header;
 use kc_engine::Engine;
 use kc_graph::MAX_ITEMS;
-use kc_rounds::Gate;
+use kc_rounds::{Gate, Rounds};
 use kc_text::{LineReader, Sink, Source};
 use std::alloc::Global;
 use std::thread::Threads;
@@ -56,19 +56,14 @@ pub fn settle<R: Threads + Sync, S: Source, K: Sink, G: Gate + Sync>(
     ensures cause { FaultCause (S.faults src.old) (S.faults src.new) (K.faults sink.old) (K.faults sink.new) result }
 {
     let mut reader = reader;
-    let n = header.n;
-    let profile = header.profile;
     let context = SessionContext {
-        rt,
-        alloc,
-        gate,
-        workers,
-        n,
-        profile,
+        rounds: Rounds::new(rt, alloc, gate, workers),
+        n: header.n,
+        profile: header.profile,
         report: Report::Notes,
         progress: Progress::new(0),
     };
-    let engine = open(alloc, profile, n, workers)?;
+    let engine = open(&context)?;
     let mut watched = Watched {
         engine,
         audience: Audience::Nobody,

@@ -1,5 +1,5 @@
 -- The result of batches, and the text written for them, after they were run or a fault came.
-use Rattle.std.specs.Prelude.{ℕ, ◌≡◌, ◌+◌, true, false, Bool, List, Option, Some, None, Result, Ok, Err}
+use Rattle.std.specs.Prelude.{ℕ, ◌≡◌, ◌+◌, true, false, Bool, List, Option, Some, None, Result, Ok, Err, OnOk}
 use Rattle.kc_text.specs.Writing.{IsPrefix}
 use Rattle.kc_text.specs.Reading.{Reading}
 use Rattle.kc_graph.specs.declared.limits.TheConstants.{MAX_ITEMS}
@@ -20,11 +20,11 @@ use Rattle.kc_session.specs.declared.ended.Ended.{Ended}
 use Rattle.kc_session.specs.declared.fault.SessionFault.{SessionFault}
 use Rattle.kc_session.specs.declared.report.Report.{Report}
 use Rattle.kc_session.specs.declared.watched.Watched.{Watched}
-use Rattle.kc_session.specs.private.Audiences.{longer, shown_to}
+use Rattle.kc_session.specs.private.Audiences.{longer, shown_to, store_of, IsAbreast}
 use Rattle.kc_session.specs.private.Counts.{counts_of, counted}
 use Rattle.kc_session.specs.RunText.{step_text, batch_lines}
 use Rattle.kc_session.specs.SessionText.{body_text, WritesSession}
-use Rattle.kc_session.specs.States.{Step, IsStep, AreSteps, last_state, history_of}
+use Rattle.kc_session.specs.States.{Step, IsStep, AreSteps, last_state, history_of, IsOpen}
 use Rattle.kc_session.specs.Running.{WroteSomeBatches}
 
 -- a batch was applied to the state s, which became t, and was counted
@@ -78,6 +78,21 @@ RunsBatches report s t (Some batches) before now h i (Err _) = WroteSomeBatches 
 -- what batches did to an engine beside its audience (`RunsBatches`)
 abbrev pub RunsAll : Report → Watched → Watched → Option (List Next) → Option (List ℕ) → Option (List ℕ) → Result Counts SessionFault → Type 0
 RunsAll report w x batches before now result = RunsBatches report w.engine.state x.engine.state batches before now (shown_to w.audience) (shown_to x.audience) result
+
+-- the engine may take batches of a graph of n vertices, and its audience is up to date with it
+pub record IsReadyFor (n : ℕ) (w : Watched) : Type 0 where
+  pub abreast : IsAbreast w.audience w.engine.state
+  pub open_for : IsOpen w.engine
+  pub vertices : w.engine.state.graph.vertices ≡ n
+
+-- batches were run by an engine beside its audience (`RunsAll`): with Ok the engine may take more of them
+--
+-- The audience looks at the same store as before, and the profile is the same.
+pub record AreRun (report : Report) (w x : Watched) (batches : Option (List Next)) (before now : Option (List ℕ)) (result : Result Counts SessionFault) : Type 0 where
+  pub text : RunsAll report w x batches before now result
+  pub store : store_of x.audience ≡ store_of w.audience
+  pub ready : OnOk result (IsReadyFor w.engine.state.graph.vertices x)
+  pub profile : OnOk result (x.engine.state.profile ≡ w.engine.state.profile)
 
 -- the batches of the lines that a reader has still to give, for a graph of n vertices
 abbrev pub batches_for : ℕ → Profile → Reading → Option (List ℕ) → Option (List Next)

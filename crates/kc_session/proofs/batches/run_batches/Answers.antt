@@ -14,9 +14,9 @@ use Rattle.kc_session.proofs.batches.run_batches.Goals as goal
 pub loop-reporter-init : goal.loop-reporter-init
 loop-reporter-init g c = let none = c.new-reporter.ensures.counts in record {
   store = refl;
-  abreast = c.requires.abreast;
-  open_for = c.requires.open;
-  vertices = c.requires.vertices;
+  abreast = c.requires.ready.abreast;
+  open_for = c.requires.ready.open_for;
+  vertices = c.requires.ready.vertices;
   profile = refl;
   report = c.new-reporter.ensures.report;
   told = told_first c.args.context.now.report _ _ _ _ _ none;
@@ -26,13 +26,18 @@ loop-reporter-init g c = let none = c.new-reporter.ensures.counts in record {
   write_faults = refl;
 }
 
-pub returns-in_err-next-clause-text : goal.returns-in_err-next-clause-text
-returns-in_err-next-clause-text g c =
+pub returns-in_err-next-clause-run : goal.returns-in_err-next-clause-run
+returns-in_err-next-clause-run g c =
     let i = c.loop-reporter.invariant in
     let p = err_from_is_err_and c.from_residual.result c.from_residual.ensures.1 in
     rw (p.1, c.in_err-next.ensures.taken)
-    (told_unread c.args.context.now.report (record { profile = c.args.context.now.profile; n = c.args.context.now.n; asks = [] }) c.args.watched.now.engine.state c.loop-reporter.watched.engine.state _ c.loop-reporter.watched.engine.state (tokens_left c.loop-reporter.reader (g.S.Source.left c.loop-reporter.src))
-    _ _ _ (shown_to c.loop-reporter.watched.audience) _ c.loop-reporter.reporter.counts p.0 i.open_for.sound i.vertices i.told)
+    (record {
+      text = told_unread c.args.context.now.report (record { profile = c.args.context.now.profile; n = c.args.context.now.n; asks = [] }) c.args.watched.now.engine.state c.loop-reporter.watched.engine.state _ c.loop-reporter.watched.engine.state (tokens_left c.loop-reporter.reader (g.S.Source.left c.loop-reporter.src))
+          _ _ _ (shown_to c.loop-reporter.watched.audience) _ c.loop-reporter.reporter.counts p.0 i.open_for.sound i.vertices i.told;
+      store = i.store;
+      ready = tt;
+      profile = tt;
+    })
 
 pub returns-in_err-next-clause-cause : goal.returns-in_err-next-clause-cause
 returns-in_err-next-clause-cause g c =
@@ -40,26 +45,44 @@ returns-in_err-next-clause-cause g c =
     let p = err_from_is_err_and c.from_residual.result c.from_residual.ensures.1 in
     rw p.1 (awaited_cause Next Counts _ _ _ _ _ _ _ p.0 i.read_faults i.write_faults c.in_err-next.ensures.cause p.2)
 
-pub returns-in-End-clause-text : goal.returns-in-End-clause-text
-returns-in-End-clause-text g c =
+pub returns-in-End-clause-run : goal.returns-in-End-clause-run
+returns-in-End-clause-run g c =
     let i = c.loop-reporter.invariant in
     rw c.in_ok-next.ensures.taken
-    (told_end c.args.context.now.report c.args.watched.now.engine.state _ c.loop-reporter.watched.engine.state c.in_ok-next.next _ _ _ _ _ (shown_to c.loop-reporter.watched.audience) c.loop-reporter.reporter.counts c.in_ok-next.ensures.batches (rw c.in-End.is tt) i.told)
+    (record {
+      text = told_end c.args.context.now.report c.args.watched.now.engine.state _ c.loop-reporter.watched.engine.state c.in_ok-next.next _ _ _ _ _ (shown_to c.loop-reporter.watched.audience) c.loop-reporter.reporter.counts c.in_ok-next.ensures.batches (rw c.in-End.is tt) i.told;
+      store = i.store;
+      ready = record { abreast = i.abreast; open_for = i.open_for; vertices = i.vertices ∙ sym c.requires.ready.vertices };
+      profile = i.profile;
+    })
 
-pub returns-in_err-counts-clause-text : goal.returns-in_err-counts-clause-text
-returns-in_err-counts-clause-text g c =
+pub returns-in_err-counts-clause-run : goal.returns-in_err-counts-clause-run
+returns-in_err-counts-clause-run g c =
     let i = c.loop-reporter.invariant in
     let p = err_from_is_err_and c.from_residual-in_err-counts.result c.from_residual-in_err-counts.ensures.1 in
     rw p.1
-    (told_stopped c.args.context.now.report (record { profile = c.args.context.now.profile; n = c.args.context.now.n; asks = [] }) c.args.watched.now.engine.state c.run_batch.new.watched.engine.state _ c.loop-reporter.watched.engine.state c.in_ok-next.next
-    (tokens_left c.loop-reporter.reader (g.S.Source.left c.loop-reporter.src)) _ _ _ _ _ (shown_to c.loop-reporter.watched.audience) _ c.loop-reporter.reporter.counts p.0 i.open_for.sound i.vertices c.in_ok-next.ensures.batches (not_end c.in_ok-next.next c.in_default.not-End) i.told
-    (rw (i.report, c.in_ok-next.ensures.taken) at c.in_err-counts.ensures.step))
+    (record {
+      text = told_stopped c.args.context.now.report (record { profile = c.args.context.now.profile; n = c.args.context.now.n; asks = [] }) c.args.watched.now.engine.state c.run_batch.new.watched.engine.state _ c.loop-reporter.watched.engine.state c.in_ok-next.next
+          (tokens_left c.loop-reporter.reader (g.S.Source.left c.loop-reporter.src)) _ _ _ _ _ (shown_to c.loop-reporter.watched.audience) _ c.loop-reporter.reporter.counts p.0 i.open_for.sound i.vertices c.in_ok-next.ensures.batches (not_end c.in_ok-next.next c.in_default.not-End) i.told
+          (rw (i.report, c.in_ok-next.ensures.taken) at c.in_err-counts.ensures.step);
+      store = c.in_err-counts.ensures.store ∙ i.store;
+      ready = tt;
+      profile = tt;
+    })
 
-pub returns-then-last-clause-text : goal.returns-then-last-clause-text
-returns-then-last-clause-text g c =
+pub returns-then-last-clause-run : goal.returns-then-last-clause-run
+returns-then-last-clause-run g c =
     let i = c.loop-reporter.invariant in
-    told_last c.args.context.now.report c.args.watched.now.engine.state _ c.loop-reporter.watched.engine.state c.run_batch.new.watched.engine.state c.in_ok-next.next _ _ _ _ _ _ (shown_to c.loop-reporter.watched.audience) _ c.loop-reporter.reporter.counts c.in_ok-counts.counts
-    c.in_ok-next.ensures.batches (sym c.is_last-last.ensures ∙ c.if-last.true) i.told (rw (i.report, c.in_ok-next.ensures.taken) at c.in_ok-counts.ensures.step)
+    let step = rw (i.report, c.in_ok-next.ensures.taken) at c.in_ok-counts.ensures.step in
+    let z = sound_step c.loop-reporter.watched.engine.state (record { profile = c.args.context.now.profile; n = c.args.context.now.n; asks = [] }) c.in_ok-next.next step.step i.open_for.sound i.vertices c.in_ok-next.ensures.sound step.is_step in
+    let size : c.run_batch.new.watched.engine.state.graph.vertices ≡ c.args.context.now.n = rw step.last z.1 in
+    record {
+      text = told_last c.args.context.now.report c.args.watched.now.engine.state _ c.loop-reporter.watched.engine.state c.run_batch.new.watched.engine.state c.in_ok-next.next _ _ _ _ _ _ (shown_to c.loop-reporter.watched.audience) _ c.loop-reporter.reporter.counts c.in_ok-counts.counts
+          c.in_ok-next.ensures.batches (sym c.is_last-last.ensures ∙ c.if-last.true) i.told step;
+      store = c.in_ok-counts.ensures.store ∙ i.store;
+      ready = record { abreast = c.in_ok-counts.ensures.abreast; open_for = c.in_ok-counts.ensures.open; vertices = size ∙ sym c.requires.ready.vertices };
+      profile = ap (λ (z : State). z.profile) step.last ∙ (profile_step c.loop-reporter.watched.engine.state c.in_ok-next.next step.step step.is_step ∙ i.profile);
+    }
 
 pub run_batch-requires-clause-batch : goal.run_batch-requires-clause-batch
 run_batch-requires-clause-batch g c κs within = (c.args.context.now.profile, rw c.loop-reporter.invariant.vertices c.in_ok-next.ensures.sound)

@@ -8,13 +8,13 @@ use Rattle.kc_session.proofs.Causes.{same_cause, sent_cause}
 use Rattle.kc_session.proofs.SessionTexts.{batches_prefix, rest_prefix, rest_written, no_replies}
 use Rattle.kc_session.proofs.session.run_alone.Goals as goal
 
-pub run_batches-requires-clause-vertices : goal.run_batches-requires-clause-vertices
-run_batches-requires-clause-vertices g c κs within = ap (λ (z : State). z.graph.vertices) c.requires.start
+pub run_batches-requires-clause-ready : goal.run_batches-requires-clause-ready
+run_batches-requires-clause-ready g c κs within = record { abreast = rw c.requires.nobody tt; open_for = c.requires.open; vertices = ap (λ (z : State). z.graph.vertices) c.requires.start }
 
 pub returns-in_err-counts-clause-text : goal.returns-in_err-counts-clause-text
 returns-in_err-counts-clause-text g c =
     let p = err_from_is_err_and c.from_residual.result c.from_residual.ensures.1 in
-    rw p.1 (batches_prefix (record { profile = c.args.context.now.profile; n = c.args.context.now.n; asks = [] }) (tokens_left c.args.reader.now (g.S.Source.left c.args.src.now)) _ _ _ _ _ _ p.0 _ c.requires.start (rw c.requires.lines at c.in_err-counts.ensures.text))
+    rw p.1 (batches_prefix (record { profile = c.args.context.now.profile; n = c.args.context.now.n; asks = [] }) (tokens_left c.args.reader.now (g.S.Source.left c.args.src.now)) _ _ _ _ _ _ p.0 _ c.requires.start (rw c.requires.lines at c.in_err-counts.ensures.run.text))
 
 pub returns-in_err-counts-clause-cause : goal.returns-in_err-counts-clause-cause
 returns-in_err-counts-clause-cause g c =
@@ -25,7 +25,7 @@ pub returns-in_err-write_tail-clause-text : goal.returns-in_err-write_tail-claus
 returns-in_err-write_tail-clause-text g c =
     let levels = c.as_slice-levels.ensures ∙ c.levels.ensures.value in
     let p = err_from_is_err_and c.from_residual-in_err-write_tail.result c.from_residual-in_err-write_tail.ensures.1 in
-    rw p.1 (rest_prefix (record { profile = c.args.context.now.profile; n = c.args.context.now.n; asks = [] }) (tokens_left c.args.reader.now (g.S.Source.left c.args.src.now)) _ _ _ _ _ _ _ c.in_ok-counts.counts [] p.0 c.requires.start (rw c.requires.lines at c.in_ok-counts.ensures.text) (no_replies c.args.context.now.n _ _ [] refl) (rw levels at c.in_err-write_tail.ensures.text))
+    rw p.1 (rest_prefix (record { profile = c.args.context.now.profile; n = c.args.context.now.n; asks = [] }) (tokens_left c.args.reader.now (g.S.Source.left c.args.src.now)) _ _ _ _ _ _ _ c.in_ok-counts.counts [] p.0 c.requires.start (rw c.requires.lines at c.in_ok-counts.ensures.run.text) (no_replies c.args.context.now.n _ _ [] refl) (rw levels at c.in_err-write_tail.ensures.text))
 
 pub returns-in_err-write_tail-clause-cause : goal.returns-in_err-write_tail-clause-cause
 returns-in_err-write_tail-clause-cause g c =
@@ -35,7 +35,4 @@ returns-in_err-write_tail-clause-cause g c =
 pub returns-clause-text : goal.returns-clause-text
 returns-clause-text g c =
     let levels = c.as_slice-levels.ensures ∙ c.levels.ensures.value in
-    rest_written (record { profile = c.args.context.now.profile; n = c.args.context.now.n; asks = [] }) (tokens_left c.args.reader.now (g.S.Source.left c.args.src.now)) _ _ _ _ _ _ _ c.in_ok-counts.counts [] c.as_slice-levels.result.now c.with.result c.requires.start (rw c.requires.lines at c.in_ok-counts.ensures.text) (no_replies c.args.context.now.n _ _ [] refl) (rw levels at c.in_ok-write_tail.ensures.text) levels c.with.ensures
-
-pub run_batches-requires-clause-abreast : goal.run_batches-requires-clause-abreast
-run_batches-requires-clause-abreast g c κs within = rw c.requires.nobody tt
+    rest_written (record { profile = c.args.context.now.profile; n = c.args.context.now.n; asks = [] }) (tokens_left c.args.reader.now (g.S.Source.left c.args.src.now)) _ _ _ _ _ _ _ c.in_ok-counts.counts [] c.as_slice-levels.result.now c.with.result c.requires.start (rw c.requires.lines at c.in_ok-counts.ensures.run.text) (no_replies c.args.context.now.n _ _ [] refl) (rw levels at c.in_ok-write_tail.ensures.text) levels c.with.ensures

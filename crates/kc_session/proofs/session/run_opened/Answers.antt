@@ -4,6 +4,7 @@ use Rattle.std.proofs.lemmas.Result.{err_from_is_err_and}
 use Rattle.kc_batch.specs.Headers.{IsAsk}
 use Rattle.kc_batch.specs.Tokens.{tokens_left}
 use Rattle.kc_store.specs.Seats.{WriterShape}
+use Rattle.kc_engine.specs.States.{State}
 use Rattle.kc_session.specs.declared.counts.Counts.{Counts}
 use Rattle.kc_session.specs.declared.ended.Ended.{Ended}
 use Rattle.kc_session.specs.Agents.{AgentShape}
@@ -22,6 +23,10 @@ pub open_agents-requires-clause-ranges : goal.open_agents-requires-clause-ranges
 open_agents-requires-clause-ranges g c =
     subst (λ (k : ℕ). All (IsAsk k) c.args.opened.asks) (sym c.requires.size) c.requires.asks.each
 
+pub side_by_side-requires-clause-ready : goal.side_by_side-requires-clause-ready
+side_by_side-requires-clause-ready g c κs within =
+    record { abreast = rw c.in_ok-agents.ensures.same (c.requires.table, c.requires.abreast); open_for = c.requires.open; vertices = ap (λ (z : State). z.graph.vertices) c.requires.start }
+
 pub side_by_side-requires-clause-agents : goal.side_by_side-requires-clause-agents
 side_by_side-requires-clause-agents g c κs within = rw c.in_ok-agents.ensures.agents (ready_to_run c.args.opened.store.now c.args.opened.writer.state.history 0 c.args.opened.asks)
 
@@ -32,8 +37,11 @@ close_all-requires-clause-agents g c =
 
 pub write_rest-requires-clause-abreast : goal.write_rest-requires-clause-abreast
 write_rest-requires-clause-abreast g c =
-    let there = writer_is_abreast c.side_by_side.new.watched.audience c.args.opened.store.now c.take_writer-writer.result c.side_by_side.new.watched.engine.state c.side_by_side.ensures.store c.take_writer-writer.ensures c.in_ok-counts.ensures.abreast in
+    let there = writer_is_abreast c.side_by_side.new.watched.audience c.args.opened.store.now c.take_writer-writer.result c.side_by_side.new.watched.engine.state c.side_by_side.ensures.run.store c.take_writer-writer.ensures c.in_ok-counts.ensures.run.ready.abreast in
     joined_abreast c.take_writer-writer.result.state c.close_all.new.writer.state c.side_by_side.new.watched.engine.state there.1 c.in_ok-lists.ensures.state
+
+pub write_rest-requires-clause-size : goal.write_rest-requires-clause-size
+write_rest-requires-clause-size g c = c.requires.size ∙ sym (c.in_ok-counts.ensures.run.ready.vertices ∙ ap (λ (z : State). z.graph.vertices) c.requires.start)
 
 pub write_rest-requires-clause-few : goal.write_rest-requires-clause-few
 write_rest-requires-clause-few g c =
@@ -55,7 +63,7 @@ returns-in_err-agents-clause-text g c =
 pub returns-in_err-counts-clause-text : goal.returns-in_err-counts-clause-text
 returns-in_err-counts-clause-text g c =
     let p = err_from_is_err_and c.from_residual-in_err-counts.result c.from_residual-in_err-counts.ensures.1 in
-    rw p.1 (batches_prefix (record { profile = c.args.context.now.profile; n = c.args.context.now.n; asks = c.args.opened.asks }) (tokens_left c.args.reader (g.S.Source.left c.args.src.now)) _ _ _ _ _ _ p.0 _ c.requires.start (rw c.requires.lines at c.in_err-counts.ensures.text))
+    rw p.1 (batches_prefix (record { profile = c.args.context.now.profile; n = c.args.context.now.n; asks = c.args.opened.asks }) (tokens_left c.args.reader (g.S.Source.left c.args.src.now)) _ _ _ _ _ _ p.0 _ c.requires.start (rw c.requires.lines at c.in_err-counts.ensures.run.text))
 
 pub returns-in_err-counts-clause-cause : goal.returns-in_err-counts-clause-cause
 returns-in_err-counts-clause-cause g c =
@@ -65,7 +73,7 @@ returns-in_err-counts-clause-cause g c =
 pub returns-in_err-lists-clause-text : goal.returns-in_err-lists-clause-text
 returns-in_err-lists-clause-text g c =
     let p = err_from_is_err_and c.from_residual-in_err-lists.result c.from_residual-in_err-lists.ensures.1 in
-    rw p.1 (batches_written (record { profile = c.args.context.now.profile; n = c.args.context.now.n; asks = c.args.opened.asks }) (tokens_left c.args.reader (g.S.Source.left c.args.src.now)) _ _ _ _ _ _ c.in_ok-counts.counts p.0 c.requires.start (rw c.requires.lines at c.in_ok-counts.ensures.text))
+    rw p.1 (batches_written (record { profile = c.args.context.now.profile; n = c.args.context.now.n; asks = c.args.opened.asks }) (tokens_left c.args.reader (g.S.Source.left c.args.src.now)) _ _ _ _ _ _ c.in_ok-counts.counts p.0 c.requires.start (rw c.requires.lines at c.in_ok-counts.ensures.run.text))
 
 pub returns-in_err-levels-clause-text : goal.returns-in_err-levels-clause-text
 returns-in_err-levels-clause-text g c =
@@ -73,7 +81,7 @@ returns-in_err-levels-clause-text g c =
     let r = session_replies c.args.opened.store.now c.args.context.now.n c.args.opened.writer.state.history c.take_writer-writer.result.state.history c.args.opened.asks c.in_ok-agents.agents.items c.side_by_side.new.askers.agents.items c.in_ok-lists.lists.items c.requires.size c.in_ok-agents.ensures.agents c.side_by_side.ensures.agents c.in_ok-lists.ensures.replies in
     let p = err_from_is_err_and c.from_residual-in_err-levels.result c.from_residual-in_err-levels.ensures.1 in
     let rest = rw c.as_slice.ensures.value at c.in_err-levels.ensures.text in
-    rw p.1 (rest_prefix (record { profile = c.args.context.now.profile; n = c.args.context.now.n; asks = c.args.opened.asks }) (tokens_left c.args.reader (g.S.Source.left c.args.src.now)) _ _ _ _ _ _ _ c.in_ok-counts.counts c.in_ok-lists.lists.items p.0 c.requires.start (rw c.requires.lines at c.in_ok-counts.ensures.text) (λ es e. replies_of c.args.context.now.n _ _ c.args.opened.asks c.in_ok-lists.lists.items none r es (sym (shown_by_writer c.side_by_side.new.watched.audience c.take_writer-writer.result c.take_writer-writer.ensures) ∙ e)) rest)
+    rw p.1 (rest_prefix (record { profile = c.args.context.now.profile; n = c.args.context.now.n; asks = c.args.opened.asks }) (tokens_left c.args.reader (g.S.Source.left c.args.src.now)) _ _ _ _ _ _ _ c.in_ok-counts.counts c.in_ok-lists.lists.items p.0 c.requires.start (rw c.requires.lines at c.in_ok-counts.ensures.run.text) (λ es e. replies_of c.args.context.now.n _ _ c.args.opened.asks c.in_ok-lists.lists.items none r es (sym (shown_by_writer c.side_by_side.new.watched.audience c.take_writer-writer.result c.take_writer-writer.ensures) ∙ e)) rest)
 
 pub returns-in_err-levels-clause-cause : goal.returns-in_err-levels-clause-cause
 returns-in_err-levels-clause-cause g c =
@@ -85,11 +93,11 @@ returns-clause-text g c =
     let none = ap (λ (w : WriterShape). w.state.history) c.in_ok-agents.ensures.same ∙ c.requires.none in
     let r = session_replies c.args.opened.store.now c.args.context.now.n c.args.opened.writer.state.history c.take_writer-writer.result.state.history c.args.opened.asks c.in_ok-agents.agents.items c.side_by_side.new.askers.agents.items c.in_ok-lists.lists.items c.requires.size c.in_ok-agents.ensures.agents c.side_by_side.ensures.agents c.in_ok-lists.ensures.replies in
     let rest = rw c.as_slice.ensures.value at c.in_ok-levels.ensures.text in
-    (rest_written (record { profile = c.args.context.now.profile; n = c.args.context.now.n; asks = c.args.opened.asks }) (tokens_left c.args.reader (g.S.Source.left c.args.src.now)) _ _ _ _ _ _ _ c.in_ok-counts.counts c.in_ok-lists.lists.items c.as_slice-3.result.now c.with.result c.requires.start (rw c.requires.lines at c.in_ok-counts.ensures.text) (λ es e. replies_of c.args.context.now.n _ _ c.args.opened.asks c.in_ok-lists.lists.items none r es (sym (shown_by_writer c.side_by_side.new.watched.audience c.take_writer-writer.result c.take_writer-writer.ensures) ∙ e)) rest (c.as_slice-3.ensures.value ∙ c.in_ok-levels.ensures.levels) (rw (c.count_replies-replies.ensures, c.as_slice-2.ensures.value) at c.with.ensures))
+    (rest_written (record { profile = c.args.context.now.profile; n = c.args.context.now.n; asks = c.args.opened.asks }) (tokens_left c.args.reader (g.S.Source.left c.args.src.now)) _ _ _ _ _ _ _ c.in_ok-counts.counts c.in_ok-lists.lists.items c.as_slice-3.result.now c.with.result c.requires.start (rw c.requires.lines at c.in_ok-counts.ensures.run.text) (λ es e. replies_of c.args.context.now.n _ _ c.args.opened.asks c.in_ok-lists.lists.items none r es (sym (shown_by_writer c.side_by_side.new.watched.audience c.take_writer-writer.result c.take_writer-writer.ensures) ∙ e)) rest (c.as_slice-3.ensures.value ∙ c.in_ok-levels.ensures.levels) (rw (c.count_replies-replies.ensures, c.as_slice-2.ensures.value) at c.with.ensures))
 
 pub close_all-requires-clause-table : goal.close_all-requires-clause-table
 close_all-requires-clause-table g c =
-    (writer_is_abreast c.side_by_side.new.watched.audience c.args.opened.store.now c.take_writer-writer.result c.side_by_side.new.watched.engine.state c.side_by_side.ensures.store c.take_writer-writer.ensures c.in_ok-counts.ensures.abreast).0
+    (writer_is_abreast c.side_by_side.new.watched.audience c.args.opened.store.now c.take_writer-writer.result c.side_by_side.new.watched.engine.state c.side_by_side.ensures.run.store c.take_writer-writer.ensures c.in_ok-counts.ensures.run.ready.abreast).0
 
 pub take_writer-writer-requires : goal.take_writer-writer-requires
-take_writer-writer-requires g c = store_has_writer c.side_by_side.new.watched.audience c.args.opened.store.now c.side_by_side.ensures.store
+take_writer-writer-requires g c = store_has_writer c.side_by_side.new.watched.audience c.args.opened.store.now c.side_by_side.ensures.run.store

@@ -1,4 +1,4 @@
-use Rattle.kc_engine.proofs.phases.run_phases.Given as goal
+use Rattle.kc_engine.proofs.phases.PhasedGraph.run_phases.Given as goal
 
 abbrev pub ghosts-deletion_phase : goal.ghosts-deletion_phase
 ghosts-deletion_phase g a = record { name = a.blank.name; parts = a.blank.parts }
