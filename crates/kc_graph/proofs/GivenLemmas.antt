@@ -60,14 +60,6 @@ same_rows n rows others is1 is2 up vp same = ext_get_or [] rows others (is1 ∙ 
 pub halves_inside : (n a b : ℕ) (es : List Pair) → EdgesFrom n a b es → (v x : ℕ) → joined v x es ≡ true → v < n
 halves_inside n a b es up v x there = (joined_inside n a b v x es up there).0
 
--- the greater ends too
-pub greater_inside : (n a b : ℕ) (es : List Pair) → EdgesFrom n a b es → (v w : ℕ) → has_edge (w, v) es ≡ true → v < n
-greater_inside n a b es up v w there = halves_inside n a b es up v w (ap (λ c. has_edge (v, w) es || c) there ∙ or_true (has_edge (v, w) es))
-  where
-    or_true : (b : Bool) → b || true ≡ true
-    or_true true = refl
-    or_true false = refl
-
 module _ (n count : ℕ) (rows new : List (List ℕ)) (es halves : List Pair) (kept : IsKept n rows count) (up : EdgesFrom n 0 0 es) (both : (v x : ℕ) → has_edge (v, x) halves ≡ joined v x es) where
   -- where the first row is that of 0
   own_halves : (v x : ℕ) → has_edge (0 + v, x) halves ≡ joined v x es

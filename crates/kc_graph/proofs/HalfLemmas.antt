@@ -29,7 +29,7 @@ or_false : (b : Bool) → b || false ≡ b
 or_false true = refl
 or_false false = refl
 
-pub has_edge-push : (e f : Pair) (es : List Pair) → has_edge e (es ++ f ∷ []) ≡ has_edge e es || same_edge e f
+has_edge-push : (e f : Pair) (es : List Pair) → has_edge e (es ++ f ∷ []) ≡ has_edge e es || same_edge e f
 has_edge-push e f es = has_edge-append e es (f ∷ []) ∙ ap (λ b. has_edge e es || b) (or_false (same_edge e f))
 
 has_edge_any : (e : Pair) (es : List Pair) → has_edge e es ≡ list_any (same_edge e) es

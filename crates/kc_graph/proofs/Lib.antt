@@ -24,5 +24,4 @@ mod BucketLemmas
 mod HalfLemmas
 mod GivenLemmas
 mod SharingLemmas
-mod TurningLemmas
 mod DealtLemmas

@@ -31,7 +31,6 @@ mod sharing;
 mod sorted_keys;
 mod sorting;
 mod touched;
-mod turning;
 
 pub use cleaning::{Cleaned, clean, clean_by};
 pub use crew::Crew;

@@ -43,11 +43,6 @@ pub record IsCut (halves : List Pair) (v : ℕ) (low high : List Pair) : Type 0 
   pub from : All (λ h. v ≤ h.0) high
   pub all : (e : Pair) → has_edge e halves ≡ has_edge e low || has_edge e high
 
--- the half-edges at the greater ends of the edges whose vertices are from `first` on and below `end`
-pub record AreTurned (first end : ℕ) (edges halves : List Pair) : Type 0 where
-  pub within : (v w : ℕ) → has_edge (v, w) halves ≡ true → (first ≤ v) × (v < end)
-  pub turned : (v w : ℕ) → first ≤ v → v < end → has_edge (v, w) halves ≡ has_edge (w, v) edges
-
 -- the rows, from that of `first` on, after the half-edges came in
 pub record AreGiven (first : ℕ) (old new : List (List ℕ)) (halves : List Pair) : Type 0 where
   pub sized : length new ≡ length old

@@ -4,13 +4,8 @@ use Rattle.kc_graph.specs.Changes.{CanAdd, AllAbsent}
 use Rattle.kc_graph.specs.private.HalfLists.{halves_of}
 use Rattle.kc_graph.specs.private.Halves.{AreGiven, AreGivenSome, AreTaken}
 use Rattle.kc_graph.proofs.ChangeLemmas.{can_add_ascending}
-use Rattle.kc_graph.proofs.GivenLemmas.{graph_of, greater_inside, halves_inside, kept_given, graph_given, undone_all}
+use Rattle.kc_graph.proofs.GivenLemmas.{graph_of, halves_inside, kept_given, graph_given, undone_all}
 use Rattle.kc_graph.proofs.graphs.Graph.par_insert_all.Goals as goal
-
-pub greater_halves_by-requires-after_bounds : goal.greater_halves_by-requires-after_bounds
-greater_halves_by-requires-after_bounds g c κs within = λ v w there.
-    let up : EdgesFrom c.self.inside.n 0 0 c.args.edges.now = rw (← c.self.view_is) at c.requires.ascending in
-    greater_inside c.self.inside.n 0 0 c.args.edges.now up v w there
 
 pub give_by-requires-after_bounds : goal.give_by-requires-after_bounds
 give_by-requires-after_bounds g c κs within = λ v x there.
