@@ -1,7 +1,7 @@
 -- What a walk over the sorted keys of a batch finds out is what the batch comes to.
 use Rattle.std.proofs.Common.{ℕ, ◌+◌, ◌*◌, ◌^◌, ◌≤◌, ◌<◌, ◌≡◌, Bool, true, false, ◌||◌, ◌&&◌, cond, List, [], ◌∷◌, ◌++◌, length, refl, ap, sym, ◌∙◌, arith, map, append_assoc, get_or, zero-add}
 use Rattle.std.proofs.lemmas.Bool.{cond_both}
-use Rattle.std.proofs.lemmas.List.{append-nil, length-map}
+use Rattle.std.proofs.lemmas.List.{append-nil, length-append, length-map, map-append}
 use Rattle.std.proofs.lemmas.List.Elements.{All-nil, All-cons, All-head, All-tail, All-same, All-weaker}
 use Rattle.std.proofs.lemmas.List.Sorted.{length_permutation, list_any-IsPermutation, sum_by-IsPermutation}
 use Rattle.std.specs.List.{list_any}
@@ -14,6 +14,7 @@ use Rattle.kc_graph.specs.declared.cleaning.Cleaned.{Cleaned}
 use Rattle.kc_graph.specs.Shape.{GraphShape, Pair, EdgesFrom, IsGraph, same_edge, has_edge}
 use Rattle.kc_graph.specs.Cleaning.{IsInside, is_loop, proper_items, is_repeat, is_idle, count_with_later, deciding_item, takes_out, is_insertion, removed_edges, inserted_pairs, added_edges, cleaned}
 use Rattle.kc_graph.specs.private.Keys.{is_pairless, is_isolation, pair_items, keys_of, same_pair, is_last_of_pair, repeated, IsKeyBelow, pair_number, packed, unpacked, number_of_pair}
+use Rattle.kc_graph.specs.private.Walks.{no_effect, walked, followed, AreKeys, IsKeyInside, IsPairCut}
 use Rattle.kc_graph.specs.private.Buckets.{dealt, IsDealtBy}
 use Rattle.kc_graph.specs.Keys.{edge_of, removes, adds, decided}
 use Rattle.kc_graph.proofs.CountLemmas.{count_by-cons}
@@ -28,11 +29,6 @@ use Rattle.kc_graph.proofs.KeyLemmas.{Ascend, ascend_from_climbs, is_last-sorted
 use Rattle.kc_graph.proofs.BatchLemmas.{asks, inserted_if_decided, edges_from_inserted, keys_decide, keys_repeat, keys_idle}
 
 -- a walk
-
--- what the items come to after the keys of a list in which those of one pair stand together
-abbrev pub walked : List Pair → List Key → Cleaned → Cleaned
-walked edges [] c = c
-walked edges (k ∷ later) c = walked edges later (cond (is_last_of_pair k later) (decided edges k c) (repeated c))
 
 -- what a walk over sorted keys adds to what is known
 pub record Walks (edges : List Pair) (ks : List Key) (c d : Cleaned) : Type 0 where
@@ -223,10 +219,6 @@ walked_is_cleaned g bits items ks loops none graph inside enough is rest =
 
 -- the loop that walks
 
--- the pair of the key is in order, and its vertices are below n
-abbrev pub IsKeyInside : ℕ → Key → Type 0
-IsKeyInside n k = (k.a < k.b) × (k.b < n)
-
 walked_on : (edges : List Pair) (ks later : List Key) (k : Key) (c : Cleaned) (b : Bool) → ks ≡ k ∷ later → b ≡ is_last_of_pair k later → walked edges later (cond b (decided edges k c) (repeated c)) ≡ walked edges ks c
 walked_on edges ks later k c b first is = ap (λ (t : Bool). walked edges later (cond t (decided edges k c) (repeated c))) is ∙ ap (λ (ls : List Key). walked edges ls c) (sym first)
 
@@ -258,3 +250,114 @@ length_sorted n bits items xs enough inside is =
 
 pub sorted_inside : (n bits : ℕ) (items : List Item) (xs : List ℕ) → n ≤ 2 ^ bits → All (IsInside n) items → IsDealtBy number_of_pair (map (packed bits) (keys_of items)) xs → All (IsKeyInside n) (map (unpacked bits) xs)
 sorted_inside n bits items xs enough inside is = rw (sorted_numbers n bits items xs enough inside is) (sorts n bits items enough inside).inside
+
+-- walks one after another
+
+walked_loops : (edges : List Pair) (loops : ℕ) (ks : List Key) (c : Cleaned) → walked edges ks (record c { loops = loops }) ≡ record (walked edges ks c) { loops = loops }
+walked_loops edges loops [] c = refl
+walked_loops edges loops (k ∷ ks) c = go (is_last_of_pair k ks) (walked_loops edges loops ks)
+  where
+    go : (b : Bool) → ((d : Cleaned) → walked edges ks (record d { loops = loops }) ≡ record (walked edges ks d) { loops = loops }) → walked edges ks (cond b (decided edges k (record c { loops = loops })) (repeated (record c { loops = loops }))) ≡ record (walked edges ks (cond b (decided edges k c) (repeated c))) { loops = loops }
+    go true rest = rest (decided edges k c)
+    go false rest = rest (repeated c)
+
+-- a walk that knows of loops
+pub walked_with_loops : (edges : List Pair) (loops : ℕ) (ks : List Key) → walked edges ks (record { removed = []; added = []; loops = loops; repeats = 0; idle = 0 }) ≡ record (walked edges ks no_effect) { loops = loops }
+walked_with_loops edges loops ks = walked_loops edges loops ks no_effect
+
+-- a walk counts each key once at most
+walked_counts : (edges : List Pair) (ks : List Key) (c : Cleaned) → ((walked edges ks c).repeats ≤ c.repeats + length ks) × ((walked edges ks c).idle ≤ c.idle + length ks)
+walked_counts edges [] c = (omega arith, omega arith)
+walked_counts edges (k ∷ ks) c = go (is_last_of_pair k ks) (walked_counts edges ks)
+  where
+    go : (b : Bool) → ((d : Cleaned) → ((walked edges ks d).repeats ≤ d.repeats + length ks) × ((walked edges ks d).idle ≤ d.idle + length ks)) → ((walked edges ks (cond b (decided edges k c) (repeated c))).repeats ≤ c.repeats + length (k ∷ ks)) × ((walked edges ks (cond b (decided edges k c) (repeated c))).idle ≤ c.idle + length (k ∷ ks))
+    go true rest =
+        let counts = decided_counts edges k c (decided edges k c) refl in
+        let later = rest (decided edges k c) in
+        (omega (arith, later.0, counts.0), omega (arith, later.1, counts.1))
+    go false rest =
+        let later = rest (repeated c) in
+        (omega (arith, later.0), omega (arith, later.1))
+
+pub walk_counts : (edges : List Pair) (ks : List Key) (c : Cleaned) → c ≡ walked edges ks no_effect → (c.repeats ≤ length ks) × (c.idle ≤ length ks)
+walk_counts edges ks c is =
+    let counts = walked_counts edges ks no_effect in
+    rw is (omega (arith, counts.0), omega (arith, counts.1))
+
+add_last : (b : Bool) (e : Pair) (es fs : List Pair) → cond b ((es ++ fs) ++ e ∷ []) (es ++ fs) ≡ es ++ cond b (fs ++ e ∷ []) fs
+add_last true e es fs = append_assoc es fs (e ∷ [])
+add_last false e es fs = refl
+
+decided_after : (edges : List Pair) (k : Key) (c d : Cleaned) → decided edges k (followed c d) ≡ followed c (decided edges k d)
+decided_after edges k c d = same_cleaned (decided edges k (followed c d)) (followed c (decided edges k d)) (add_last (removes edges k) (edge_of k) c.removed d.removed) (add_last (adds edges k) (edge_of k) c.added d.added) refl refl (omega arith)
+
+repeated_after : (c d : Cleaned) → repeated (followed c d) ≡ followed c (repeated d)
+repeated_after c d = same_cleaned (repeated (followed c d)) (followed c (repeated d)) refl refl refl (omega arith) refl
+
+walked_after : (edges : List Pair) (ks : List Key) (c d : Cleaned) → walked edges ks (followed c d) ≡ followed c (walked edges ks d)
+walked_after edges [] c d = refl
+walked_after edges (k ∷ ks) c d = go (is_last_of_pair k ks) (walked_after edges ks c)
+  where
+    go : (b : Bool) → ((e : Cleaned) → walked edges ks (followed c e) ≡ followed c (walked edges ks e)) → walked edges ks (cond b (decided edges k (followed c d)) (repeated (followed c d))) ≡ followed c (walked edges ks (cond b (decided edges k d) (repeated d)))
+    go true rest = ap (λ (e : Cleaned). walked edges ks e) (decided_after edges k c d) ∙ rest (decided edges k d)
+    go false rest = ap (λ (e : Cleaned). walked edges ks e) (repeated_after c d) ∙ rest (repeated d)
+
+no_more : (c : Cleaned) → c ≡ followed c no_effect
+no_more c = same_cleaned c (followed c no_effect) (sym (append-nil c.removed)) (sym (append-nil c.added)) (omega arith) (omega arith) (omega arith)
+
+same_next : (a k : Key) (ks ls : List Key) → is_last_of_pair a (ks ++ k ∷ ls) ≡ is_last_of_pair a (ks ++ k ∷ [])
+same_next a k [] ls = refl
+same_next a k (l ∷ ks) ls = refl
+
+walked_apart : (edges : List Pair) (front : List Key) (k : Key) (back : List Key) (c : Cleaned) → is_last_of_pair k back ≡ true → walked edges (front ++ k ∷ back) c ≡ walked edges back (walked edges (front ++ k ∷ []) c)
+walked_apart edges [] k back c apart = ap (λ (b : Bool). walked edges back (cond b (decided edges k c) (repeated c))) apart
+walked_apart edges (a ∷ front) k back c apart =
+    ap (λ (b : Bool). walked edges (front ++ k ∷ back) (cond b (decided edges a c) (repeated c))) (same_next a k front back)
+    ∙ walked_apart edges front k back (cond (is_last_of_pair a (front ++ k ∷ [])) (decided edges a c) (repeated c)) apart
+
+-- a walk over keys that are cut where a pair ends
+pub walked_in_parts : (edges : List Pair) (ks front back : List Key) (init : List Key) (k : Key) → ks ≡ front ++ back → front ≡ init ++ k ∷ [] → is_last_of_pair k back ≡ true → walked edges ks no_effect ≡ followed (walked edges front no_effect) (walked edges back no_effect)
+walked_in_parts edges ks front back init k split last apart =
+    ap (λ (ls : List Key). walked edges ls no_effect) (split ∙ ap (λ (ls : List Key). ls ++ back) last ∙ append_assoc init (k ∷ []) back)
+    ∙ walked_apart edges init k back no_effect apart
+    ∙ ap (λ (ls : List Key). walked edges back (walked edges ls no_effect)) (sym last)
+    ∙ ap (λ (c : Cleaned). walked edges back c) (no_more (walked edges front no_effect))
+    ∙ walked_after edges back (walked edges front no_effect) no_effect
+
+module _ (edges : List Pair) (bits : ℕ) (xs front back : List ℕ) (at : IsPairCut xs front back) where
+  all_parts : (P : Key → Type 0) (ks ls : List Key) → All P (ks ++ ls) → All P ks × All P ls
+  all_parts P [] ls all = (All-nil P, all)
+  all_parts P (k ∷ ks) ls all =
+      let rest = all_parts P ks ls (All-tail P k (ks ++ ls) all) in
+      (All-cons P k ks (All-head P k (ks ++ ls) all) rest.0, rest.1)
+
+  keys_parts : map (unpacked bits) xs ≡ map (unpacked bits) front ++ map (unpacked bits) back
+  keys_parts = ap (map (unpacked bits)) at.parts ∙ map-append (unpacked bits) front back
+
+  parts_length : length front + length back ≡ length xs
+  parts_length = sym (ap (λ (l : List ℕ). length l) at.parts ∙ length-append front back)
+
+  -- both parts have such keys
+  pub parts_are : (n : ℕ) → AreKeys n bits xs → AreKeys n bits front × AreKeys n bits back
+  parts_are n are =
+      let inside = all_parts (IsKeyInside n) (map (unpacked bits) front) (map (unpacked bits) back) (rw keys_parts at are.inside) in (
+        record { fits = are.fits; small = are.small; few = omega (arith, are.few, parts_length); inside = inside.0 },
+        record { fits = are.fits; small = are.small; few = omega (arith, are.few, parts_length); inside = inside.1 },
+      )
+
+  module _ (c d : Cleaned) (first : c ≡ walked edges (map (unpacked bits) front) no_effect) (later : d ≡ walked edges (map (unpacked bits) back) no_effect) where
+    -- the net effect of both parts
+    pub parts_walked : followed c d ≡ walked edges (map (unpacked bits) xs) no_effect
+    parts_walked = rw (first, later) (sym (walked_in_parts edges (map (unpacked bits) xs) (map (unpacked bits) front) (map (unpacked bits) back) (map (unpacked bits) at.init) (unpacked bits at.last) keys_parts (ap (map (unpacked bits)) at.ends ∙ map-append (unpacked bits) at.init (at.last ∷ [])) (at.apart bits)))
+
+    no_loops : (e : Cleaned) (ks : List Key) → e ≡ walked edges ks no_effect → e.loops ≡ 0
+    no_loops e ks is = ap (λ (f : Cleaned). f.loops) (is ∙ walked_with_loops edges 0 ks)
+
+    pub parts_counts : (c.loops + d.loops ≡ 0) × (c.repeats + d.repeats ≤ length xs) × (c.idle + d.idle ≤ length xs)
+    parts_counts =
+        let m = walk_counts edges (map (unpacked bits) front) c first in
+        let n = walk_counts edges (map (unpacked bits) back) d later in (
+          omega (arith, no_loops c (map (unpacked bits) front) first, no_loops d (map (unpacked bits) back) later),
+          omega (arith, m.0, n.0, parts_length, length-map front (unpacked bits), length-map back (unpacked bits)),
+          omega (arith, m.1, n.1, parts_length, length-map front (unpacked bits), length-map back (unpacked bits)),
+        )

@@ -8,3 +8,4 @@ pub mod KeptRows
 pub mod Keys
 pub mod Later
 pub mod Numbers
+pub mod Walks

@@ -1,12 +1,14 @@
 //! Cleaning: the edges that the items of a batch take out of a graph and put in, and the counts of items that change
 //! nothing.
 
-ghost use Rattle.std.specs.Prelude.{◌≡◌, ◌<◌, ◌≤◌, ◌^◌, [], true, false, length, map, All, IfOk, OnOk};
+ghost use Rattle.std.specs.Prelude.{◌≡◌, ◌<◌, ◌≤◌, ◌^◌, ◌+◌, [], false, length, All, IfOk, OnOk};
 ghost use Rattle.std.specs.List.{list_any};
 ghost use Rattle.kc_graph.specs.Cleaning.{IsInside, cleaned};
-ghost use Rattle.kc_graph.specs.private.Keys.{is_isolation, is_last_of_pair, unpacked};
+ghost use Rattle.kc_graph.specs.private.Keys.{is_isolation};
+ghost use Rattle.kc_graph.specs.private.Walks.{followed};
 ghost use Rattle.kc_graph.specs.Keys.{decided};
 
+use crate::crew::Crew;
 use crate::edge_lists::Edges;
 use crate::graphs::Graph;
 use crate::items::Item;
@@ -14,6 +16,7 @@ use crate::keys::Key;
 use crate::later::walk_back;
 use crate::limits::{MAX_ITEMS, MAX_VERTICES};
 use crate::sorted_keys::sorted_keys;
+use crate::walking::walk_by;
 use std::alloc::{AllocError, Global};
 use std::thread::Threads;
 
@@ -51,6 +54,28 @@ impl Cleaned {
         }
     }
 
+    /// Adds the net effect of later items, which touch other pairs. Fails only if memory runs out.
+    pub(crate) fn follow(&mut self, later: Cleaned) -> Result<(), AllocError>
+        requires loops { self.old.loops + later.loops ≤ MAX_ITEMS }
+        requires repeats { self.old.repeats + later.repeats ≤ MAX_ITEMS }
+        requires idle { self.old.idle + later.idle ≤ MAX_ITEMS }
+        ensures { OnOk result (self.new ≡ followed self.old later) }
+    {
+        let Cleaned {
+            removed,
+            added,
+            loops,
+            repeats,
+            idle,
+        } = later;
+        self.removed.append(removed)?;
+        self.added.append(added)?;
+        self.loops += loops;
+        self.repeats += repeats;
+        self.idle += idle;
+        Ok(())
+    }
+
     /// Takes in the key of an item that decides.
     pub fn decide(&mut self, graph: &Graph, key: &Key) -> Result<(), AllocError>
         requires ordered { key.now.a < key.now.b }
@@ -70,48 +95,8 @@ impl Cleaned {
     }
 }
 
-// The most workers of an engine. Any number from 2 on does the same here.
+// The most workers of an engine.
 const MAX_WORKERS: u32 = 64;
-
-// The number of keys whose rows are prefetched together.
-const TOGETHER: usize = 16;
-
-// Prefetches the rows of the lesser vertices of the first keys. Always true; the compiler can't know that, so it keeps
-// the loads.
-fn are_at_hand(graph: &Graph, bits: u32, keys: &[u64]) -> bool
-    requires { bits ≤ 24 }
-    ensures { result ≡ true }
-{
-    for k in 0..keys.len().min(TOGETHER) {
-        let a = keys[k] / 2 >> bits;
-        if a < MAX_VERTICES as u64 && !graph.is_at_hand(a as u32) {
-            return false;
-        }
-    }
-    true
-}
-
-// Returns whether the key is the last of its pair in a sorted list (`is_last_of_pair`), which the next key decides.
-fn ends_pair(key: u64, later: &[u64]) -> bool
-    ensures { (bits : _) → result ≡ is_last_of_pair (unpacked bits key) (map (unpacked bits) later.now) }
-{
-    match later {
-        [next, ..] => key / 2 != *next / 2,
-        [] => true,
-    }
-}
-
-// Returns whether the key is the last of its pair (`is_last_of_pair`). At every 16th key it prefetches the rows of the
-// next 16.
-fn is_last_in_turn(graph: &Graph, bits: u32, key: u64, later: &[u64]) -> bool
-    requires { bits ≤ 24 }
-    ensures { result ≡ is_last_of_pair (unpacked bits key) (map (unpacked bits) later.now) }
-{
-    if later.len() % TOGETHER == 0 && !are_at_hand(graph, bits, later) {
-        return false;
-    }
-    ends_pair(key, later)
-}
 
 // Returns a number of bits that a vertex below n has at most.
 fn bits_below(n: u32) -> u32
@@ -126,7 +111,7 @@ fn bits_below(n: u32) -> u32
     bits
 }
 
-// Returns the net effect of a batch without isolations, by a walk over its sorted keys.
+// Returns the net effect of a batch without isolations, by a walk over its sorted keys (`walk_by`).
 fn clean_pairs<R: Threads + Sync>(
     rt: &R,
     alloc: Global,
@@ -141,16 +126,9 @@ fn clean_pairs<R: Threads + Sync>(
 {
     let bits = bits_below(graph.vertices());
     let keys = sorted_keys(rt, alloc, workers, bits, items)?;
-    let mut cleaned = Cleaned::of_loops(alloc, (items.len() - keys.len()) as u32);
-    let mut rest = keys.as_slice();
-    while let Some((key, later)) = rest.split_first() {
-        if is_last_in_turn(graph, bits, *key, later) {
-            cleaned.decide(graph, &Key::unpacked(bits, *key))?;
-        } else {
-            cleaned.repeats += 1;
-        }
-        rest = later;
-    }
+    let crew = Crew { rt, alloc, workers };
+    let mut cleaned = walk_by(&crew, graph, bits, &keys)?;
+    cleaned.loops = (items.len() - keys.len()) as u32;
     Ok(cleaned)
 }
 
@@ -188,8 +166,9 @@ fn has_isolation(items: &[Item]) -> bool
 /// The vertices of the items are below n, and there are at most `MAX_ITEMS` items. The answer is the same for any
 /// number of workers. Fails only if memory runs out.
 ///
-/// With at most 1 worker the calling thread sorts, and no thread is started. With 2 or more, as many threads as the
-/// runtime has sort a list of 65,536 keys or edges or more. All else costs what `clean` costs, in memory too.
+/// With at most 1 worker no thread is started. With 2 or more, as many threads as the runtime has sort a list of 65,536
+/// keys or edges or more. From 8,192 keys on, threads share the look-ups, up to one a worker with 4,096 keys or so for
+/// each. All else costs what `clean` costs, in memory too.
 pub fn clean_by<R: Threads + Sync>(
     rt: &R,
     alloc: Global,
@@ -222,6 +201,9 @@ pub fn clean_by<R: Threads + Sync>(
 ///
 /// - a look-up in a tree for each item and for each neighbour of an isolated vertex, once a vertex;
 /// - a sort of the two lists, and memory for the tree in place of the keys.
+///
+/// Threads share the look-ups as in `clean_by` with 64 workers. Each has lists of its own, which are put together, so
+/// these take memory twice.
 ///
 /// As many threads as the runtime has sort a list of 65,536 keys or edges or more. The calling thread alone sorts a
 /// shorter one. If it has 2,048 keys or more, it deals them to buckets four times, with two passes each time. Meanwhile

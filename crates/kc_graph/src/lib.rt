@@ -31,6 +31,7 @@ mod sharing;
 mod sorted_keys;
 mod sorting;
 mod touched;
+mod walking;
 
 pub use cleaning::{Cleaned, clean, clean_by};
 pub use crew::Crew;
