@@ -79,6 +79,16 @@ impl<'a, R: Threads + Sync, G: Gate + Sync> Rounds<'a, R, G> {
         self.rt
     }
 
+    /// Returns the allocator of the answers.
+    pub fn alloc(&self) -> Global {
+        self.alloc
+    }
+
+    /// Returns the gate that rounds call.
+    pub fn gate(&self) -> &G {
+        self.gate
+    }
+
     /// Returns the number of workers that rounds may use, 1 to 64.
     pub fn workers(&self) -> u32
         ensures { (1 ≤ result) × (result ≤ 64) }
