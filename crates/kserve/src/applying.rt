@@ -13,7 +13,7 @@ use kc_engine::{Engine, EngineFault, Shape};
 use kc_graph::{Item, MAX_EDGES, MAX_ITEMS, MAX_VERTICES, clean_by};
 use kc_intake::Update;
 use kc_levels::Profile;
-use kc_rounds::Gate;
+use kc_rounds::{Gate, Rounds};
 use std::alloc::{AllocError, Global};
 use std::thread::Threads;
 
@@ -65,9 +65,7 @@ pub fn items_of(alloc: Global, n: u32, updates: &[Update]) -> Result<Option<Item
 
 /// Applies items to the graph. No level is looked up meanwhile, so no phase is shown. Fails only if memory runs out.
 pub fn apply<R: Threads + Sync, G: Gate + Sync>(
-    rt: &R,
-    alloc: Global,
-    gate: &G,
+    rounds: &Rounds<'_, R, G>,
     engine: &mut Engine,
     items: &[Item],
 ) -> Result<(), AllocError>
@@ -78,8 +76,10 @@ pub fn apply<R: Threads + Sync, G: Gate + Sync>(
     ensures after { OnOk result (IsAfterBatch engine.old.state (cleaned engine.old.state.graph items.now) engine.new.state) }
     ensures open { OnOk result (IsOpen engine.new) }
 {
+    let rt = rounds.runtime();
+    let alloc = rounds.alloc();
     let cleaned = clean_by(rt, alloc, engine.workers(), engine.graph(), items)?;
-    match engine.plan(rt, alloc, gate, &cleaned) {
+    match engine.plan(rt, alloc, rounds.gate(), &cleaned) {
         Ok(_plan) => {
             engine.leave_unshown();
             Ok(())

@@ -1,19 +1,14 @@
 //! What stays the same while scripts are served.
 
 use crate::scripts::Scripts;
-use std::alloc::Global;
+use kc_rounds::Rounds;
 use std::marker::Model;
 
-/// What stays the same while scripts are served: the threads, the memory, the gate and the scripts. Contracts see the
-/// scripts alone.
+/// What stays the same while scripts are served: the rounds of phases and the scripts. Contracts see the scripts alone.
 #[derive(Drop)]
 pub struct ServeContext<'a, R, G> {
-    /// The handle that starts threads.
-    pub rt: &'a R,
-    /// The allocator.
-    pub alloc: Global,
-    /// The gate of phases and clients.
-    pub gate: &'a G,
+    /// Has the threads of phases and clients, the allocator, and the gate of both.
+    pub rounds: Rounds<'a, R, G>,
     /// The scripts that are served.
     pub asked: &'a Scripts,
 }

@@ -5,12 +5,13 @@ ghost use Rattle.kserve.specs.private.Ending.{status_of};
 ghost use Rattle.kserve.specs.private.Faults.{FaultCause};
 ghost use Rattle.kserve.specs.Served.{Answers, IsComplete};
 
+use crate::context::ServeContext;
 use crate::fault::ServeFault;
 use crate::lines::write_refused;
 use crate::reading::{Said, read_input};
 use crate::serving::serve_scripts;
 use crate::status::ServeStatus;
-use kc_rounds::Gate;
+use kc_rounds::{Gate, Rounds};
 use kc_text::{LineBuf, Sink, Source, Words, read_number};
 use std::alloc::Global;
 use std::sync::Wait;
@@ -42,20 +43,21 @@ fn workers_of(words: &Words) -> Option<u32>
 
 // Reads an input, and serves its scripts or writes why it is refused. Says whether it is.
 fn serve_input<R: Threads + Wait + Sync, S: Source, K: Sink + Send, G: Gate + Sync>(
-    rt: &R,
-    alloc: Global,
-    gate: &G,
-    workers: u32,
+    rounds: Rounds<'_, R, G>,
     src: &mut S,
     sink: &mut K,
 ) -> Result<bool, ServeFault>
-    requires few_workers { (1 ≤ workers) × (workers ≤ 64) }
     ensures text { Answers (S.left src.old) (K.taken sink.old) (K.taken sink.new) (status_of result) }
     ensures cause { FaultCause (S.faults src.old) (S.faults src.new) (K.faults sink.old) (K.faults sink.new) result }
 {
+    let alloc = rounds.alloc();
     match read_input(alloc, src)? {
         Said::Accepted(asked) => {
-            serve_scripts(rt, alloc, gate, workers, &asked, sink)?;
+            let context = ServeContext {
+                rounds,
+                asked: &asked,
+            };
+            serve_scripts(&context, sink)?;
             Ok(false)
         }
         Said::Refused { line, reason } => {
@@ -118,7 +120,10 @@ pub fn serve<R: Threads + Wait + Sync, S: Source, K: Sink + Send, G: Gate + Sync
     ensures untouched { result ≡ ServeStatus.Usage → (input.new ≡ input.old) × (output.new ≡ output.old) }
 {
     match workers_of(words) {
-        Some(workers) => status_of(serve_input(rt, alloc, gate, workers, input, output)),
+        Some(workers) => {
+            let rounds = Rounds::new(rt, alloc, gate, workers);
+            status_of(serve_input(rounds, input, output))
+        }
         None => ServeStatus::Usage,
     }
 }

@@ -22,6 +22,15 @@ use std::sync::Wait;
 use std::thread;
 use std::thread::Threads;
 
+/// A drained batch.
+#[derive(Clone, Copy)]
+pub struct Drained<'a> {
+    /// The number of the batch, counted from 1.
+    pub number: u32,
+    /// The updates of the batch.
+    pub updates: &'a [Update],
+}
+
 /// The server: the engine that applies its batches, and the line that is put together for them.
 #[derive(Drop)]
 pub struct Server {
@@ -57,7 +66,7 @@ impl Server {
         }
     }
 
-    /// Applies the updates of a drained batch to the graph of the scripts, and prints them as the batch with this
+    /// Applies the updates of a drained batch to the graph of the scripts, and prints them as the batch with its
     /// number.
     ///
     /// `Stray` comes exactly if one of the items isn't due; then nothing is applied or printed. `WriteFault` comes only
@@ -67,26 +76,21 @@ impl Server {
         &mut self,
         context: &ServeContext<'_, R, G>,
         sink: &mut K,
-        number: u32,
-        updates: &[Update],
+        batch: Drained<'_>,
     ) -> Result<(), Stop>
-        requires few { length updates.now ≤ MAX_ITEMS }
+        requires few { length batch.updates.now ≤ MAX_ITEMS }
         requires ready { IsReady context.now.n self.old.engine }
-        ensures taken { TakesBatch context.now.n number updates.now self.old.engine.state self.new.engine.state (K.taken sink.old) (K.taken sink.new) result }
+        ensures taken { TakesBatch context.now.n batch.entry.number batch.entry.updates.now self.old.engine.state self.new.engine.state (K.taken sink.old) (K.taken sink.new) result }
         ensures open { OnOk result (IsOpen self.new.engine) }
         ensures cause { StopCause (K.faults sink.old) (K.faults sink.new) result }
     {
-        let ServeContext {
-            rt,
-            alloc,
-            gate,
-            asked,
-        } = context;
-        let alloc = *alloc;
-        let Some(items) = items_of(alloc, asked.n, updates)? else {
+        let rounds = &context.rounds;
+        let alloc = rounds.alloc();
+        let Drained { number, updates } = batch;
+        let Some(items) = items_of(alloc, context.asked.n, updates)? else {
             return Err(Stop::Stray);
         };
-        apply(*rt, alloc, *gate, &mut self.engine, items.as_slice())?;
+        apply(rounds, &mut self.engine, items.as_slice())?;
         write_batch(alloc, &mut self.buf, sink, number, updates)?;
         Ok(())
     }
@@ -96,18 +100,17 @@ impl Server {
         &mut self,
         context: &ServeContext<'_, R, G>,
         sink: &mut K,
-        number: u32,
-        updates: &[Update],
+        batch: Drained<'_>,
         course: Result<(), Stop>,
     ) -> Result<(), Stop>
-        requires few { length updates.now ≤ MAX_ITEMS }
+        requires few { length batch.updates.now ≤ MAX_ITEMS }
         requires ready { OnOk course (IsReady context.now.n self.old.engine) }
-        ensures served { GoesOn context.now.n number updates.now self.old.engine.state self.new.engine.state (K.taken sink.old) (K.taken sink.new) course result }
+        ensures served { GoesOn context.now.n batch.entry.number batch.entry.updates.now self.old.engine.state self.new.engine.state (K.taken sink.old) (K.taken sink.new) course result }
         ensures open { OnOk result (IsOpen self.new.engine) }
         ensures cause { GoesOnCause (K.faults sink.old) (K.faults sink.new) course result }
     {
         match course {
-            Ok(()) => self.take_batch(context, sink, number, updates),
+            Ok(()) => self.take_batch(context, sink, batch),
             Err(stop) => Err(stop),
         }
     }
@@ -137,15 +140,16 @@ impl Server {
         ensures open { OnOk result (IsOpen self.new.engine) }
         ensures cause { StopCause (K.faults sink.old) (K.faults sink.new) result }
     {
+        let rt = context.rounds.runtime();
         let count = context.asked.count;
         let mut course = Ok(());
         let mut number = 0;
         let mut drained = 0;
-        for _turn in context.rt.forever() {
+        for _turn in rt.forever() {
             if drained >= count {
                 return course;
             }
-            let Ok(()) = intake.drain(context.rt, drainer) else {
+            let Ok(()) = intake.drain(rt, drainer) else {
                 course = hand_on(sink, course);
                 thread::yield_now();
                 continue;
@@ -153,7 +157,7 @@ impl Server {
             number += 1;
             drained += drainer.batch().len() as u32;
             let updates = drainer.batch();
-            course = self.go_on(context, sink, number, updates, course);
+            course = self.go_on(context, sink, Drained { number, updates }, course);
         }
         unreachable!()
     }

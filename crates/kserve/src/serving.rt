@@ -16,14 +16,12 @@ use crate::context::ServeContext;
 use crate::fault::{ServeFault, Stop};
 use crate::limits::CAPACITY;
 use crate::lines::write_head;
-use crate::scripts::Scripts;
 use crate::server::Server;
 use crate::vertices::write_tail;
 use kc_graph::MAX_ITEMS;
 use kc_intake::{Client, Drainer, Intake, MAX_CLIENTS};
 use kc_rounds::Gate;
 use kc_text::{LineBuf, Sink};
-use std::alloc::Global;
 use std::sync::Wait;
 use std::thread;
 use std::thread::Threads;
@@ -60,8 +58,8 @@ fn side_by_side<R: Threads + Wait + Sync, K: Sink + Send, G: Gate + Sync>(
     ensures clients { HaveEnded opened.old.intake context.now.scripts.items opened.new.clients.items }
     ensures cause { StopCause (K.faults sink.old) (K.faults sink.new) result }
 {
-    let rt = context.rt;
-    let gate = context.gate;
+    let rt = context.rounds.runtime();
+    let gate = context.rounds.gate();
     let scripts = context.asked.scripts.as_slice();
     let intake = &opened.intake;
     let drainer = &mut opened.drainer;
@@ -105,7 +103,7 @@ fn serve_clients<R: Threads + Wait + Sync, K: Sink + Send, G: Gate + Sync>(
     ensures cause { WritingCause (K.faults sink.old) (K.faults sink.new) result }
 {
     let count = context.asked.scripts.len() as u32;
-    let (intake, drainer, clients) = Intake::open(context.alloc, CAPACITY, count)?;
+    let (intake, drainer, clients) = Intake::open(context.rounds.alloc(), CAPACITY, count)?;
     let mut opened = Opened {
         intake,
         drainer,
@@ -117,7 +115,7 @@ fn serve_clients<R: Threads + Wait + Sync, K: Sink + Send, G: Gate + Sync>(
         mut drainer,
         clients,
     } = opened;
-    take_in_all(context.rt, &intake, &mut drainer, clients);
+    take_in_all(context.rounds.runtime(), &intake, &mut drainer, clients);
     match course {
         Ok(()) => Ok(()),
         Err(stop) => Err(fault_of(stop)),
@@ -153,41 +151,30 @@ fn serve_opened<R: Threads + Wait + Sync, K: Sink + Send, G: Gate + Sync>(
     ensures text { Writes context.now.n context.now.scripts.items (K.taken sink.old) (K.taken sink.new) result }
     ensures cause { WritingCause (K.faults sink.old) (K.faults sink.new) result }
 {
-    let alloc = context.alloc;
+    let alloc = context.rounds.alloc();
     let n = context.asked.n;
     let mut buf = LineBuf::new(alloc);
     write_head(alloc, &mut buf, sink, n)?;
     serve_batches(context, server, sink)?;
-    let engine = &server.engine;
-    let levels = engine.levels().as_slice();
-    write_tail(alloc, &mut buf, sink, n, engine, levels)?;
+    write_tail(alloc, &mut buf, sink, n, &server.engine)?;
     Ok(())
 }
 
-/// Serves the scripts of an input, with up to `workers` threads a phase, 1 to 64, and writes the text of it (`Writes`).
+/// Serves the scripts of an input, and writes the text of it (`Writes`). A phase uses the workers of the rounds.
 ///
 /// The head is written first. Then the clients submit their scripts to an intake, while the server drains it and prints
 /// batch after batch; without scripts no intake is opened. Afterwards a line for each vertex is written, and the last
 /// line. `WriteFault` comes only if a write to the sink failed in this call. The call may wait.
 pub fn serve_scripts<R: Threads + Wait + Sync, K: Sink + Send, G: Gate + Sync>(
-    rt: &R,
-    alloc: Global,
-    gate: &G,
-    workers: u32,
-    asked: &Scripts,
+    context: &ServeContext<'_, R, G>,
     sink: &mut K,
 ) -> Result<(), ServeFault>
-    requires few_workers { (1 ≤ workers) × (workers ≤ 64) }
-    ensures text { Writes asked.now.n asked.now.scripts.items (K.taken sink.old) (K.taken sink.new) result }
+    ensures text { Writes context.now.n context.now.scripts.items (K.taken sink.old) (K.taken sink.new) result }
     ensures cause { WritingCause (K.faults sink.old) (K.faults sink.new) result }
 {
-    let engine = open(alloc, asked.n, workers)?;
-    let context = ServeContext {
-        rt,
-        alloc,
-        gate,
-        asked,
-    };
+    let rounds = &context.rounds;
+    let alloc = rounds.alloc();
+    let engine = open(alloc, context.asked.n, rounds.workers())?;
     let mut server = Server::new(alloc, engine);
-    serve_opened(&context, &mut server, sink)
+    serve_opened(context, &mut server, sink)
 }

@@ -50,24 +50,23 @@ impl VertexLines for EngineLines<'_> {
 /// Writes what is after all batches (`tail_text`): a line for each of the n vertices of the engine's graph, and the
 /// last line.
 ///
-/// The engine has not halted, and the levels are its levels: the counts of neighbours are the engine's. `WriteFault`
-/// comes only after a failed write. After it and after `Memory` the sink took a prefix of the lines.
+/// The engine has not halted: the levels and the counts of neighbours are the engine's. `WriteFault` comes only after a
+/// failed write. After it and after `Memory` the sink took a prefix of the lines.
 pub fn write_tail<K: Sink>(
     alloc: Global,
     buf: &mut LineBuf,
     sink: &mut K,
     n: u32,
     engine: &Engine,
-    levels: &[u16],
 ) -> Result<(), SendFault>
     requires running { engine.now.halted ≡ false }
-    requires levels { levels.now ≡ engine.now.state.levels }
     requires vertices { engine.now.state.graph.vertices ≡ n }
-    ensures text { Appends (K.taken sink.old) (K.taken sink.new) (tail_text engine.now.state.profile engine.now.state.graph levels.now) result }
+    ensures text { Appends (K.taken sink.old) (K.taken sink.new) (tail_text engine.now.state.profile engine.now.state.graph engine.now.state.levels) result }
     ensures buffer { IsCleared buf.new result }
     ensures cause { WriteCause (K.faults sink.old) (K.faults sink.new) result }
 {
-    let words = LevelWords::new(alloc, engine.thresholds(), engine.levels().as_slice())?;
+    let levels = engine.levels().as_slice();
+    let words = LevelWords::new(alloc, engine.thresholds(), levels)?;
     let lines = EngineLines {
         engine,
         levels,

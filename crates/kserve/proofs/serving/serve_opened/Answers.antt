@@ -25,9 +25,8 @@ write_tail-requires-clause-vertices g c =
 
 pub returns-in_err-write_tail-clause-text : goal.returns-in_err-write_tail-clause-text
 returns-in_err-write_tail-clause-text g c =
-    let levels = c.as_slice-levels.ensures ∙ c.levels.ensures.value in
     let p = err_from_is_err_and c.from_residual-in_err-write_tail.result c.from_residual-in_err-write_tail.ensures.1 in
-    rw p.1 (tail_stopped c.args.context.now.n c.args.context.now.scripts.items c.serve_batches.new.server.engine.state _ _ _ _ c.in_ok-serve_batches.ensures.open.sound (rw c.context.view_is at c.in_ok-write_head.ensures.text) c.in_ok-serve_batches.ensures.served (rw levels at c.in_err-write_tail.ensures.text))
+    rw p.1 (tail_stopped c.args.context.now.n c.args.context.now.scripts.items c.serve_batches.new.server.engine.state _ _ _ _ c.in_ok-serve_batches.ensures.open.sound (rw c.context.view_is at c.in_ok-write_head.ensures.text) c.in_ok-serve_batches.ensures.served c.in_err-write_tail.ensures.text)
 
 pub returns-in_err-write_tail-clause-cause : goal.returns-in_err-write_tail-clause-cause
 returns-in_err-write_tail-clause-cause g c =
@@ -36,5 +35,4 @@ returns-in_err-write_tail-clause-cause g c =
 
 pub returns-clause-text : goal.returns-clause-text
 returns-clause-text g c =
-    let levels = c.as_slice-levels.ensures ∙ c.levels.ensures.value in
-    served_whole c.args.context.now.n c.args.context.now.scripts.items c.serve_batches.new.server.engine.state _ _ _ _ c.in_ok-serve_batches.ensures.open.sound (rw c.context.view_is at c.in_ok-write_head.ensures.text) c.in_ok-serve_batches.ensures.served (rw levels at c.in_ok-write_tail.ensures.text)
+    served_whole c.args.context.now.n c.args.context.now.scripts.items c.serve_batches.new.server.engine.state _ _ _ _ c.in_ok-serve_batches.ensures.open.sound (rw c.context.view_is at c.in_ok-write_head.ensures.text) c.in_ok-serve_batches.ensures.served c.in_ok-write_tail.ensures.text

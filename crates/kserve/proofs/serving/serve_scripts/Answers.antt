@@ -7,4 +7,4 @@ use Rattle.kserve.proofs.serving.serve_scripts.Goals as goal
 pub returns-in_err-engine-clause-text : goal.returns-in_err-engine-clause-text
 returns-in_err-engine-clause-text g c =
     let p = err_from_is_err_and c.from_residual.result c.from_residual.ensures.1 in
-    rw p.1 (unwritten c.args.asked.now.n c.args.asked.now.scripts.items _ _ (can_serve c.args.asked.now.n c.args.asked.now.scripts.items c.args.asked.now.ranges) refl)
+    rw p.1 (unwritten c.args.context.now.n c.args.context.now.scripts.items _ _ (can_serve c.args.context.now.n c.args.context.now.scripts.items c.args.context.now.ranges) refl)
