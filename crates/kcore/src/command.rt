@@ -1,5 +1,5 @@
 //! The commands of `kcore`, and the command of a command line.
-ghost use Rattle.std.specs.Prelude.{◌≡◌, ◌≤◌, ◌∷◌, [], IfSome};
+ghost use Rattle.std.specs.Prelude.{◌≡◌, ◌≤◌, ◌∷◌, [], length, Some, IfSome};
 ghost use Rattle.kc_text.specs.Numbers.{number_of};
 ghost use Rattle.kcore.specs.Commands.{few_workers, fits_load, gen_with, command_of};
 ghost use Rattle.kcore.specs.private.Commands.{FitsWorkers};
@@ -131,20 +131,19 @@ fn gen_with(seed: &[u8], n: &[u8], batches: &[u8], items: &[u8], workers: &[u8])
 }
 
 // Returns the command of six words.
-#[tactic(auto, unfolding(crate::specs::Commands::command_of))]
-fn of_six(
-    name: &[u8],
-    seed: &[u8],
-    n: &[u8],
-    batches: &[u8],
-    items: &[u8],
-    workers: &[u8],
-) -> Option<Command>
-    ensures command { result ≡ command_of (name.now ∷ seed.now ∷ n.now ∷ batches.now ∷ items.now ∷ workers.now ∷ []) }
+fn of_six(words: &Words) -> Option<Command>
+    requires six { length words.now ≡ 6 }
+    ensures command { result ≡ command_of words.now }
     ensures few { FitsWorkers result }
 {
-    if is_named(name, b"gen") {
-        gen_with(seed, n, batches, items, workers)
+    if is_named(words.word(0), b"gen") {
+        gen_with(
+            words.word(1),
+            words.word(2),
+            words.word(3),
+            words.word(4),
+            words.word(5),
+        )
     } else {
         None
     }
@@ -161,18 +160,25 @@ impl Command {
             return of_one(words.word(0));
         }
         if count == 6 {
-            return of_six(
-                words.word(0),
-                words.word(1),
-                words.word(2),
-                words.word(3),
-                words.word(4),
-                words.word(5),
-            );
+            return of_six(words);
         }
         if count != 2 {
             return None;
         }
         of_two(words.word(0), words.word(1))
+    }
+
+    /// Returns the most threads that the command uses at once, 1 to 64: its number of workers, or 1 if it has none.
+    pub fn workers(self) -> u32
+        requires { FitsWorkers (Some self) }
+        ensures { (1 ≤ result) × (result ≤ 64) }
+    {
+        match self {
+            Command::Run { workers }
+            | Command::Final { workers }
+            | Command::Orient { workers }
+            | Command::Gen { workers, .. } => workers,
+            Command::Exact | Command::Check | Command::Audit | Command::Dense => 1,
+        }
     }
 }

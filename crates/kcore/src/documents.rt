@@ -1,5 +1,5 @@
 //! Commands that apply the batches of an input, and then write a document of the graph and the levels after them.
-ghost use Rattle.std.specs.Prelude.{◌≡◌, ◌≤◌, false, List, ℕ, Option};
+ghost use Rattle.std.specs.Prelude.{◌≡◌, false, List, ℕ, Option};
 ghost use Rattle.std.specs.Option.{option_map};
 ghost use Rattle.kc_text.specs.Writing.{WriteCause};
 ghost use Rattle.kc_graph.specs.declared.limits.TheConstants.{MAX_EDGES};
@@ -14,7 +14,7 @@ ghost use Rattle.kcore.specs.private.Writing.{Writes};
 use crate::inputs::open_input;
 use kc_engine::Engine;
 use kc_levels::Profile;
-use kc_rounds::Gate;
+use kc_rounds::{Gate, Rounds};
 use kc_session::{SessionFault, settle};
 use kc_text::{SendFault, Sink, Source};
 use std::alloc::Global;
@@ -44,27 +44,32 @@ pub trait Document {
         ensures { HasDocuments is_document };
 }
 
-/// Reads a batch input and applies its batches one after another, with at most `workers` threads. Asks aren't put.
-/// Writes a note of each refused batch, and then the document of the state after the batches. Returns whether something
-/// was refused.
+/// Reads a batch input and applies its batches one after another. Asks aren't put. Writes a note of each refused batch,
+/// and then the document of the state after the batches. Returns whether something was refused.
 pub fn settle_input<D: Document, R: Threads + Sync, S: Source, K: Sink, G: Gate + Sync>(
-    rt: &R,
-    alloc: Global,
-    gate: &G,
-    workers: u32,
+    rounds: &Rounds<'_, R, G>,
     src: &mut S,
     sink: &mut K,
 ) -> Result<bool, SessionFault>
-    requires few_workers { (1 ≤ workers) × (workers ≤ 64) }
     ensures text { Writes (IsTextOf (EndsInDocument D.is_document)) (option_map input_said (S.left src.old)) (K.taken sink.old) (K.taken sink.new) result }
     ensures cause { FaultCause (S.faults src.old) (S.faults src.new) (K.faults sink.old) (K.faults sink.new) result }
 {
     D::has_documents();
+    let alloc = rounds.alloc();
     let Some((header, reader)) = open_input(alloc, src, sink)? else {
         return Ok(true);
     };
     let profile = header.profile;
-    let settled = settle(rt, alloc, gate, workers, header, reader, src, sink)?;
+    let settled = settle(
+        rounds.runtime(),
+        alloc,
+        rounds.gate(),
+        rounds.workers(),
+        header,
+        reader,
+        src,
+        sink,
+    )?;
     D::write(alloc, profile, &settled.engine, sink)?;
     Ok(settled.refused > 0)
 }

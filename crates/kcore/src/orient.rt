@@ -5,7 +5,7 @@ ghost use Rattle.kc_orient.specs.Colouring.{IsColouring};
 ghost use Rattle.kcore.specs.OrientText.{oriented_vertex_text, IsOrientedText};
 
 use crate::documents::Document;
-use crate::orient_lines::{write_orient_head, write_oriented};
+use crate::orient_lines::{OrientedVertex, write_orient_head, write_oriented};
 use kc_engine::Engine;
 use kc_graph::Graph;
 use kc_levels::{Levels, Profile};
@@ -52,14 +52,12 @@ impl VertexLines for OrientedLines<'_> {
         sink: &mut K,
         v: u32,
     ) -> Result<(), SendFault> {
-        write_oriented(
-            alloc,
-            buf,
-            sink,
+        let vertex = OrientedVertex {
             v,
-            self.colours[v as usize],
-            self.oriented.out(v),
-        )
+            colour: self.colours[v as usize],
+            out: self.oriented.out(v),
+        };
+        write_oriented(alloc, buf, sink, vertex)
     }
 }
 

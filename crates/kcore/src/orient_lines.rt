@@ -43,35 +43,42 @@ fn fill_vertices(alloc: Global, buf: &mut LineBuf, vertices: &[u32]) -> Result<(
     Ok(())
 }
 
+/// A vertex of an oriented and coloured graph, as a line tells it.
+#[derive(Clone, Copy)]
+pub struct OrientedVertex<'a> {
+    /// The vertex.
+    pub v: u32,
+    /// The colour of the vertex.
+    pub colour: u32,
+    /// The out-neighbours of the vertex.
+    pub out: &'a [u32],
+}
+
 fn fill_oriented(
     alloc: Global,
     buf: &mut LineBuf,
-    v: u32,
-    colour: u32,
-    out: &[u32],
+    vertex: OrientedVertex<'_>,
 ) -> Result<(), AllocError>
-    ensures { OnOk result (buf.new ++ 10 ∷ [] ≡ oriented_line v colour out.now) }
+    ensures { OnOk result (buf.new ++ 10 ∷ [] ≡ oriented_line vertex.entry.v vertex.entry.colour vertex.entry.out.now) }
 {
     buf.clear();
-    fill_named(alloc, buf, b"vertex ", v)?;
-    fill_named(alloc, buf, b" colour ", colour)?;
+    fill_named(alloc, buf, b"vertex ", vertex.v)?;
+    fill_named(alloc, buf, b" colour ", vertex.colour)?;
     buf.text(alloc, b" out")?;
-    fill_vertices(alloc, buf, out)
+    fill_vertices(alloc, buf, vertex.out)
 }
 
-/// Writes the line of vertex v: its colour, and its out-neighbours (`oriented_line`).
+/// Writes the line of a vertex: its colour, and its out-neighbours (`oriented_line`).
 pub fn write_oriented<K: Sink>(
     alloc: Global,
     buf: &mut LineBuf,
     sink: &mut K,
-    v: u32,
-    colour: u32,
-    out: &[u32],
+    vertex: OrientedVertex<'_>,
 ) -> Result<(), SendFault>
-    ensures text { Appends (K.taken sink.old) (K.taken sink.new) (oriented_line v colour out.now) result }
+    ensures text { Appends (K.taken sink.old) (K.taken sink.new) (oriented_line vertex.entry.v vertex.entry.colour vertex.entry.out.now) result }
     ensures buffer { IsCleared buf.new result }
     ensures cause { WriteCause (K.faults sink.old) (K.faults sink.new) result }
 {
-    fill_oriented(alloc, buf, v, colour, out)?;
+    fill_oriented(alloc, buf, vertex)?;
     buf.send(alloc, sink)
 }

@@ -1,6 +1,7 @@
 //! The top call: a command line, an input and an output.
-ghost use Rattle.std.specs.Prelude.{◌≡◌, ◌≢◌, ◌↔◌, None, Option};
+ghost use Rattle.std.specs.Prelude.{◌≡◌, ◌≢◌, ◌↔◌, None, Some, Option};
 ghost use Rattle.kcore.specs.Commands.{command_of, Answers, Holds, HasCause, IsComplete, ReadsNothing};
+ghost use Rattle.kcore.specs.private.Commands.{FitsWorkers};
 ghost use Rattle.kcore.specs.private.Writing.{status_of};
 
 use crate::audit::audit_input;
@@ -14,7 +15,7 @@ use crate::load::run_load;
 use crate::orient::Orient;
 use crate::run::run_input;
 use crate::status::Status;
-use kc_rounds::Gate;
+use kc_rounds::{Gate, Rounds};
 use kc_session::{GenSource, SessionFault};
 use kc_text::{Sink, Source, Words};
 use std::alloc::Global;
@@ -97,55 +98,43 @@ pub fn run_command<R: Threads + Sync, S: Source + Send, K: Sink + Send, G: Gate 
     ensures unread { ReadsNothing (command_of words.now) → (input.new ≡ input.old) × (result ≢ Status.ReadFault) }
     ensures untouched { result ≡ Status.Usage → (input.new ≡ input.old) × (output.new ≡ output.old) }
 {
-    carry_out(rt, alloc, words, input, output, gate)
-}
-
-// Carries out the command of the words. It follows from these clauses that there is no answer besides those of
-// `run_command`.
-fn carry_out<R: Threads + Sync, S: Source + Send, K: Sink + Send, G: Gate + Sync>(
-    rt: &R,
-    alloc: Global,
-    words: &Words,
-    input: &mut S,
-    output: &mut K,
-    gate: &G,
-) -> Status
-    ensures answer { Answers (command_of words.now) (S.left input.old) (K.taken output.old) (K.taken output.new) result }
-    ensures cause { HasCause (S.faults input.old) (S.faults input.new) (K.faults output.old) (K.faults output.new) result }
-    ensures usage { (result ≡ Status.Usage) ↔ (command_of words.now ≡ None) }
-    ensures unread { ReadsNothing (command_of words.now) → (input.new ≡ input.old) × (result ≢ Status.ReadFault) }
-    ensures untouched { result ≡ Status.Usage → (input.new ≡ input.old) × (output.new ≡ output.old) }
-{
     match Command::from_words(words) {
-        Some(Command::Run { workers }) => {
-            status_of(run_input(rt, alloc, gate, workers, input, output))
-        }
-        Some(Command::Final { workers }) => status_of(settle_input::<Final, R, S, K, G>(
-            rt, alloc, gate, workers, input, output,
-        )),
-        Some(Command::Orient { workers }) => status_of(settle_input::<Orient, R, S, K, G>(
-            rt, alloc, gate, workers, input, output,
-        )),
-        Some(Command::Check) => status_of(check_input(alloc, input, output)),
-        Some(Command::Audit) => status_of(audit_input(alloc, input, output)),
-        Some(Command::Exact) => status_of(settle_input::<Exact, R, S, K, G>(
-            rt, alloc, gate, 1, input, output,
-        )),
-        Some(Command::Dense) => status_of(settle_input::<Dense, R, S, K, G>(
-            rt, alloc, gate, 1, input, output,
-        )),
-        Some(
-            Command::Gen {
-                seed,
-                n,
-                batches,
-                items,
-                workers,
-            },
-        ) => {
-            let source = GenSource::new(seed, n, batches, items);
-            status_of(run_load(rt, alloc, gate, workers, source, output))
+        Some(command) => {
+            let rounds = Rounds::new(rt, alloc, gate, command.workers());
+            status_of(carry_out(command, &rounds, input, output))
         }
         None => Status::Usage,
+    }
+}
+
+// Carries out a command. Returns whether something was refused. It follows from these clauses that there is no answer
+// besides those of `run_command`.
+fn carry_out<R: Threads + Sync, S: Source + Send, K: Sink + Send, G: Gate + Sync>(
+    command: Command,
+    rounds: &Rounds<'_, R, G>,
+    input: &mut S,
+    output: &mut K,
+) -> Result<bool, SessionFault>
+    requires few { FitsWorkers (Some command) }
+    ensures answer { Answers (Some command) (S.left input.old) (K.taken output.old) (K.taken output.new) (status_of result) }
+    ensures cause { HasCause (S.faults input.old) (S.faults input.new) (K.faults output.old) (K.faults output.new) (status_of result) }
+    ensures unread { ReadsNothing (Some command) → (input.new ≡ input.old) × (status_of result ≢ Status.ReadFault) }
+{
+    let alloc = rounds.alloc();
+    match command {
+        Command::Run { .. } => run_input(rounds, input, output),
+        Command::Final { .. } => settle_input::<Final, R, S, K, G>(rounds, input, output),
+        Command::Orient { .. } => settle_input::<Orient, R, S, K, G>(rounds, input, output),
+        Command::Exact => settle_input::<Exact, R, S, K, G>(rounds, input, output),
+        Command::Dense => settle_input::<Dense, R, S, K, G>(rounds, input, output),
+        Command::Check => check_input(alloc, input, output),
+        Command::Audit => audit_input(alloc, input, output),
+        Command::Gen {
+            seed,
+            n,
+            batches,
+            items,
+            ..
+        } => run_load(rounds, GenSource::new(seed, n, batches, items), output),
     }
 }

@@ -1,15 +1,10 @@
 use Rattle.std.proofs.Common.{◌∙◌, sym, ap}
 use Rattle.kcore.specs.Commands.{command_of}
-use Rattle.kcore.proofs.WordLists.{one_word, two_words, six_words, other_words}
+use Rattle.kcore.proofs.WordLists.{one_word, two_words, other_words}
 use Rattle.kcore.proofs.command.Command.from_words.Goals as goal
 
 pub returns-then-count-eq1-clause-command : goal.returns-then-count-eq1-clause-command
 returns-then-count-eq1-clause-command c = c.of_one.ensures.command ∙ ap command_of (sym (one_word c.args.words.now _ (sym c.len-count.ensures ∙ c.if-count-eq1.true) c.word.ensures))
-
-pub returns-then-count-eq6-clause-command : goal.returns-then-count-eq6-clause-command
-returns-then-count-eq6-clause-command c =
-    c.of_six.ensures.command
-    ∙ ap command_of (sym (six_words c.args.words.now _ _ _ _ _ _ (sym c.len-count.ensures ∙ c.if-count-eq6.true) c.word-then-count-eq6.ensures c.word-then-count-eq6-2.ensures c.word-then-count-eq6-3.ensures c.word-then-count-eq6-4.ensures c.word-then-count-eq6-5.ensures c.word-then-count-eq6-6.ensures))
 
 pub returns-then-count-ne2-clause-command : goal.returns-then-count-ne2-clause-command
 returns-then-count-ne2-clause-command c =
