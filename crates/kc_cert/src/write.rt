@@ -1,5 +1,5 @@
 //! Writes a graph with its levels as a certificate: a line for each edge and for each level.
-ghost use Rattle.std.specs.Prelude.{◌≡◌, ◌++◌, ◌∷◌, [], length, map, codes, OnOk, decimal};
+ghost use Rattle.std.specs.Prelude.{◌≡◌, ◌++◌, ◌∷◌, [], length, map, codes, decimal};
 ghost use Rattle.kc_text.specs.Printing.{printed};
 ghost use Rattle.kc_text.specs.Writing.{Appends, WriteCause};
 ghost use Rattle.kc_cert.specs.Texts.{profile_word, head_lines, edge_line, level_lines, certificate_text};
@@ -7,27 +7,21 @@ ghost use Rattle.kc_cert.specs.private.Texts.{row_lines};
 
 use kc_graph::Graph;
 use kc_levels::{Levels, Profile};
-use kc_text::{LineBuf, SendFault, Sink, fill_named};
-use std::alloc::{AllocError, Global};
+use kc_text::{LineBuf, SendFault, Sink};
+use std::alloc::Global;
 
 // Writes a line with this text.
-fn write_text<K: Sink>(
-    alloc: Global,
-    buf: &mut LineBuf,
-    sink: &mut K,
-    text: &[u8],
-) -> Result<(), SendFault>
+fn write_text<K: Sink>(buf: &mut LineBuf, sink: &mut K, text: &[u8]) -> Result<(), SendFault>
     ensures text { Appends (K.taken sink.old) (K.taken sink.new) (text.now ++ 10 ∷ []) result }
     ensures cause { WriteCause (K.faults sink.old) (K.faults sink.new) result }
 {
     buf.clear();
-    buf.text(alloc, text)?;
-    buf.send(alloc, sink)
+    buf.put(text)?;
+    buf.send_to(sink)
 }
 
 // Writes a line of a name, with its blank, and a number.
 fn write_named<K: Sink>(
-    alloc: Global,
     buf: &mut LineBuf,
     sink: &mut K,
     name: &[u8],
@@ -37,53 +31,25 @@ fn write_named<K: Sink>(
     ensures cause { WriteCause (K.faults sink.old) (K.faults sink.new) result }
 {
     buf.clear();
-    fill_named(alloc, buf, name, value)?;
-    buf.send(alloc, sink)
+    buf.put_named(name, value)?;
+    buf.send_to(sink)
 }
 
-// Puts together a line of a name, with its blank, and two numbers.
-fn fill_pair(
-    alloc: Global,
+// Writes a line of a name, with its blank, and two numbers.
+fn write_pair<K: Sink>(
     buf: &mut LineBuf,
+    sink: &mut K,
     name: &[u8],
     first: u32,
     second: u32,
-) -> Result<(), AllocError>
-    ensures { OnOk result (buf.new ≡ ((name.now ++ decimal first) ++ codes " ") ++ decimal second) }
+) -> Result<(), SendFault>
+    ensures text { Appends (K.taken sink.old) (K.taken sink.new) ((((name.now ++ decimal first) ++ codes " ") ++ decimal second) ++ 10 ∷ []) result }
+    ensures cause { WriteCause (K.faults sink.old) (K.faults sink.new) result }
 {
     buf.clear();
-    fill_named(alloc, buf, name, first)?;
-    fill_named(alloc, buf, b" ", second)
-}
-
-// Writes the line of the edge between v and w.
-fn write_edge<K: Sink>(
-    alloc: Global,
-    buf: &mut LineBuf,
-    sink: &mut K,
-    v: u32,
-    w: u32,
-) -> Result<(), SendFault>
-    ensures text { Appends (K.taken sink.old) (K.taken sink.new) ((((codes "edge " ++ decimal v) ++ codes " ") ++ decimal w) ++ 10 ∷ []) result }
-    ensures cause { WriteCause (K.faults sink.old) (K.faults sink.new) result }
-{
-    fill_pair(alloc, buf, b"edge ", v, w)?;
-    buf.send(alloc, sink)
-}
-
-// Writes the line of the level of v.
-fn write_level<K: Sink>(
-    alloc: Global,
-    buf: &mut LineBuf,
-    sink: &mut K,
-    v: u32,
-    level: u16,
-) -> Result<(), SendFault>
-    ensures text { Appends (K.taken sink.old) (K.taken sink.new) ((((codes "level " ++ decimal v) ++ codes " ") ++ decimal level) ++ 10 ∷ []) result }
-    ensures cause { WriteCause (K.faults sink.old) (K.faults sink.new) result }
-{
-    fill_pair(alloc, buf, b"level ", v, u32::from(level))?;
-    buf.send(alloc, sink)
+    buf.put_named(name, first)?;
+    buf.put_named(b" ", second)?;
+    buf.send_to(sink)
 }
 
 fn profile_text(profile: Profile) -> &'static [u8]
@@ -97,7 +63,6 @@ fn profile_text(profile: Profile) -> &'static [u8]
 
 // Writes the four lines before the edges.
 fn write_head<K: Sink>(
-    alloc: Global,
     buf: &mut LineBuf,
     sink: &mut K,
     profile: Profile,
@@ -106,15 +71,14 @@ fn write_head<K: Sink>(
     ensures text { Appends (K.taken sink.old) (K.taken sink.new) (printed (head_lines profile graph.now)) result }
     ensures cause { WriteCause (K.faults sink.old) (K.faults sink.new) result }
 {
-    write_text(alloc, buf, sink, b"kcore-cert 1")?;
-    write_text(alloc, buf, sink, profile_text(profile))?;
-    write_named(alloc, buf, sink, b"vertices ", graph.vertices())?;
-    write_named(alloc, buf, sink, b"edges ", graph.edge_count())
+    write_text(buf, sink, b"kcore-cert 1")?;
+    write_text(buf, sink, profile_text(profile))?;
+    write_named(buf, sink, b"vertices ", graph.vertices())?;
+    write_named(buf, sink, b"edges ", graph.edge_count())
 }
 
 // Writes the edges between v and those of its neighbours that are greater.
 fn write_row<K: Sink>(
-    alloc: Global,
     buf: &mut LineBuf,
     sink: &mut K,
     v: u32,
@@ -127,30 +91,24 @@ fn write_row<K: Sink>(
         if *w <= v {
             continue;
         }
-        write_edge(alloc, buf, sink, v, *w)?;
+        write_pair(buf, sink, b"edge ", v, *w)?;
     }
     Ok(())
 }
 
 // Writes the edges in their order.
-fn write_edges<K: Sink>(
-    alloc: Global,
-    buf: &mut LineBuf,
-    sink: &mut K,
-    graph: &Graph,
-) -> Result<(), SendFault>
+fn write_edges<K: Sink>(buf: &mut LineBuf, sink: &mut K, graph: &Graph) -> Result<(), SendFault>
     ensures text { Appends (K.taken sink.old) (K.taken sink.new) (printed (map edge_line graph.now.edges)) result }
     ensures cause { WriteCause (K.faults sink.old) (K.faults sink.new) result }
 {
     for v in 0..graph.vertices() {
-        write_row(alloc, buf, sink, v, graph.neighbours(v))?;
+        write_row(buf, sink, v, graph.neighbours(v))?;
     }
     Ok(())
 }
 
 // Writes the level of each of n vertices.
 fn write_levels<K: Sink>(
-    alloc: Global,
     buf: &mut LineBuf,
     sink: &mut K,
     n: u32,
@@ -161,7 +119,7 @@ fn write_levels<K: Sink>(
     ensures cause { WriteCause (K.faults sink.old) (K.faults sink.new) result }
 {
     for v in 0..n {
-        write_level(alloc, buf, sink, v, levels.get(v))?;
+        write_pair(buf, sink, b"level ", v, u32::from(levels.get(v)))?;
     }
     Ok(())
 }
@@ -188,8 +146,8 @@ pub fn write_certificate<K: Sink>(
     ensures cause { WriteCause (K.faults sink.old) (K.faults sink.new) result }
 {
     let mut buf = LineBuf::new(alloc);
-    write_head(alloc, &mut buf, sink, profile, graph)?;
-    write_edges(alloc, &mut buf, sink, graph)?;
-    write_levels(alloc, &mut buf, sink, graph.vertices(), levels)?;
-    write_text(alloc, &mut buf, sink, b"end")
+    write_head(&mut buf, sink, profile, graph)?;
+    write_edges(&mut buf, sink, graph)?;
+    write_levels(&mut buf, sink, graph.vertices(), levels)?;
+    write_text(&mut buf, sink, b"end")
 }

@@ -1,25 +1,40 @@
 -- Lines as they are put together, and as their definitions have them.
-use Rattle.std.proofs.Common.{ℕ, ◌≡◌, List, [], ◌∷◌, ◌++◌, length, sym, ◌∙◌, append_assoc, subst}
-use Rattle.std.specs.Prelude.{Option, Result, decimal, codes}
+use Rattle.std.proofs.Common.{ℕ, ◌≡◌, List, [], ◌∷◌, ◌++◌, length, refl, sym, ap, ◌∙◌, append_assoc, subst}
+use Rattle.std.specs.Prelude.{Option, Result, Ok, Err, decimal, codes}
+use Rattle.std.specs.List.{join_with_byte}
+use Rattle.std.specs.Io.KnownBytes.{append_known}
 use Rattle.kc_text.specs.declared.buf.SendFault.{SendFault}
 use Rattle.kc_text.specs.declared.reason.Reason.{Reason}
 use Rattle.kc_text.specs.Reasons.{reason_word}
-use Rattle.kc_text.specs.Writing.{Sends, Appends}
-use Rattle.kc_text.proofs.lemmas.Writing.{appends_send}
+use Rattle.kc_text.specs.Writing.{Sends, IsPrefix, Appends}
+use Rattle.kc_text.proofs.lemmas.Writing.{appends_send, prefix_all}
 use Rattle.kc_graph.specs.declared.cleaning.Cleaned.{Cleaned}
 use Rattle.kc_levels.specs.declared.thresholds.Estimate.{Estimate}
-use Rattle.kc_report.specs.Lines.{vertices_line, header_refused_line, batch_line, refused_line, vertex_line, coreness_line}
+use Rattle.kc_report.specs.Lines.{vertices_line, batch_line, refusal_line, refused_line, note_line, vertex_line, coreness_line}
 use Rattle.kc_report.specs.VertexLines.{level_words}
+
+-- a text by another name
+pub appends_as : {T : Type 0} → (before now : Option (List ℕ)) (text line : List ℕ) (result : Result T SendFault) → text ≡ line → Appends before now text result → Appends before now line result
+appends_as before now text line result e a = subst (λ text. Appends before now text result) e a
 
 -- a buffer that was sent as a line
 pub sent_as : {T : Type 0} → (before now : Option (List ℕ)) (buffer line : List ℕ) (result : Result T SendFault) → buffer ++ 10 ∷ [] ≡ line → Sends before now (buffer ++ 10 ∷ []) result → Appends before now line result
-sent_as before now buffer line result e s = subst (λ text. Appends before now text result) e (appends_send before now (buffer ++ 10 ∷ []) result s)
+sent_as before now buffer line result e s = appends_as before now (buffer ++ 10 ∷ []) line result e (appends_send before now (buffer ++ 10 ∷ []) result s)
+
+-- a buffer that was sent as a line, so far as it was
+pub sent_prefix : {T : Type 0} → (before now : Option (List ℕ)) (buffer line : List ℕ) (result : Result T SendFault) → buffer ++ 10 ∷ [] ≡ line → Sends before now (buffer ++ 10 ∷ []) result → IsPrefix before now line
+sent_prefix {T = T} before now buffer line (Ok x) e s = prefix_all before now line (sent_as {T = T} before now buffer line (Ok x) e s)
+sent_prefix {T = T} before now buffer line (Err f) e s = sent_as {T = T} before now buffer line (Err f) e s
+
+-- a buffer that was sent whole as a line
+pub sent_whole : (before now : Option (List ℕ)) (buffer line : List ℕ) → buffer ++ 10 ∷ [] ≡ line → now ≡ append_known before (buffer ++ 10 ∷ []) → now ≡ append_known before line
+sent_whole before now buffer line e s = s ∙ ap (λ (text : List ℕ). append_known before text) e
+
+pub words_filled : (words buffer old : List ℕ) → old ≡ [] → buffer ≡ old ++ words → buffer ++ 10 ∷ [] ≡ words ++ 10 ∷ []
+words_filled words buffer old e f = rw (f, e) refl
 
 pub vertices_filled : (n : ℕ) (buffer old : List ℕ) → old ≡ [] → buffer ≡ (old ++ codes "vertices ") ++ decimal n → buffer ++ 10 ∷ [] ≡ vertices_line n
 vertices_filled n buffer old e f = rw (f, e) (simp append_assoc)
-
-pub header_refused_filled : (line : ℕ) (buffer old : List ℕ) → old ≡ [] → buffer ≡ ((old ++ codes "refused line ") ++ decimal line) ++ codes " header" → buffer ++ 10 ∷ [] ≡ header_refused_line line
-header_refused_filled line buffer old e f = rw (f, e) (simp append_assoc)
 
 pub vertex_filled : (v level up down : ℕ) (e : Estimate) (old a b c d : List ℕ) → old ≡ [] → a ≡ (old ++ codes "vertex ") ++ decimal v
     → b ≡ (((((((a ++ codes " level ") ++ decimal level) ++ codes " est ") ++ decimal e.est) ++ codes " low ") ++ decimal e.lo) ++ codes " high ") ++ decimal e.hi
@@ -58,9 +73,23 @@ batch_filled number removed added c old a b d z ea er eg eb ed =
     ∙ counts_filled number c old a (codes " removed " ++ (decimal removed ++ (codes " added " ++ (decimal added ++ 10 ∷ [])))) z ea
     ∙ rw (er, eg) (sym (line_in_order number c))
 
-pub refused_filled : (number line : ℕ) (reason : Reason) (old a b d e : List ℕ) → a ≡ (old ++ codes "batch ") ++ decimal number → b ≡ (a ++ codes " refused line ") ++ decimal line
-    → d ≡ b ++ codes " " → e ≡ d ++ reason_word reason → e ++ 10 ∷ [] ≡ old ++ refused_line number line reason
-refused_filled number line reason old a b d e ea eb ed ee = rw (ee, ed, eb, ea) (simp append_assoc)
+pub refusal_filled : (line : ℕ) (reason : Reason) (old a b d : List ℕ) → a ≡ (old ++ codes "refused line ") ++ decimal line → b ≡ a ++ codes " " → d ≡ b ++ reason_word reason
+    → d ++ 10 ∷ [] ≡ old ++ refusal_line line reason
+refusal_filled line reason old a b d ea eb ed = rw (ed, eb, ea) (simp append_assoc)
+
+refusal_regrouped : (b n r s e : List ℕ) → (((b ++ s) ++ n) ++ s) ++ (r ++ e) ≡ (b ++ (s ++ (n ++ (s ++ r)))) ++ e
+refusal_regrouped b n r s e = simp append_assoc
+
+refusal_words : ℕ → Reason → List ℕ
+refusal_words line reason = join_with_byte 32 (codes "refused" ∷ codes "line" ∷ decimal line ∷ reason_word reason ∷ [])
+
+pub refused_filled : (number line : ℕ) (reason : Reason) (old a b : List ℕ) → old ≡ [] → a ≡ (old ++ codes "batch ") ++ decimal number → b ≡ a ++ codes " " → b ++ refusal_line line reason ≡ refused_line number line reason
+unfolding refusal_words
+refused_filled number line reason old a b z ea eb = rw (eb, ea, z) (refusal_regrouped (codes "batch") (decimal number) (refusal_words line reason) (32 ∷ []) (10 ∷ []))
+
+pub note_filled : (number line : ℕ) (reason : Reason) (old a b : List ℕ) → old ≡ [] → a ≡ (old ++ codes "# batch ") ++ decimal number → b ≡ a ++ codes " " → b ++ refusal_line line reason ≡ note_line number line reason
+unfolding refusal_words
+note_filled number line reason old a b z ea eb = rw (eb, ea, z) (refusal_regrouped (codes "# batch") (decimal number) (refusal_words line reason) (32 ∷ []) (10 ∷ []))
 
 pub coreness_filled : (v coreness : ℕ) (e : Estimate) (old a b c d f : List ℕ) → old ≡ [] → a ≡ (old ++ codes "vertex ") ++ decimal v
     → b ≡ (a ++ codes " coreness ") ++ decimal coreness → c ≡ (b ++ codes " low ") ++ decimal e.lo

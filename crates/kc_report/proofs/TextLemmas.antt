@@ -30,18 +30,33 @@ split_at f (x ∷ xs) (suc i) d h =
       all = ap (λ (t : List ℕ). f x ++ t) s.all ∙ sym (append_assoc (f x) (flat_map f (take (suc i) xs)) s.behind);
     }
 
+-- a text was written, and none of those after it
+pub none_after : (before now : Option (List ℕ)) (lead : List ℕ) → now ≡ append_known before lead → now ≡ append_known before (lead ++ [])
+none_after before now lead e = rw append-nil e
+
+-- after a first text one more was written
+pub more_after : {A : Type 0} (lead : List ℕ) (f : A → List ℕ) (xs : List A) (i : ℕ) (d x : A) (before now later : Option (List ℕ)) → i < length xs → x ≡ get_or xs i d → now ≡ append_known before (lead ++ flat_map f (take i xs)) → later ≡ append_known now (f x) → later ≡ append_known before (lead ++ flat_map f (take (i + 1) xs))
+more_after lead f xs i d x before now later h is e t =
+    let s = split_at f xs i d h in
+    let here = append_assoc lead (flat_map f (take i xs)) (f (get_or xs i d)) in
+    rw (add-one, s.here, sym here) (append_twice before now later (lead ++ flat_map f (take i xs)) (f (get_or xs i d)) e (t ∙ ap (λ y. append_known now (f y)) is))
+
+-- after a first text some were written, and a prefix of the next
+pub prefix_after : {A : Type 0} (lead : List ℕ) (f : A → List ℕ) (xs : List A) (i : ℕ) (d x : A) (before now later : Option (List ℕ)) → i < length xs → x ≡ get_or xs i d → now ≡ append_known before (lead ++ flat_map f (take i xs)) → IsPrefix now later (f x) → IsPrefix before later (lead ++ flat_map f xs)
+prefix_after lead f xs i d x before now later h is e t =
+    let s = split_at f xs i d h in
+    let next = subst (λ y. IsPrefix now later (f y)) is t in
+    let here = append_assoc lead (flat_map f (take i xs)) (f (get_or xs i d)) in
+    let all = append_assoc lead (flat_map f (take (suc i) xs)) s.behind in
+    rw (s.all, sym all) (prefix_longer before later (lead ++ flat_map f (take (suc i) xs)) s.behind (rw (s.here, sym here) (prefix_then before now later (lead ++ flat_map f (take i xs)) (f (get_or xs i d)) e next)))
+
 -- one more text was written
 pub texts_more : {A : Type 0} (f : A → List ℕ) (xs : List A) (i : ℕ) (d x : A) (before now later : Option (List ℕ)) → i < length xs → x ≡ get_or xs i d → now ≡ append_known before (flat_map f (take i xs)) → later ≡ append_known now (f x) → later ≡ append_known before (flat_map f (take (i + 1) xs))
-texts_more f xs i d x before now later h is e t =
-    let s = split_at f xs i d h in
-    rw (add-one, s.here) (append_twice before now later (flat_map f (take i xs)) (f (get_or xs i d)) e (t ∙ ap (λ y. append_known now (f y)) is))
+texts_more f xs i d x before now later h is e t = more_after [] f xs i d x before now later h is e t
 
 -- some texts were written, and a prefix of the next
 pub texts_prefix : {A : Type 0} (f : A → List ℕ) (xs : List A) (i : ℕ) (d x : A) (before now later : Option (List ℕ)) → i < length xs → x ≡ get_or xs i d → now ≡ append_known before (flat_map f (take i xs)) → IsPrefix now later (f x) → IsPrefix before later (flat_map f xs)
-texts_prefix f xs i d x before now later h is e t =
-    let s = split_at f xs i d h in
-    let next = subst (λ y. IsPrefix now later (f y)) is t in
-    rw s.all (prefix_longer before later (flat_map f (take (suc i) xs)) s.behind (rw s.here (prefix_then before now later (flat_map f (take i xs)) (f (get_or xs i d)) e next)))
+texts_prefix f xs i d x before now later h is e t = prefix_after [] f xs i d x before now later h is e t
 
 -- one more member was put together
 pub members_more : {A : Type 0} (f : A → List ℕ) (xs : List A) (i : ℕ) (d : A) (old buffer more : List ℕ) → i < length xs → buffer ≡ old ++ flat_map f (take i xs) → more ≡ buffer ++ f (get_or xs i d) → more ≡ old ++ flat_map f (take (i + 1) xs)

@@ -20,7 +20,11 @@ magic_line = line_of (codes "kcore-run" ∷ codes "1" ∷ [])
 abbrev pub vertices_line : ℕ → List ℕ
 vertices_line n = line_of (codes "vertices" ∷ decimal n ∷ [])
 
--- the first two lines
+-- the first two lines of a text: the words that say what text it is, and the number of vertices
+abbrev pub opening_text : List ℕ → ℕ → List ℕ
+opening_text words n = (words ++ 10 ∷ []) ++ vertices_line n
+
+-- the first two lines of a run
 abbrev pub head_text : ℕ → List ℕ
 head_text n = magic_line ++ vertices_line n
 
@@ -61,6 +65,10 @@ phase_text plan = phase_line plan ++ flat_map group_line plan.groups
 -- the line of an accepted batch, and then the lines of its phases
 abbrev pub batch_text : ℕ → Cleaned → List PhasePlan → List ℕ
 batch_text number c phases = batch_line number c ++ flat_map phase_text phases
+
+-- the one line of a text whose input is refused: the line and the reason of the first fault
+abbrev pub refusal_line : ℕ → Reason → List ℕ
+refusal_line line reason = line_of (codes "refused" ∷ codes "line" ∷ decimal line ∷ reason_word reason ∷ [])
 
 -- the line of a refused batch: its number, and the line and the reason of its first fault
 abbrev pub refused_line : ℕ → ℕ → Reason → List ℕ

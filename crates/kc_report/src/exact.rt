@@ -2,49 +2,27 @@
 ghost use Rattle.std.specs.Prelude.{◌≡◌, [], ◌∷◌, ◌++◌, OnOk};
 ghost use Rattle.kc_text.specs.Writing.{Appends, WriteCause};
 ghost use Rattle.kc_report.specs.Buffer.{IsCleared};
-ghost use Rattle.kc_report.specs.Lines.{exact_magic_line, exact_head_text, coreness_line};
+ghost use Rattle.kc_report.specs.Lines.{exact_head_text, coreness_line};
 
-use crate::head::write_vertex_count;
+use crate::head::write_opening;
 use kc_levels::Estimate;
-use kc_text::{LineBuf, SendFault, Sink, fill_named};
-use std::alloc::{AllocError, Global};
-
-// Writes the first line.
-fn write_exact_magic<K: Sink>(
-    alloc: Global,
-    buf: &mut LineBuf,
-    sink: &mut K,
-) -> Result<(), SendFault>
-    ensures text { Appends (K.taken sink.old) (K.taken sink.new) exact_magic_line result }
-    ensures buffer { IsCleared buf.new result }
-    ensures cause { WriteCause (K.faults sink.old) (K.faults sink.new) result }
-{
-    buf.clear();
-    buf.text(alloc, b"kcore-exact 1")?;
-    buf.send(alloc, sink)
-}
+use kc_text::{LineBuf, SendFault, Sink};
+use std::alloc::AllocError;
 
 /// Writes the first two lines of an exact text for `n` vertices (`exact_head_text`), one after the other; any number is
 /// written.
 ///
 /// `WriteFault` comes only from a failed write. After `WriteFault` or `Memory` the sink took a prefix of the two lines.
 /// If the first line fails, the second isn't tried.
-pub fn write_exact_head<K: Sink>(
-    alloc: Global,
-    buf: &mut LineBuf,
-    sink: &mut K,
-    n: u32,
-) -> Result<(), SendFault>
+pub fn write_exact_head<K: Sink>(buf: &mut LineBuf, sink: &mut K, n: u32) -> Result<(), SendFault>
     ensures text { Appends (K.taken sink.old) (K.taken sink.new) (exact_head_text n) result }
     ensures buffer { IsCleared buf.new result }
     ensures cause { WriteCause (K.faults sink.old) (K.faults sink.new) result }
 {
-    write_exact_magic(alloc, buf, sink)?;
-    write_vertex_count(alloc, buf, sink, n)
+    write_opening(buf, sink, b"kcore-exact 1", n)
 }
 
 fn fill_coreness(
-    alloc: Global,
     buf: &mut LineBuf,
     v: u32,
     coreness: u32,
@@ -53,11 +31,11 @@ fn fill_coreness(
     ensures { OnOk result (buf.new ++ 10 ∷ [] ≡ coreness_line v coreness estimate) }
 {
     buf.clear();
-    fill_named(alloc, buf, b"vertex ", v)?;
-    fill_named(alloc, buf, b" coreness ", coreness)?;
-    fill_named(alloc, buf, b" low ", estimate.lo)?;
-    fill_named(alloc, buf, b" est ", estimate.est)?;
-    fill_named(alloc, buf, b" high ", estimate.hi)
+    buf.put_named(b"vertex ", v)?;
+    buf.put_named(b" coreness ", coreness)?;
+    buf.put_named(b" low ", estimate.lo)?;
+    buf.put_named(b" est ", estimate.est)?;
+    buf.put_named(b" high ", estimate.hi)
 }
 
 /// Writes the line of vertex `v` in an exact text (`coreness_line`): its coreness, and the bounds and the estimate that
@@ -66,7 +44,6 @@ fn fill_coreness(
 /// Any numbers are written; the caller makes sure that they are those of `v`. `WriteFault` comes only from a failed
 /// write. After `WriteFault` or `Memory` the sink took a prefix of the line.
 pub fn write_coreness<K: Sink>(
-    alloc: Global,
     buf: &mut LineBuf,
     sink: &mut K,
     v: u32,
@@ -77,6 +54,6 @@ pub fn write_coreness<K: Sink>(
     ensures buffer { IsCleared buf.new result }
     ensures cause { WriteCause (K.faults sink.old) (K.faults sink.new) result }
 {
-    fill_coreness(alloc, buf, v, coreness, estimate)?;
-    buf.send(alloc, sink)
+    fill_coreness(buf, v, coreness, estimate)?;
+    buf.send_to(sink)
 }

@@ -1,39 +1,31 @@
-//! The first two lines of a run, its last line, and the one line of a run whose header is refused.
-ghost use Rattle.std.specs.Prelude.{◌≡◌, [], ◌++◌, OnOk, decimal, codes};
+//! The first two lines of a run and of other texts, and the last line.
 ghost use Rattle.kc_text.specs.Writing.{Appends, WriteCause};
 ghost use Rattle.kc_report.specs.Buffer.{IsCleared};
-ghost use Rattle.kc_report.specs.Lines.{magic_line, vertices_line, head_text, header_refused_line, end_line};
+ghost use Rattle.kc_report.specs.Lines.{opening_text, head_text, end_line};
 
-use kc_text::{LineBuf, SendFault, Sink, fill_named};
-use std::alloc::{AllocError, Global};
+use kc_text::{LineBuf, SendFault, Sink};
+use std::alloc::Global;
 
-// Writes the first line.
-fn write_magic<K: Sink>(alloc: Global, buf: &mut LineBuf, sink: &mut K) -> Result<(), SendFault>
-    ensures text { Appends (K.taken sink.old) (K.taken sink.new) magic_line result }
-    ensures buffer { IsCleared buf.new result }
-    ensures cause { WriteCause (K.faults sink.old) (K.faults sink.new) result }
-{
-    buf.clear();
-    buf.text(alloc, b"kcore-run 1")?;
-    buf.send(alloc, sink)
-}
-
-/// Writes the line with the number of vertices (`vertices_line`), which several texts share; any number is written.
+/// Writes the first two lines of a text with `n` vertices (`opening_text`), one after the other. The first has the
+/// words that say what text it is, the second the number. Any words and any number are written.
 ///
-/// `WriteFault` comes only from a failed write. After `WriteFault` or `Memory` the sink took a prefix of the line.
-pub fn write_vertex_count<K: Sink>(
-    alloc: Global,
+/// `WriteFault` comes only from a failed write. After `WriteFault` or `Memory` the sink took a prefix of the two lines.
+/// If the first line fails, the second isn't tried.
+pub fn write_opening<K: Sink>(
     buf: &mut LineBuf,
     sink: &mut K,
+    words: &[u8],
     n: u32,
 ) -> Result<(), SendFault>
-    ensures text { Appends (K.taken sink.old) (K.taken sink.new) (vertices_line n) result }
+    ensures text { Appends (K.taken sink.old) (K.taken sink.new) (opening_text words.now n) result }
     ensures buffer { IsCleared buf.new result }
     ensures cause { WriteCause (K.faults sink.old) (K.faults sink.new) result }
 {
     buf.clear();
-    fill_named(alloc, buf, b"vertices ", n)?;
-    buf.send(alloc, sink)
+    buf.put(words)?;
+    buf.send_to(sink)?;
+    buf.put_named(b"vertices ", n)?;
+    buf.send_to(sink)
 }
 
 /// Writes the first two lines of a run with `n` vertices (`head_text`), one after the other; any number is written.
@@ -41,7 +33,7 @@ pub fn write_vertex_count<K: Sink>(
 /// `WriteFault` comes only from a failed write. After `WriteFault` or `Memory` the sink took a prefix of the two lines.
 /// If the first line fails, the second isn't tried.
 pub fn write_head<K: Sink>(
-    alloc: Global,
+    _alloc: Global,
     buf: &mut LineBuf,
     sink: &mut K,
     n: u32,
@@ -50,45 +42,27 @@ pub fn write_head<K: Sink>(
     ensures buffer { IsCleared buf.new result }
     ensures cause { WriteCause (K.faults sink.old) (K.faults sink.new) result }
 {
-    write_magic(alloc, buf, sink)?;
-    write_vertex_count(alloc, buf, sink, n)
+    write_opening(buf, sink, b"kcore-run 1", n)
 }
 
-fn fill_header_refused(alloc: Global, buf: &mut LineBuf, line: u32) -> Result<(), AllocError>
-    ensures { OnOk result (buf.new ≡ ((buf.old ++ codes "refused line ") ++ decimal line) ++ codes " header") }
-{
-    fill_named(alloc, buf, b"refused line ", line)?;
-    buf.text(alloc, b" header")
-}
-
-/// Writes the one line of a run whose header is refused (`header_refused_line`).
-///
-/// `line` is the refused line of the input, counted from 1; any number is written. `WriteFault` comes only from a
-/// failed write. After `WriteFault` or `Memory` the sink took a prefix of the line.
-pub fn write_header_refused<K: Sink>(
-    alloc: Global,
-    buf: &mut LineBuf,
-    sink: &mut K,
-    line: u32,
-) -> Result<(), SendFault>
-    ensures text { Appends (K.taken sink.old) (K.taken sink.new) (header_refused_line line) result }
-    ensures buffer { IsCleared buf.new result }
-    ensures cause { WriteCause (K.faults sink.old) (K.faults sink.new) result }
-{
-    buf.clear();
-    fill_header_refused(alloc, buf, line)?;
-    buf.send(alloc, sink)
-}
-
-/// Writes the last line of a run (`end_line`).
-///
-/// `WriteFault` comes only from a failed write. After `WriteFault` or `Memory` the sink took a prefix of the line.
-pub fn write_end<K: Sink>(alloc: Global, buf: &mut LineBuf, sink: &mut K) -> Result<(), SendFault>
+// Writes the last line.
+pub fn put_end<K: Sink>(buf: &mut LineBuf, sink: &mut K) -> Result<(), SendFault>
     ensures text { Appends (K.taken sink.old) (K.taken sink.new) end_line result }
     ensures buffer { IsCleared buf.new result }
     ensures cause { WriteCause (K.faults sink.old) (K.faults sink.new) result }
 {
     buf.clear();
-    buf.text(alloc, b"end")?;
-    buf.send(alloc, sink)
+    buf.put(b"end")?;
+    buf.send_to(sink)
+}
+
+/// Writes the last line of a run (`end_line`).
+///
+/// `WriteFault` comes only from a failed write. After `WriteFault` or `Memory` the sink took a prefix of the line.
+pub fn write_end<K: Sink>(_alloc: Global, buf: &mut LineBuf, sink: &mut K) -> Result<(), SendFault>
+    ensures text { Appends (K.taken sink.old) (K.taken sink.new) end_line result }
+    ensures buffer { IsCleared buf.new result }
+    ensures cause { WriteCause (K.faults sink.old) (K.faults sink.new) result }
+{
+    put_end(buf, sink)
 }

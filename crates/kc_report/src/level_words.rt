@@ -4,40 +4,30 @@ ghost use Rattle.kc_levels.specs.Thresholds.{top_level};
 ghost use Rattle.kc_report.specs.VertexLines.{level_words, AreLevelWords};
 
 use kc_levels::{Estimate, Thresholds};
-use kc_text::{LineBuf, fill_named};
+use kc_text::LineBuf;
 use std::alloc::{AllocError, Global};
 use std::marker::Model;
 
 /// Appends the words of a vertex line for the level and its estimate.
-pub fn fill_bounds(
-    alloc: Global,
-    buf: &mut LineBuf,
-    level: u16,
-    estimate: Estimate,
-) -> Result<(), AllocError>
+pub fn fill_bounds(buf: &mut LineBuf, level: u16, estimate: Estimate) -> Result<(), AllocError>
     ensures { OnOk result (buf.new ≡ (((((((buf.old ++ codes " level ") ++ decimal level)
         ++ codes " est ") ++ decimal estimate.est)
         ++ codes " low ") ++ decimal estimate.lo)
         ++ codes " high ") ++ decimal estimate.hi) }
 {
-    fill_named(alloc, buf, b" level ", u32::from(level))?;
-    fill_named(alloc, buf, b" est ", estimate.est)?;
-    fill_named(alloc, buf, b" low ", estimate.lo)?;
-    fill_named(alloc, buf, b" high ", estimate.hi)
+    buf.put_named(b" level ", u32::from(level))?;
+    buf.put_named(b" est ", estimate.est)?;
+    buf.put_named(b" low ", estimate.lo)?;
+    buf.put_named(b" high ", estimate.hi)
 }
 
 // Composes the words of a level, from its name to the name of the count after them.
-fn fill_level(
-    alloc: Global,
-    buf: &mut LineBuf,
-    level: u16,
-    estimate: Estimate,
-) -> Result<(), AllocError>
+fn fill_level(buf: &mut LineBuf, level: u16, estimate: Estimate) -> Result<(), AllocError>
     ensures { OnOk result (buf.new ≡ level_words level estimate) }
 {
     buf.clear();
-    fill_bounds(alloc, buf, level, estimate)?;
-    buf.text(alloc, b" up ")
+    fill_bounds(buf, level, estimate)?;
+    buf.put(b" up ")
 }
 
 /// The words of a vertex line from its level to the name of its first count, for each level from 0 to a greatest one.
@@ -71,7 +61,7 @@ fn compose_up_to(
 {
     for next in words.len()..level as usize + 1 {
         let mut buf = LineBuf::new(alloc);
-        fill_level(alloc, &mut buf, next as u16, th.estimate(next as u16))?;
+        fill_level(&mut buf, next as u16, th.estimate(next as u16))?;
         words.push(buf)?;
     }
     Ok(())

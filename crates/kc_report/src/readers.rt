@@ -6,31 +6,26 @@ ghost use Rattle.kc_report.specs.Buffer.{IsCleared};
 ghost use Rattle.kc_report.specs.Lines.{reply_word, reader_line};
 
 use kc_history::Reply;
-use kc_text::{LineBuf, SendFault, Sink, fill_named};
+use kc_text::{LineBuf, SendFault, Sink};
 use std::alloc::{AllocError, Global};
 
 // Appends for each reply a blank, its vertex and its level.
-fn fill_replies(alloc: Global, buf: &mut LineBuf, replies: &[Reply]) -> Result<(), AllocError>
+fn fill_replies(buf: &mut LineBuf, replies: &[Reply]) -> Result<(), AllocError>
     ensures { OnOk result (buf.new ≡ buf.old ++ flat_map (λ r. 32 ∷ reply_word r) replies.now) }
 {
     for r in replies {
-        fill_named(alloc, buf, b" ", r.vertex)?;
-        fill_named(alloc, buf, b"=", u32::from(r.level))?;
+        buf.put_named(b" ", r.vertex)?;
+        buf.put_named(b"=", u32::from(r.level))?;
     }
     Ok(())
 }
 
-fn fill_reader(
-    alloc: Global,
-    buf: &mut LineBuf,
-    reader: u32,
-    replies: &[Reply],
-) -> Result<(), AllocError>
+fn fill_reader(buf: &mut LineBuf, reader: u32, replies: &[Reply]) -> Result<(), AllocError>
     ensures { OnOk result (buf.new ++ 10 ∷ [] ≡ reader_line reader replies.now) }
 {
     buf.clear();
-    fill_named(alloc, buf, b"reader ", reader)?;
-    fill_replies(alloc, buf, replies)
+    buf.put_named(b"reader ", reader)?;
+    fill_replies(buf, replies)
 }
 
 /// Writes the line of a reader (`reader_line`): its number, and its replies in their order. Each reply has the vertex
@@ -39,7 +34,7 @@ fn fill_reader(
 /// Readers are numbered from 0; any number is written, and any replies. Without replies the line ends after the number.
 /// `WriteFault` comes only from a failed write. After `WriteFault` or `Memory` the sink took a prefix of the line.
 pub fn write_reader<K: Sink>(
-    alloc: Global,
+    _alloc: Global,
     buf: &mut LineBuf,
     sink: &mut K,
     reader: u32,
@@ -49,6 +44,6 @@ pub fn write_reader<K: Sink>(
     ensures buffer { IsCleared buf.new result }
     ensures cause { WriteCause (K.faults sink.old) (K.faults sink.new) result }
 {
-    fill_reader(alloc, buf, reader, replies)?;
-    buf.send(alloc, sink)
+    fill_reader(buf, reader, replies)?;
+    buf.send_to(sink)
 }

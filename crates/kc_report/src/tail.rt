@@ -5,9 +5,8 @@ ghost use Rattle.kc_report.specs.Buffer.{IsCleared};
 ghost use Rattle.kc_report.specs.Lines.{end_line};
 ghost use Rattle.kc_report.specs.VertexLines.{vertex_lines};
 
-use crate::write_end;
+use crate::head::put_end;
 use kc_text::{LineBuf, SendFault, Sink};
-use std::alloc::Global;
 
 /// Lines of vertices: the text of each vertex's line, and how it is written.
 pub trait VertexLines {
@@ -21,38 +20,11 @@ pub trait VertexLines {
     ///
     /// `WriteFault` comes only from a failed write. After `WriteFault` or `Memory` the sink took a prefix of the line.
     /// The buffer is empty afterwards, but after `Memory` it may hold anything.
-    fn write_line<K: Sink>(
-        &self,
-        alloc: Global,
-        buf: &mut LineBuf,
-        sink: &mut K,
-        v: u32,
-    ) -> Result<(), SendFault>
+    fn write_line<K: Sink>(&self, buf: &mut LineBuf, sink: &mut K, v: u32) -> Result<(), SendFault>
         requires vertex { has_line self.now v }
         ensures text { Appends (K.taken sink.old) (K.taken sink.new) (line self.now v) result }
         ensures buffer { IsCleared buf.new result }
         ensures cause { WriteCause (K.faults sink.old) (K.faults sink.new) result };
-}
-
-// Writes the lines of all n vertices.
-fn write_lines<L: VertexLines, K: Sink>(
-    alloc: Global,
-    buf: &mut LineBuf,
-    sink: &mut K,
-    n: u32,
-    lines: &L,
-) -> Result<(), SendFault>
-    requires vertices { (v : ℕ) → v < n → L.has_line lines.now v }
-    ensures text { Appends (K.taken sink.old) (K.taken sink.new) (vertex_lines (L.line lines.now) n) result }
-    ensures buffer { IsCleared buf.new result }
-    ensures cause { WriteCause (K.faults sink.old) (K.faults sink.new) result }
-{
-    // Clears the buffer here, so that it is empty after this call if there are no vertices too.
-    buf.clear();
-    for v in 0..n {
-        lines.write_line(alloc, buf, sink, v)?;
-    }
-    Ok(())
 }
 
 /// Writes the end of a text: the lines of the vertices below `n` in ascending order (`vertex_lines`), and the last line
@@ -61,7 +33,6 @@ fn write_lines<L: VertexLines, K: Sink>(
 /// Each of these vertices has a line. `WriteFault` comes only from a failed write. After `WriteFault` or `Memory` the
 /// sink took a prefix of the lines.
 pub fn write_tail<L: VertexLines, K: Sink>(
-    alloc: Global,
     buf: &mut LineBuf,
     sink: &mut K,
     n: u32,
@@ -72,6 +43,8 @@ pub fn write_tail<L: VertexLines, K: Sink>(
     ensures buffer { IsCleared buf.new result }
     ensures cause { WriteCause (K.faults sink.old) (K.faults sink.new) result }
 {
-    write_lines(alloc, buf, sink, n, lines)?;
-    write_end(alloc, buf, sink)
+    for v in 0..n {
+        lines.write_line(buf, sink, v)?;
+    }
+    put_end(buf, sink)
 }

@@ -4,68 +4,14 @@ ghost use Rattle.kc_levels.specs.declared.profile.Profile.{Profile};
 ghost use Rattle.kc_text.specs.Writing.{Appends, WriteCause};
 ghost use Rattle.kc_report.specs.Buffer.{IsCleared};
 ghost use Rattle.kc_report.specs.Lines.{vertex_line};
-ghost use Rattle.kc_report.specs.VertexLines.{counted_line, AreLevelWords};
+ghost use Rattle.kc_report.specs.VertexLines.{counted_line, AreLevelWords, AreLevels, GivesCounts, tail_text};
 
+use crate::head::put_end;
 use crate::level_words::{LevelWords, fill_bounds};
-use kc_levels::Estimate;
-use kc_text::{LineBuf, SendFault, Sink, fill_named};
+use kc_graph::Graph;
+use kc_levels::{Estimate, Thresholds};
+use kc_text::{LineBuf, SendFault, Sink};
 use std::alloc::{AllocError, Global};
-
-// The numbers of a vertex line.
-#[derive(Clone, Copy)]
-struct VertexLine {
-    // The vertex.
-    v: u32,
-    // Its level.
-    level: u16,
-    // What the level says of its coreness.
-    estimate: Estimate,
-    // The number of its neighbours on its level or above.
-    up: u32,
-    // The number of its neighbours on the level below or above; on level 0 all.
-    down: u32,
-}
-
-fn fill_vertex(alloc: Global, buf: &mut LineBuf, line: VertexLine) -> Result<(), AllocError>
-    ensures { OnOk result (buf.new ++ 10 ∷ [] ≡ vertex_line line.v line.level line.estimate line.up line.down) }
-{
-    buf.clear();
-    fill_named(alloc, buf, b"vertex ", line.v)?;
-    fill_bounds(alloc, buf, line.level, line.estimate)?;
-    fill_named(alloc, buf, b" up ", line.up)?;
-    fill_named(alloc, buf, b" down ", line.down)
-}
-
-/// Writes the line of vertex `v` (`vertex_line`): its level, the estimate and the bounds of its coreness, and two
-/// counts of neighbours.
-///
-/// `up` are the neighbours on its level or above, `down` those on the level below or above; at level 0 both are equal.
-/// Any numbers are written; the caller makes sure that they are those of `v`. `WriteFault` comes only from a failed
-/// write. After `WriteFault` or `Memory` the sink took a prefix of the line.
-pub fn write_vertex<K: Sink>(
-    alloc: Global,
-    buf: &mut LineBuf,
-    sink: &mut K,
-    v: u32,
-    level: u16,
-    estimate: Estimate,
-    up: u32,
-    down: u32,
-) -> Result<(), SendFault>
-    ensures text { Appends (K.taken sink.old) (K.taken sink.new) (vertex_line v level estimate up down) result }
-    ensures buffer { IsCleared buf.new result }
-    ensures cause { WriteCause (K.faults sink.old) (K.faults sink.new) result }
-{
-    let line = VertexLine {
-        v,
-        level,
-        estimate,
-        up,
-        down,
-    };
-    fill_vertex(alloc, buf, line)?;
-    buf.send(alloc, sink)
-}
 
 /// What the line of a vertex says beside the words of its level.
 #[derive(Clone, Copy, Debug)]
@@ -80,8 +26,46 @@ pub struct VertexCounts {
     pub down: u32,
 }
 
+fn fill_vertex(
+    buf: &mut LineBuf,
+    counts: VertexCounts,
+    estimate: Estimate,
+) -> Result<(), AllocError>
+    ensures { OnOk result (buf.new ++ 10 ∷ [] ≡ vertex_line counts.v counts.level estimate counts.up counts.down) }
+{
+    buf.clear();
+    buf.put_named(b"vertex ", counts.v)?;
+    fill_bounds(buf, counts.level, estimate)?;
+    buf.put_named(b" up ", counts.up)?;
+    buf.put_named(b" down ", counts.down)
+}
+
+/// Writes the line of vertex `v` (`vertex_line`): its level, the estimate and the bounds of its coreness, and two
+/// counts of neighbours.
+///
+/// `up` are the neighbours on its level or above, `down` those on the level below or above; at level 0 both are equal.
+/// Any numbers are written; the caller makes sure that they are those of `v`. `WriteFault` comes only from a failed
+/// write. After `WriteFault` or `Memory` the sink took a prefix of the line.
+pub fn write_vertex<K: Sink>(
+    _alloc: Global,
+    buf: &mut LineBuf,
+    sink: &mut K,
+    v: u32,
+    level: u16,
+    estimate: Estimate,
+    up: u32,
+    down: u32,
+) -> Result<(), SendFault>
+    ensures text { Appends (K.taken sink.old) (K.taken sink.new) (vertex_line v level estimate up down) result }
+    ensures buffer { IsCleared buf.new result }
+    ensures cause { WriteCause (K.faults sink.old) (K.faults sink.new) result }
+{
+    let counts = VertexCounts { v, level, up, down };
+    fill_vertex(buf, counts, estimate)?;
+    buf.send_to(sink)
+}
+
 fn fill_counts(
-    alloc: Global,
     buf: &mut LineBuf,
     words: &LevelWords,
     counts: VertexCounts,
@@ -90,10 +74,10 @@ fn fill_counts(
     ensures { (p : Profile) (n : ℕ) → AreLevelWords p n words.now → OnOk result (buf.new ++ 10 ∷ [] ≡ counted_line p n counts) }
 {
     buf.clear();
-    fill_named(alloc, buf, b"vertex ", counts.v)?;
-    buf.text(alloc, words.of(counts.level))?;
-    buf.number(alloc, counts.up)?;
-    fill_named(alloc, buf, b" down ", counts.down)
+    buf.put_named(b"vertex ", counts.v)?;
+    buf.put(words.of(counts.level))?;
+    buf.put_number(counts.up)?;
+    buf.put_named(b" down ", counts.down)
 }
 
 /// Writes the line of a vertex as `write_vertex` does, with words that were composed for its level (`counted_line`).
@@ -102,7 +86,6 @@ fn fill_counts(
 /// level. Costs about half of `write_vertex`, for texts of many vertices. `WriteFault` comes only from a failed write.
 /// After `WriteFault` or `Memory` the sink took a prefix of the line.
 pub fn write_counts<K: Sink>(
-    alloc: Global,
     buf: &mut LineBuf,
     sink: &mut K,
     words: &LevelWords,
@@ -113,6 +96,39 @@ pub fn write_counts<K: Sink>(
     ensures buffer { IsCleared buf.new result }
     ensures cause { WriteCause (K.faults sink.old) (K.faults sink.new) result }
 {
-    fill_counts(alloc, buf, words, counts)?;
-    buf.send(alloc, sink)
+    fill_counts(buf, words, counts)?;
+    buf.send_to(sink)
+}
+
+/// Writes the end of a text of levels (`tail_text`): the line of each vertex in ascending order, and the last line.
+///
+/// `counts` gives the two counts of neighbours of a vertex (`AreCounts`), and `th` are the graph's thresholds. There is
+/// a level for each vertex, at most the top. `WriteFault` comes only from a failed write. After `WriteFault` or
+/// `Memory` the sink took a prefix of the lines.
+///
+/// Composes what a level says once for each level. Takes the memory of one line, and some 100 bytes a level.
+pub fn write_level_tail<K: Sink, F: Fn(u32) -> (u32, u32)>(
+    alloc: Global,
+    buf: &mut LineBuf,
+    sink: &mut K,
+    graph: &Graph,
+    th: &Thresholds,
+    levels: &[u16],
+    counts: F,
+) -> Result<(), SendFault>
+    requires levels { AreLevels th.now graph.now levels.now }
+    requires callable { (v : ℕ) → v < graph.now.vertices → F.pre counts v }
+    requires counts { GivesCounts (F.post counts) graph.now levels.now }
+    ensures text { Appends (K.taken sink.old) (K.taken sink.new) (tail_text th.now.profile graph.now levels.now) result }
+    ensures buffer { IsCleared buf.new result }
+    ensures cause { WriteCause (K.faults sink.old) (K.faults sink.new) result }
+{
+    let words = LevelWords::new(alloc, th, levels)?;
+    for v in 0..graph.vertices() {
+        let (up, down) = counts(v);
+        let level = levels[v as usize];
+        let counted = VertexCounts { v, level, up, down };
+        write_counts(buf, sink, &words, counted)?;
+    }
+    put_end(buf, sink)
 }

@@ -25,11 +25,10 @@ use crate::context::SessionContext;
 use crate::counts::Counts;
 use crate::ended::{Ended, count_replies};
 use crate::fault::SessionFault;
+use crate::last_lines::{write_readers, write_tail};
 use crate::last_pass::read_all;
 use crate::progress::Progress;
-use crate::readers::write_readers;
 use crate::report::Report;
-use crate::vertices::write_tail;
 use crate::watched::Watched;
 use kc_batch::{Asks, Header};
 use kc_engine::Engine;
@@ -154,8 +153,7 @@ fn write_rest<K: Sink>(
     let mut buf = LineBuf::new(alloc);
     write_readers(alloc, &mut buf, sink, lists)?;
     let levels = read_all(alloc, store, writer)?;
-    let n = engine.graph().vertices();
-    write_tail(alloc, &mut buf, sink, n, engine, levels.as_slice())?;
+    write_tail(alloc, &mut buf, sink, engine, levels.as_slice())?;
     Ok(levels)
 }
 
@@ -249,7 +247,7 @@ fn run_alone<R: Threads + Sync, S: Source, K: Sink, G: Gate + Sync>(
     let engine = &watched.engine;
     let levels = engine.levels().as_slice();
     let mut buf = LineBuf::new(context.alloc);
-    write_tail(context.alloc, &mut buf, sink, context.n, engine, levels)?;
+    write_tail(context.alloc, &mut buf, sink, engine, levels)?;
     Ok(Ended::with(counts, engine, 0, levels))
 }
 

@@ -63,7 +63,7 @@ impl LineBuf {
     }
 
     /// Appends bytes. If there is no memory, the line stays as it was.
-    pub fn text(&mut self, _alloc: Global, bytes: &[u8]) -> Result<(), AllocError>
+    pub fn put(&mut self, bytes: &[u8]) -> Result<(), AllocError>
         ensures ok { OnOk result (self.new ≡ self.old ++ bytes.now) }
         ensures err { OnErr result (self.new ≡ self.old) }
     {
@@ -71,13 +71,37 @@ impl LineBuf {
     }
 
     /// Appends a number in decimal digits, without leading zeros. If there is no memory, the line stays as it was.
-    pub fn number(&mut self, _alloc: Global, value: u32) -> Result<(), AllocError>
+    pub fn put_number(&mut self, value: u32) -> Result<(), AllocError>
         ensures ok { OnOk result (self.new ≡ self.old ++ decimal value) }
         ensures err { OnErr result (self.new ≡ self.old) }
     {
         let mut digits = itoa::Buffer::new();
-        self.bytes
-            .extend_from_slice(digits.format(value).as_bytes())
+        self.put(digits.format(value).as_bytes())
+    }
+
+    /// Appends a name, with its blanks, and a number in decimal digits, the form of many written lines. If there is no
+    /// memory, the line may have the name alone, and isn't used again.
+    pub fn put_named(&mut self, name: &[u8], value: u32) -> Result<(), AllocError>
+        ensures { OnOk result (self.new ≡ (self.old ++ name.now) ++ decimal value) }
+    {
+        self.put(name)?;
+        self.put_number(value)
+    }
+
+    /// Appends bytes, as `put` does. The line has its allocator from `new`.
+    pub fn text(&mut self, _alloc: Global, bytes: &[u8]) -> Result<(), AllocError>
+        ensures ok { OnOk result (self.new ≡ self.old ++ bytes.now) }
+        ensures err { OnErr result (self.new ≡ self.old) }
+    {
+        self.put(bytes)
+    }
+
+    /// Appends a number, as `put_number` does. The line has its allocator from `new`.
+    pub fn number(&mut self, _alloc: Global, value: u32) -> Result<(), AllocError>
+        ensures ok { OnOk result (self.new ≡ self.old ++ decimal value) }
+        ensures err { OnErr result (self.new ≡ self.old) }
+    {
+        self.put_number(value)
     }
 
     /// Returns the bytes of the line.
@@ -89,7 +113,7 @@ impl LineBuf {
 
     /// Sends the line with a line feed after it, and empties it. After `WriteFault` the sink took a proper prefix of
     /// the line, and the line is empty too. After `Memory` nothing was sent, and the line stays as it was.
-    pub fn send<K: Sink>(&mut self, _alloc: Global, sink: &mut K) -> Result<(), SendFault>
+    pub fn send_to<K: Sink>(&mut self, sink: &mut K) -> Result<(), SendFault>
         ensures sent { Sends (K.taken sink.old) (K.taken sink.new) (self.old ++ 10 ∷ []) result }
         ensures ok { OnOk result (self.new ≡ []) }
         ensures err { IfErr result (KeptAfter self.old self.new) }
@@ -104,5 +128,15 @@ impl LineBuf {
             Ok(()) => Ok(()),
             Err(Failed) => Err(SendFault::WriteFault),
         }
+    }
+
+    /// Sends the line, as `send_to` does. The line has its allocator from `new`.
+    pub fn send<K: Sink>(&mut self, _alloc: Global, sink: &mut K) -> Result<(), SendFault>
+        ensures sent { Sends (K.taken sink.old) (K.taken sink.new) (self.old ++ 10 ∷ []) result }
+        ensures ok { OnOk result (self.new ≡ []) }
+        ensures err { IfErr result (KeptAfter self.old self.new) }
+        ensures cause { WriteCause (K.faults sink.old) (K.faults sink.new) result }
+    {
+        self.send_to(sink)
     }
 }

@@ -10,7 +10,6 @@ use kc_report::{
     write_header_refused, write_note, write_reader, write_refused, write_tail, write_vertex,
 };
 use kc_text::{LineBuf, MemSink, Reason, SendFault, Sink};
-use std::alloc::Global;
 use test_support::graphs::edges_of;
 
 // The lines of batches with phases.
@@ -137,7 +136,7 @@ fn head_ends_at_its_first_fault(rt: HostRuntime) {
 #[test]
 fn line_of_a_refused_header(rt: HostRuntime) {
     let mut sink = sink_of(&rt, 1000, &[2]);
-    let answer = write_header_refused(rt.alloc(), &mut LineBuf::new(rt.alloc()), &mut sink, 3);
+    let answer = write_header_refused(&mut LineBuf::new(rt.alloc()), &mut sink, 3);
     let want = "refused line 3 header\no";
     check(&rt, "a refused header", &taken(&rt, sink, answer), want);
 }
@@ -146,10 +145,10 @@ fn line_of_a_refused_header(rt: HostRuntime) {
 // The level of the four says 1 to 4, and 2 for an estimate.
 fn write_exact(rt: &impl Bench, buf: &mut LineBuf, sink: &mut MemSink) -> Result<(), SendFault> {
     let alloc = rt.alloc();
-    write_note(alloc, buf, sink, 2, 9, Reason::BadVertex)?;
-    write_exact_head(alloc, buf, sink, 5)?;
-    write_coreness(alloc, buf, sink, 3, 3, ESTIMATE)?;
-    write_coreness(alloc, buf, sink, 4, 0, NONE)?;
+    write_note(buf, sink, 2, 9, Reason::BadVertex)?;
+    write_exact_head(buf, sink, 5)?;
+    write_coreness(buf, sink, 3, 3, ESTIMATE)?;
+    write_coreness(buf, sink, 4, 0, NONE)?;
     write_end(alloc, buf, sink)
 }
 
@@ -217,12 +216,11 @@ impl VertexLines for KnownLines<'_> {
 
     fn write_line<K: Sink>(
         &self,
-        alloc: Global,
         buf: &mut LineBuf,
         sink: &mut K,
         v: u32,
     ) -> Result<(), SendFault> {
-        write_coreness(alloc, buf, sink, v, self.corenesses[v as usize], ESTIMATE)
+        write_coreness(buf, sink, v, self.corenesses[v as usize], ESTIMATE)
     }
 }
 
@@ -232,13 +230,7 @@ fn told_of_known(rt: &impl Bench, corenesses: &[u32], piece: u32, failing: &[u32
     let n = corenesses.len() as u32;
     let mut sink = sink_of(rt, piece, failing);
     let mut buf = LineBuf::new(rt.alloc());
-    let answer = write_tail(
-        rt.alloc(),
-        &mut buf,
-        &mut sink,
-        n,
-        &KnownLines { corenesses },
-    );
+    let answer = write_tail(&mut buf, &mut sink, n, &KnownLines { corenesses });
     drop(buf);
     taken(rt, sink, answer)
 }

@@ -4,6 +4,6 @@ use Rattle.kc_report.proofs.phases.fill_phase.Goals as goal
 
 pub returns : goal.returns
 returns c =
-    on_ok_weaker c.fill_named-2.result
-    (λ last. phase_filled c.args.plan.now c.len-quiet.result _ _ _ _ c.clear.ensures c.len-quiet.ensures c.in_ok-fill_named.ensures c.direction.ensures last)
-    c.fill_named-2.ensures
+    on_ok_weaker c.put_named-2.result
+    (λ last. phase_filled c.args.plan.now c.len-quiet.result _ _ _ _ c.clear.ensures c.len-quiet.ensures c.in_ok-put_named.ensures c.direction.ensures last)
+    c.put_named-2.ensures

@@ -6,7 +6,7 @@ use Rattle.kc_report.proofs.vertices.fill_counts.Goals as goal
 pub returns : goal.returns
 returns c p n w =
     let counts = c.args.counts in
-    on_ok_weaker c.fill_named-2.result
-    (λ down. counted_filled counts.v counts.level counts.up counts.down (estimate_of p n counts.level) _ _ _ _ _ _ c.clear.ensures c.in_ok-fill_named.ensures
-    (rw c.of.ensures (w counts.level c.requires)) c.in_ok-text.ensures.ok c.in_ok-number.ensures.ok down)
-    c.fill_named-2.ensures
+    on_ok_weaker c.put_named-2.result
+    (λ down. counted_filled counts.v counts.level counts.up counts.down (estimate_of p n counts.level) _ _ _ _ _ _ c.clear.ensures c.in_ok-put_named.ensures
+    (rw c.of.ensures (w counts.level c.requires)) c.in_ok-put.ensures.ok c.in_ok-put_number.ensures.ok down)
+    c.put_named-2.ensures

@@ -4,6 +4,6 @@ use Rattle.kc_report.proofs.vertices.fill_vertex.Goals as goal
 
 pub returns : goal.returns
 returns c =
-    on_ok_weaker c.fill_named-3.result
-    (λ down. vertex_filled c.args.line.v c.args.line.level c.args.line.up c.args.line.down c.args.line.estimate _ _ _ _ _ c.clear.ensures c.in_ok-fill_named.ensures c.in_ok-fill_bounds.ensures c.in_ok-fill_named-2.ensures down)
-    c.fill_named-3.ensures
+    on_ok_weaker c.put_named-3.result
+    (λ down. vertex_filled c.args.counts.v c.args.counts.level c.args.counts.up c.args.counts.down c.args.estimate _ _ _ _ _ c.clear.ensures c.in_ok-put_named.ensures c.in_ok-fill_bounds.ensures c.in_ok-put_named-2.ensures down)
+    c.put_named-3.ensures

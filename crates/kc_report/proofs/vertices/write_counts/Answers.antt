@@ -10,4 +10,4 @@ returns-in_err-fill_counts-clause-text g c p n w =
     rw fault.1 (prefix_none _ _ _ refl)
 
 pub returns-clause-text : goal.returns-clause-text
-returns-clause-text g c p n w = sent_as _ _ _ _ _ (c.in_ok-fill_counts.ensures p n w) c.send.ensures.sent
+returns-clause-text g c p n w = sent_as _ _ _ _ _ (c.in_ok-fill_counts.ensures p n w) c.send_to.ensures.sent

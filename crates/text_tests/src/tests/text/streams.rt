@@ -3,9 +3,7 @@ ghost use Rattle.std.specs.Prelude.{◌≤◌, IfOk};
 
 use crate::tests::support::{Bench, check, put, put_end, put_number, reader_of, sink_of};
 use crate::tests::text::put_answer;
-use kc_text::{
-    Failed, LineBuf, MemSink, NullSink, Sink, Source, StdSink, StdSource, fill_named, put_all,
-};
+use kc_text::{Failed, LineBuf, MemSink, NullSink, Sink, Source, StdSink, StdSource, put_all};
 use std::io;
 use std::io::{Read, Write};
 
@@ -214,7 +212,7 @@ const SENDS: &[(u32, &[u32], &str)] = &[
 ];
 
 fn put_sends(rt: &impl Bench, out: &mut Vec<u8>, line: &mut LineBuf, sink: &mut MemSink) {
-    fill_named(rt.alloc(), line, b"v ", 4294967295).expect(rt, "memory");
+    line.put_named(b"v ", 4294967295).expect(rt, "memory");
     put_end(rt, out, line.send(rt.alloc(), sink));
     line.text(rt.alloc(), b"w").expect(rt, "memory");
     put_end(rt, out, line.send(rt.alloc(), sink));

@@ -1,5 +1,0 @@
-use Rattle.kc_report.proofs.LineLemmas.{sent_as}
-use Rattle.kc_report.proofs.batches.write_batch_line.Goals as goal
-
-pub returns-clause-text : goal.returns-clause-text
-returns-clause-text g c = sent_as _ _ _ _ _ c.in_ok-fill_batch.ensures c.send.ensures.sent
