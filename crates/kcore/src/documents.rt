@@ -11,6 +11,18 @@ ghost use Rattle.kcore.specs.Documents.{EndsInDocument};
 ghost use Rattle.kcore.specs.private.Documents.{HasDocuments, WritesDocument};
 ghost use Rattle.kcore.specs.private.Writing.{Writes};
 
+mod dense;
+mod dense_lines;
+mod exact;
+mod final_text;
+mod orient;
+mod orient_lines;
+
+pub use dense::Dense;
+pub use exact::Exact;
+pub use final_text::Final;
+pub use orient::Orient;
+
 use crate::inputs::open_input;
 use kc_engine::Engine;
 use kc_levels::Profile;

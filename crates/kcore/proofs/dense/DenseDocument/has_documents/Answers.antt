@@ -1,5 +1,0 @@
-use Rattle.kcore.proofs.DenseTexts as law
-use Rattle.kcore.proofs.dense.DenseDocument.has_documents.Goals as goal
-
-pub returns : goal.returns
-returns c = law.has_documents

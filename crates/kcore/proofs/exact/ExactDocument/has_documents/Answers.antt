@@ -1,5 +1,0 @@
-use Rattle.kcore.proofs.ExactTexts as law
-use Rattle.kcore.proofs.exact.ExactDocument.has_documents.Goals as goal
-
-pub returns : goal.returns
-returns c = law.has_documents

@@ -1,5 +1,0 @@
-use Rattle.kcore.proofs.FinalTexts as law
-use Rattle.kcore.proofs.final_text.FinalDocument.has_documents.Goals as goal
-
-pub returns : goal.returns
-returns c = law.has_documents

@@ -1,5 +1,0 @@
-use Rattle.kcore.proofs.OrientTexts as law
-use Rattle.kcore.proofs.orient.OrientDocument.has_documents.Goals as goal
-
-pub returns : goal.returns
-returns c = law.has_documents
