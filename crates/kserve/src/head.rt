@@ -36,25 +36,6 @@ fn is_magic(text: &[u8]) -> bool
     next_word(text, end).is_none() && is_named(name, b"kserve") && is_named(version, b"1")
 }
 
-// Reads the line `vertices N`.
-fn read_vertices<S: Source>(
-    alloc: Global,
-    reader: &mut LineReader,
-    src: &mut S,
-) -> Result<Head, LineFault>
-    ensures head { IfOk result (λ head. option_map after_magic (kept_left reader.old (S.left src.old)) ≡ option_map (after_head head) (kept_left reader.new (S.left src.new))) }
-    ensures range { IfOk result HasRange }
-    ensures cause { ReadCause (S.faults src.old) (S.faults src.new) result }
-{
-    let second = next_kept(alloc, reader, src)?;
-    match vertices_in(text_of(&second)) {
-        Some(n) => Ok(Head::Vertices(n)),
-        None => Ok(Head::Refused {
-            line: second.number,
-        }),
-    }
-}
-
 /// Reads the lines `kserve 1` and `vertices N`, as `input_from` of `specs/Inputs` says. Afterwards the reader stands
 /// after them.
 ///
@@ -71,9 +52,14 @@ pub fn read_head<S: Source>(
     ensures cause { ReadCause (S.faults src.old) (S.faults src.new) result }
 {
     let first = next_kept(alloc, reader, src)?;
-    if is_magic(text_of(&first)) {
-        read_vertices(alloc, reader, src)
-    } else {
-        Ok(Head::Refused { line: first.number })
+    if !is_magic(text_of(&first)) {
+        return Ok(Head::Refused { line: first.number });
+    }
+    let second = next_kept(alloc, reader, src)?;
+    match vertices_in(text_of(&second)) {
+        Some(n) => Ok(Head::Vertices(n)),
+        None => Ok(Head::Refused {
+            line: second.number,
+        }),
     }
 }
