@@ -50,14 +50,6 @@ prefix_after lead f xs i d x before now later h is e t =
     let all = append_assoc lead (flat_map f (take (suc i) xs)) s.behind in
     rw (s.all, sym all) (prefix_longer before later (lead ++ flat_map f (take (suc i) xs)) s.behind (rw (s.here, sym here) (prefix_then before now later (lead ++ flat_map f (take i xs)) (f (get_or xs i d)) e next)))
 
--- one more text was written
-pub texts_more : {A : Type 0} (f : A → List ℕ) (xs : List A) (i : ℕ) (d x : A) (before now later : Option (List ℕ)) → i < length xs → x ≡ get_or xs i d → now ≡ append_known before (flat_map f (take i xs)) → later ≡ append_known now (f x) → later ≡ append_known before (flat_map f (take (i + 1) xs))
-texts_more f xs i d x before now later h is e t = more_after [] f xs i d x before now later h is e t
-
--- some texts were written, and a prefix of the next
-pub texts_prefix : {A : Type 0} (f : A → List ℕ) (xs : List A) (i : ℕ) (d x : A) (before now later : Option (List ℕ)) → i < length xs → x ≡ get_or xs i d → now ≡ append_known before (flat_map f (take i xs)) → IsPrefix now later (f x) → IsPrefix before later (flat_map f xs)
-texts_prefix f xs i d x before now later h is e t = prefix_after [] f xs i d x before now later h is e t
-
 -- one more member was put together
 pub members_more : {A : Type 0} (f : A → List ℕ) (xs : List A) (i : ℕ) (d : A) (old buffer more : List ℕ) → i < length xs → buffer ≡ old ++ flat_map f (take i xs) → more ≡ buffer ++ f (get_or xs i d) → more ≡ old ++ flat_map f (take (i + 1) xs)
 members_more f xs i d old buffer more h e t =

@@ -14,7 +14,6 @@ mod WordLists
 mod OrientLineLemmas
 mod OrientTexts
 mod FinalTexts
-mod CheckLines
 mod Checks
 mod NoteLines
 mod LineNumbers

@@ -5,22 +5,22 @@ ghost use Rattle.kc_session.specs.Faults.{FaultCause};
 ghost use Rattle.kcore.specs.AuditText.{verdict_line, is_unexplained};
 ghost use Rattle.kcore.specs.private.AuditText.{WritesAudit};
 
-use crate::document_lines::write_document_refused;
 use crate::limits::{INPUT_LIMIT, RUN_LINE_LIMIT};
 use kc_audit::{AuditFault, AuditVerdict, audit, read_run};
+use kc_report::write_refusal;
 use kc_session::SessionFault;
-use kc_text::{LineBuf, LineReader, SendFault, Sink, Source, fill_named};
+use kc_text::{LineBuf, LineReader, SendFault, Sink, Source};
 use std::alloc::{AllocError, Global};
 
-fn fill_verdict(alloc: Global, buf: &mut LineBuf, verdict: AuditVerdict) -> Result<(), AllocError>
+fn fill_verdict(buf: &mut LineBuf, verdict: AuditVerdict) -> Result<(), AllocError>
     ensures { OnOk result (buf.new ++ 10 ∷ [] ≡ verdict_line verdict) }
 {
     buf.clear();
     match verdict {
-        AuditVerdict::Explained => buf.text(alloc, b"explained"),
+        AuditVerdict::Explained => buf.put(b"explained"),
         AuditVerdict::Unexplained { reader, ask } => {
-            fill_named(alloc, buf, b"unexplained reader ", reader)?;
-            fill_named(alloc, buf, b" ask ", ask)
+            buf.put_named(b"unexplained reader ", reader)?;
+            buf.put_named(b" ask ", ask)
         }
     }
 }
@@ -35,8 +35,8 @@ fn write_verdict<K: Sink>(
     ensures cause { WriteCause (K.faults sink.old) (K.faults sink.new) result }
 {
     let mut buf = LineBuf::new(alloc);
-    fill_verdict(alloc, &mut buf, verdict)?;
-    buf.send(alloc, sink)
+    fill_verdict(&mut buf, verdict)?;
+    buf.send_to(sink)
 }
 
 /// Reads a run text and writes one line: whether its groups explain its readers, or at which line it is refused.
@@ -57,7 +57,7 @@ pub fn audit_input<S: Source, K: Sink>(
             Ok(is_unexplained(verdict))
         }
         Err(AuditFault::Refused { line, reason }) => {
-            write_document_refused(alloc, sink, line, reason)?;
+            write_refusal(&mut LineBuf::new(alloc), sink, line, reason)?;
             Ok(true)
         }
         Err(AuditFault::ReadFault) => Err(SessionFault::ReadFault),

@@ -5,30 +5,25 @@ ghost use Rattle.kc_session.specs.Faults.{FaultCause};
 ghost use Rattle.kcore.specs.CheckText.{verdict_line, is_breach};
 ghost use Rattle.kcore.specs.private.CheckText.{WritesCheck};
 
-use crate::document_lines::write_document_refused;
 use crate::limits::{INPUT_LIMIT, LINE_LIMIT};
 use kc_cert::{CertFault, Certificate, Verdict, read_certificate, verify};
 use kc_levels::Thresholds;
+use kc_report::write_refusal;
 use kc_session::SessionFault;
-use kc_text::{LineBuf, LineReader, SendFault, Sink, Source, fill_named};
+use kc_text::{LineBuf, LineReader, SendFault, Sink, Source};
 use std::alloc::{AllocError, Global};
 
-fn fill_verdict(
-    alloc: Global,
-    buf: &mut LineBuf,
-    cert: &Certificate,
-    verdict: Verdict,
-) -> Result<(), AllocError>
+fn fill_verdict(buf: &mut LineBuf, cert: &Certificate, verdict: Verdict) -> Result<(), AllocError>
     ensures { OnOk result (buf.new ++ 10 ∷ [] ≡ verdict_line cert.now verdict) }
 {
     buf.clear();
     match verdict {
         Verdict::Certified => {
-            fill_named(alloc, buf, b"certified vertices ", cert.graph.vertices())?;
-            fill_named(alloc, buf, b" edges ", cert.graph.edge_count())
+            buf.put_named(b"certified vertices ", cert.graph.vertices())?;
+            buf.put_named(b" edges ", cert.graph.edge_count())
         }
-        Verdict::Upper(v) => fill_named(alloc, buf, b"upper ", v),
-        Verdict::Lower(v) => fill_named(alloc, buf, b"lower ", v),
+        Verdict::Upper(v) => buf.put_named(b"upper ", v),
+        Verdict::Lower(v) => buf.put_named(b"lower ", v),
     }
 }
 
@@ -43,8 +38,8 @@ fn write_verdict<K: Sink>(
     ensures cause { WriteCause (K.faults sink.old) (K.faults sink.new) result }
 {
     let mut buf = LineBuf::new(alloc);
-    fill_verdict(alloc, &mut buf, cert, verdict)?;
-    buf.send(alloc, sink)
+    fill_verdict(&mut buf, cert, verdict)?;
+    buf.send_to(sink)
 }
 
 /// Reads a certificate and writes one line: the verdict on its levels, or at which line it is refused. Returns whether
@@ -66,7 +61,7 @@ pub fn check_input<S: Source, K: Sink>(
             Ok(is_breach(verdict))
         }
         Err(CertFault::Refused { line, reason }) => {
-            write_document_refused(alloc, sink, line, reason)?;
+            write_refusal(&mut LineBuf::new(alloc), sink, line, reason)?;
             Ok(true)
         }
         Err(CertFault::ReadFault) => Err(SessionFault::ReadFault),

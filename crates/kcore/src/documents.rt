@@ -12,23 +12,20 @@ ghost use Rattle.kcore.specs.private.Documents.{HasDocuments, WritesDocument};
 ghost use Rattle.kcore.specs.private.Writing.{Writes};
 
 mod dense;
-mod dense_lines;
 mod exact;
 mod final_text;
 mod orient;
-mod orient_lines;
 
+use crate::inputs::open_input;
 pub use dense::Dense;
 pub use exact::Exact;
 pub use final_text::Final;
-pub use orient::Orient;
-
-use crate::inputs::open_input;
 use kc_engine::Engine;
 use kc_levels::Profile;
 use kc_rounds::{Gate, Rounds};
 use kc_session::{SessionFault, settle};
 use kc_text::{SendFault, Sink, Source};
+pub use orient::Orient;
 use std::alloc::Global;
 use std::thread::Threads;
 

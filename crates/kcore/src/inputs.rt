@@ -25,7 +25,7 @@ pub fn open_input<S: Source, K: Sink>(
     match Header::read(alloc, &mut reader, src) {
         Ok(header) => Ok(Some((header, reader))),
         Err(HeaderFault::Refused { line }) => {
-            write_header_refused(alloc, &mut LineBuf::new(alloc), sink, line)?;
+            write_header_refused(&mut LineBuf::new(alloc), sink, line)?;
             Ok(None)
         }
         Err(HeaderFault::ReadFault) => Err(SessionFault::ReadFault),

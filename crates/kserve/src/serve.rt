@@ -7,10 +7,10 @@ ghost use Rattle.kserve.specs.Served.{Answers, IsComplete};
 
 use crate::context::ServeContext;
 use crate::fault::ServeFault;
-use crate::lines::write_refused;
 use crate::reading::{Said, read_input};
 use crate::serving::serve_scripts;
 use crate::status::ServeStatus;
+use kc_report::write_refusal;
 use kc_rounds::{Gate, Rounds};
 use kc_text::{LineBuf, Sink, Source, Words, read_number};
 use std::alloc::Global;
@@ -61,7 +61,7 @@ fn serve_input<R: Threads + Wait + Sync, S: Source, K: Sink + Send, G: Gate + Sy
             Ok(false)
         }
         Said::Refused { line, reason } => {
-            write_refused(alloc, &mut LineBuf::new(alloc), sink, line, reason)?;
+            write_refusal(&mut LineBuf::new(alloc), sink, line, reason)?;
             Ok(true)
         }
     }

@@ -85,13 +85,12 @@ impl Server {
         ensures cause { StopCause (K.faults sink.old) (K.faults sink.new) result }
     {
         let rounds = &context.rounds;
-        let alloc = rounds.alloc();
         let Drained { number, updates } = batch;
-        let Some(items) = items_of(alloc, context.asked.n, updates)? else {
+        let Some(items) = items_of(rounds.alloc(), context.asked.n, updates)? else {
             return Err(Stop::Stray);
         };
         apply(rounds, &mut self.engine, items.as_slice())?;
-        write_batch(alloc, &mut self.buf, sink, number, updates)?;
+        write_batch(&mut self.buf, sink, number, updates)?;
         Ok(())
     }
 

@@ -15,11 +15,11 @@ use crate::clients::{run_clients, take_in_all};
 use crate::context::ServeContext;
 use crate::fault::{ServeFault, Stop};
 use crate::limits::CAPACITY;
-use crate::lines::write_head;
 use crate::server::Server;
 use crate::vertices::write_tail;
 use kc_graph::MAX_ITEMS;
 use kc_intake::{Client, Drainer, Intake, MAX_CLIENTS};
+use kc_report::write_opening;
 use kc_rounds::Gate;
 use kc_text::{LineBuf, Sink};
 use std::sync::Wait;
@@ -88,20 +88,22 @@ fn fault_of(stop: Stop) -> ServeFault
     }
 }
 
-// Serves scripts, of which there is one at least, with an engine that was just opened, and prints the batches
-// (`ServesAll`).
+// Serves scripts with an engine that was just opened, and prints the batches (`ServesAll`). If there are no scripts,
+// there are no clients and no batches.
 fn serve_clients<R: Threads + Wait + Sync, K: Sink + Send, G: Gate + Sync>(
     context: &ServeContext<'_, R, G>,
     server: &mut Server,
     sink: &mut K,
 ) -> Result<(), ServeFault>
-    requires some { 1 ≤ length context.now.scripts.items }
     requires open { IsOpen server.old.engine }
     requires start { server.old.engine.state ≡ start context.now.n }
     ensures served { ServesAll context.now.n context.now.scripts.items server.new.engine.state (K.taken sink.old) (K.taken sink.new) result }
     ensures open { OnOk result (IsOpen server.new.engine) }
     ensures cause { WritingCause (K.faults sink.old) (K.faults sink.new) result }
 {
+    if context.asked.scripts.is_empty() {
+        return Ok(());
+    }
     let count = context.asked.scripts.len() as u32;
     let (intake, drainer, clients) = Intake::open(context.rounds.alloc(), CAPACITY, count)?;
     let mut opened = Opened {
@@ -122,24 +124,6 @@ fn serve_clients<R: Threads + Wait + Sync, K: Sink + Send, G: Gate + Sync>(
     }
 }
 
-// The same of any number of scripts: if there are none, there are no clients and no batches.
-fn serve_batches<R: Threads + Wait + Sync, K: Sink + Send, G: Gate + Sync>(
-    context: &ServeContext<'_, R, G>,
-    server: &mut Server,
-    sink: &mut K,
-) -> Result<(), ServeFault>
-    requires open { IsOpen server.old.engine }
-    requires start { server.old.engine.state ≡ start context.now.n }
-    ensures served { ServesAll context.now.n context.now.scripts.items server.new.engine.state (K.taken sink.old) (K.taken sink.new) result }
-    ensures open { OnOk result (IsOpen server.new.engine) }
-    ensures cause { WritingCause (K.faults sink.old) (K.faults sink.new) result }
-{
-    if context.asked.scripts.is_empty() {
-        return Ok(());
-    }
-    serve_clients(context, server, sink)
-}
-
 // Serves scripts with an engine that was just opened, and writes the text of them (`Writes`).
 fn serve_opened<R: Threads + Wait + Sync, K: Sink + Send, G: Gate + Sync>(
     context: &ServeContext<'_, R, G>,
@@ -154,9 +138,9 @@ fn serve_opened<R: Threads + Wait + Sync, K: Sink + Send, G: Gate + Sync>(
     let alloc = context.rounds.alloc();
     let n = context.asked.n;
     let mut buf = LineBuf::new(alloc);
-    write_head(alloc, &mut buf, sink, n)?;
-    serve_batches(context, server, sink)?;
-    write_tail(alloc, &mut buf, sink, n, &server.engine)?;
+    write_opening(&mut buf, sink, b"kserve-run 1", n)?;
+    serve_clients(context, server, sink)?;
+    write_tail(alloc, &mut buf, sink, &server.engine)?;
     Ok(())
 }
 

@@ -1,48 +1,51 @@
 //! The command `dense`: a dense part of the graph after the batches of an input.
-ghost use Rattle.std.specs.Prelude.{◌<◌, ◌^◌, ◌++◌, length};
+ghost use Rattle.std.specs.Prelude.{◌≡◌, ◌<◌, ◌^◌, [], ◌∷◌, ◌++◌, length, OnOk};
 ghost use Rattle.std.specs.List.{flat_map};
 ghost use Rattle.kc_text.specs.Writing.{Appends, WriteCause};
-ghost use Rattle.kc_report.specs.Lines.{end_line};
 ghost use Rattle.kcore.specs.DenseLines.{size_line, member_line};
 ghost use Rattle.kcore.specs.DenseText.{IsDense};
 
-use crate::documents::dense_lines::{write_dense_head, write_members, write_size};
 use crate::documents::Document;
 use kc_dense::densest;
 use kc_engine::Engine;
 use kc_levels::Profile;
-use kc_report::write_end;
+use kc_report::{write_end, write_opening};
 use kc_text::{LineBuf, SendFault, Sink};
-use std::alloc::Global;
+use std::alloc::{AllocError, Global};
 
-// Writes the lines of the members, and the last line.
-fn write_after_size<K: Sink>(
-    alloc: Global,
-    buf: &mut LineBuf,
-    sink: &mut K,
-    members: &[u32],
-) -> Result<(), SendFault>
-    ensures text { Appends (K.taken sink.old) (K.taken sink.new) (flat_map member_line members.now ++ end_line) result }
-    ensures cause { WriteCause (K.faults sink.old) (K.faults sink.new) result }
+fn fill_size(buf: &mut LineBuf, size: u32, edges: u32) -> Result<(), AllocError>
+    ensures { OnOk result (buf.new ++ 10 ∷ [] ≡ size_line size edges) }
 {
-    write_members(alloc, buf, sink, members)?;
-    write_end(alloc, buf, sink)
+    buf.clear();
+    buf.put_named(b"size ", size)?;
+    buf.put_named(b" edges ", edges)
 }
 
-// Writes the part after the head: the numbers of the members and of their edges, their lines, and the last line.
-fn write_after_head<K: Sink>(
-    alloc: Global,
+fn fill_member(buf: &mut LineBuf, v: u32) -> Result<(), AllocError>
+    ensures { OnOk result (buf.new ++ 10 ∷ [] ≡ member_line v) }
+{
+    buf.clear();
+    buf.put_named(b"member ", v)
+}
+
+// Writes the line with the number of members and the number of edges between them, and a line for each member.
+fn write_members<K: Sink>(
     buf: &mut LineBuf,
     sink: &mut K,
     members: &[u32],
     edges: u32,
 ) -> Result<(), SendFault>
     requires few { length members.now < 2 ^ 32 }
-    ensures text { Appends (K.taken sink.old) (K.taken sink.new) (size_line (length members.now) edges ++ (flat_map member_line members.now ++ end_line)) result }
+    ensures text { Appends (K.taken sink.old) (K.taken sink.new) (size_line (length members.now) edges ++ flat_map member_line members.now) result }
     ensures cause { WriteCause (K.faults sink.old) (K.faults sink.new) result }
 {
-    write_size(alloc, buf, sink, members.len() as u32, edges)?;
-    write_after_size(alloc, buf, sink, members)
+    fill_size(buf, members.len() as u32, edges)?;
+    buf.send_to(sink)?;
+    for v in members {
+        fill_member(buf, *v)?;
+        buf.send_to(sink)?;
+    }
+    Ok(())
 }
 
 /// The document of `dense`: the vertices of a dense part, after their number and the number of edges between them.
@@ -58,13 +61,11 @@ impl Document for Dense {
         sink: &mut K,
     ) -> Result<(), SendFault> {
         let n = engine.graph().vertices();
-        let dense = match densest(alloc, engine.graph()) {
-            Ok(dense) => dense,
-            Err(e) => return Err(SendFault::Memory(e)),
-        };
+        let dense = densest(alloc, engine.graph())?;
         let mut buf = LineBuf::new(alloc);
-        write_dense_head(alloc, &mut buf, sink, n)?;
-        write_after_head(alloc, &mut buf, sink, dense.members.as_slice(), dense.edges)
+        write_opening(&mut buf, sink, b"kcore-dense 1", n)?;
+        write_members(&mut buf, sink, dense.members.as_slice(), dense.edges)?;
+        write_end(alloc, &mut buf, sink)
     }
 
     fn has_documents() {}

@@ -30,14 +30,13 @@ impl VertexLines for ExactLines<'_> {
 
     fn write_line<K: Sink>(
         &self,
-        alloc: Global,
         buf: &mut LineBuf,
         sink: &mut K,
         v: u32,
     ) -> Result<(), SendFault> {
         let engine = self.engine;
         let estimate = engine.thresholds().estimate(engine.levels().get(v));
-        write_coreness(alloc, buf, sink, v, self.corenesses[v as usize], estimate)
+        write_coreness(buf, sink, v, self.corenesses[v as usize], estimate)
     }
 }
 
@@ -54,17 +53,14 @@ impl Document for Exact {
         sink: &mut K,
     ) -> Result<(), SendFault> {
         let n = engine.graph().vertices();
-        let corenesses = match exact_coreness(alloc, engine.graph()) {
-            Ok(corenesses) => corenesses,
-            Err(e) => return Err(SendFault::Memory(e)),
-        };
+        let corenesses = exact_coreness(alloc, engine.graph())?;
         let mut buf = LineBuf::new(alloc);
-        write_exact_head(alloc, &mut buf, sink, n)?;
+        write_exact_head(&mut buf, sink, n)?;
         let lines = ExactLines {
             engine,
             corenesses: corenesses.as_slice(),
         };
-        write_tail(alloc, &mut buf, sink, n, &lines)
+        write_tail(&mut buf, sink, n, &lines)
     }
 
     fn has_documents() {}

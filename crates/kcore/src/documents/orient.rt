@@ -1,16 +1,19 @@
 //! The command `orient`: the edges directed, and the vertices coloured, after the batches of an input.
-ghost use Rattle.std.specs.Prelude.{◌≡◌, IfOk, length};
+ghost use Rattle.std.specs.Prelude.{◌≡◌, [], ◌∷◌, ◌++◌, IfOk, OnOk, decimal, length};
+ghost use Rattle.std.specs.List.{flat_map};
+ghost use Rattle.kc_text.specs.Writing.{Appends, WriteCause};
+ghost use Rattle.kc_report.specs.Buffer.{IsCleared};
 ghost use Rattle.kc_orient.specs.Shape.{orientation};
 ghost use Rattle.kc_orient.specs.Colouring.{IsColouring};
+ghost use Rattle.kcore.specs.OrientLines.{oriented_line};
 ghost use Rattle.kcore.specs.OrientText.{oriented_vertex_text, IsOrientedText};
 
 use crate::documents::Document;
-use crate::documents::orient_lines::{OrientedVertex, write_orient_head, write_oriented};
 use kc_engine::Engine;
 use kc_graph::Graph;
 use kc_levels::{Levels, Profile};
 use kc_orient::{Orientation, colour};
-use kc_report::{VertexLines, write_tail};
+use kc_report::{VertexLines, write_opening, write_tail};
 use kc_text::{LineBuf, SendFault, Sink};
 use std::alloc::{AllocError, Global};
 
@@ -27,6 +30,42 @@ fn orient_and_colour(
     let oriented = kc_orient::orient(alloc, graph, levels)?;
     let colours = colour(alloc, &oriented)?;
     Ok((oriented, colours))
+}
+
+// Appends a blank and each of the vertices.
+fn fill_vertices(buf: &mut LineBuf, vertices: &[u32]) -> Result<(), AllocError>
+    ensures { OnOk result (buf.new ≡ buf.old ++ flat_map (λ w. 32 ∷ decimal w) vertices.now) }
+{
+    for w in vertices {
+        buf.put_named(b" ", *w)?;
+    }
+    Ok(())
+}
+
+fn fill_oriented(buf: &mut LineBuf, v: u32, colour: u32, out: &[u32]) -> Result<(), AllocError>
+    ensures { OnOk result (buf.new ++ 10 ∷ [] ≡ oriented_line v colour out.now) }
+{
+    buf.clear();
+    buf.put_named(b"vertex ", v)?;
+    buf.put_named(b" colour ", colour)?;
+    buf.put(b" out")?;
+    fill_vertices(buf, out)
+}
+
+// Writes the line of vertex v: its colour, and its out-neighbours.
+fn write_oriented<K: Sink>(
+    buf: &mut LineBuf,
+    sink: &mut K,
+    v: u32,
+    colour: u32,
+    out: &[u32],
+) -> Result<(), SendFault>
+    ensures text { Appends (K.taken sink.old) (K.taken sink.new) (oriented_line v colour out.now) result }
+    ensures buffer { IsCleared buf.new result }
+    ensures cause { WriteCause (K.faults sink.old) (K.faults sink.new) result }
+{
+    fill_oriented(buf, v, colour, out)?;
+    buf.send_to(sink)
 }
 
 // The lines of the vertices of an oriented graph.
@@ -47,17 +86,11 @@ impl VertexLines for OrientedLines<'_> {
 
     fn write_line<K: Sink>(
         &self,
-        alloc: Global,
         buf: &mut LineBuf,
         sink: &mut K,
         v: u32,
     ) -> Result<(), SendFault> {
-        let vertex = OrientedVertex {
-            v,
-            colour: self.colours[v as usize],
-            out: self.oriented.out(v),
-        };
-        write_oriented(alloc, buf, sink, vertex)
+        write_oriented(buf, sink, v, self.colours[v as usize], self.oriented.out(v))
     }
 }
 
@@ -74,17 +107,14 @@ impl Document for Orient {
         sink: &mut K,
     ) -> Result<(), SendFault> {
         let n = engine.graph().vertices();
-        let (oriented, colours) = match orient_and_colour(alloc, engine.graph(), engine.levels()) {
-            Ok(both) => both,
-            Err(e) => return Err(SendFault::Memory(e)),
-        };
+        let (oriented, colours) = orient_and_colour(alloc, engine.graph(), engine.levels())?;
         let mut buf = LineBuf::new(alloc);
-        write_orient_head(alloc, &mut buf, sink, n)?;
+        write_opening(&mut buf, sink, b"kcore-orient 1", n)?;
         let lines = OrientedLines {
             oriented: &oriented,
             colours: colours.as_slice(),
         };
-        write_tail(alloc, &mut buf, sink, n, &lines)
+        write_tail(&mut buf, sink, n, &lines)
     }
 
     fn has_documents() {}

@@ -1,9 +1,0 @@
-use Rattle.std.proofs.lemmas.Result.{on_ok_weaker}
-use Rattle.kcore.proofs.DenseLineLemmas.{size_filled}
-use Rattle.kcore.proofs.documents.dense_lines.fill_size.Goals as goal
-
-pub returns : goal.returns
-returns c =
-    on_ok_weaker c.fill_named-2.result
-    (λ edges. size_filled c.args.size c.args.edges _ _ _ c.clear.ensures c.in_ok-fill_named.ensures edges)
-    c.fill_named-2.ensures

@@ -1,0 +1,5 @@
+use Rattle.kc_report.proofs.lemmas.Lines.{sent_as}
+use Rattle.kcore.proofs.documents.orient.write_oriented.Goals as goal
+
+pub returns-clause-text : goal.returns-clause-text
+returns-clause-text g c = sent_as _ _ _ _ _ c.in_ok-fill_oriented.ensures c.send_to.ensures.sent

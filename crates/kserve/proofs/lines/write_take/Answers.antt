@@ -1,5 +1,0 @@
-use Rattle.kc_report.proofs.lemmas.Lines.{sent_as}
-use Rattle.kserve.proofs.lines.write_take.Goals as goal
-
-pub returns-clause-text : goal.returns-clause-text
-returns-clause-text g c = sent_as _ _ _ _ _ c.in_ok-fill_take.ensures c.send.ensures.sent
