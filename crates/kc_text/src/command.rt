@@ -1,8 +1,10 @@
 //! The words of a command line.
-ghost use Rattle.std.specs.Prelude.{◌≡◌, ◌<◌, ◌++◌, ◌∷◌, [], length, OnOk, OnErr, slice_get, Some, IsTrue, ◌↔◌};
+ghost use Rattle.std.specs.Prelude.{◌≡◌, ◌<◌, ◌++◌, ◌∷◌, [], length, drop, map, IfOk, OnOk, OnErr, slice_get, Some, IsTrue, ◌↔◌, string_bytes};
+ghost use Rattle.std.specs.Vec.Iter.{into_iter_items};
 
 use crate::Bytes;
 use std::alloc::{AllocError, Global};
+use std::env::Args;
 use std::marker::Model;
 
 /// The words of a command line, without the program's name. A contract sees them as a list of byte lists.
@@ -28,6 +30,19 @@ impl Words {
         Words {
             words: Vec::new(alloc),
         }
+    }
+
+    /// Returns the words of a command line without the first one, the program's name.
+    pub fn from_args(alloc: Global, args: Args) -> Result<Self, AllocError>
+        ensures { IfOk result (λ words. words ≡ drop 1 (map string_bytes (into_iter_items args))) }
+    {
+        let mut args = args;
+        let _name = args.next();
+        let mut words = Words::new(alloc);
+        while let Some(word) = args.next() {
+            words.push(alloc, word.as_str().as_bytes())?;
+        }
+        Ok(words)
     }
 
     /// Appends a copy of a word. If there is no memory, the list stays as it was.

@@ -9,9 +9,6 @@
 //! writes ([`audit`]), and `gen` makes its input itself ([`load`]).
 #![tactic(auto)]
 
-ghost use Rattle.std.specs.Prelude.{◌≡◌, drop, map, string_bytes, IfOk};
-ghost use Rattle.std.specs.Vec.Iter.{into_iter_items};
-
 mod audit;
 mod check;
 mod command;
@@ -30,8 +27,7 @@ pub mod top;
 use kc_text::Words;
 use process::program;
 use status::Status;
-use std::alloc::{AllocError, Global};
-use std::env::{self, Args};
+use std::env;
 use std::io::{BufWriter, ErrorKind};
 use std::process::ExitCode;
 use std::rt::Env;
@@ -39,23 +35,10 @@ use std::rt::Env;
 // The most bytes of output that are held back.
 const BUFFER: usize = 65_536;
 
-// Returns the words of a command line without the first one, the program's name.
-fn words_from(alloc: Global, args: Args) -> Result<Words, AllocError>
-    ensures { IfOk result (λ words. words ≡ drop 1 (map string_bytes (into_iter_items args))) }
-{
-    let mut args = args;
-    let _name = args.next();
-    let mut words = Words::new(alloc);
-    while let Some(word) = args.next() {
-        words.push(alloc, word.as_str().as_bytes())?;
-    }
-    Ok(words)
-}
-
 // Returns the words of the command line. If one of them isn't text, they are no command.
 fn words_of<R: Env + AllocGlobal>(rt: &R) -> Result<Words, Status> {
     match env::args(rt) {
-        Ok(args) => words_from(rt.alloc(), args).map_err(|_| Status::Memory),
+        Ok(args) => Words::from_args(rt.alloc(), args).map_err(|_| Status::Memory),
         Err(e) => match e.kind() {
             ErrorKind::OutOfMemory => Err(Status::Memory),
             _ => Err(Status::Usage),

@@ -6,8 +6,7 @@
 //! intake (`clients`) while the server drains it, and applies and prints batch after batch (`server`).
 #![tactic(auto)]
 
-ghost use Rattle.std.specs.Prelude.{◌≡◌, drop, map, string_bytes, IfOk};
-ghost use Rattle.std.specs.Vec.Iter.{into_iter_items};
+ghost use Rattle.std.specs.Prelude.{◌≡◌};
 ghost use Rattle.kserve.specs.declared.status.ServeStatus.{ServeStatus};
 ghost use Rattle.kserve.specs.Ending.{EndsAs, exit_number};
 
@@ -33,8 +32,7 @@ use kc_rounds::OpenGate;
 use kc_text::{Sink, StdSink, StdSource, Words};
 use serve::serve;
 use status::ServeStatus;
-use std::alloc::{AllocError, Global};
-use std::env::{self, Args};
+use std::env;
 use std::io::{BufWriter, ErrorKind, Write};
 use std::process::ExitCode;
 use std::rt::Env;
@@ -42,23 +40,10 @@ use std::rt::Env;
 // The bytes of the output that are kept back at most.
 const BUFFER: usize = 65_536;
 
-// The words of a command line without its first, the program's name.
-fn words_from(alloc: Global, args: Args) -> Result<Words, AllocError>
-    ensures { IfOk result (λ words. words ≡ drop 1 (map string_bytes (into_iter_items args))) }
-{
-    let mut args = args;
-    let _name = args.next();
-    let mut words = Words::new(alloc);
-    while let Some(word) = args.next() {
-        words.push(alloc, word.as_str().as_bytes())?;
-    }
-    Ok(words)
-}
-
 // The words of the command line. If one of them isn't text, they name no number of workers.
 fn words_of<R: Env + AllocGlobal>(rt: &R) -> Result<Words, ServeStatus> {
     match env::args(rt) {
-        Ok(args) => words_from(rt.alloc(), args).map_err(|_| ServeStatus::Memory),
+        Ok(args) => Words::from_args(rt.alloc(), args).map_err(|_| ServeStatus::Memory),
         Err(e) => match e.kind() {
             ErrorKind::OutOfMemory => Err(ServeStatus::Memory),
             _ => Err(ServeStatus::Usage),
