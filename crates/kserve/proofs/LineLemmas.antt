@@ -9,5 +9,5 @@ pub batch_filled : (number : ℕ) (buffer old : List ℕ) → old ≡ [] → buf
 batch_filled number buffer old e f = rw (f, e) (simp append_assoc)
 
 -- an update that stands for no place of a list
-pub none : Update
+abbrev pub none : Update
 none = record { client = 0; serial = 0; item = Insert 0 0 }

@@ -58,7 +58,7 @@ use Rattle.kserve.specs.Served.{served_text, IsServed, IsTextOf, WritesWhole, Wr
 use Rattle.kserve.specs.private.Serving.{HaveServed, Serves, HaveServedAll, StoppedServing}
 use Rattle.kc_engine.proofs.lemmas.Batches.{start_is_sound}
 use Rattle.kserve.proofs.Fitting.{CanServe, fit_due, fit_count, drained_fit, some_fit}
-use Rattle.kserve.proofs.Leads.{leads, profile_lead, vertices_lead}
+use Rattle.kserve.proofs.Leads.{leads, profile_lead}
 use Rattle.kserve.proofs.ScriptLemmas.{due_script, items_more, room_told}
 
 -- so they lead somewhere
@@ -278,10 +278,6 @@ same_cause A B w0 w1 w2 (fault.Memory m) y is e cause = rw is (cause ∙ e)
 pub drained_scripts : (scripts : List (List Item)) (count : ℕ) (intake : IntakeShape) (old new : DrainerShape) (clients : List ClientShape) → intake.capacity ≡ CAPACITY → old.clients ≡ length scripts → count ≡ items_in scripts
     → AreDrained intake old new → HaveEnded intake scripts clients → AreTakenIn new.taken clients → count ≤ length (all_updates new.taken) → Fit scripts new.taken
 drained_scripts scripts count intake old new clients capacity many all d e t enough = drained_fit scripts intake old new clients capacity many d e t (omega (arith, enough, all))
-
--- the graph has as many vertices as before the batches
-pub vertices_served : (n : ℕ) (scripts : List (List Item)) (t : State) (before now : Option (List ℕ)) → HaveServedAll n scripts t before now → t.graph.vertices ≡ n
-vertices_served n scripts t before now s = vertices_lead (start n) t s.batches s.lead
 
 -- once the server stopped, a prefix was printed
 pub prefix_of_stop : (T : Type 0) (n : ℕ) (s : State) (bs : List (List Update)) (t : State) (before now : Option (List ℕ)) (stop : Stop) → Serves {T = T} n s bs t before now (Err stop) → IsPrefix before now (batch_lines 1 bs)

@@ -140,7 +140,7 @@ fn serve_opened<R: Threads + Wait + Sync, K: Sink + Send, G: Gate + Sync>(
     let mut buf = LineBuf::new(alloc);
     write_opening(&mut buf, sink, b"kserve-run 1", n)?;
     serve_clients(context, server, sink)?;
-    write_tail(alloc, &mut buf, sink, n, &server.engine)?;
+    write_tail(alloc, &mut buf, sink, &server.engine)?;
     Ok(())
 }
 

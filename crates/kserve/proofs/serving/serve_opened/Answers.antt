@@ -1,7 +1,7 @@
 use Rattle.std.proofs.Common.{◌∙◌}
 use Rattle.std.proofs.lemmas.Result.{err_from_is_err_and}
 use Rattle.kserve.proofs.Fitting.{can_serve}
-use Rattle.kserve.proofs.ServingLemmas.{head_stopped, batches_stopped, tail_stopped, served_whole, vertices_served, sent_cause, same_cause}
+use Rattle.kserve.proofs.ServingLemmas.{head_stopped, batches_stopped, tail_stopped, served_whole, sent_cause, same_cause}
 use Rattle.kserve.proofs.serving.serve_opened.Goals as goal
 
 pub returns-in_err-write_opening-clause-text : goal.returns-in_err-write_opening-clause-text
@@ -18,10 +18,6 @@ pub returns-in_err-serve_clients-clause-cause : goal.returns-in_err-serve_client
 returns-in_err-serve_clients-clause-cause g c =
     let p = err_from_is_err_and c.from_residual-in_err-serve_clients.result c.from_residual-in_err-serve_clients.ensures.1 in
     rw p.1 (same_cause (Unit {0}) (Unit {0}) _ _ _ _ p.0 p.2 c.in_ok-write_opening.ensures.cause c.in_err-serve_clients.ensures.cause)
-
-pub write_tail-requires-clause-vertices : goal.write_tail-requires-clause-vertices
-write_tail-requires-clause-vertices g c =
-    rw c.context.view_is (vertices_served c.args.context.now.n c.args.context.now.scripts.items c.serve_clients.new.server.engine.state _ _ c.in_ok-serve_clients.ensures.served)
 
 pub returns-in_err-write_tail-clause-text : goal.returns-in_err-write_tail-clause-text
 returns-in_err-write_tail-clause-text g c =
