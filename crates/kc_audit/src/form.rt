@@ -164,10 +164,7 @@ fn phase_form(text: &[u8], from: usize) -> Form
     ensures kind { kind_told text.now result ≡ phase_kind (first_number (words (drop from text.now))) }
     ensures within { IsWithin text.now result }
 {
-    match number_at(text, from) {
-        Some((phase, end)) => direction_form(text, end, phase),
-        None => Form::Other,
-    }
+    number_at(text, from).map_or(Form::Other, |(phase, end)| direction_form(text, end, phase))
 }
 
 fn group_form(text: &[u8], from: usize) -> Form
@@ -189,10 +186,7 @@ fn reader_form(text: &[u8], from: usize) -> Form
     ensures kind { kind_told text.now result ≡ reader_kind (first_number (words (drop from text.now))) }
     ensures within { IsWithin text.now result }
 {
-    match number_at(text, from) {
-        Some((reader, from)) => Form::Reader { reader, from },
-        None => Form::Other,
-    }
+    number_at(text, from).map_or(Form::Other, |(reader, from)| Form::Reader { reader, from })
 }
 
 fn vertex_form(text: &[u8], from: usize) -> Form

@@ -118,30 +118,15 @@ fn kind_of_line(name: &[u8], text: &[u8], end: usize) -> Kind
     ensures { result ≡ kind_of_words (name.now ∷ words (drop end text.now)) }
 {
     if is_named(name, b"edge") {
-        match two_numbers(text, end) {
-            Some((a, b)) => Kind::Edge(a, b),
-            None => Kind::Other,
-        }
+        two_numbers(text, end).map_or(Kind::Other, |(a, b)| Kind::Edge(a, b))
     } else if is_named(name, b"level") {
-        match two_numbers(text, end) {
-            Some((v, level)) => Kind::Level(v, level),
-            None => Kind::Other,
-        }
+        two_numbers(text, end).map_or(Kind::Other, |(v, level)| Kind::Level(v, level))
     } else if is_named(name, b"vertices") {
-        match one_number(text, end) {
-            Some(n) => Kind::Vertices(n),
-            None => Kind::Other,
-        }
+        one_number(text, end).map_or(Kind::Other, Kind::Vertices)
     } else if is_named(name, b"edges") {
-        match one_number(text, end) {
-            Some(count) => Kind::EdgeCount(count),
-            None => Kind::Other,
-        }
+        one_number(text, end).map_or(Kind::Other, Kind::EdgeCount)
     } else if is_named(name, b"profile") {
-        match profile_in(text, end) {
-            Some(profile) => Kind::Profile(profile),
-            None => Kind::Other,
-        }
+        profile_in(text, end).map_or(Kind::Other, Kind::Profile)
     } else if is_named(name, b"kcore-cert") && is_version(text, end) {
         Kind::Magic
     } else if is_named(name, b"end") && next_word(text, end).is_none() {
