@@ -65,26 +65,9 @@ struct Opened<'a> {
     writer: Writer,
 }
 
-// Applies the batches. Readers learn when the batches begin and when they have ended, also after a fault.
-fn run_told<R: Threads + Sync, S: Source, K: Sink, G: Gate + Sync>(
-    context: &SessionContext<'_, R, G>,
-    watched: &mut Watched<'_>,
-    reader: &mut LineReader,
-    src: &mut S,
-    sink: &mut K,
-) -> Result<Counts, SessionFault>
-    requires ready { IsReadyFor context.now.n watched.old }
-    ensures run { AreRun context.now.report watched.old watched.new (batches_for context.now.n context.now.profile reader.old (S.left src.old)) (K.taken sink.old) (K.taken sink.new) result }
-    ensures cause { FaultCause (S.faults src.old) (S.faults src.new) (K.faults sink.old) (K.faults sink.new) result }
-{
-    context.progress.begin();
-    let counts = run_batches(context, watched, reader, src, sink);
-    context.progress.end();
-    counts
-}
-
-// Applies the batches while the agents ask. The agents are the audience. If the system starts no thread, the agents run
-// last: before the batches they would look in vain for a beginning.
+// Applies the batches while the agents ask. The agents are the audience. They learn when the batches begin and when
+// these have ended, also after a fault. If the system starts no thread, the agents run last: before the batches they
+// would look in vain for a beginning.
 fn side_by_side<R: Threads + Sync, S: Source + Send, K: Sink + Send, G: Gate + Sync>(
     context: &SessionContext<'_, R, G>,
     watched: &mut Watched<'_>,
@@ -111,7 +94,12 @@ fn side_by_side<R: Threads + Sync, S: Source + Send, K: Sink + Send, G: Gate + S
         { run_agents(rt, gate, store, progress, agents) },
         &mut ||
             requires { IsSync R.row × IsSync G.row × IsReadyFor context.now.n watched.now }
-        { run_told(context, watched, reader, src, sink) },
+        {
+            progress.begin();
+            let counts = run_batches(context, watched, reader, src, sink);
+            progress.end();
+            counts
+        },
     )
     .1
 }
