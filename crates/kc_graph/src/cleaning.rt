@@ -113,9 +113,7 @@ fn bits_below(n: u32) -> u32
 
 // Returns the net effect of a batch without isolations, by a walk over its sorted keys (`walk_by`).
 fn clean_pairs<R: Threads + Sync>(
-    rt: &R,
-    alloc: Global,
-    workers: u32,
+    crew: &Crew<'_, R>,
     graph: &Graph,
     items: &[Item],
 ) -> Result<Cleaned, AllocError>
@@ -125,18 +123,15 @@ fn clean_pairs<R: Threads + Sync>(
     ensures { IfOk result (λ c. c ≡ cleaned graph.now items.now) }
 {
     let bits = bits_below(graph.vertices());
-    let keys = sorted_keys(rt, alloc, workers, bits, items)?;
-    let crew = Crew { rt, alloc, workers };
-    let mut cleaned = walk_by(&crew, graph, bits, &keys)?;
+    let keys = sorted_keys(crew, bits, items)?;
+    let mut cleaned = walk_by(crew, graph, bits, &keys)?;
     cleaned.loops = (items.len() - keys.len()) as u32;
     Ok(cleaned)
 }
 
 // Returns the net effect of any batch, by a walk from its last item to its first.
 fn clean_all<R: Threads + Sync>(
-    rt: &R,
-    alloc: Global,
-    workers: u32,
+    crew: &Crew<'_, R>,
     graph: &Graph,
     items: &[Item],
 ) -> Result<Cleaned, AllocError>
@@ -146,9 +141,9 @@ fn clean_all<R: Threads + Sync>(
 {
     // The contract of `vertices` says that the edges of the graph ascend.
     let _ = graph.vertices();
-    let mut cleaned = walk_back(alloc, graph, items)?.cleaned;
-    cleaned.removed.sort(rt, workers);
-    cleaned.added.sort(rt, workers);
+    let mut cleaned = walk_back(crew.alloc, graph, items)?.cleaned;
+    cleaned.removed.sort(crew.rt, crew.workers);
+    cleaned.added.sort(crew.rt, crew.workers);
     Ok(cleaned)
 }
 
@@ -180,10 +175,11 @@ pub fn clean_by<R: Threads + Sync>(
     requires few { length items.now ≤ MAX_ITEMS }
     ensures { IfOk result (λ c. c ≡ cleaned graph.now items.now) }
 {
+    let crew = Crew { rt, alloc, workers };
     if has_isolation(items) {
-        clean_all(rt, alloc, workers, graph, items)
+        clean_all(&crew, graph, items)
     } else {
-        clean_pairs(rt, alloc, workers, graph, items)
+        clean_pairs(&crew, graph, items)
     }
 }
 

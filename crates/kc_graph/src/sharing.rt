@@ -136,6 +136,32 @@ fn cut_in_two<'a>(halves: Halves<'a>) -> Option<Cut<'a>>
     }
 }
 
+impl<'a> Part<'a> {
+    ghost use Rattle.std.specs.Prelude.{◌≡◌};
+
+    // Cuts the part in two at a vertex, if the crew has two workers or more and the halves are enough. Returns none if
+    // it isn't cut.
+    fn cut<R>(self, crew: &Crew<'_, R>) -> Option<(Part<'a>, Part<'a>)>
+        ensures several { IfSome result (λ r. 2 ≤ crew.now.workers) }
+        ensures first { IfSome result (λ r. r.0.first ≡ self.entry.first) }
+        ensures halves { IfSome result (λ r. IsCut (halves_of self.entry.halves) r.1.first (halves_of r.0.halves) (halves_of r.1.halves)) }
+    {
+        if crew.workers < 2 || self.halves.len() / 2 < LEAST_PART {
+            return None;
+        }
+        let cut = cut_in_two(self.halves)?;
+        let low = Part {
+            first: self.first,
+            halves: cut.low,
+        };
+        let high = Part {
+            first: cut.v,
+            halves: cut.high,
+        };
+        Some((low, high))
+    }
+}
+
 // Does what `give_all` does, with the threads of the crew if the halves are enough to be cut. Each thread has the rows
 // of consecutive vertices for itself, and the halves of these.
 #[cycle(giving)]
@@ -148,19 +174,9 @@ fn give_parts<R: Threads + Sync>(
     ensures ok { OnOk result (AreGiven part.entry.first rows.old rows.new (halves_of part.entry.halves)) }
     ensures some { AreGivenSome part.entry.first rows.old rows.new (halves_of part.entry.halves) }
 {
-    if crew.workers >= 2 && LEAST_PART <= part.halves.len() / 2 {
-        if let Some(cut) = cut_in_two(part.halves) {
-            let low = Part {
-                first: part.first,
-                halves: cut.low,
-            };
-            let high = Part {
-                first: cut.v,
-                halves: cut.high,
-            };
-            let (front, back) = rows.split_at_mut((cut.v - part.first) as usize);
-            return give_both(crew, low, high, front, back);
-        }
+    if let Some((low, high)) = part.cut(crew) {
+        let (front, back) = rows.split_at_mut((high.first - part.first) as usize);
+        return give_both(crew, low, high, front, back);
     }
     give_all(part.first, part.halves, rows)
 }
@@ -203,20 +219,10 @@ fn take_parts<R: Threads + Sync>(crew: &Crew<'_, R>, part: Part<'_>, rows: &mut 
     requires { AreInside part.first (length rows.old) (halves_of part.halves) }
     ensures { AreTaken part.entry.first rows.old rows.new (halves_of part.entry.halves) }
 {
-    if crew.workers >= 2 && LEAST_PART <= part.halves.len() / 2 {
-        if let Some(cut) = cut_in_two(part.halves) {
-            let low = Part {
-                first: part.first,
-                halves: cut.low,
-            };
-            let high = Part {
-                first: cut.v,
-                halves: cut.high,
-            };
-            let (front, back) = rows.split_at_mut((cut.v - part.first) as usize);
-            take_both(crew, low, high, front, back);
-            return;
-        }
+    if let Some((low, high)) = part.cut(crew) {
+        let (front, back) = rows.split_at_mut((high.first - part.first) as usize);
+        take_both(crew, low, high, front, back);
+        return;
     }
     take_all(part.first, part.halves, rows);
 }

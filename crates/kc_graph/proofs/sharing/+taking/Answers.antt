@@ -3,23 +3,23 @@ use Rattle.kc_graph.specs.private.HalfLists.{halves_of}
 use Rattle.kc_graph.proofs.SharingLemmas.{cut_row, low_inside, high_inside, taken_in_both}
 use Rattle.kc_graph.proofs.sharing.+taking.Goals as goal
 
-pub take_parts-overflow_sub-cut : goal.take_parts-overflow_sub-cut
-take_parts-overflow_sub-cut g t c = (cut_row c.args.part.first c.in-Some.cut.v (halves_of c.args.part.halves) (halves_of c.in-Some.cut.low) (halves_of c.in-Some.cut.high) c.in-Some.ensures (length c.args.rows.now) c.requires).0
+pub take_parts-overflow_sub-high : goal.take_parts-overflow_sub-high
+take_parts-overflow_sub-high g t c = (cut_row c.args.part.first c.in-Some.high.first (halves_of c.args.part.halves) (halves_of c.in-Some.low.halves) (halves_of c.in-Some.high.halves) c.in-Some.ensures.halves (length c.args.rows.now) c.requires).0
 
 pub take_parts-split_at_mut-front-requires : goal.take_parts-split_at_mut-front-requires
 take_parts-split_at_mut-front-requires g t c =
-    let row = cut_row c.args.part.first c.in-Some.cut.v (halves_of c.args.part.halves) (halves_of c.in-Some.cut.low) (halves_of c.in-Some.cut.high) c.in-Some.ensures (length c.args.rows.now) c.requires in
+    let row = cut_row c.args.part.first c.in-Some.high.first (halves_of c.args.part.halves) (halves_of c.in-Some.low.halves) (halves_of c.in-Some.high.halves) c.in-Some.ensures.halves (length c.args.rows.now) c.requires in
     omega (arith, row.0, row.1)
 
 pub take_parts-take_both-requires-clause-front : goal.take_parts-take_both-requires-clause-front
-take_parts-take_both-requires-clause-front g t c κs within =
-    (low_inside c.args.part.first c.in-Some.cut.v (halves_of c.args.part.halves) (halves_of c.in-Some.cut.low) (halves_of c.in-Some.cut.high) c.in-Some.ensures (length c.args.rows.now) _ c.requires c.split_at_mut-front.ensures.front_len)
+take_parts-take_both-requires-clause-front g t c κs within = rw c.in-Some.ensures.first
+    (low_inside c.args.part.first c.in-Some.high.first (halves_of c.args.part.halves) (halves_of c.in-Some.low.halves) (halves_of c.in-Some.high.halves) c.in-Some.ensures.halves (length c.args.rows.now) _ c.requires c.split_at_mut-front.ensures.front_len)
 
 pub take_parts-take_both-requires-clause-back : goal.take_parts-take_both-requires-clause-back
 take_parts-take_both-requires-clause-back g t c κs within =
-    (high_inside c.args.part.first c.in-Some.cut.v (halves_of c.args.part.halves) (halves_of c.in-Some.cut.low) (halves_of c.in-Some.cut.high) c.in-Some.ensures (length c.args.rows.now) _ c.requires c.split_at_mut-front.ensures.back_len)
+    (high_inside c.args.part.first c.in-Some.high.first (halves_of c.args.part.halves) (halves_of c.in-Some.low.halves) (halves_of c.in-Some.high.halves) c.in-Some.ensures.halves (length c.args.rows.now) _ c.requires c.split_at_mut-front.ensures.back_len)
 
 pub take_parts-returns-in-Some : goal.take_parts-returns-in-Some
 take_parts-returns-in-Some g t c =
-    let row = cut_row c.args.part.first c.in-Some.cut.v (halves_of c.args.part.halves) (halves_of c.in-Some.cut.low) (halves_of c.in-Some.cut.high) c.in-Some.ensures (length c.args.rows.now) c.requires in
-    taken_in_both c.args.part.first c.in-Some.cut.v (halves_of c.args.part.halves) (halves_of c.in-Some.cut.low) (halves_of c.in-Some.cut.high) c.in-Some.ensures c.args.rows.now c.split_at_mut-front.result.0.now c.split_at_mut-front.result.1.now _ _ c.split_at_mut-front.ensures.value row.0 c.split_at_mut-front.ensures.front_len (c.take_both.ensures.front) (c.take_both.ensures.back)
+    let row = cut_row c.args.part.first c.in-Some.high.first (halves_of c.args.part.halves) (halves_of c.in-Some.low.halves) (halves_of c.in-Some.high.halves) c.in-Some.ensures.halves (length c.args.rows.now) c.requires in
+    taken_in_both c.args.part.first c.in-Some.high.first (halves_of c.args.part.halves) (halves_of c.in-Some.low.halves) (halves_of c.in-Some.high.halves) c.in-Some.ensures.halves c.args.rows.now c.split_at_mut-front.result.0.now c.split_at_mut-front.result.1.now _ _ c.split_at_mut-front.ensures.value row.0 c.split_at_mut-front.ensures.front_len (rw c.in-Some.ensures.first at c.take_both.ensures.front) (c.take_both.ensures.back)
