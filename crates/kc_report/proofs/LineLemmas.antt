@@ -11,7 +11,7 @@ use Rattle.kc_text.proofs.lemmas.Writing.{appends_send, prefix_all}
 use Rattle.kc_graph.specs.declared.cleaning.Cleaned.{Cleaned}
 use Rattle.kc_levels.specs.declared.thresholds.Estimate.{Estimate}
 use Rattle.kc_report.specs.Lines.{vertices_line, batch_line, refusal_line, refused_line, note_line, vertex_line, coreness_line}
-use Rattle.kc_report.specs.VertexLines.{level_words}
+use Rattle.kc_report.specs.private.LevelWords.{level_words}
 
 -- a text by another name
 pub appends_as : {T : Type 0} → (before now : Option (List ℕ)) (text line : List ℕ) (result : Result T SendFault) → text ≡ line → Appends before now text result → Appends before now line result

@@ -11,7 +11,8 @@ use Rattle.kc_levels.specs.declared.profile.Profile.{Profile}
 use Rattle.kc_levels.specs.LevelList.{at_least}
 use Rattle.kc_report.specs.declared.vertices.VertexCounts.{VertexCounts}
 use Rattle.kc_report.specs.Lines.{vertex_line, end_line}
-use Rattle.kc_report.specs.VertexLines.{vertex_lines, vertex_text, tail_text, estimate_of, counted_line, AreCounts}
+use Rattle.kc_report.specs.VertexLines.{vertex_lines, vertex_text, tail_text, estimate_of, AreCounts}
+use Rattle.kc_report.specs.private.LevelWords.{counted_line}
 
 -- the lines of the vertices below n begin with those below v
 lines_begin : (line : ℕ → List ℕ) (v n : ℕ) → v ≤ n → (rest : List ℕ) × (vertex_lines line n ≡ vertex_lines line v ++ rest)

@@ -5,7 +5,8 @@ use Rattle.std.proofs.lemmas.List.{length_push, get_or_push, get_or_append_left}
 use Rattle.kc_levels.specs.declared.profile.Profile.{Profile}
 use Rattle.kc_levels.specs.declared.thresholds.Estimate.{Estimate}
 use Rattle.kc_levels.specs.Thresholds.{est, lo, high, group_of}
-use Rattle.kc_report.specs.VertexLines.{level_words, estimate_of, AreLevelWords}
+use Rattle.kc_report.specs.VertexLines.{estimate_of}
+use Rattle.kc_report.specs.private.LevelWords.{level_words, AreLevelWords}
 
 -- the words of one more level
 pub words_more : (p : Profile) (n k : ℕ) (e : Estimate) (words : List (List ℕ)) (next : List ℕ) → AreLevelWords p n words → length words ≡ k → next ≡ level_words k e

@@ -1,3 +1,4 @@
 pub mod Buffer
 pub mod Lines
 pub mod VertexLines
+pub mod private

@@ -1,11 +1,10 @@
 -- The lines of the vertices of a graph.
-use Rattle.std.specs.Prelude.{ℕ, zero, suc, ◌≡◌, ◌<◌, ◌-◌, List, [], ◌++◌, length, get_or, decimal, codes}
+use Rattle.std.specs.Prelude.{ℕ, zero, suc, ◌≡◌, ◌<◌, ◌-◌, List, [], ◌++◌, length, get_or}
 use Rattle.kc_graph.specs.Shape.{GraphShape}
 use Rattle.kc_levels.specs.declared.profile.Profile.{Profile}
 use Rattle.kc_levels.specs.declared.thresholds.Estimate.{Estimate}
 use Rattle.kc_levels.specs.Thresholds.{Scale, est, lo, high, group_of}
 use Rattle.kc_levels.specs.LevelList.{at_least, IsCapped}
-use Rattle.kc_report.specs.declared.vertices.VertexCounts.{VertexCounts}
 use Rattle.kc_report.specs.Lines.{vertex_line, end_line}
 
 -- the lines of the vertices below k; `line` gives the line of each vertex
@@ -16,20 +15,6 @@ vertex_lines line (suc k) = vertex_lines line k ++ line k
 -- what a level says of the coreness in a graph with n vertices
 abbrev pub estimate_of : Profile → ℕ → ℕ → Estimate
 estimate_of p n level = let j = group_of p n level in record { est = est p j; lo = lo p j; hi = high p j }
-
--- the words of a vertex line from its level to the name of its first count
-abbrev pub level_words : ℕ → Estimate → List ℕ
-level_words level e =
-    codes " level " ++ (decimal level ++ (codes " est " ++ (decimal e.est
-    ++ (codes " low " ++ (decimal e.lo ++ (codes " high " ++ (decimal e.hi ++ codes " up ")))))))
-
--- the list at each place has the words of the level of that number
-abbrev pub AreLevelWords : Profile → ℕ → List (List ℕ) → Type 0
-AreLevelWords p n words = (level : ℕ) → level < length words → get_or words level [] ≡ level_words level (estimate_of p n level)
-
--- the line of a vertex with these counts, and what its level says of its coreness
-abbrev pub counted_line : Profile → ℕ → VertexCounts → List ℕ
-counted_line p n c = vertex_line c.v c.level (estimate_of p n c.level) c.up c.down
 
 -- the line of vertex v of a graph with levels of a profile
 --

@@ -1,7 +1,7 @@
 //! The words of vertex lines that a level decides. They are composed once for each level.
 ghost use Rattle.std.specs.Prelude.{◌≡◌, ℕ, ◌<◌, ◌≤◌, ◌++◌, [], IfOk, OnOk, length, slice_index, get_or, decimal, codes};
 ghost use Rattle.kc_levels.specs.Thresholds.{top_level};
-ghost use Rattle.kc_report.specs.VertexLines.{level_words, AreLevelWords};
+ghost use Rattle.kc_report.specs.private.LevelWords.{level_words, AreLevelWords};
 
 use kc_levels::{Estimate, Thresholds};
 use kc_text::LineBuf;

@@ -4,7 +4,8 @@ ghost use Rattle.kc_levels.specs.declared.profile.Profile.{Profile};
 ghost use Rattle.kc_text.specs.Writing.{Appends, WriteCause};
 ghost use Rattle.kc_report.specs.Buffer.{IsCleared};
 ghost use Rattle.kc_report.specs.Lines.{vertex_line};
-ghost use Rattle.kc_report.specs.VertexLines.{counted_line, AreLevelWords, AreLevels, GivesCounts, tail_text};
+ghost use Rattle.kc_report.specs.VertexLines.{AreLevels, GivesCounts, tail_text};
+ghost use Rattle.kc_report.specs.private.LevelWords.{counted_line, AreLevelWords};
 
 use crate::head::put_end;
 use crate::level_words::{LevelWords, fill_bounds};

@@ -1,5 +1,5 @@
 use Rattle.std.proofs.Common.{◌≡◌, length}
-use Rattle.kc_report.specs.VertexLines.{AreLevelWords}
+use Rattle.kc_report.specs.private.LevelWords.{AreLevelWords}
 use Rattle.kc_report.proofs.level_words.compose_up_to.Given as goal
 
 abbrev pub invariant-loop-next : goal.invariant-loop-next

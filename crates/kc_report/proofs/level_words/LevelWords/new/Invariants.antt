@@ -1,5 +1,5 @@
 use Rattle.std.proofs.Common.{ℕ, ◌<◌, length, slice_index}
-use Rattle.kc_report.specs.VertexLines.{AreLevelWords}
+use Rattle.kc_report.specs.private.LevelWords.{AreLevelWords}
 use Rattle.kc_report.proofs.level_words.LevelWords.new.Given as goal
 
 abbrev pub invariant-loop-level : goal.invariant-loop-level

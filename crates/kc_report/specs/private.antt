@@ -1,0 +1,2 @@
+-- Words of private contracts and loop invariants: no public contract needs them.
+pub mod LevelWords
