@@ -1,6 +1,6 @@
 #!/usr/bin/env python3
 """Checks that each edit still fits the sources: those of crates/CRATE/must-fail, of checks/refused/CRATE and of
-hostile/edits/CRATE. Runs in the gate, after `rt ci`.
+hostile/edits/CRATE, and the wrong bodies of hostile/bodies.py. Runs in the gate, after `rt ci`.
 
     checks/edits.py
 
@@ -8,8 +8,9 @@ An edit is a wrong body. Its file names a source file of the crate (`file:`), an
 once (`old:`) and its replacement (`new:`). Each edit has a row in hostile/edits/TABLE.md, and the calls and clauses
 that a row names stand on checks/clauses.txt. Prints what is wrong, and a last line that counts; ends with 1 if
 something is wrong. Whether they are refused is tried by `rt ci` (must-fail), by checks/refused.py, and by hand by
-hostile/edits.py.
+hostile/edits.py and hostile/bodies.py.
 """
+import importlib.util
 import os
 import re
 import sys
@@ -111,6 +112,15 @@ def check_table(names):
     return wrong
 
 
+def check_bodies():
+    """Returns the number of wrong bodies in hostile/bodies.py, and those that no longer fit."""
+    spec = importlib.util.spec_from_file_location("bodies", os.path.join(TOP, "hostile", "bodies.py"))
+    module = importlib.util.module_from_spec(spec)
+    spec.loader.exec_module(module)
+    unfit = [body for body in module.BODIES if module.changed(read(os.path.join(CRATES, body.crate, body.file)), body) is None]
+    return len(module.BODIES), [f"hostile/bodies.py: {body.crate}: {body.name}: a text that it replaces doesn't stand there once" for body in unfit]
+
+
 def main():
     wrong, counts, names = [], [], {}
     for folder in CRATES, REFUSED, OTHERS:
@@ -125,9 +135,11 @@ def main():
             except (Unfit, OSError) as error:
                 wrong.append(f"{crate} {name}: {error}")
     wrong += check_table(names)
+    bodies, unfit = check_bodies()
+    wrong += unfit
     for what in wrong:
         print(what)
-    print(f"{counts[0] + counts[1]} edits of the gate and {counts[2]} others, {len(wrong)} wrong")
+    print(f"{counts[0] + counts[1]} edits of the gate, {counts[2]} others and {bodies} bodies, {len(wrong)} wrong")
     sys.exit(1 if wrong else 0)
 
 

@@ -198,8 +198,8 @@ pub fn clean_by<R: Threads + Sync>(
 /// - a look-up in a tree for each item and for each neighbour of an isolated vertex, once a vertex;
 /// - a sort of the two lists, and memory for the tree in place of the keys.
 ///
-/// Threads share the look-ups as in `clean_by` with 64 workers. Each has lists of its own, which are put together, so
-/// these take memory twice.
+/// Without isolations threads share the look-ups as in `clean_by` with 64 workers. Each has lists of its own, which are
+/// put together, so these take memory twice.
 ///
 /// As many threads as the runtime has sort a list of 65,536 keys or edges or more. The calling thread alone sorts a
 /// shorter one. If it has 2,048 keys or more, it deals them to buckets four times, with two passes each time. Meanwhile

@@ -1,8 +1,8 @@
 //! The lines of a run and of an exact text, and the end of any text with a line for each vertex.
 //!
 //! A call that writes clears the line buffer, fills it with a line and sends it whole. The sink takes the lines of the
-//! definition that the call names. A line of this crate has at most 106 bytes; the vertices of a group or of a reader
-//! come on top. The buffer keeps its memory for the next line.
+//! definition that the call names. A line of this crate has at most 106 bytes. The vertices of a group or of a reader,
+//! and the words of an opening, come on top. The buffer keeps its memory for the next line.
 //!
 //! After either fault the sink took a prefix of the lines.
 //!

@@ -168,7 +168,7 @@ impl Command {
         of_two(words.word(0), words.word(1))
     }
 
-    /// Returns the most threads that the command uses at once, 1 to 64: its number of workers, or 1 if it has none.
+    /// Returns the number of workers of the command, 1 to 64: 1 if it names none.
     pub fn workers(self) -> u32
         requires { FitsWorkers (Some self) }
         ensures { (1 ≤ result) × (result ≤ 64) }
