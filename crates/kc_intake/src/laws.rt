@@ -2,11 +2,11 @@
 
 ghost use Rattle.kc_intake.specs.OneClient.{FillsAlone};
 
-/// If client c alone submits, its user may pick the invariant that all updates are of c. Then c finds the intake full
-/// only once it has submitted as many items as the intake holds.
+/// If client c alone submits, it finds the intake full only after it has submitted as many items as the intake holds.
 ///
-/// So no call can answer `Full` before it saw a step of the queue. The calls of an intake are proved for every
-/// invariant, and for a client that has submitted fewer items this invariant makes the answer false.
+/// The calls of an intake are proved for every invariant that its user picks. Here the user picks "all updates are of
+/// c". With it `Full` can't be true for a client that has submitted fewer items. So no call may answer `Full` without
+/// a step of the queue that says so.
 pub fn one_client_fills_it_alone()
     ensures { FillsAlone }
 {}
