@@ -87,8 +87,8 @@ pub fn is_named(word: &[u8], name: &[u8]) -> bool
 pub fn is_skipped(line: &[u8]) -> bool
     ensures { result ≡ is_skip (words line.now) }
 {
-    match next_word(line, 0) {
-        Some((start, _)) => line[start] == b'#',
+    match split_word(line) {
+        Some((first, _)) => first[0] == b'#',
         None => true,
     }
 }
