@@ -135,9 +135,9 @@ fn kind_of_line(first: &[u8], rest: &[u8]) -> Kind
     kind_of_three(first, second, third)
 }
 
-// Returns the meaning of a line, or None if the line is skipped.
+/// Returns the meaning of a line, or None if the line is skipped.
 #[tactic(auto, unfolding(crate::specs::private::Tokens::kind_of_text))]
-fn classify(text: &[u8]) -> Option<Kind>
+pub fn classify(text: &[u8]) -> Option<Kind>
     ensures { result ≡ kind_of_text text.now }
 {
     let (first, rest) = split_word(text)?;
@@ -147,9 +147,9 @@ fn classify(text: &[u8]) -> Option<Kind>
     Some(kind_of_line(first, rest))
 }
 
-// Returns the item of a line of two numbers.
+/// Returns the item of a line of two numbers.
 #[inline(always)]
-fn item_of(line: NumberLine) -> Item
+pub fn item_of(line: NumberLine) -> Item
     ensures { result ≡ item_of line.sign line.first line.second }
 {
     let (u, v) = (line.first, line.second);
