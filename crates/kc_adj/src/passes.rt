@@ -175,14 +175,13 @@ pub fn par_lift_counts<R: Threads + Sync, L: Ledger>(
     ensures err { OnErr result (counts.new ≡ counts.old) }
     ensures steps_kept { OnErr result (steps.new ≡ steps.old) }
 {
-    let pieces = crew.pieces(vertices.len(), LEAST_LIFTED);
-    if vertices.is_empty() || pieces == 1 {
+    let size = crew.piece_len(vertices.len(), LEAST_LIFTED);
+    if vertices.len() <= size {
         lift_counts(lift, counts, vertices, steps);
         return Ok(());
     }
     let alloc = crew.alloc;
     let _n = lift.graph.vertices();
-    let size = vertices.len().div_ceil(pieces);
     let found = thread::map_chunks(
         crew.rt,
         alloc,

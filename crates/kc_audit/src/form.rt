@@ -1,5 +1,5 @@
 //! What each line of a run text says by itself.
-ghost use Rattle.std.specs.Prelude.{◌≡◌, ◌≤◌, length, drop};
+ghost use Rattle.std.specs.Prelude.{◌≡◌, ◌≤◌, length, drop, false, IfSome, IfNone};
 ghost use Rattle.kc_text.specs.Words.{words};
 ghost use Rattle.kc_text.specs.Kept.{text_of};
 ghost use Rattle.kc_audit.specs.Words.{first_number};
@@ -7,7 +7,7 @@ ghost use Rattle.kc_audit.specs.Kinds.{is_version, names_reason, is_refusal, ver
 ghost use Rattle.kc_audit.specs.private.Kinds.{kind_told, IsWithin};
 
 use crate::words::{has_fields, is_at_end, number_at};
-use kc_text::{Body, Line, Reason, is_named, next_word, read_number};
+use kc_text::{Body, Line, Reason, is_named, next_word, read_number, split_word};
 
 /// The kind of a line, wherever it stands. The numbers are any numbers; those that no rule uses are left out.
 #[derive(Clone, Copy, Debug, PartialEq, Eq)]
@@ -49,17 +49,13 @@ pub struct FormLine<'a> {
     pub text: &'a [u8],
 }
 
-// Returns whether the one word at or after `from` is `1`.
+// Returns whether the one word of a text is `1`.
 #[tactic(auto, unfolding(crate::specs::Kinds::is_version))]
-fn is_version(text: &[u8], from: usize) -> bool
-    requires { from ≤ length text.now }
-    ensures { result ≡ is_version (words (drop from text.now)) }
+fn is_version(text: &[u8]) -> bool
+    ensures { result ≡ is_version (words text.now) }
 {
-    match next_word(text, from) {
-        Some((start, end)) => {
-            let version = &text[start..end];
-            next_word(text, end).is_none() && is_named(version, b"1")
-        }
+    match split_word(text) {
+        Some((version, rest)) => split_word(rest).is_none() && is_named(version, b"1"),
         None => false,
     }
 }
@@ -77,31 +73,30 @@ fn names_reason(word: &[u8]) -> bool
         || is_named(word, Reason::PhaseLimit.word())
 }
 
-// Returns whether the words at or after `from` are `refused line N REASON`.
+// Returns whether four words are `refused line N REASON`, or None if there are fewer or more.
 #[tactic(auto, unfolding(crate::specs::Kinds::is_refusal))]
-fn is_refusal(text: &[u8], from: usize) -> bool
-    requires { from ≤ length text.now }
-    ensures { result ≡ is_refusal (words (drop from text.now)) }
+fn refusal_in(text: &[u8]) -> Option<bool>
+    ensures four { IfSome result (λ is. is ≡ is_refusal (words text.now)) }
+    ensures other { IfNone result (is_refusal (words text.now) ≡ false) }
 {
-    let Some((start, end)) = next_word(text, from) else {
-        return false;
-    };
-    let refused = &text[start..end];
-    let Some((start, end)) = next_word(text, end) else {
-        return false;
-    };
-    let line = &text[start..end];
-    let Some((start, end)) = next_word(text, end) else {
-        return false;
-    };
-    let number = &text[start..end];
-    let Some((start, end)) = next_word(text, end) else {
-        return false;
-    };
-    let reason = &text[start..end];
-    next_word(text, end).is_none()
-        && (is_named(refused, b"refused")
-            && (is_named(line, b"line") && (read_number(number).is_some() && names_reason(reason))))
+    let (refused, rest) = split_word(text)?;
+    let (line, rest) = split_word(rest)?;
+    let (number, rest) = split_word(rest)?;
+    let (reason, rest) = split_word(rest)?;
+    if split_word(rest).is_some() {
+        return None;
+    }
+    Some(
+        is_named(refused, b"refused")
+            && (is_named(line, b"line") && (read_number(number).is_some() && names_reason(reason))),
+    )
+}
+
+// Returns whether the words of a text are `refused line N REASON`.
+fn is_refusal(text: &[u8]) -> bool
+    ensures { result ≡ is_refusal (words text.now) }
+{
+    refusal_in(text).unwrap_or(false)
 }
 
 fn vertices_form(text: &[u8], from: usize) -> Form
@@ -125,7 +120,7 @@ fn batch_form(text: &[u8], from: usize) -> Form
     };
     if has_fields(text, end, b"loops repeats idle removed added") {
         Form::Accepted(batch)
-    } else if is_refusal(text, end) {
+    } else if is_refusal(&text[end..]) {
         Form::Refused(batch)
     } else {
         Form::Other
@@ -220,7 +215,7 @@ fn named_form(name: &[u8], text: &[u8], from: usize) -> Form
     } else if is_named(name, b"vertices") {
         vertices_form(text, from)
     } else if is_named(name, b"kcore-run") {
-        if is_version(text, from) {
+        if is_version(&text[from..]) {
             Form::Head
         } else {
             Form::Other

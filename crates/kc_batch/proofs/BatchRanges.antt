@@ -20,7 +20,7 @@ use Rattle.kc_batch.specs.private.Turns.{IsTurn}
 use Rattle.kc_batch.specs.Batches.{Place, Between, Within, Passing, batches_from, step_between, step_within, step_passing, IsNext}
 use Rattle.kc_batch.specs.RangeLaw.{BatchesKeepRanges}
 
-inside_is : (n : ℕ) (item : Item) → is_inside n item ≡ true → IsInside n item
+pub inside_is : (n : ℕ) (item : Item) → is_inside n item ≡ true → IsInside n item
 inside_is n (Insert u v) e = grind (arith, nat_tests, e)
 inside_is n (Delete u v) e = grind (arith, nat_tests, e)
 inside_is n (Isolate v) e = grind (arith, nat_tests, e)

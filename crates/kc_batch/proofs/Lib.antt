@@ -1,4 +1,5 @@
 pub mod lemmas
+mod Aheads
 mod Asking
 mod BatchRanges
 mod FaultDecides

@@ -1,3 +1,4 @@
+pub mod Ahead
 pub mod BatchInputs
 pub mod Batches
 pub mod Causes

@@ -4,7 +4,7 @@ ghost use Rattle.kc_text.specs.Words.{words};
 
 use crate::text::{all_below, read_numbers};
 use kc_graph::List;
-use kc_text::{is_named, next_word, read_number};
+use kc_text::{is_named, read_number, split_word};
 use std::alloc::{AllocError, Global};
 
 // The most ask lines.
@@ -38,8 +38,8 @@ ghost use Rattle.kc_batch.specs.Headers.{is_ask, fits_ask, ask_in, IsAsk};
 pub fn is_ask(text: &[u8]) -> bool
     ensures { result ≡ is_ask (words text.now) }
 {
-    match next_word(text, 0) {
-        Some((start, end)) => is_named(&text[start..end], b"ask"),
+    match split_word(text) {
+        Some((name, _)) => is_named(name, b"ask"),
         None => false,
     }
 }
@@ -58,16 +58,16 @@ fn read_ask(alloc: Global, text: &[u8], n: u32) -> Result<Option<Ask>, AllocErro
     ensures ask { IfOk result (λ found. found ≡ ask_in n (words text.now)) }
     ensures fits { IfOk result (λ found. IfSome found (IsAsk n)) }
 {
-    let Some((_, end)) = next_word(text, 0) else {
+    let Some((_, rest)) = split_word(text) else {
         return Ok(None);
     };
-    let Some((start, end)) = next_word(text, end) else {
+    let Some((times, rest)) = split_word(rest) else {
         return Ok(None);
     };
-    let Some(times) = read_number(&text[start..end]) else {
+    let Some(times) = read_number(times) else {
         return Ok(None);
     };
-    let Some(vertices) = read_numbers(alloc, text, end)? else {
+    let Some(vertices) = read_numbers(alloc, rest)? else {
         return Ok(None);
     };
     if !fits_ask(n, times, vertices.as_slice()) {

@@ -1,10 +1,11 @@
 //! The next batch of an input: its items, or the line and the reason of its first fault.
-ghost use Rattle.std.specs.Prelude.{◌≡◌, ◌≤◌, [], IfOk, OnOk};
+ghost use Rattle.std.specs.Prelude.{◌≡◌, ◌≤◌, IfOk, OnOk};
 ghost use Rattle.std.specs.Option.{option_map};
 ghost use Rattle.kc_text.specs.Reading.{budget};
 ghost use Rattle.kc_batch.specs.Tokens.{tokens_left};
 
 use crate::Items;
+use crate::ahead::Ahead;
 use crate::await_fault::AwaitFault;
 use crate::rules::Rules;
 use crate::token::{Kind, next_token};
@@ -46,7 +47,9 @@ pub enum BatchFault {
     Memory(AllocError),
 }
 
-ghost use Rattle.kc_batch.specs.Batches.{after_end, items_from, with_next, IsEnd, IsNext, ReadsBatch, ReadsFirst, TakesBatch};
+ghost use Rattle.kc_batch.specs.Ahead.{ReadsAhead, FollowsAhead, ahead_budget};
+ghost use Rattle.kc_batch.specs.private.Ahead.{ReadsRest};
+ghost use Rattle.kc_batch.specs.Batches.{after_end, IsEnd, IsNext, ReadsBatch, ReadsFirst, TakesBatch};
 ghost use Rattle.kc_batch.specs.Causes.{AwaitCause, BatchCause};
 
 // Passes over the lines up to the next `end`, or up to the end of the input or its limit.
@@ -70,22 +73,26 @@ fn pass_to_end<S: Source, K: Sink>(
     }
 }
 
-// Reads the rest of a batch whose `batch` line was read.
+// Reads the rest of a batch whose `batch` line was read, and these items after it.
 fn read_items<S: Source, K: Sink>(
     alloc: Global,
     reader: &mut LineReader,
     src: &mut S,
     sink: &mut K,
-    rules: Rules,
+    ahead: Ahead,
 ) -> Result<Next, AwaitFault>
-    ensures batch { IfOk result (λ next. option_map (items_from rules []) (tokens_left reader.old (S.left src.old)) ≡ option_map (with_next next) (tokens_left reader.new (S.left src.new))) }
-    ensures sound { IfOk result (IsNext rules) }
+    ensures batch { IfOk result (ReadsRest ahead reader.old (S.left src.old) reader.new (S.left src.new)) }
+    ensures sound { IfOk result (IsNext ahead.rules) }
     ensures more { IfOk result (λ next. IsEnd next → ⊥) }
     ensures budget { OnOk result (budget reader.new ≤ budget reader.old) }
     ensures taken { K.taken sink.new ≡ K.taken sink.old }
     ensures cause { AwaitCause (S.faults src.old) (S.faults src.new) (K.faults sink.old) (K.faults sink.new) result }
 {
-    let mut items = Items::new(alloc);
+    let Ahead {
+        rules,
+        mut items,
+        ..
+    } = ahead;
     loop {
         let token = next_token(alloc, reader, src, sink)?;
         let line = token.number;
@@ -123,7 +130,8 @@ fn find_batch<S: Source, K: Sink>(
     let line = token.number;
     match token.kind {
         Kind::BatchStart => {
-            let next = read_items(alloc, reader, src, sink, rules)?;
+            let begun = Ahead::new(alloc, rules, true);
+            let next = read_items(alloc, reader, src, sink, begun)?;
             Ok(next)
         }
         Kind::BatchEnd => Ok(Next::Refused {
@@ -188,6 +196,39 @@ pub fn await_batch<S: Source, K: Sink>(
         item_limit,
     };
     let next = find_batch(alloc, reader, src, sink, rules)?;
+    Ok(next)
+}
+
+/// Reads the rest of a batch that was read ahead, or the next batch if none has begun. Flushes the sink before each
+/// read of the source, and fails, as [`await_batch`] does.
+pub fn await_rest<S: Source, K: Sink>(
+    alloc: Global,
+    reader: &mut LineReader,
+    src: &mut S,
+    sink: &mut K,
+    ahead: Ahead,
+) -> Result<Next, AwaitFault>
+    ensures batch { IfOk result (ReadsAhead ahead reader.old (S.left src.old) reader.new (S.left src.new)) }
+    ensures batches { IfOk result (FollowsAhead ahead reader.old (S.left src.old) reader.new (S.left src.new)) }
+
+    // The range clause holds whether or not the source tells its bytes.
+    ensures sound { IfOk result (IsNext ahead.rules) }
+
+    // After `End` the next call returns `End` again.
+    ensures again { IfOk result (λ next. IsEnd next → tokens_left reader.new (S.left src.new) ≡ tokens_left reader.old (S.left src.old)) }
+
+    // A caller's loop over the batches ends, since each batch takes some of the budget.
+    ensures takes { IfOk result (λ next. TakesBatch next (ahead_budget ahead reader.old) (budget reader.new)) }
+
+    // The sink takes nothing.
+    ensures taken { K.taken sink.new ≡ K.taken sink.old }
+    ensures cause { AwaitCause (S.faults src.old) (S.faults src.new) (K.faults sink.old) (K.faults sink.new) result }
+{
+    if ahead.begun {
+        let next = read_items(alloc, reader, src, sink, ahead)?;
+        return Ok(next);
+    }
+    let next = find_batch(alloc, reader, src, sink, ahead.rules)?;
     Ok(next)
 }
 

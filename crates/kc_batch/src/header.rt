@@ -9,7 +9,7 @@ use crate::ask::{is_ask, next_ask};
 use kc_graph::MAX_VERTICES;
 use kc_levels::Profile;
 use kc_text::{
-    LineFault, LineReader, Source, is_named, next_kept, next_word, read_number, text_of,
+    LineFault, LineReader, Source, is_named, next_kept, read_number, split_word, text_of,
 };
 use std::alloc::{AllocError, Global};
 use std::marker::Model;
@@ -97,11 +97,9 @@ fn profile_of(version: &[u8]) -> Option<Profile>
 fn profile_in(text: &[u8]) -> Option<Profile>
     ensures { result ≡ profile_in (words text.now) }
 {
-    let (start, end) = next_word(text, 0)?;
-    let name = &text[start..end];
-    let (start, end) = next_word(text, end)?;
-    let version = &text[start..end];
-    if next_word(text, end).is_some() || !is_named(name, b"kcore") {
+    let (name, rest) = split_word(text)?;
+    let (version, rest) = split_word(rest)?;
+    if split_word(rest).is_some() || !is_named(name, b"kcore") {
         return None;
     }
     profile_of(version)
@@ -113,11 +111,9 @@ pub fn vertices_in(text: &[u8]) -> Option<u32>
     ensures value { result ≡ vertices_in (words text.now) }
     ensures range { IfSome result (λ n. (1 ≤ n) × (n ≤ MAX_VERTICES)) }
 {
-    let (start, end) = next_word(text, 0)?;
-    let name = &text[start..end];
-    let (start, end) = next_word(text, end)?;
-    let count = &text[start..end];
-    if next_word(text, end).is_some() || !is_named(name, b"vertices") {
+    let (name, rest) = split_word(text)?;
+    let (count, rest) = split_word(rest)?;
+    if split_word(rest).is_some() || !is_named(name, b"vertices") {
         return None;
     }
     let n = read_number(count)?;

@@ -1,5 +1,5 @@
 //! Lists of numbers in the words of a line.
-ghost use Rattle.std.specs.Prelude.{◌≡◌, ◌≤◌, length, drop, false, nat_lt, IfOk};
+ghost use Rattle.std.specs.Prelude.{◌≡◌, false, nat_lt, IfOk};
 ghost use Rattle.std.specs.List.{list_all};
 ghost use Rattle.kc_text.specs.Words.{words};
 ghost use Rattle.kc_batch.specs.Headers.{numbers_of};
@@ -8,13 +8,12 @@ use crate::Vertices;
 use kc_text::{next_word, read_number};
 use std::alloc::{AllocError, Global};
 
-/// Returns the numbers in the words at or after `from`, or None if a word is no number.
-pub fn read_numbers(alloc: Global, text: &[u8], from: usize) -> Result<Option<Vertices>, AllocError>
-    requires { from ≤ length text.now }
-    ensures { IfOk result (λ numbers. numbers ≡ numbers_of (words (drop from text.now))) }
+/// Returns the numbers in the words of a text, or None if a word is no number.
+pub fn read_numbers(alloc: Global, text: &[u8]) -> Result<Option<Vertices>, AllocError>
+    ensures { IfOk result (λ numbers. numbers ≡ numbers_of (words text.now)) }
 {
     let mut numbers = Vertices::new(alloc);
-    let mut at = from;
+    let mut at = 0;
     while let Some((start, end)) = next_word(text, at) {
         let Some(number) = read_number(&text[start..end]) else {
             return Ok(None);

@@ -2,7 +2,7 @@
 ghost use Rattle.std.specs.Prelude.{◌≡◌, ℕ, ◌<◌, ◌≤◌, [], ◌∷◌, length, drop, Option, IfOk, IfSome};
 ghost use Rattle.std.specs.Option.{option_map};
 ghost use Rattle.kc_text.specs.Reading.{budget};
-ghost use Rattle.kc_text.specs.Words.{words, WordAt};
+ghost use Rattle.kc_text.specs.Words.{words};
 ghost use Rattle.kc_batch.specs.Causes.{AwaitCause};
 ghost use Rattle.kc_batch.specs.Tokens.{insertion, deletion, isolation, unsigned, signed, kind_of_words, tokens_left};
 ghost use Rattle.kc_batch.specs.private.Tokens.{kind_of_text, item_of, onto_token, TakesToken, IsLastKind};
@@ -10,7 +10,7 @@ ghost use Rattle.kc_batch.specs.private.Tokens.{kind_of_text, item_of, onto_toke
 use crate::await_fault::AwaitFault;
 use kc_graph::Item;
 use kc_text::{
-    Body, LineFault, LineReader, NumberLine, Sign, Sink, Source, is_named, next_word, read_number,
+    Body, LineFault, LineReader, NumberLine, Sign, Sink, Source, is_named, read_number, split_word,
 };
 use std::alloc::Global;
 
@@ -118,42 +118,38 @@ fn kind_of_three(first: &[u8], second: &[u8], third: &[u8]) -> Kind
     signed(first, read_number(second), read_number(third))
 }
 
-// Returns the meaning of a line whose first word goes from `start` to `end`.
+// Returns the meaning of a line of this first word and the words of `rest`.
 #[tactic(auto, unfolding(crate::specs::Tokens::kind_of_words))]
-fn kind_of_line(text: &[u8], start: usize, end: usize) -> Kind
-    requires { WordAt text.now 0 start end }
-    ensures { result ≡ kind_of_words (words text.now) }
+fn kind_of_line(first: &[u8], rest: &[u8]) -> Kind
+    ensures { result ≡ kind_of_words (first.now ∷ words rest.now) }
 {
-    let first = &text[start..end];
-    let Some((start, end)) = next_word(text, end) else {
+    let Some((second, rest)) = split_word(rest) else {
         return kind_of_one(first);
     };
-    let second = &text[start..end];
-    let Some((start, end)) = next_word(text, end) else {
+    let Some((third, rest)) = split_word(rest) else {
         return kind_of_two(first, second);
     };
-    let third = &text[start..end];
-    if next_word(text, end).is_some() {
+    if split_word(rest).is_some() {
         return Kind::Other;
     }
     kind_of_three(first, second, third)
 }
 
-// Returns the meaning of a line, or None if the line is skipped.
+/// Returns the meaning of a line, or None if the line is skipped.
 #[tactic(auto, unfolding(crate::specs::private::Tokens::kind_of_text))]
-fn classify(text: &[u8]) -> Option<Kind>
+pub fn classify(text: &[u8]) -> Option<Kind>
     ensures { result ≡ kind_of_text text.now }
 {
-    let (start, end) = next_word(text, 0)?;
-    if text[start] == b'#' {
+    let (first, rest) = split_word(text)?;
+    if first[0] == b'#' {
         return None;
     }
-    Some(kind_of_line(text, start, end))
+    Some(kind_of_line(first, rest))
 }
 
-// Returns the item of a line of two numbers.
+/// Returns the item of a line of two numbers.
 #[inline(always)]
-fn item_of(line: NumberLine) -> Item
+pub fn item_of(line: NumberLine) -> Item
     ensures { result ≡ item_of line.sign line.first line.second }
 {
     let (u, v) = (line.first, line.second);

@@ -5,7 +5,6 @@ mod EdgeSteps
 mod LevelSteps
 mod LineTexts
 mod NamedLines
-mod NumberWords
 mod OneVerdict
 mod ReadBack
 mod SaidLines

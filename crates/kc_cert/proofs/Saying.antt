@@ -1,5 +1,5 @@
 -- What lines say, where the lines are told or not.
-use Rattle.std.proofs.Common.{ℕ, ◌≡◌, Bool, true, false, List, [], ◌∷◌, refl, sym, ap, subst}
+use Rattle.std.proofs.Common.{ℕ, ◌≡◌, ◌∙◌, Bool, true, false, List, [], ◌∷◌, refl, sym, ap, subst}
 use Rattle.std.specs.Prelude.{Option, Some, None, ◌&&◌, if◌then◌else◌, codes}
 use Rattle.std.specs.Str.{bytes_eq}
 use Rattle.std.specs.Option.{option_map}
@@ -10,6 +10,7 @@ use Rattle.kc_text.specs.declared.line.Body.{Body}
 use Rattle.kc_text.specs.declared.line.Body.TheVariants as body
 use Rattle.kc_text.specs.Reading.{onto, behind}
 use Rattle.kc_text.specs.Words.{words, is_skip}
+use Rattle.kc_text.specs.Kept.{is_skipped, kept}
 use Rattle.kc_cert.specs.declared.token.Token.{Token}
 use Rattle.kc_cert.specs.declared.token.Kind.{Kind}
 use Rattle.kc_cert.specs.declared.token.Kind.TheVariants.{Magic, Close, Other}
@@ -76,15 +77,26 @@ says : (line : Line) (k : Kind) (rest : List Line) → kind_of line.body ≡ Som
 unfolding tokens
 says line k rest e = rw (e, tokens_behind line.body k rest e) refl
 
-silent_behind : (b : Body) (rest : List Line) → kind_of b ≡ None → behind b rest ≡ rest
-silent_behind (body.Text text) rest e = refl
-silent_behind body.TooLong rest e = absurd cc
-silent_behind body.Limit rest e = absurd cc
-silent_behind body.End rest e = absurd cc
+skipped_says : (b : Body) → is_skipped b ≡ true → kind_of b ≡ None
+unfolding kind_of_text
+skipped_says (body.Text text) e = rw e refl
+skipped_says body.TooLong e = absurd cc
+skipped_says body.Limit e = absurd cc
+skipped_says body.End e = absurd cc
 
-says_nothing : (line : Line) (rest : List Line) → kind_of line.body ≡ None → tokens (onto line rest) ≡ tokens rest
+tokens_kept_on : (skips : Bool) (line : Line) (rest ks : List Line) → is_skipped line.body ≡ skips → tokens ks ≡ tokens rest → tokens (if skips then ks else line ∷ ks) ≡ tokens (line ∷ rest)
 unfolding tokens
-says_nothing line rest e = rw (e, silent_behind line.body rest e) refl
+tokens_kept_on true line rest ks e h = rw (skipped_says line.body e, h) refl
+tokens_kept_on false line rest ks e h = rw h refl
+
+-- the lines that are skipped say nothing
+tokens_kept : (ls : List Line) → tokens (kept ls) ≡ tokens ls
+tokens_kept [] = refl
+tokens_kept (line ∷ rest) = tokens_kept_on (is_skipped line.body) line rest (kept rest) refl (tokens_kept rest)
+
+told_tokens_kept : (ls : Option (List Line)) → option_map tokens (option_map kept ls) ≡ option_map tokens ls
+told_tokens_kept None = refl
+told_tokens_kept (Some ls) = ap Some (tokens_kept ls)
 
 -- a line that says something is the next token
 pub told_token : (line : Line) (k : Kind) (old new : Option (List Line)) → kind_of line.body ≡ Some k → old ≡ option_map (onto line) new
@@ -92,7 +104,9 @@ pub told_token : (line : Line) (k : Kind) (old new : Option (List Line)) → kin
 told_token line k old None e h = rw h refl
 told_token line k old (Some rest) e h = rw h (ap Some (says line k rest e))
 
--- a line that is skipped is no token
-pub told_no_token : (line : Line) (old new : Option (List Line)) → kind_of line.body ≡ None → old ≡ option_map (onto line) new → option_map tokens old ≡ option_map tokens new
-told_no_token line old None e h = rw h refl
-told_no_token line old (Some rest) e h = rw h (ap Some (says_nothing line rest e))
+-- the same for the next of the lines that aren't skipped
+pub told_kept_token : (line : Line) (k : Kind) (old new : Option (List Line)) → kind_of line.body ≡ Some k → option_map kept old ≡ option_map (onto line) (option_map kept new)
+    → option_map tokens old ≡ option_map (onto_token (record { number = line.number; kind = k })) (option_map tokens new)
+told_kept_token line k old new e h =
+    sym (told_tokens_kept old) ∙ told_token line k (option_map kept old) (option_map kept new) e h
+    ∙ ap (option_map (onto_token (record { number = line.number; kind = k }))) (told_tokens_kept new)

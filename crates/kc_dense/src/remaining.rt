@@ -1,14 +1,13 @@
 //! The vertices that peeling hasn't taken yet, each with its degree among them, and how the next one is taken.
 
-ghost use Rattle.std.specs.Prelude.{◌≡◌, ◌≢◌, ◌≤◌, ◌<◌, ℕ, true, length, nat_lt, set, slice_index, IfOk};
-ghost use Rattle.kc_graph.specs.Shape.{IsGraph, neighbours_of};
-ghost use Rattle.kc_graph.specs.declared.limits.TheConstants.{MAX_VERTICES};
+ghost use Rattle.std.specs.Prelude.{◌≡◌, ◌≢◌, ◌<◌, ℕ, true, length, nat_lt, set, slice_index, IfOk};
+ghost use Rattle.kc_graph.specs.Shape.{IsGraph};
 ghost use Rattle.kc_dense.specs.Sets.{degree_within};
 ghost use Rattle.kc_dense.specs.Dense.{IsNext};
 ghost use Rattle.kc_dense.specs.private.Remaining.{is_left, all_but, AreRemaining, lowered};
 
 use crate::tournament::Tournament;
-use kc_graph::Graph;
+use kc_graph::{Graph, degrees};
 use std::alloc::{AllocError, Global};
 
 /// Stands in place of the degree of a vertex that was taken.
@@ -21,21 +20,6 @@ pub struct Taken {
     pub vertex: u32,
     /// The number of its neighbours that were left.
     pub degree: u32,
-}
-
-// Returns the degree of each vertex.
-fn degrees(alloc: Global, graph: &Graph) -> Result<Vec<u32>, AllocError>
-    ensures sized { IfOk result (λ r. length r.items ≡ graph.now.vertices) }
-    ensures values { IfOk result (λ r. (u : ℕ) → u < graph.now.vertices → slice_index r.items u ≡ length (neighbours_of u graph.now.edges)) }
-    ensures small { IfOk result (λ r. (u : ℕ) → u < graph.now.vertices → slice_index r.items u < graph.now.vertices) }
-    ensures fits { graph.now.vertices ≤ MAX_VERTICES }
-{
-    let n = graph.vertices();
-    let mut degrees = Vec::with_capacity(alloc, n as usize)?;
-    for v in 0..n {
-        degrees.push(graph.neighbours(v).len() as u32)?;
-    }
-    Ok(degrees)
 }
 
 /// Returns the degrees while all vertices are left. Takes memory for at most four numbers a vertex. Fails only if

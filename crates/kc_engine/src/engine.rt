@@ -236,6 +236,21 @@ impl Engine {
         self.waits = false;
     }
 
+    /// Takes back a plan that is no longer needed. Its memory serves the plans of later batches. Contracts see no
+    /// change of the engine, and later answers are the same without this call. Keeps less than 1 MB
+    /// (`GroupWork::take_back`), and costs a step for each group of the plan.
+    pub fn reuse(&mut self, plan: BatchPlan)
+        ensures { self.new ≡ self.old }
+    {
+        let mut phases = plan.phases.into_vec();
+        // The phases are taken from the end, so the next batch's first phase gets the memory of this plan's first one.
+        for _turn in 0..phases.len() {
+            if let Some(phase) = phases.pop() {
+                self.phased.work.groups.take_back(phase);
+            }
+        }
+    }
+
     /// Returns the graph. Once the engine has halted, the graph is unspecified.
     pub fn graph(&self) -> &Graph
         ensures value { result.now ≡ self.now.state.graph }

@@ -1,5 +1,5 @@
 //! Workers that share a list, piece by piece.
-ghost use Rattle.std.specs.Prelude.{◌≡◌, ◌≤◌, ◌/◌, max, min};
+ghost use Rattle.std.specs.Prelude.{◌≡◌, ◌+◌, ◌≤◌, ◌<◌, ◌/◌, ◌%◌, max, min};
 
 use std::alloc::Global;
 
@@ -34,13 +34,14 @@ impl<'a, R> Crew<'a, R> {
         }
     }
 
-    /// Returns the number of pieces of a list with this number of items. There is one for each full `least_piece`
-    /// items, but at least one, and at most one for each worker.
-    pub fn pieces(&self, items: usize, least_piece: usize) -> usize
+    /// Returns the length of the pieces of a list with this number of items, of which only the last may be shorter.
+    /// There is at most one piece for each worker and for each full `least_piece` items, and at least one.
+    pub fn piece_len(&self, items: usize, least_piece: usize) -> usize
         requires { 1 ≤ least_piece }
-        ensures value { result ≡ max (min (items / least_piece) self.now.workers) 1 }
-        ensures some { 1 ≤ result }
+        ensures value { let pieces = max (min (items / least_piece) self.now.workers) 1 in result ≡ items / pieces + min 1 (items % pieces) }
+        ensures some { 0 < items → 0 < result }
     {
-        (items / least_piece).min(self.workers as usize).max(1)
+        let pieces = (items / least_piece).min(self.workers as usize).max(1);
+        items.div_ceil(pieces)
     }
 }

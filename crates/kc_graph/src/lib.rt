@@ -13,6 +13,7 @@
 mod buckets;
 mod cleaning;
 mod crew;
+mod degree_list;
 mod edge_lists;
 mod edges;
 mod graphs;
@@ -35,6 +36,7 @@ mod walking;
 
 pub use cleaning::{Cleaned, clean, clean_by};
 pub use crew::Crew;
+pub use degree_list::degrees;
 pub use edge_lists::Edges;
 pub use edges::Edge;
 pub use graphs::Graph;

@@ -1,12 +1,13 @@
 //! Edges come into the rows of both ends and leave them: singly, or as halves by one pass over each row.
 
-ghost use Rattle.std.specs.Prelude.{◌≡◌, ◌<◌, [], length, false, true, slice_index_or, OnOk, OnErr};
+ghost use Rattle.std.specs.Prelude.{◌≡◌, ◌<◌, [], length, false, true, slice_index_or, IfNone, IfSome, OnOk, OnErr};
 ghost use Rattle.kc_graph.specs.Numbers.{has_number};
 ghost use Rattle.kc_graph.specs.private.KeptRows.{rows_joined, rows_parted};
 ghost use Rattle.kc_graph.specs.private.HalfLists.{halves_of};
-ghost use Rattle.kc_graph.specs.private.Halves.{AreInside, AreGiven, AreGivenSome, AreTaken};
+ghost use Rattle.kc_graph.specs.private.Halves.{AreInside, AreGiven, AreGivenSome, AreTaken, IsRun};
 
-use crate::halves::Halves;
+use crate::edges::Edge;
+use crate::halves::{Half, Halves, Run};
 use crate::rows::Row;
 use std::alloc::AllocError;
 
@@ -58,30 +59,64 @@ fn is_at_hand(rows: &[Row], first: u32, v: u32) -> bool
     }
 }
 
+// An item of a list of halves.
+trait InRow {
+    // Returns the vertex whose row gets the other end, or loses it.
+    fn vertex(&self) -> u32;
+}
+
+impl InRow for Half {
+    fn vertex(&self) -> u32 {
+        self.v
+    }
+}
+
+impl InRow for Edge {
+    fn vertex(&self) -> u32 {
+        self.a
+    }
+}
+
+// Prefetches the rows of the first items of a list if no more than `left` items are left. Then `left` is how many are
+// left when those are done with. Always true.
+fn are_at_hand<T: InRow>(rows: &[Row], first: u32, rest: &[T], left: &mut usize) -> bool
+    ensures { result ≡ true }
+{
+    let count = rest.len();
+    if count > *left {
+        return true;
+    }
+    for item in &rest[..count.min(AHEAD)] {
+        if !is_at_hand(rows, first, item.vertex()) {
+            return false;
+        }
+    }
+    *left = count.saturating_sub(AHEAD);
+    true
+}
+
 impl Ahead {
-    // Prefetches the rows of the first halves of a list if those before them are done with. Always true.
-    fn are_at_hand(&mut self, rows: &[Row], first: u32, rest: Halves<'_>) -> bool
-        ensures { result ≡ true }
+    // Makes one for these halves, of which no row is prefetched yet.
+    fn of(halves: Halves<'_>) -> Ahead {
+        Ahead {
+            below: halves.below.len(),
+            above: halves.above.len(),
+        }
+    }
+
+    // Returns what `Halves::next_run` does, and prefetches the rows of the next halves of each list if those before
+    // them are done with.
+    fn next_run<'a>(&mut self, rows: &[Row], first: u32, rest: Halves<'a>) -> Option<Run<'a>>
+        ensures some { IfSome result (λ r. IsRun (halves_of rest.entry) r.v (halves_of r.halves) (halves_of r.later)) }
+        ensures none { IfNone result (halves_of rest.entry ≡ []) }
     {
-        let below = rest.below.len();
-        if below <= self.below {
-            for half in &rest.below[..below.min(AHEAD)] {
-                if !is_at_hand(rows, first, half.v) {
-                    return false;
-                }
-            }
-            self.below = below.saturating_sub(AHEAD);
+        if are_at_hand(rows, first, rest.below, &mut self.below)
+            && are_at_hand(rows, first, rest.above, &mut self.above)
+        {
+            rest.next_run()
+        } else {
+            None
         }
-        let above = rest.above.len();
-        if above <= self.above {
-            for e in &rest.above[..above.min(AHEAD)] {
-                if !is_at_hand(rows, first, e.a) {
-                    return false;
-                }
-            }
-            self.above = above.saturating_sub(AHEAD);
-        }
-        true
     }
 }
 
@@ -93,14 +128,8 @@ pub fn give_all(first: u32, halves: Halves<'_>, rows: &mut [Row]) -> Result<(), 
     ensures some { AreGivenSome first rows.old rows.new (halves_of halves.entry) }
 {
     let mut rest = halves;
-    let mut ahead = Ahead {
-        below: rest.below.len(),
-        above: rest.above.len(),
-    };
-    while let Some(run) = rest.next_run() {
-        if !ahead.are_at_hand(rows, first, rest) {
-            break;
-        }
+    let mut ahead = Ahead::of(rest);
+    while let Some(run) = ahead.next_run(rows, first, rest) {
         rows[(run.v - first) as usize].insert_all(run.halves)?;
         rest = run.later;
     }
@@ -114,14 +143,8 @@ pub fn take_all(first: u32, halves: Halves<'_>, rows: &mut [Row])
     ensures { AreTaken first rows.old rows.new (halves_of halves.entry) }
 {
     let mut rest = halves;
-    let mut ahead = Ahead {
-        below: rest.below.len(),
-        above: rest.above.len(),
-    };
-    while let Some(run) = rest.next_run() {
-        if !ahead.are_at_hand(rows, first, rest) {
-            break;
-        }
+    let mut ahead = Ahead::of(rest);
+    while let Some(run) = ahead.next_run(rows, first, rest) {
         rows[(run.v - first) as usize].remove_all(run.halves);
         rest = run.later;
     }

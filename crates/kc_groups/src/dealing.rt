@@ -7,6 +7,7 @@ ghost use Rattle.kc_groups.specs.Entries.{labels_below};
 ghost use Rattle.kc_groups.specs.private.Dealing.{empty_entry, with_moves, with_edges, ArePlaces, AreDealt, AreMovesBelow, IsPlacedEdge, edge_place, is_unplaced};
 
 use crate::Phase;
+use crate::spares::open_group;
 use kc_graph::{Edge, Edges, MAX_VERTICES};
 use kc_history::{Entry, Move};
 use std::alloc::{AllocError, Global};
@@ -19,6 +20,7 @@ pub(crate) fn open_groups(
     alloc: Global,
     phase: &Phase<'_>,
     places: &mut Vec<u32>,
+    spares: &mut Vec<Entry>,
     entries: &mut Vec<Entry>,
 ) -> Result<(), AllocError>
     requires small { length places.old.items ≤ MAX_VERTICES }
@@ -34,7 +36,7 @@ pub(crate) fn open_groups(
         let label = places[v as usize];
         if label == v {
             places[v as usize] = entries.len() as u32;
-            entries.push(Entry::new(alloc, phase.number, Some(v), phase.add))?;
+            entries.push(open_group(alloc, phase, v, spares))?;
         } else {
             places[v as usize] = places[label as usize];
         }

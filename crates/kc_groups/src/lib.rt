@@ -22,6 +22,7 @@ mod pieces;
 mod planning;
 mod plans;
 pub mod sizes;
+mod spares;
 mod work;
 
 pub use planning::{plan_moves, plan_phase};

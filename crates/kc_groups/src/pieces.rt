@@ -31,11 +31,10 @@ pub(crate) fn gather_rows<R: Threads + Sync>(
     ensures { IfOk result (λ parents. AreGathered (length moves.now) (in_rows graph.now (vertices moves.now) (length moves.now)) parents.items) }
 {
     let alloc = crew.alloc;
-    let pieces = crew.pieces(moves.len(), LEAST_LINKED);
-    if pieces == 1 || moves.is_empty() {
+    let size = crew.piece_len(moves.len(), LEAST_LINKED);
+    if moves.len() <= size {
         return link_rows(alloc, graph, moves, places);
     }
-    let size = moves.len().div_ceil(pieces);
     let found = thread::map_chunks(
         crew.rt,
         alloc,

@@ -46,11 +46,12 @@ fn label_groups(
 }
 
 // Makes the plan of a phase from the labels of the vertices that move. `places` has the labels, and is clean
-// afterwards.
+// afterwards. The groups take the memory of spare entries as long as there are some.
 fn plan_labelled(
     alloc: Global,
     phase: &Phase<'_>,
     places: &mut Vec<u32>,
+    spares: &mut Vec<Entry>,
 ) -> Result<PhasePlan, AllocError>
     requires small { length places.old.items ≤ MAX_VERTICES }
     requires order { AreInOrder (length places.old.items) phase.now.moves.now }
@@ -61,7 +62,7 @@ fn plan_labelled(
     let moves = phase.moves.as_slice();
     let mut groups = Vec::new(alloc);
     let mut quiet = Entry::new(alloc, phase.number, None, phase.add);
-    open_groups(alloc, phase, places, &mut groups)?;
+    open_groups(alloc, phase, places, spares, &mut groups)?;
     deal_moves(moves, places, &mut groups)?;
     deal_edges(places, phase.edges, &mut quiet.edges, &mut groups)?;
     clear(moves, places);
@@ -108,7 +109,7 @@ pub fn plan_moves<R: Threads + Sync>(
     number(moves, places);
     let mut parents = gather_rows(crew, graph, moves, places)?;
     label_groups(graph, gone, moves, places, &mut parents);
-    let plan = plan_labelled(crew.alloc, phase, places)?;
+    let plan = plan_labelled(crew.alloc, phase, places, &mut work.spares)?;
     Ok(plan)
 }
 
@@ -152,6 +153,6 @@ pub fn plan_phase(
         edges,
         moves: &moves,
     };
-    let plan = plan_labelled(alloc, &phase, places)?;
+    let plan = plan_labelled(alloc, &phase, places, &mut work.spares)?;
     Ok(plan)
 }

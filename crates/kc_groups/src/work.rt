@@ -1,16 +1,18 @@
-//! The workspace of a plan: a number for each vertex.
+//! The workspace of a plan: a number for each vertex, and spare entries.
 ghost use Rattle.std.specs.Prelude.{◌≡◌, ◌≤◌, ℕ, List, ◌<◌, IfOk, length};
 ghost use Rattle.kc_groups.specs.private.Forest.{IsForest};
 ghost use Rattle.kc_groups.specs.Gathering.{vertices, clean, AreInOrder};
 ghost use Rattle.kc_groups.specs.private.Gathering.{AreNumbered, AreLabelled, HaveNone};
 
+use crate::PhasePlan;
+use crate::spares::keep_small;
 use kc_graph::MAX_VERTICES;
-use kc_history::Move;
+use kc_history::{Entry, Move};
 use std::alloc::{AllocError, Global};
 use std::marker::Model;
 
 /// The workspace of `plan_moves`, kept between phases. Contracts see a list with a number for each vertex, which is
-/// clean (`clean`) between phases.
+/// clean (`clean`) between phases. Plans don't depend on the spare entries that it also keeps.
 #[derive(Drop)]
 pub struct GroupWork {
     // A number for each vertex. It is the number of vertices if the vertex doesn't move, so for each vertex between
@@ -19,6 +21,8 @@ pub struct GroupWork {
     // While a phase is planned, the number of a vertex that moves is at first the place of its move. Then it is the
     // label of its group, and at last the place of the group's entry.
     pub(crate) places: Vec<u32>,
+    // Entries of plans that were taken back. The next plan takes their memory first.
+    pub(crate) spares: Vec<Entry>,
 }
 
 impl Model for GroupWork {
@@ -36,7 +40,19 @@ impl GroupWork {
     {
         Ok(GroupWork {
             places: vec![in alloc; n; n as usize]?,
+            spares: Vec::new(alloc),
         })
+    }
+
+    /// Takes back a plan that is no longer needed: the memory of its small groups serves the plans of later phases. The
+    /// numbers stay as they are.
+    ///
+    /// Keeps at most 4,096 entries, each with at most 8 moves and 8 edges, and drops the others: less than 1 MB. Costs
+    /// a step for each group.
+    pub fn take_back(&mut self, plan: PhasePlan)
+        ensures { self.new ≡ self.old }
+    {
+        keep_small(plan.groups.into_vec(), &mut self.spares);
     }
 }
 

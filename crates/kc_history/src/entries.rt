@@ -2,7 +2,7 @@
 ghost use Rattle.std.specs.Prelude.{◌≡◌, ◌++◌, ◌∷◌, [], OnOk, OnErr};
 
 use crate::{Move, Moves};
-use kc_graph::{Edge, Edges};
+use kc_graph::{Edge, Edges, List};
 use std::alloc::{AllocError, Global};
 
 /// A change of a graph with levels that takes effect at once.
@@ -20,6 +20,15 @@ pub struct Entry {
     pub edges: Edges,
 }
 
+// Returns a list without items, in the memory of another.
+fn emptied<T: Drop>(list: List<T>) -> List<T>
+    ensures { result ≡ [] }
+{
+    let mut items = list.into_vec();
+    items.clear();
+    List::from_vec(items)
+}
+
 impl Entry {
     /// Makes an entry without moves and edges. Takes no memory.
     pub fn new(alloc: Global, phase: u32, label: Option<u32>, add: bool) -> Entry
@@ -32,6 +41,17 @@ impl Entry {
             moves: Moves::new(alloc),
             edges: Edges::new(alloc),
         }
+    }
+
+    /// Takes the memory of an entry that is no longer needed, for the moves and edges that are to come. This entry has
+    /// none yet, and is unchanged.
+    pub fn take_memory(&mut self, spare: Entry)
+        requires moves { self.old.moves ≡ [] }
+        requires edges { self.old.edges ≡ [] }
+        ensures { self.new ≡ self.old }
+    {
+        self.moves = emptied(spare.moves);
+        self.edges = emptied(spare.edges);
     }
 
     /// Appends a move. Fails only if memory runs out; the entry is then unchanged.

@@ -1,5 +1,8 @@
 -- What insertion phases work with.
-use Rattle.std.specs.Prelude.{ℕ, ◌≡◌, [], List}
+use Rattle.std.specs.Prelude.{ℕ, ◌≡◌, [], List, length}
+use Rattle.kc_graph.specs.Shape.{Pair, without_edges}
+use Rattle.kc_levels.specs.Moved.{moves_between}
+use Rattle.kc_levels.specs.declared.moves.Move.{Move}
 use Rattle.kc_levels.specs.declared.profile.Profile.{Profile}
 use Rattle.kc_adj.specs.LeveledGraph.{LeveledGraph, IsCounted}
 use Rattle.kc_insert.specs.Ranges.{AreQuiet, counts_of, Cut, waits}
@@ -15,3 +18,9 @@ pub record IsReady (p : Profile) (a : LeveledGraph) (w : Working) : Type 0 where
   pub counted : IsCounted a.graph a.levels 0 (counts_of w.ranges)
   pub quiet : AreQuiet p a.graph w.ranges
   pub none_waiting : (k : ℕ) → waits w.ranges k ≡ []
+
+-- It is ready for the graph now if it was ready for a graph before. Since then these edges were taken out, and the
+-- moves lead to the levels now.
+abbrev pub StaysReady : LeveledGraph → List Pair → List Move → Working → Working → Type 0
+StaysReady now removed moves old new =
+    (p : Profile) (a : LeveledGraph) → IsReady p a old → length a.levels ≡ a.graph.vertices → now.graph ≡ without_edges a.graph removed → moves ≡ moves_between a.graph.vertices a.levels now.levels → IsReady p now new

@@ -100,33 +100,14 @@ fn file_end(fresh: &Fresh<'_>, ranges: &mut Ranges, v: u32) -> Result<(), AllocE
     Ok(())
 }
 
-// As `file_end` says, for the lesser end of each edge.
-fn file_lesser_ends(
-    fresh: &Fresh<'_>,
-    ranges: &mut Ranges,
-    edges: &[Edge],
-) -> Result<(), AllocError>
+// As `file_end` says, for both ends of each edge.
+fn file_each_end(fresh: &Fresh<'_>, ranges: &mut Ranges, edges: &[Edge]) -> Result<(), AllocError>
     requires inside { All (λ e. e.1 < length fresh.now.counts) edges.now }
     requires can { MayFile fresh.now ranges.old }
-    ensures { OnOk result (AreFiled fresh.now (λ v. All (λ e. v ≢ e.0) edges.now) ranges.old ranges.new) }
+    ensures { OnOk result (AreFiled fresh.now (λ v. All (λ e. (v ≢ e.0) × (v ≢ e.1)) edges.now) ranges.old ranges.new) }
 {
     for e in edges {
         file_end(fresh, ranges, e.a)?;
-    }
-    Ok(())
-}
-
-// As `file_end` says, for the greater end of each edge.
-fn file_greater_ends(
-    fresh: &Fresh<'_>,
-    ranges: &mut Ranges,
-    edges: &[Edge],
-) -> Result<(), AllocError>
-    requires inside { All (λ e. e.1 < length fresh.now.counts) edges.now }
-    requires can { MayFile fresh.now ranges.old }
-    ensures { OnOk result (AreFiled fresh.now (λ v. All (λ e. v ≢ e.1) edges.now) ranges.old ranges.new) }
-{
-    for e in edges {
         file_end(fresh, ranges, e.b)?;
     }
     Ok(())
@@ -207,9 +188,7 @@ pub fn file_ends<R: Threads + Sync, G: Gate + Sync>(
     ensures { OnOk result (AreFiled fresh.now (λ v. All (λ e. (v ≢ e.0) × (v ≢ e.1)) edges.now) ranges.old ranges.new) }
 {
     if edges.len() < fresh.counts.len() / LEAST_SHARE {
-        file_lesser_ends(fresh, ranges, edges)?;
-        file_greater_ends(fresh, ranges, edges)?;
-        return Ok(());
+        return file_each_end(fresh, ranges, edges);
     }
     let threads = if ranges.items.len() > 1 {
         rounds.workers() as usize

@@ -1,15 +1,12 @@
 //! The workspace that insertion phases share, one after another.
 
 ghost use Rattle.std.specs.Prelude.{◌≡◌, ◌+◌, ◌<◌, ℕ, All, IfOk, OnOk, length};
-ghost use Rattle.kc_graph.specs.Shape.{without_edges};
-ghost use Rattle.kc_levels.specs.declared.profile.Profile.{Profile};
 ghost use Rattle.kc_levels.specs.LevelList.{IsBelow};
 ghost use Rattle.kc_levels.specs.Moved.{moves_between};
-ghost use Rattle.kc_adj.specs.LeveledGraph.{LeveledGraph};
 ghost use Rattle.kc_insert.specs.private.Ranges.{Forgot};
 ghost use Rattle.kc_insert.specs.Ranges.{IsIn};
 ghost use Rattle.kc_insert.specs.private.Sweeping.{HaveMoved, lift_cost};
-ghost use Rattle.kc_insert.specs.Working.{IsReady};
+ghost use Rattle.kc_insert.specs.Working.{IsReady, StaysReady};
 
 use crate::counted::Counted;
 use crate::filing::{copy_ends, copy_rows};
@@ -81,8 +78,8 @@ impl InsertionWork {
         })
     }
 
-    /// Makes it ready for the graph after a deletion phase, if it was ready before. The edges were taken out, and the
-    /// moves are those of the phase.
+    /// Makes it ready for the graph after a deletion phase, if it was ready before (`StaysReady`). The edges were taken
+    /// out, and the moves are those of the phase.
     ///
     /// Costs two looks an edge, and one for each moved vertex and each of its neighbours. Takes no memory.
     pub fn follow(&mut self, adj: &LevelAdj, removed: &[Edge], moves: &Moves)
@@ -90,7 +87,7 @@ impl InsertionWork {
         requires vertices { (v : ℕ) → v < adj.now.graph.vertices → IsIn self.old.ranges v }
         requires edges { All (λ e. e.1 < adj.now.graph.vertices) removed.now }
         requires moves { All (λ m. m.vertex < adj.now.graph.vertices) moves.now }
-        ensures { (p : Profile) (a : LeveledGraph) → IsReady p a self.old → length a.levels ≡ a.graph.vertices → adj.now.graph ≡ without_edges a.graph removed.now → moves.now ≡ moves_between a.graph.vertices a.levels adj.now.levels → IsReady p adj.now self.new }
+        ensures { StaysReady adj.now removed.now moves.now self.old self.new }
     {
         let _levels = adj.levels();
         let fresh = Counted {

@@ -2,5 +2,4 @@ pub mod Services
 pub mod Opening
 pub mod Readers
 pub mod Keeping
-pub mod Faults
 pub mod private

@@ -1,6 +1,7 @@
 //! The faults of a service's calls: arguments out of range, a halted service, refused batches, failed writes, no
 //! memory.
 ghost use Rattle.std.specs.Prelude.{◌≡◌};
+ghost use Rattle.kc_service.specs.private.Faults.{fault_of};
 
 use kc_engine::EngineFault;
 use std::alloc::AllocError;
@@ -46,18 +47,15 @@ pub enum ApplyFault {
     Memory(AllocError),
 }
 
-impl From<EngineFault> for ApplyFault {
-    ghost use Rattle.kc_service.specs.Faults.{fault_of};
-
-    ghost from_gives = { λ f s. s ≡ fault_of f };
-
-    fn from(fault: EngineFault) -> ApplyFault {
-        match fault {
-            EngineFault::Halted => ApplyFault::Halted,
-            EngineFault::EdgeLimit { edges } => ApplyFault::EdgeLimit { edges },
-            EngineFault::PhaseLimit { phase } => ApplyFault::PhaseLimit { phase },
-            EngineFault::Memory(e) => ApplyFault::Memory(e),
-        }
+// Returns the fault for which an engine refused a batch, as one of the service.
+pub(crate) fn fault_of(fault: EngineFault) -> ApplyFault
+    ensures { result ≡ fault_of fault }
+{
+    match fault {
+        EngineFault::Halted => ApplyFault::Halted,
+        EngineFault::EdgeLimit { edges } => ApplyFault::EdgeLimit { edges },
+        EngineFault::PhaseLimit { phase } => ApplyFault::PhaseLimit { phase },
+        EngineFault::Memory(e) => ApplyFault::Memory(e),
     }
 }
 

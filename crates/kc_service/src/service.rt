@@ -14,7 +14,7 @@ ghost use Rattle.kc_service.specs.Services.{Applies, CorenessCause, Certifies, C
 
 use crate::applied::Applied;
 use crate::board::{Board, open_board};
-use crate::faults::{ApplyFault, CertificateFault, CorenessFault, Halted, OpenFault};
+use crate::faults::{ApplyFault, CertificateFault, CorenessFault, Halted, OpenFault, fault_of};
 use crate::items::first_outside;
 use crate::options::Options;
 use crate::planning::plan_and_show;
@@ -183,7 +183,7 @@ impl<'a, R: Threads + Sync> Service<'a, R> {
             }),
             Err(fault) => {
                 self.halted = matches!(fault, EngineFault::Memory(_));
-                Err(ApplyFault::from(fault))
+                Err(fault_of(fault))
             }
         }
     }

@@ -45,4 +45,4 @@ pub use source::{Failed, Source};
 pub use std_sink::StdSink;
 pub use std_source::StdSource;
 pub use told::{Told, Untold};
-pub use word::{is_named, is_skipped, next_word};
+pub use word::{is_named, is_skipped, next_word, split_word};

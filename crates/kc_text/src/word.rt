@@ -1,5 +1,5 @@
 //! The words of a line between its blanks and tabs: where each begins and ends, names, and lines that are skipped.
-ghost use Rattle.std.specs.Prelude.{◌≡◌, ◌<◌, ◌≤◌, [], length, drop, IfSome, IfNone, false, slice_index};
+ghost use Rattle.std.specs.Prelude.{◌≡◌, ◌<◌, ◌≤◌, [], ◌∷◌, length, drop, IfSome, IfNone, false, slice_index};
 ghost use Rattle.std.specs.List.{slice_range};
 ghost use Rattle.std.specs.Str.{bytes_eq};
 ghost use Rattle.kc_text.specs.Words.{words, is_blank, is_skip, WordAt, closed};
@@ -65,6 +65,17 @@ pub fn next_word(line: &[u8], from: usize) -> Option<(usize, usize)>
     Some((start, end))
 }
 
+/// Returns the first word of a line and the bytes after it, or None if there is no word. Cost: the bytes up to the end
+/// of the word.
+pub fn split_word(line: &[u8]) -> Option<(&[u8], &[u8])>
+    ensures word { IfSome result (λ r. words line.now ≡ r.0.now ∷ words r.1.now) }
+    ensures some { IfSome result (λ r. 0 < length r.0.now) }
+    ensures none { IfNone result (words line.now ≡ []) }
+{
+    let (start, end) = next_word(line, 0)?;
+    Some((&line[start..end], &line[end..]))
+}
+
 /// Returns whether a word is this name, byte for byte.
 pub fn is_named(word: &[u8], name: &[u8]) -> bool
     ensures { result ≡ bytes_eq word.now name.now }
@@ -76,8 +87,8 @@ pub fn is_named(word: &[u8], name: &[u8]) -> bool
 pub fn is_skipped(line: &[u8]) -> bool
     ensures { result ≡ is_skip (words line.now) }
 {
-    match next_word(line, 0) {
-        Some((start, _)) => line[start] == b'#',
+    match split_word(line) {
+        Some((first, _)) => first[0] == b'#',
         None => true,
     }
 }

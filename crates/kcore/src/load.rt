@@ -7,8 +7,9 @@ ghost use Rattle.kcore.specs.LoadText.{IsLoadText, load_line};
 ghost use Rattle.kcore.specs.private.Writing.{Writes};
 
 use crate::inputs::open_input;
+use crate::run::run_after;
 use kc_rounds::{Gate, Rounds};
-use kc_session::{Ended, GenSource, SessionFault, run_session};
+use kc_session::{Ended, GenSource, SessionFault};
 use kc_text::{LineBuf, NullSink, SendFault, Sink};
 use std::alloc::{AllocError, Global};
 use std::thread::Threads;
@@ -53,16 +54,7 @@ pub fn run_load<R: Threads + Sync, K: Sink, G: Gate + Sync>(
         return Ok(true);
     };
     let mut null = NullSink::new();
-    let ended = run_session(
-        rounds.runtime(),
-        alloc,
-        rounds.gate(),
-        rounds.workers(),
-        header,
-        reader,
-        &mut source,
-        &mut null,
-    )?;
+    let ended = run_after(rounds, header, reader, &mut source, &mut null)?;
     write_load(alloc, sink, &ended)?;
     Ok(ended.refused > 0)
 }

@@ -1,6 +1,7 @@
 -- Scripts that are read one after another.
-use Rattle.std.proofs.Common.{ℕ, ◌≡◌, ◌≤◌, ◌<◌, ◌+◌, Bool, true, false, List, [], ◌∷◌, ◌++◌, length, refl, sym, ◌∙◌, arith}
-use Rattle.std.specs.Prelude.{Option, Some, None, All}
+use Rattle.std.proofs.Common.{ℕ, ◌≡◌, ◌≤◌, ◌<◌, ◌+◌, Bool, true, false, List, [], ◌∷◌, ◌++◌, length, refl, sym, ap, ◌∙◌, arith}
+use Rattle.std.specs.Prelude.{Option, Some, None, Result, Ok, Err, OnOk, is_ok, All}
+use Rattle.std.proofs.lemmas.Bool.{false≢true}
 use Rattle.std.specs.Option.{option_map}
 use Rattle.std.proofs.lemmas.Bool.Decides.{nat_tests}
 use Rattle.std.proofs.lemmas.List.Sums.{sum_by_push}
@@ -23,6 +24,11 @@ use Rattle.kserve.specs.declared.reading.Said.{Said}
 use Rattle.kserve.specs.Inputs.{ScriptInput, WithScripts, Refused, rules_for, items_in, has_room, scripts_from}
 use Rattle.kserve.specs.private.Fitting.{is_due}
 use Rattle.kserve.specs.private.Reading.{input_as, Says}
+
+-- what holds of an Ok holds too if only the fault was mapped
+pub on_ok_mapped : {T U A B : Type 0} (r : Result T A) (m : Result U B) (x : U) (P : Type 0) → m ≡ Ok x → is_ok m ≡ is_ok r → OnOk r P → P
+on_ok_mapped (Ok y) m x P was same h = h
+on_ok_mapped (Err e) m x P was same h = absurd (false≢true (sym same ∙ ap is_ok was))
 
 -- an answer for what is left is an answer for the whole
 pub says : {A : Type 0} (answer : Said) (told : Option ScriptInput) (rest : Option A) → told ≡ option_map (λ _. input_as answer) rest → Says answer told

@@ -1,6 +1,6 @@
 -- The texts of scripts that are served.
 use Rattle.std.proofs.Common.{ℕ, ◌≡◌, ◌≤◌, ◌<◌, Bool, true, false, List, [], ◌∷◌, ◌++◌, length, refl, sym, ap, ◌∙◌, subst, arith}
-use Rattle.std.specs.Prelude.{Option, Some, None, Err, All, if◌then◌else◌}
+use Rattle.std.specs.Prelude.{Option, Some, None, Result, Ok, Err, All, if◌then◌else◌}
 use Rattle.std.specs.Io.KnownBytes.{append_known}
 use Rattle.std.specs.Option.{option_map}
 use Rattle.std.proofs.lemmas.Bool.{false≢true}
@@ -13,8 +13,7 @@ use Rattle.kc_text.specs.declared.line.Line.{Line}
 use Rattle.kc_text.specs.declared.reason.Reason.TheVariants.{Header, TooMany}
 use Rattle.kc_text.specs.Lines.{lines}
 use Rattle.kc_text.specs.Words.{words}
-use Rattle.kc_text.specs.Writing.{IsPrefix, WriteCause}
-use Rattle.kc_text.specs.Causes.{Rose}
+use Rattle.kc_text.specs.Writing.{IsPrefix, Appends, WriteCause}
 use Rattle.kc_text.specs.Kept.{kept, text_of}
 use Rattle.kc_text.proofs.lemmas.Writing.{append_none, append_twice, prefix_none, prefix_longer, prefix_then}
 use Rattle.kc_graph.specs.declared.items.Item.{Item}
@@ -34,8 +33,6 @@ use Rattle.kc_intake.specs.declared.updates.Update.{Update}
 use Rattle.kc_intake.specs.Updates.{all_updates}
 use Rattle.kc_intake.specs.Views.{IntakeShape, ClientShape, DrainerShape}
 use Rattle.kserve.specs.private.Clients.{HaveEnded, AreTakenIn, AreDrained}
-use Rattle.kserve.specs.declared.fault.ServeFault.{ServeFault}
-use Rattle.kserve.specs.declared.fault.ServeFault.TheVariants as fault
 use Rattle.kserve.specs.declared.fault.Stop.{Stop}
 use Rattle.kserve.specs.declared.fault.Stop.TheVariants as stop
 use Rattle.kserve.specs.declared.reading.Said.{Said}
@@ -50,11 +47,12 @@ use Rattle.kserve.specs.Batches.{start, LeadTo}
 use Rattle.kserve.specs.private.Fitting.{is_due, are_due}
 use Rattle.kserve.specs.Fitting.{Fit}
 use Rattle.kserve.specs.Inputs.{ScriptInput, WithScripts, Refused, rules_for, items_in, has_room, scripts_from, after_head, head_of, after_magic, input_from, is_magic, input_said}
+use Rattle.kserve.specs.Ending.{HasCause}
 use Rattle.kserve.specs.Lines.{head_text, batch_lines, refused_line}
-use Rattle.kserve.specs.private.Ending.{status_of}
-use Rattle.kserve.specs.private.Faults.{fault_of_send, ReadingCause, WritingCause, FaultCause}
+use Rattle.kserve.specs.private.Ending.{status_after}
 use Rattle.kserve.specs.private.Reading.{input_as, Says}
 use Rattle.kserve.specs.Served.{served_text, IsServed, IsTextOf, WritesWhole, WritesPrefix, Wrote, Answers}
+use Rattle.kserve.specs.private.Served.{Writes}
 use Rattle.kserve.specs.private.Serving.{HaveServed, Serves, HaveServedAll, StoppedServing}
 use Rattle.kc_engine.proofs.lemmas.Batches.{start_is_sound}
 use Rattle.kserve.proofs.Fitting.{CanServe, fit_due, fit_count, drained_fit, some_fit}
@@ -107,7 +105,7 @@ batches_stopped n scripts before now later a e s =
     }
 
 -- the head, the batches, and a prefix of the lines after them
-pub tail_stopped : (n : ℕ) (scripts : List (List Item)) (t : State) (before now later last : Option (List ℕ)) → IsSound MAX_EDGES t → now ≡ append_known before (head_text n) → HaveServedAll n scripts t now later
+tail_stopped : (n : ℕ) (scripts : List (List Item)) (t : State) (before now later last : Option (List ℕ)) → IsSound MAX_EDGES t → now ≡ append_known before (head_text n) → HaveServedAll n scripts t now later
     → IsPrefix later last (tail_text t.profile t.graph t.levels) → WritesPrefix (IsServed n scripts) before last
 tail_stopped n scripts t before now later last k e s p =
     let profile : t.profile ≡ One = profile_lead (start n) t s.batches s.lead in
@@ -119,7 +117,7 @@ tail_stopped n scripts t before now later last k e s p =
     }
 
 -- all of it
-pub served_whole : (n : ℕ) (scripts : List (List Item)) (t : State) (before now later last : Option (List ℕ)) → IsSound MAX_EDGES t → now ≡ append_known before (head_text n) → HaveServedAll n scripts t now later
+served_whole : (n : ℕ) (scripts : List (List Item)) (t : State) (before now later last : Option (List ℕ)) → IsSound MAX_EDGES t → now ≡ append_known before (head_text n) → HaveServedAll n scripts t now later
     → last ≡ append_known later (tail_text t.profile t.graph t.levels) → WritesWhole (IsServed n scripts) before last
 served_whole n scripts t before now later last k e s p =
     let profile : t.profile ≡ One = profile_lead (start n) t s.batches s.lead in
@@ -129,6 +127,12 @@ served_whole n scripts t before now later last k e s p =
       taken = append_twice before now last (head_text n) (batch_lines 1 s.batches ++ tail_text One t.graph t.levels) e
           (append_twice now later last (batch_lines 1 s.batches) (tail_text One t.graph t.levels) s.taken (p ∙ ap (λ q. append_known later (tail_text q t.graph t.levels)) profile));
     }
+
+-- the head, the batches, and the lines after them, or after a fault a prefix of these
+pub tail_written : (U : Type 0) (n : ℕ) (scripts : List (List Item)) (t : State) (before now later last : Option (List ℕ)) (r : Result U SendFault) → IsSound MAX_EDGES t → now ≡ append_known before (head_text n) → HaveServedAll n scripts t now later
+    → Appends later last (tail_text t.profile t.graph t.levels) r → Writes n scripts before last r
+tail_written U n scripts t before now later last (Ok x) k e s p = served_whole n scripts t before now later last k e s p
+tail_written U n scripts t before now later last (Err f) k e s p = tail_stopped n scripts t before now later last k e s p
 
 -- no clients, no batches
 pub none_served : (n : ℕ) (scripts : List (List Item)) (t : State) (before now : Option (List ℕ)) → scripts ≡ [] → t ≡ start n → now ≡ before → HaveServedAll n scripts t before now
@@ -221,7 +225,7 @@ nothing_written left before now e = answered left before now status.Memory (λ b
     record { text = there.0; is_text = there.1; prefix = prefix_none before now there.0 e })
 
 -- a text of scripts was
-pub whole_written : (left before now : Option (List ℕ)) (s : Scripts) → Says (said.Accepted s) (option_map input_said left) → WritesWhole (IsServed s.n s.scripts.items) before now → Answers left before now status.Done
+whole_written : (left before now : Option (List ℕ)) (s : Scripts) → Says (said.Accepted s) (option_map input_said left) → WritesWhole (IsServed s.n s.scripts.items) before now → Answers left before now status.Done
 whole_written left before now s h w = answered left before now status.Done (λ bytes same.
     subst (λ (input : ScriptInput). Wrote input before now status.Done) (sym (said_as left bytes (said.Accepted s) same h)) (tt, w))
 
@@ -231,48 +235,37 @@ prefix_written : (left before now : Option (List ℕ)) (s : Scripts) → Says (s
 prefix_written left before now s h w bytes same =
     subst (λ (input : ScriptInput). WritesPrefix (IsTextOf input) before now) (sym (said_as left bytes (said.Accepted s) same h)) w
 
-pub some_written : (U : Type 0) (left before now : Option (List ℕ)) (s : Scripts) (w0 w1 : ℕ) (f y : ServeFault) → y ≡ f → Says (said.Accepted s) (option_map input_said left) → WritesPrefix (IsServed s.n s.scripts.items) before now → WritingCause {T = U} w0 w1 (Err f)
-    → Answers left before now (status_of (Err y))
-some_written U left before now s w0 w1 fault.ReadFault y e h w cause = absurd cause
-some_written U left before now s w0 w1 fault.WriteFault y e h w cause = rw e (answered left before now status.WriteFault (prefix_written left before now s h w))
-some_written U left before now s w0 w1 (fault.Memory m) y e h w cause = rw e (answered left before now status.Memory (prefix_written left before now s h w))
+-- a text of scripts was written, or after a fault a prefix of one
+pub scripts_written : (U : Type 0) (left before now : Option (List ℕ)) (s : Scripts) (r : Result U SendFault) → Says (said.Accepted s) (option_map input_said left) → Writes s.n s.scripts.items before now r
+    → Answers left before now (status_after status.Done r)
+scripts_written U left before now s (Ok x) h w = whole_written left before now s h w
+scripts_written U left before now s (Err send.WriteFault) h w = answered left before now status.WriteFault (prefix_written left before now s h w)
+scripts_written U left before now s (Err (send.Memory m)) h w = answered left before now status.Memory (prefix_written left before now s h w)
 
--- the line of an input that is refused was
-pub refusal_written : (left before now : Option (List ℕ)) (line : ℕ) (reason : Reason) → Says (said.Refused line reason) (option_map input_said left) → now ≡ append_known before (refused_line line reason) → Answers left before now status.Refused
-refusal_written left before now line reason h e = answered left before now status.Refused (λ bytes same.
+-- the line of an input that is refused was written, or after a fault a prefix of it
+pub refusal_written : (U : Type 0) (left before now : Option (List ℕ)) (line : ℕ) (reason : Reason) (r : Result U SendFault) → Says (said.Refused line reason) (option_map input_said left) → Appends before now (refused_line line reason) r
+    → Answers left before now (status_after status.Refused r)
+refusal_written U left before now line reason (Ok x) h e = answered left before now status.Refused (λ bytes same.
     subst (λ (input : ScriptInput). Wrote input before now status.Refused) (sym (said_as left bytes (said.Refused line reason) same h)) (tt, record { text = refused_line line reason; is_text = refl; taken = e }))
-
-pub refusal_prefix : (left before now : Option (List ℕ)) (line : ℕ) (reason : Reason) (f : SendFault) (y : ServeFault) → y ≡ fault_of_send f → Says (said.Refused line reason) (option_map input_said left) → IsPrefix before now (refused_line line reason) → Answers left before now (status_of (Err y))
-refusal_prefix left before now line reason send.WriteFault y is h p = rw is (answered left before now status.WriteFault (λ bytes same.
-    subst (λ (input : ScriptInput). WritesPrefix (IsTextOf input) before now) (sym (said_as left bytes (said.Refused line reason) same h)) (record { text = refused_line line reason; is_text = refl; prefix = p })))
-refusal_prefix left before now line reason (send.Memory m) y is h p = rw is (answered left before now status.Memory (λ bytes same.
-    subst (λ (input : ScriptInput). WritesPrefix (IsTextOf input) before now) (sym (said_as left bytes (said.Refused line reason) same h)) (record { text = refused_line line reason; is_text = refl; prefix = p })))
+refusal_written U left before now line reason (Err send.WriteFault) h p = answered left before now status.WriteFault (λ bytes same.
+    subst (λ (input : ScriptInput). WritesPrefix (IsTextOf input) before now) (sym (said_as left bytes (said.Refused line reason) same h)) (record { text = refused_line line reason; is_text = refl; prefix = p }))
+refusal_written U left before now line reason (Err (send.Memory m)) h p = answered left before now status.Memory (λ bytes same.
+    subst (λ (input : ScriptInput). WritesPrefix (IsTextOf input) before now) (sym (said_as left bytes (said.Refused line reason) same h)) (record { text = refused_line line reason; is_text = refl; prefix = p }))
 
 -- the input couldn't be read
-pub unread : (T : Type 0) (left before now : Option (List ℕ)) (r0 r1 : ℕ) (f y : ServeFault) → y ≡ f → now ≡ before → ReadingCause {T = T} r0 r1 (Err f) → Answers left before now (status_of (Err y))
-unread T left before now r0 r1 fault.ReadFault y is e cause = rw is (answered left before now status.ReadFault (λ bytes same. e))
-unread T left before now r0 r1 fault.WriteFault y is e cause = absurd cause
-unread T left before now r0 r1 (fault.Memory m) y is e cause = rw is (nothing_written left before now e)
+pub unread : (left before now : Option (List ℕ)) → now ≡ before → Answers left before now status.ReadFault
+unread left before now e = answered left before now status.ReadFault (λ bytes same. e)
 
--- the causes of faults of the parts are those of the whole
-pub reading_cause : (A B : Type 0) (r0 r1 w0 w1 : ℕ) (f y : ServeFault) → y ≡ f → w1 ≡ w0 → ReadingCause {T = A} r0 r1 (Err f) → FaultCause {T = B} r0 r1 w0 w1 (Err y)
-reading_cause A B r0 r1 w0 w1 fault.ReadFault y is e cause = rw is (cause, e)
-reading_cause A B r0 r1 w0 w1 fault.WriteFault y is e cause = absurd cause
-reading_cause A B r0 r1 w0 w1 (fault.Memory m) y is e cause = rw is (cause, e)
+-- a fault in writing has its cause, and the source is as it was
+pub done_cause : (U : Type 0) (r0 r1 w0 w1 : ℕ) (r : Result U SendFault) → r1 ≡ r0 → WriteCause w0 w1 r → HasCause r0 r1 w0 w1 (status_after status.Done r)
+done_cause U r0 r1 w0 w1 (Ok x) e c = (e, c)
+done_cause U r0 r1 w0 w1 (Err send.WriteFault) e c = (e, c)
+done_cause U r0 r1 w0 w1 (Err (send.Memory m)) e c = (e, c)
 
-pub writing_cause : (A B : Type 0) (r0 r1 w0 w1 : ℕ) (f y : ServeFault) → y ≡ f → r1 ≡ r0 → WritingCause {T = A} w0 w1 (Err f) → FaultCause {T = B} r0 r1 w0 w1 (Err y)
-writing_cause A B r0 r1 w0 w1 fault.ReadFault y is e cause = absurd cause
-writing_cause A B r0 r1 w0 w1 fault.WriteFault y is e cause = rw is (e, cause)
-writing_cause A B r0 r1 w0 w1 (fault.Memory m) y is e cause = rw is (e, cause)
-
-pub sent_cause : (A B : Type 0) (w0 w1 w2 : ℕ) (f : SendFault) (y : ServeFault) → y ≡ fault_of_send f → w1 ≡ w0 → WriteCause {T = A} w1 w2 (Err f) → WritingCause {T = B} w0 w2 (Err y)
-sent_cause A B w0 w1 w2 send.WriteFault y is e cause = rw is (subst (λ (w : ℕ). Rose w w2) e cause)
-sent_cause A B w0 w1 w2 (send.Memory m) y is e cause = rw is (cause ∙ e)
-
-pub same_cause : (A B : Type 0) (w0 w1 w2 : ℕ) (f y : ServeFault) → y ≡ f → w1 ≡ w0 → WritingCause {T = A} w1 w2 (Err f) → WritingCause {T = B} w0 w2 (Err y)
-same_cause A B w0 w1 w2 fault.ReadFault y is e cause = absurd cause
-same_cause A B w0 w1 w2 fault.WriteFault y is e cause = rw is (subst (λ (w : ℕ). Rose w w2) e cause)
-same_cause A B w0 w1 w2 (fault.Memory m) y is e cause = rw is (cause ∙ e)
+pub refused_cause : (U : Type 0) (r0 r1 w0 w1 : ℕ) (r : Result U SendFault) → r1 ≡ r0 → WriteCause w0 w1 r → HasCause r0 r1 w0 w1 (status_after status.Refused r)
+refused_cause U r0 r1 w0 w1 (Ok x) e c = (e, c)
+refused_cause U r0 r1 w0 w1 (Err send.WriteFault) e c = (e, c)
+refused_cause U r0 r1 w0 w1 (Err (send.Memory m)) e c = (e, c)
 
 -- what was drained fits the scripts, once all clients have ended and were taken in
 pub drained_scripts : (scripts : List (List Item)) (count : ℕ) (intake : IntakeShape) (old new : DrainerShape) (clients : List ClientShape) → intake.capacity ≡ CAPACITY → old.clients ≡ length scripts → count ≡ items_in scripts

@@ -2,19 +2,18 @@
 ghost use Rattle.std.specs.Prelude.{◌≡◌, ◌≤◌, ◌++◌, ◌∷◌, [], IfOk, OnOk};
 ghost use Rattle.std.specs.Option.{option_map};
 ghost use Rattle.kc_batch.specs.Batches.{batches_left};
+ghost use Rattle.kc_batch.specs.Causes.{BatchCause};
 ghost use Rattle.kserve.specs.Inputs.{rules_for, scripts_from, input_said, has_room};
-ghost use Rattle.kserve.specs.private.Faults.{ReadingCause};
 ghost use Rattle.kserve.specs.private.Reading.{Says};
 
-use crate::fault::ServeFault;
 use crate::head::{Head, read_head};
 use crate::limits::{INPUT_LIMIT, LINE_LIMIT};
 use crate::scripts::Scripts;
-use kc_batch::{Items, Next, next_batch};
+use kc_batch::{BatchFault, Items, Next, next_batch};
 use kc_graph::{MAX_ITEMS, MAX_VERTICES};
 use kc_intake::MAX_CLIENTS;
 use kc_levels::Profile;
-use kc_text::{LineReader, Reason, Source};
+use kc_text::{LineFault, LineReader, Reason, Source};
 use std::alloc::{AllocError, Global};
 
 /// What an input says.
@@ -48,11 +47,11 @@ fn read_scripts<S: Source>(
     reader: &mut LineReader,
     src: &mut S,
     n: u32,
-) -> Result<Said, ServeFault>
+) -> Result<Said, BatchFault>
     requires some { 1 ≤ n }
     requires small { n ≤ MAX_VERTICES }
     ensures said { IfOk result (λ said. Says said (option_map (scripts_from n []) (batches_left (rules_for n) reader.old (S.left src.old)))) }
-    ensures cause { ReadingCause (S.faults src.old) (S.faults src.new) result }
+    ensures cause { BatchCause (S.faults src.old) (S.faults src.new) result }
 {
     let mut scripts = Vec::new(alloc);
     let mut count = 0;
@@ -67,7 +66,7 @@ fn read_scripts<S: Source>(
                     });
                 }
                 count += more as u32;
-                add_script(&mut scripts, batch.items)?;
+                add_script(&mut scripts, batch.items).map_err(BatchFault::Memory)?;
             }
             Next::Refused { line, reason } => return Ok(Said::Refused { line, reason }),
             Next::End => return Ok(Said::Accepted(Scripts { n, scripts, count })),
@@ -80,16 +79,18 @@ fn read_scripts<S: Source>(
 /// Returns the script of each client, or the first line for which the input is refused, and why. After that line
 /// nothing is read but the rest of its block. `ReadFault` comes only if the source's count of faults rose, and `Memory`
 /// if there was none for a line or the items.
-pub fn read_input<S: Source>(alloc: Global, src: &mut S) -> Result<Said, ServeFault>
+pub fn read_input<S: Source>(alloc: Global, src: &mut S) -> Result<Said, BatchFault>
     ensures said { IfOk result (λ said. Says said (option_map input_said (S.left src.old))) }
-    ensures cause { ReadingCause (S.faults src.old) (S.faults src.new) result }
+    ensures cause { BatchCause (S.faults src.old) (S.faults src.new) result }
 {
-    let mut reader = LineReader::new(alloc, LINE_LIMIT, INPUT_LIMIT)?;
-    match read_head(alloc, &mut reader, src)? {
-        Head::Vertices(n) => read_scripts(alloc, &mut reader, src, n),
-        Head::Refused { line } => Ok(Said::Refused {
+    let mut reader = LineReader::new(alloc, LINE_LIMIT, INPUT_LIMIT).map_err(BatchFault::Memory)?;
+    match read_head(alloc, &mut reader, src) {
+        Ok(Head::Vertices(n)) => read_scripts(alloc, &mut reader, src, n),
+        Ok(Head::Refused { line }) => Ok(Said::Refused {
             line,
             reason: Reason::Header,
         }),
+        Err(LineFault::ReadFault) => Err(BatchFault::ReadFault),
+        Err(LineFault::Memory(e)) => Err(BatchFault::Memory(e)),
     }
 }

@@ -1,18 +1,17 @@
 //! The top call: a command line, an input and an output.
-ghost use Rattle.std.specs.Prelude.{◌≡◌, ◌≤◌, ◌↔◌, ◌∷◌, [], None, IfSome};
+ghost use Rattle.std.specs.Prelude.{◌≡◌, ◌≢◌, ◌≤◌, ◌↔◌, ◌∷◌, [], None, IfSome};
 ghost use Rattle.kserve.specs.Ending.{workers_of, HasCause};
-ghost use Rattle.kserve.specs.private.Ending.{status_of};
-ghost use Rattle.kserve.specs.private.Faults.{FaultCause};
+ghost use Rattle.kserve.specs.private.Ending.{status_after};
 ghost use Rattle.kserve.specs.Served.{Answers, IsComplete};
 
 use crate::context::ServeContext;
-use crate::fault::ServeFault;
 use crate::reading::{Said, read_input};
 use crate::serving::serve_scripts;
 use crate::status::ServeStatus;
+use kc_batch::BatchFault;
 use kc_report::write_refusal;
 use kc_rounds::{Gate, Rounds};
-use kc_text::{LineBuf, Sink, Source, Words, read_number};
+use kc_text::{LineBuf, SendFault, Sink, Source, Words, read_number};
 use std::alloc::Global;
 use std::sync::Wait;
 use std::thread::Threads;
@@ -41,42 +40,42 @@ fn workers_of(words: &Words) -> Option<u32>
     workers_in(words.word(0))
 }
 
-// Reads an input, and serves its scripts or writes why it is refused. Says whether it is.
+// The status of a call after a text was written: `complete`, unless a fault of the sink or of memory came first.
+fn status_after(complete: ServeStatus, written: Result<(), SendFault>) -> ServeStatus
+    ensures { result ≡ status_after complete written }
+{
+    match written {
+        Ok(()) => complete,
+        Err(SendFault::WriteFault) => ServeStatus::WriteFault,
+        Err(SendFault::Memory(_)) => ServeStatus::Memory,
+    }
+}
+
+// Reads an input, and serves its scripts or writes why it is refused.
 fn serve_input<R: Threads + Wait + Sync, S: Source, K: Sink + Send, G: Gate + Sync>(
     rounds: Rounds<'_, R, G>,
     src: &mut S,
     sink: &mut K,
-) -> Result<bool, ServeFault>
-    ensures text { Answers (S.left src.old) (K.taken sink.old) (K.taken sink.new) (status_of result) }
-    ensures cause { FaultCause (S.faults src.old) (S.faults src.new) (K.faults sink.old) (K.faults sink.new) result }
+) -> ServeStatus
+    ensures text { Answers (S.left src.old) (K.taken sink.old) (K.taken sink.new) result }
+    ensures cause { HasCause (S.faults src.old) (S.faults src.new) (K.faults sink.old) (K.faults sink.new) result }
+    ensures usage { result ≢ ServeStatus.Usage }
 {
     let alloc = rounds.alloc();
-    match read_input(alloc, src)? {
-        Said::Accepted(asked) => {
+    match read_input(alloc, src) {
+        Ok(Said::Accepted(asked)) => {
             let context = ServeContext {
                 rounds,
                 asked: &asked,
             };
-            serve_scripts(&context, sink)?;
-            Ok(false)
+            status_after(ServeStatus::Done, serve_scripts(&context, sink))
         }
-        Said::Refused { line, reason } => {
-            write_refusal(&mut LineBuf::new(alloc), sink, line, reason)?;
-            Ok(true)
+        Ok(Said::Refused { line, reason }) => {
+            let written = write_refusal(&mut LineBuf::new(alloc), sink, line, reason);
+            status_after(ServeStatus::Refused, written)
         }
-    }
-}
-
-// How a call ended.
-fn status_of(ended: Result<bool, ServeFault>) -> ServeStatus
-    ensures { result ≡ status_of ended }
-{
-    match ended {
-        Ok(false) => ServeStatus::Done,
-        Ok(true) => ServeStatus::Refused,
-        Err(ServeFault::ReadFault) => ServeStatus::ReadFault,
-        Err(ServeFault::WriteFault) => ServeStatus::WriteFault,
-        Err(ServeFault::Memory(_)) => ServeStatus::Memory,
+        Err(BatchFault::ReadFault) => ServeStatus::ReadFault,
+        Err(BatchFault::Memory(_)) => ServeStatus::Memory,
     }
 }
 
@@ -122,7 +121,7 @@ pub fn serve<R: Threads + Wait + Sync, S: Source, K: Sink + Send, G: Gate + Sync
     match workers_of(words) {
         Some(workers) => {
             let rounds = Rounds::new(rt, alloc, gate, workers);
-            status_of(serve_input(rounds, input, output))
+            serve_input(rounds, input, output)
         }
         None => ServeStatus::Usage,
     }

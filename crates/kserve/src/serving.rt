@@ -1,19 +1,20 @@
 //! The scripts of an input, served.
 ghost use Rattle.std.specs.Prelude.{◌≡◌, ◌≤◌, [], length, All, OnOk};
 ghost use Rattle.std.specs.Thread.{IsSync};
+ghost use Rattle.kc_text.specs.Writing.{WriteCause};
 ghost use Rattle.kc_intake.specs.Updates.{all_updates};
 ghost use Rattle.kserve.specs.declared.limits.TheConstants.{CAPACITY};
 ghost use Rattle.kserve.specs.Batches.{start};
 ghost use Rattle.kserve.specs.private.Clients.{AreNew, HaveEnded, AreDrained};
 ghost use Rattle.kserve.specs.private.Engines.{IsOpen};
-ghost use Rattle.kserve.specs.private.Faults.{IsFaultOf, StopCause, WritingCause};
+ghost use Rattle.kserve.specs.private.Faults.{IsFaultOf, StopCause};
 ghost use Rattle.kserve.specs.private.Served.{Writes};
 ghost use Rattle.kserve.specs.private.Serving.{Serves, ServesAll};
 
 use crate::applying::open;
 use crate::clients::{run_clients, take_in_all};
 use crate::context::ServeContext;
-use crate::fault::{ServeFault, Stop};
+use crate::fault::Stop;
 use crate::limits::CAPACITY;
 use crate::server::Server;
 use crate::vertices::write_tail;
@@ -21,7 +22,7 @@ use kc_graph::MAX_ITEMS;
 use kc_intake::{Client, Drainer, Intake, MAX_CLIENTS};
 use kc_report::write_opening;
 use kc_rounds::Gate;
-use kc_text::{LineBuf, Sink};
+use kc_text::{LineBuf, SendFault, Sink};
 use std::sync::Wait;
 use std::thread;
 use std::thread::Threads;
@@ -77,13 +78,13 @@ fn side_by_side<R: Threads + Wait + Sync, K: Sink + Send, G: Gate + Sync>(
 }
 
 // The fault for which a server stopped, which isn't that an item strayed.
-fn fault_of(stop: Stop) -> ServeFault
+fn fault_of(stop: Stop) -> SendFault
     requires { stop ≡ Stop.Stray → ⊥ }
     ensures { IsFaultOf stop result }
 {
     match stop {
-        Stop::WriteFault => ServeFault::WriteFault,
-        Stop::Memory(e) => ServeFault::Memory(e),
+        Stop::WriteFault => SendFault::WriteFault,
+        Stop::Memory(e) => SendFault::Memory(e),
         Stop::Stray => unreachable!(),
     }
 }
@@ -94,12 +95,12 @@ fn serve_clients<R: Threads + Wait + Sync, K: Sink + Send, G: Gate + Sync>(
     context: &ServeContext<'_, R, G>,
     server: &mut Server,
     sink: &mut K,
-) -> Result<(), ServeFault>
+) -> Result<(), SendFault>
     requires open { IsOpen server.old.engine }
     requires start { server.old.engine.state ≡ start context.now.n }
     ensures served { ServesAll context.now.n context.now.scripts.items server.new.engine.state (K.taken sink.old) (K.taken sink.new) result }
     ensures open { OnOk result (IsOpen server.new.engine) }
-    ensures cause { WritingCause (K.faults sink.old) (K.faults sink.new) result }
+    ensures cause { WriteCause (K.faults sink.old) (K.faults sink.new) result }
 {
     if context.asked.scripts.is_empty() {
         return Ok(());
@@ -129,19 +130,18 @@ fn serve_opened<R: Threads + Wait + Sync, K: Sink + Send, G: Gate + Sync>(
     context: &ServeContext<'_, R, G>,
     server: &mut Server,
     sink: &mut K,
-) -> Result<(), ServeFault>
+) -> Result<(), SendFault>
     requires open { IsOpen server.old.engine }
     requires start { server.old.engine.state ≡ start context.now.n }
     ensures text { Writes context.now.n context.now.scripts.items (K.taken sink.old) (K.taken sink.new) result }
-    ensures cause { WritingCause (K.faults sink.old) (K.faults sink.new) result }
+    ensures cause { WriteCause (K.faults sink.old) (K.faults sink.new) result }
 {
     let alloc = context.rounds.alloc();
     let n = context.asked.n;
     let mut buf = LineBuf::new(alloc);
     write_opening(&mut buf, sink, b"kserve-run 1", n)?;
     serve_clients(context, server, sink)?;
-    write_tail(alloc, &mut buf, sink, &server.engine)?;
-    Ok(())
+    write_tail(alloc, &mut buf, sink, &server.engine)
 }
 
 /// Serves the scripts of an input, and writes the text of it (`Writes`). A phase uses the workers of the rounds.
@@ -152,9 +152,9 @@ fn serve_opened<R: Threads + Wait + Sync, K: Sink + Send, G: Gate + Sync>(
 pub fn serve_scripts<R: Threads + Wait + Sync, K: Sink + Send, G: Gate + Sync>(
     context: &ServeContext<'_, R, G>,
     sink: &mut K,
-) -> Result<(), ServeFault>
+) -> Result<(), SendFault>
     ensures text { Writes context.now.n context.now.scripts.items (K.taken sink.old) (K.taken sink.new) result }
-    ensures cause { WritingCause (K.faults sink.old) (K.faults sink.new) result }
+    ensures cause { WriteCause (K.faults sink.old) (K.faults sink.new) result }
 {
     let rounds = &context.rounds;
     let alloc = rounds.alloc();

@@ -1,14 +1,12 @@
--- For private contracts: the status of a call that has ended.
-use Rattle.std.specs.Prelude.{Bool, true, false, Result, Ok, Err}
-use Rattle.kserve.specs.declared.fault.ServeFault.{ServeFault}
-use Rattle.kserve.specs.declared.fault.ServeFault.TheVariants as fault
+-- For private contracts: the status of a call after its text was written.
+use Rattle.std.specs.Prelude.{Result, Ok, Err}
+use Rattle.kc_text.specs.declared.buf.SendFault.{SendFault}
+use Rattle.kc_text.specs.declared.buf.SendFault.TheVariants as send
 use Rattle.kserve.specs.declared.status.ServeStatus.{ServeStatus}
-use Rattle.kserve.specs.declared.status.ServeStatus.TheVariants.{Done, Refused, ReadFault, WriteFault, Memory}
+use Rattle.kserve.specs.declared.status.ServeStatus.TheVariants.{WriteFault, Memory}
 
--- how a call ended whose answer says whether the input is refused
-abbrev pub status_of : Result Bool ServeFault → ServeStatus
-status_of (Ok false) = Done
-status_of (Ok true) = Refused
-status_of (Err fault.ReadFault) = ReadFault
-status_of (Err fault.WriteFault) = WriteFault
-status_of (Err (fault.Memory _)) = Memory
+-- the status of a complete call, unless a fault of the sink or of memory came before its text was whole
+abbrev pub status_after : {T : Type 0} → ServeStatus → Result T SendFault → ServeStatus
+status_after complete (Ok _) = complete
+status_after complete (Err send.WriteFault) = WriteFault
+status_after complete (Err (send.Memory _)) = Memory

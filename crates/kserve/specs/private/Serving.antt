@@ -1,6 +1,7 @@
 -- What the server has done with the batches that it drained.
 use Rattle.std.specs.Prelude.{ℕ, ◌≡◌, true, false, List, Option, Some, None, Result, Ok, Err}
 use Rattle.std.specs.Io.KnownBytes.{append_known}
+use Rattle.kc_text.specs.declared.buf.SendFault.{SendFault}
 use Rattle.kc_text.specs.Writing.{IsPrefix}
 use Rattle.kc_graph.specs.declared.items.Item.{Item}
 use Rattle.kc_graph.specs.Cleaning.{cleaned}
@@ -8,7 +9,6 @@ use Rattle.kc_engine.specs.States.{State}
 use Rattle.kc_engine.specs.Batches.{IsAfterBatch}
 use Rattle.kc_intake.specs.declared.updates.Update.{Update}
 use Rattle.kc_intake.specs.Updates.{all_updates}
-use Rattle.kserve.specs.declared.fault.ServeFault.{ServeFault}
 use Rattle.kserve.specs.declared.fault.Stop.{Stop}
 use Rattle.kserve.specs.declared.fault.Stop.TheVariants.{WriteFault, Memory, Stray}
 use Rattle.kserve.specs.Batches.{start, LeadTo}
@@ -68,6 +68,6 @@ pub record StoppedServing (scripts : List (List Item)) (before now : Option (Lis
   pub prefix : IsPrefix before now (batch_lines 1 batches)
 
 -- the scripts of clients were served and printed; or a prefix of the text was printed
-abbrev pub ServesAll : {T : Type 0} → ℕ → List (List Item) → State → Option (List ℕ) → Option (List ℕ) → Result T ServeFault → Type 0
+abbrev pub ServesAll : {T : Type 0} → ℕ → List (List Item) → State → Option (List ℕ) → Option (List ℕ) → Result T SendFault → Type 0
 ServesAll n scripts t before now (Ok _) = HaveServedAll n scripts t before now
 ServesAll n scripts t before now (Err _) = StoppedServing scripts before now

@@ -32,14 +32,17 @@ fn isolate_all(rt: &impl Bench) -> Vec<Item> {
     items
 }
 
-// Both engines plan the same of a batch, and are alike afterwards. Returns how many moves it has.
+// Both engines plan the same of a batch, and are alike afterwards. The first takes its plan back. Returns how many
+// moves the batch has.
 fn plan_both(rt: &impl Bench, kept: &mut Unseen, anew: &mut Unseen, items: &[Item]) -> u32 {
     let plan = kept.plan(rt, items).expect(rt, "refused");
     let again = anew.plan(rt, items).expect(rt, "refused");
     let (one, other) = (said(rt, kept, &plan), said(rt, anew, &again));
     assert!(rt; one.as_slice() == other.as_slice());
     drop(again);
-    plan.moves
+    let moves = plan.moves;
+    kept.engine.reuse(plan);
+    moves
 }
 
 // Ten batches by an engine, and by one that is opened anew. Then all edges leave the first engine. Returns how many
@@ -52,13 +55,15 @@ fn run_round(rt: &impl Bench, kept: &mut Unseen, random: &mut Random) -> u32 {
         moves = moves.saturating_add(plan_both(rt, kept, &mut anew, items.as_slice()));
     }
     let all = isolate_all(rt);
-    drop(kept.plan(rt, all.as_slice()).expect(rt, "refused"));
+    let plan = kept.plan(rt, all.as_slice()).expect(rt, "refused");
+    kept.engine.reuse(plan);
     drop(anew);
     moves
 }
 
-// Rounds of ten batches by one engine, from which all edges leave after each round. Beside it each round has an
-// engine that is opened anew. Both plan the same, so a phase leaves nothing over in the workspace.
+// Rounds of ten batches by one engine, from which all edges leave after each round. It takes back the plans. Beside it
+// each round has an engine that is opened anew and takes back none. Both plan the same, so a phase leaves nothing over
+// in the workspace, and a plan nothing in its memory.
 #[test]
 fn many_batches_leave_nothing_over(rt: HostRuntime) {
     let mut kept = Unseen::open(&rt, VERTICES, 1, 0, MAX_EDGES);

@@ -8,7 +8,7 @@ pub returns-in_ok-next-in-BatchStart-clause-batch : goal.returns-in_ok-next-in-B
 returns-in_ok-next-in-BatchStart-clause-batch g c =
     let t = c.in_ok-token.token in
     step_on (batch_of c.args.rules) (items_from c.args.rules []) (onto_token t) _ _ c.in_ok-token.ensures.token (batch_start c.args.rules t c.in-BatchStart.is)
-    ∙ c.in_ok-next-in-BatchStart.ensures.batch
+    ∙ rw (c.new-begun.ensures.rules, c.new-begun.ensures.items) at c.in_ok-next-in-BatchStart.ensures.batch
 
 pub returns-in-BatchEnd-clause-batch : goal.returns-in-BatchEnd-clause-batch
 returns-in-BatchEnd-clause-batch g c =

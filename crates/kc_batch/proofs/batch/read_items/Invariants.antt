@@ -1,4 +1,4 @@
-use Rattle.std.proofs.Common.{◌≡◌, ◌≤◌, true, [], length}
+use Rattle.std.proofs.Common.{◌≡◌, ◌≤◌, true, length}
 use Rattle.std.specs.Prelude.{All}
 use Rattle.std.specs.Option.{option_map}
 use Rattle.kc_text.specs.Reading.{budget}
@@ -10,10 +10,10 @@ use Rattle.kc_batch.proofs.batch.read_items.Given as goal
 
 abbrev pub invariant-loop-items : goal.invariant-loop-items
 invariant-loop-items g l = record {
-  same : option_map (items_from l.rules []) (tokens_left l.fn.reader (g.S.Source.left l.fn.src)) ≡ option_map (items_from l.rules l.items) (tokens_left l.reader (g.S.Source.left l.src));
-  few : length l.items ≤ l.rules.item_limit;
-  inside : All (IsInside l.rules.n) l.items;
-  allowed : All (λ item. is_allowed l.rules.profile item ≡ true) l.items;
+  same : option_map (items_from l.fn.ahead.rules l.fn.ahead.items) (tokens_left l.fn.reader (g.S.Source.left l.fn.src)) ≡ option_map (items_from l.fn.ahead.rules l.items) (tokens_left l.reader (g.S.Source.left l.src));
+  few : length l.items ≤ l.fn.ahead.rules.item_limit;
+  inside : All (IsInside l.fn.ahead.rules.n) l.items;
+  allowed : All (λ item. is_allowed l.fn.ahead.rules.profile item ≡ true) l.items;
   budget : budget l.reader ≤ budget l.fn.reader;
   taken : g.K.Sink.taken l.sink ≡ g.K.Sink.taken l.fn.sink;
   read_faults : g.S.Source.faults l.src ≡ g.S.Source.faults l.fn.src;

@@ -6,7 +6,7 @@ use Rattle.kc_batch.proofs.text.read_numbers.Given as goal
 
 abbrev pub invariant-loop-start : goal.invariant-loop-start
 invariant-loop-start l = record {
-  numbers : numbers_of (words (drop l.from l.text)) ≡ numbers_behind l.numbers (words (drop l.at l.text));
+  numbers : numbers_of (words l.text) ≡ numbers_behind l.numbers (words (drop l.at l.text));
   within : l.at ≤ length l.text;
 }
 

@@ -68,7 +68,7 @@ loop-m-preserved c =
     elim c.if-label-v.branch [
       | then-label-v+in_ok-push w ↦
           let count : w.len.result ≡ length c.loop-m.entries.items = omega arith in
-          rw (w.places-is, w.entries-is, w.in_ok-push.ensures.items, w.new.ensures, count)
+          rw (w.places-is, w.entries-is, w.in_ok-push.ensures.items, w.open_group.ensures, count)
           (next _ _ (opening_more c.args.phase.now.number c.args.phase.now.add n labels c.loop-m.entries.items c.loop-m.places.items m rooted v at.0 at.1 o (sym label ∙ w.if-label-v.true)))
       | else-label-v w ↦
           let root = rooted.root v at.0 at.1 in

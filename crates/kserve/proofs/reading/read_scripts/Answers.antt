@@ -7,7 +7,7 @@ use Rattle.kc_batch.specs.Batches.{batches_left}
 use Rattle.kserve.specs.declared.reading.Said.TheVariants as said
 use Rattle.kserve.specs.Inputs.{rules_for, items_in, has_room}
 use Rattle.kserve.specs.private.Scripts.{AreScripts}
-use Rattle.kserve.proofs.ScriptLemmas.{says, told_script, told_full, told_refused, told_end, due_script, items_more, room_told, room_as}
+use Rattle.kserve.proofs.ScriptLemmas.{on_ok_mapped, says, told_script, told_full, told_refused, told_end, due_script, items_more, room_told, room_as}
 use Rattle.kserve.proofs.reading.read_scripts.Goals as goal
 
 pub returns-then-not-has_room-clause-said : goal.returns-then-not-has_room-clause-said
@@ -40,7 +40,7 @@ loop-scripts-preserved g c =
     let room : has_room (length c.loop-scripts.scripts.items) (items_in c.loop-scripts.scripts.items) (length c.in-Items.batch.items) ≡ true =
     room_as _ _ _ _ _ _ c.has_room.result true size i.count c.as_slice-more.ensures c.has_room.ensures c.if-not-has_room.false in
     let there = room_told (length c.loop-scripts.scripts.items) (items_in c.loop-scripts.scripts.items) (length c.in-Items.batch.items) room in
-    let more : c.add_script.new.scripts.items ≡ c.loop-scripts.scripts.items ++ c.in-Items.batch.items ∷ [] = c.in_ok-add_script-in-Items.ensures in
+    let more : c.add_script.new.scripts.items ≡ c.loop-scripts.scripts.items ++ c.in-Items.batch.items ∷ [] = on_ok_mapped c.add_script.result c.map_err.result _ _ c.in_ok-map_err-in-Items.was c.map_err.ensures.variant c.add_script.ensures in
     let items = items_more c.loop-scripts.scripts.items c.in-Items.batch.items in
     let long = length-append c.loop-scripts.scripts.items (c.in-Items.batch.items ∷ []) in
     let same = ap (λ (xs : List Item). length xs) c.as_slice-more.ensures in

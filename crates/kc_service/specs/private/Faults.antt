@@ -1,4 +1,4 @@
--- The faults of a batch.
+-- The fault of a batch that the engine refuses.
 use Rattle.kc_engine.specs.declared.faults.EngineFault.{EngineFault}
 use Rattle.kc_engine.specs.declared.faults.EngineFault.TheVariants as engine
 use Rattle.kc_service.specs.declared.faults.ApplyFault.{ApplyFault}
