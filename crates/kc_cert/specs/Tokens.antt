@@ -1,7 +1,7 @@
 -- The tokens of a certificate: what each line that isn't skipped says by itself.
 use Rattle.std.specs.Prelude.{ℕ, Bool, true, false, ◌&&◌, List, [], ◌∷◌, Option, Some, None, if◌then◌else◌, codes}
 use Rattle.std.specs.Str.{bytes_eq}
-use Rattle.std.specs.Option.{option_map}
+use Rattle.std.specs.Option.{option_map, option_and_then, option_map_or}
 use Rattle.kc_levels.specs.declared.profile.Profile.{Profile}
 use Rattle.kc_levels.specs.declared.profile.Profile.TheVariants.{One, Two}
 use Rattle.kc_text.specs.declared.line.Line.{Line}
@@ -14,11 +14,15 @@ use Rattle.kc_cert.specs.declared.token.Token.{Token}
 use Rattle.kc_cert.specs.declared.token.Kind.{Kind}
 use Rattle.kc_cert.specs.declared.token.Kind.TheVariants as kind
 
+-- the word, if there is exactly one
+unfoldable pub only_word : List (List ℕ) → Option (List ℕ)
+only_word [] = None
+only_word (w ∷ []) = Some w
+only_word (v ∷ w ∷ ws) = None
+
 -- the number that one word says
-unfoldable pub one_number : List (List ℕ) → Option ℕ
-one_number [] = None
-one_number (w ∷ []) = number_of w
-one_number (v ∷ w ∷ ws) = None
+abbrev pub one_number : List (List ℕ) → Option ℕ
+one_number ws = option_and_then number_of (only_word ws)
 
 abbrev pub both_numbers : Option ℕ → Option ℕ → Option (ℕ × ℕ)
 both_numbers (Some a) (Some b) = Some (a, b)
@@ -38,16 +42,12 @@ profile_named name =
     else None
 
 -- the profile that one word names
-unfoldable pub profile_in : List (List ℕ) → Option Profile
-profile_in [] = None
-profile_in (w ∷ []) = profile_named w
-profile_in (v ∷ w ∷ ws) = None
+abbrev pub profile_in : List (List ℕ) → Option Profile
+profile_in ws = option_and_then profile_named (only_word ws)
 
 -- the one word `1`
-unfoldable pub is_version : List (List ℕ) → Bool
-is_version [] = false
-is_version (w ∷ []) = bytes_eq w (codes "1")
-is_version (v ∷ w ∷ ws) = false
+abbrev pub is_version : List (List ℕ) → Bool
+is_version ws = option_map_or (λ w. bytes_eq w (codes "1")) (only_word ws) false
 
 -- no word
 abbrev pub is_nothing : List (List ℕ) → Bool
