@@ -69,6 +69,7 @@ direction_of w =
     else if bytes_eq w (codes "delete") then Some false
     else None
 
+-- the kind of a line `phase P` by its direction, and by whether the rest is `quiet E`
 abbrev pub phase_with : ℕ → Option Bool → Bool → Kind
 phase_with p (Some add) true = Phase p add
 phase_with p (Some add) false = Other
@@ -95,6 +96,7 @@ numbered_kind name n ws =
     else if bytes_eq name (codes "vertices") && is_nothing ws then Vertices n
     else Other
 
+-- the kind of a line by its first word and what follows, if that begins with a number
 abbrev pub kind_with : List ℕ → Option (ℕ × List (List ℕ)) → Kind
 kind_with name (Some p) = numbered_kind name p.0 p.1
 kind_with name None = Other

@@ -22,6 +22,7 @@ const MAX_READERS: u32 = 64;
 /// The phase lines that may still come in a batch.
 #[derive(Clone, Copy, Debug, PartialEq, Eq)]
 pub enum PhasesLeft {
+    /// None.
     NoPhase,
     /// One that inserts.
     Insertion,
