@@ -76,23 +76,29 @@ phase_says p e false x y = record { words = rw (word p x, word e y) refl; kept =
 pub lines_say_kinds : LinesSayKinds
 unfolding kind_of_words first_number has_fields is_version words_from
 lines_say_kinds = record {
-  head = record { words = refl; kept = refl; kind = refl };
-  vertices = λ n h. record { words = rw (word n h) refl; kept = refl; kind = rw (value n h) refl };
-  accepted = λ t a b c d i ht ha hb hc hd hi. record {
-    words = rw (word t ht, word a ha, word b hb, word c hc, word d hd, word i hi) refl;
-    kept = refl;
-    kind = rw (value t ht, value a ha, value b hb, value c hc, value d hd, value i hi) refl;
+  frame = record {
+    head = record { words = refl; kept = refl; kind = refl };
+    vertices = λ n h. record { words = rw (word n h) refl; kept = refl; kind = rw (value n h) refl };
+    end = record { words = refl; kept = refl; kind = refl };
   };
-  refused = refused_says;
-  phase = phase_says;
-  group = λ p label ms hp hl hm. record { words = rw (word p hp, word label hl) (pairs_are_words 58 ms (omega arith) hm); kept = refl; kind = rw (value p hp, value label hl) refl };
-  reader = λ r rs hr hs. record { words = rw (word r hr) (pairs_are_words 61 rs (omega arith) hs); kept = refl; kind = rw (value r hr) refl };
-  vertex = λ v l e lo hi u d hv hl he ho hh hu hd. record {
-    words = rw (word v hv, word l hl, word e he, word lo ho, word hi hh, word u hu, word d hd) refl;
-    kept = refl;
-    kind = rw (value v hv, value l hl, value e he, value lo ho, value hi hh, value u hu, value d hd) refl;
+  batches = record {
+    accepted = λ t a b c d i ht ha hb hc hd hi. record {
+      words = rw (word t ht, word a ha, word b hb, word c hc, word d hd, word i hi) refl;
+      kept = refl;
+      kind = rw (value t ht, value a ha, value b hb, value c hc, value d hd, value i hi) refl;
+    };
+    refused = refused_says;
+    phase = phase_says;
+    group = λ p label ms hp hl hm. record { words = rw (word p hp, word label hl) (pairs_are_words 58 ms (omega arith) hm); kept = refl; kind = rw (value p hp, value label hl) refl };
   };
-  end = record { words = refl; kept = refl; kind = refl };
+  levels = record {
+    reader = λ r rs hr hs. record { words = rw (word r hr) (pairs_are_words 61 rs (omega arith) hs); kept = refl; kind = rw (value r hr) refl };
+    vertex = λ v l e lo hi u d hv hl he ho hh hu hd. record {
+      words = rw (word v hv, word l hl, word e he, word lo ho, word hi hh, word u hu, word d hd) refl;
+      kept = refl;
+      kind = rw (value v hv, value l hl, value e he, value lo ho, value hi hh, value u hu, value d hd) refl;
+    };
+  };
 }
 
 -- lines of words, and the end of the input

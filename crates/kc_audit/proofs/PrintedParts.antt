@@ -93,7 +93,7 @@ group_words g = codes "group" ∷ decimal g.phase ∷ decimal g.label ∷ pair_w
 pub group_says : (n p low : ℕ) (g : GroupLine) → n ≤ MAX_VERTICES → IsSmall p → GroupFits n p low g → Says (group_words g) (Rattle.kc_audit.specs.Kinds.Group g.phase g.label (pair_words 58 g.members))
 group_says n p low g most small fits =
     let label = label_below n g.label g.members fits.rises fits.below in
-    lines_say_kinds.group g.phase g.label g.members (omega (arith, small, fits.phase)) (omega (arith, label, most)) (are_small n g.members most fits.below fits.levels)
+    lines_say_kinds.batches.group g.phase g.label g.members (omega (arith, small, fits.phase)) (omega (arith, label, most)) (are_small n g.members most fits.below fits.levels)
 
 pub reader_says : (n r : ℕ) (rs : List Reply) → n ≤ MAX_VERTICES → r < 64 → ReaderFits n rs → Says (codes "reader" ∷ decimal r ∷ pair_words 61 rs) (Rattle.kc_audit.specs.Kinds.Reader r (pair_words 61 rs))
-reader_says n r rs most few fits = lines_say_kinds.reader r rs (omega (arith, few)) (are_small n rs most fits.below fits.levels)
+reader_says n r rs most few fits = lines_say_kinds.levels.reader r rs (omega (arith, few)) (are_small n rs most fits.below fits.levels)

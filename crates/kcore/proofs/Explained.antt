@@ -50,8 +50,8 @@ use Rattle.kcore.proofs.RunVertices.{tail_prints}
 
 head_prints : (n : ℕ) → n ≤ MAX_VERTICES → Prints (head_text n) (λ rest. kind.Head ∷ kind.Vertices n ∷ rest)
 head_prints n most =
-    prints_both magic_line (vertices_line n) (λ rest. kind.Head ∷ rest) (λ rest. kind.Vertices n ∷ rest) (prints_line (codes "kcore-run" ∷ codes "1" ∷ []) kind.Head lines_say_kinds.head)
-    (prints_line (codes "vertices" ∷ decimal n ∷ []) (kind.Vertices n) (lines_say_kinds.vertices n (omega (arith, most))))
+    prints_both magic_line (vertices_line n) (λ rest. kind.Head ∷ rest) (λ rest. kind.Vertices n ∷ rest) (prints_line (codes "kcore-run" ∷ codes "1" ∷ []) kind.Head lines_say_kinds.frame.head)
+    (prints_line (codes "vertices" ∷ decimal n ∷ []) (kind.Vertices n) (lines_say_kinds.frame.vertices n (omega (arith, most))))
 
 -- the tail of a session at the end of its history, if that is a sound state
 end_prints : (p : Profile) (n : ℕ) (g : GraphShape) (x : List ℕ) (s : State) → 1 ≤ n → n ≤ MAX_VERTICES → g ≡ s.graph → x ≡ s.levels → s.profile ≡ p → s.graph.vertices ≡ n → IsSound MAX_EDGES s

@@ -1,6 +1,6 @@
 use Rattle.std.proofs.Common.{ℕ, ◌<◌, length, slice_index}
 use Rattle.kc_report.specs.private.LevelWords.{AreLevelWords}
-use Rattle.kc_report.proofs.level_words.LevelWords.new.Given as goal
+use Rattle.kc_report.proofs.level_words.compose_words.Given as goal
 
 abbrev pub invariant-loop-level : goal.invariant-loop-level
 invariant-loop-level l = record {
