@@ -4,11 +4,11 @@
 ghost use Rattle.std.specs.Prelude.{◌≡◌, ◌+◌, ◌*◌, ◌++◌, ◌∷◌, ◌<◌, ◌≤◌, ◌^◌, ℕ, [], false, true, IfOk, OnOk, cond, count_by, filter, length, slice_index, slice_index_or, slice_set, take};
 ghost use Rattle.std.specs.List.{flat_map};
 ghost use Rattle.kc_graph.specs.Numbers.{has_number};
-ghost use Rattle.kc_graph.specs.Shape.{has_edge};
+ghost use Rattle.kc_graph.specs.Shape.{has_edge, IsGraph};
 ghost use Rattle.kc_adj.specs.Degrees.{degrees};
 ghost use Rattle.kc_insert.specs.private.Crossing.{above_near, count_above, HaveBegun, HaveMeetings, is_above, left_at, met_by, next_near, rising_near, with_levels};
 ghost use Rattle.kc_insert.specs.private.Parts.{CanPart, CanRise, HasParted, HasRisen, HaveRisen, risen_part};
-ghost use Rattle.kc_insert.specs.private.Rising.{rises};
+ghost use Rattle.kc_insert.specs.private.Rising.{rises, seen};
 ghost use Rattle.kc_insert.specs.private.Telling.{AreDealtAnew, times};
 ghost use Rattle.kc_insert.specs.Ranges.{HasVertex};
 ghost use Rattle.kc_insert.specs.private.Watched.{count_at, StayWatched};
@@ -47,6 +47,23 @@ impl<'a> Model for Step<'a> {
     ghost view = { λ s. record { graph = s.graph.now; levels = s.levels.now; bits = s.sharing.layout.bits; level = s.level; is_dealt = s.sharing.is_dealt } };
 
     ghost invariant = { λ s. IsCrossing (record { graph = s.graph.now; levels = s.levels.now; bits = s.sharing.layout.bits; level = s.level; is_dealt = s.sharing.is_dealt }) };
+}
+
+impl<'a> Step<'a> {
+    /// Makes the step from the level.
+    pub fn new(graph: &'a Graph, levels: &'a RisingLevels, level: u16, sharing: Sharing) -> Step<'a>
+        requires graph { IsGraph graph.now }
+        requires sized { length (seen levels.now) ≡ graph.now.vertices }
+        requires small { level < 65534 }
+        ensures { result ≡ record { graph = graph.now; levels = levels.now; bits = sharing.layout.bits; level = level; is_dealt = sharing.is_dealt } }
+    {
+        Step {
+            graph,
+            levels,
+            level,
+            sharing,
+        }
+    }
 }
 
 // Puts w and x at `end`; returns `end + 2` if `holds`, else `end`. There is no branch, since a processor couldn't

@@ -105,23 +105,15 @@ fn raise_level<R: Threads + Sync, G: Gate + Sync>(
     let waiting = sweep.ranges.take_waiting(rounds.alloc(), level)?;
     let starting = movers(rounds, &mut sweep.first, &sweep.ranges, most, &waiting)?;
     let staying = sweep.ranges.let_stay(&mut sweep.levels)?;
-    let parting = Step {
-        graph,
-        levels: &sweep.levels,
-        level,
-        sharing: sweep.ranges.sharing(staying, rounds.workers()),
-    };
+    let sharing = sweep.ranges.sharing(staying, rounds.workers());
+    let parting = Step::new(graph, &sweep.levels, level, sharing);
     sweep.ranges.part(rounds, &parting, staying)?;
     sweep.levels.go_to(level + 1);
     let begun = sweep.ranges.lift_off(&mut sweep.levels, level, &starting)?;
     let meeting = sweep.ranges.meeting_count(level) / 4 + sweep.ranges.meeting_count(level + 1) / 4;
     let work = begun.saturating_add(meeting);
-    let rising = Step {
-        graph,
-        levels: &sweep.levels,
-        level,
-        sharing: sweep.ranges.sharing(work, rounds.workers()),
-    };
+    let sharing = sweep.ranges.sharing(work, rounds.workers());
+    let rising = Step::new(graph, &sweep.levels, level, sharing);
     sweep.ranges.rise(rounds, &rising, above)?;
     Ok(sweep.ranges.take_steps())
 }
