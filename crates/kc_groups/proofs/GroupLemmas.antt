@@ -1,6 +1,6 @@
 -- The trees of a forest over the moves are the groups, and the vertex of the root is the label.
 use Rattle.std.proofs.Common.{ℕ, suc, zero, ◌≤◌, ◌<◌, ◌≡◌, inl, inr, Bool, true, false, ◌&&◌, ◌||◌, ltb, List, length, get_or, refl, ap, sym, ◌∙◌, arith, subst}
-use Rattle.std.proofs.lemmas.Bool.{cases_eq, cases_lt, cases_Bool}
+use Rattle.std.proofs.lemmas.Bool.{and_from, cases_Bool, cases_eq, cases_lt, or_left, or_right}
 use Rattle.std.proofs.lemmas.Bool.Decides.{nat_tests}
 use Rattle.std.proofs.lemmas.Grind.{same_number_lists}
 use Rattle.kc_graph.specs.Numbers.{RisesFrom, AllBelow, has_number}
@@ -46,19 +46,10 @@ module _ (g : GraphShape) (edges : List Pair) (vs : List ℕ) where
     one_root i j hi hj e = which (has_edge (get_or vs i 0, get_or vs j 0) edges) refl (has_edge (get_or vs j 0, get_or vs i 0) edges) refl (sym (joined_all (get_or vs i 0) (get_or vs j 0)) ∙ e)
       where
         by_edge : (k l : ℕ) → k < length vs → l < length vs → in_edges edges vs k l ≡ true → get_or a.roots k 0 ≡ get_or a.roots l 0
-        by_edge k l hk hl e = a.joined k l hk hl (second (in_rows g vs (length vs) k l) (in_edges edges vs k l) e)
-          where
-            second : (b c : Bool) → c ≡ true → (b || c) ≡ true
-            second b c e = grind (arith, nat_tests, e)
+        by_edge k l hk hl e = a.joined k l hk hl (or_right (in_rows g vs (length vs) k l) (in_edges edges vs k l) e)
 
         by_row : (k l : ℕ) → k < length vs → l < length vs → l < k → joined (get_or vs k 0) (get_or vs l 0) g.edges ≡ true → get_or a.roots k 0 ≡ get_or a.roots l 0
-        by_row k l hk hl lt e = a.joined k l hk hl (first (in_rows g vs (length vs) k l) (in_edges edges vs k l) (near_is k l hk ∙ both (ltb l k) (joined (get_or vs k 0) (get_or vs l 0) g.edges) (grind (arith, nat_tests, lt)) e))
-          where
-            first : (b c : Bool) → b ≡ true → (b || c) ≡ true
-            first b c e = grind (arith, nat_tests, e)
-
-            both : (b c : Bool) → b ≡ true → c ≡ true → (b && c) ≡ true
-            both b c e f = grind (arith, nat_tests, e, f)
+        by_row k l hk hl lt e = a.joined k l hk hl (or_left (in_rows g vs (length vs) k l) (in_edges edges vs k l) (near_is k l hk ∙ and_from (ltb l k) (joined (get_or vs k 0) (get_or vs l 0) g.edges) (grind (arith, nat_tests, lt)) e))
 
         rows : joined (get_or vs i 0) (get_or vs j 0) g.edges ≡ true → get_or a.roots i 0 ≡ get_or a.roots j 0
         rows e = elim (cases_eq i j) [

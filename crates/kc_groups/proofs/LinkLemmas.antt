@@ -1,7 +1,7 @@
 -- What each link that is followed adds to the forest.
 use Rattle.std.proofs.Common.{ℕ, ◌+◌, ◌≤◌, ◌<◌, ◌≡◌, ◌≢◌, ◌⊎◌, inl, inr, Bool, true, false, cond, ◌&&◌, ◌||◌, eqb, ltb, List, [], ◌∷◌, ◌++◌, length, get_or, take, refl, ap, sym, ◌∙◌, arith, add-one}
 use Rattle.std.proofs.Math.Seq.{take-suc, take-length}
-use Rattle.std.proofs.lemmas.Bool.{cases_eq, cases_lt, cases_Bool}
+use Rattle.std.proofs.lemmas.Bool.{cases_Bool, cases_eq, cases_lt, or_left}
 use Rattle.std.proofs.lemmas.Bool.Decides.{nat_tests}
 use Rattle.kc_graph.specs.Numbers.{has_number}
 use Rattle.kc_graph.specs.Shape.{GraphShape, Pair, neighbours_of, has_edge, same_edge}
@@ -202,7 +202,7 @@ module _ (before : ℕ → ℕ → Bool) (vs : List ℕ) (m : ℕ) (edges : List
     edge_link a new first second is_first is_second hf hs same f =
         gathered_more m (with_first before vs edges k) (with_first before vs edges (k + 1)) parents a first second new hf hs
         (more_edges first second ∙ yes (with_first before vs edges k first second) (eqb (get_or vs first 0) (get_or edges k d).0) (eqb (get_or vs second 0) (get_or edges k d).1) (grind (arith, nat_tests, at first (get_or edges k d).0 is_first hf low.0)) (grind (arith, nat_tests, at second (get_or edges k d).1 is_second hs low.1)))
-        (λ i j hi hj e. more_edges i j ∙ still (with_first before vs edges k i j) (same_edge (get_or vs i 0, get_or vs j 0) (get_or edges k d)) e)
+        (λ i j hi hj e. more_edges i j ∙ or_left (with_first before vs edges k i j) (same_edge (get_or vs i 0, get_or vs j 0) (get_or edges k d)) e)
         (λ i j hi hj e. only i j hi hj (sym (more_edges i j) ∙ e))
         same f
       where
@@ -211,9 +211,6 @@ module _ (before : ℕ → ℕ → Bool) (vs : List ℕ) (m : ℕ) (edges : List
 
         yes : (a b c : Bool) → b ≡ true → c ≡ true → (a || (b && c)) ≡ true
         yes a b c e f = grind (arith, nat_tests, e, f)
-
-        still : (a b : Bool) → a ≡ true → (a || b) ≡ true
-        still a b e = grind (arith, nat_tests, e)
 
         only : (i j : ℕ) → i < m → j < m → (with_first before vs edges k i j || same_edge (get_or vs i 0, get_or vs j 0) (get_or edges k d)) ≡ true → (with_first before vs edges k i j ≡ true) ⊎ ((i ≡ first) × (j ≡ second))
         only i j hi hj e = elim (cases_Bool (with_first before vs edges k i j)) [

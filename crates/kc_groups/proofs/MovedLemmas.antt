@@ -95,9 +95,6 @@ module _ (moved : ℕ → Bool) (n : ℕ) (items : List ℕ) (is : items ≡ mov
     pub moved_this : (i : ℕ) → i < length items → P (get_or items i n) → P (get_or items i 0)
     moved_this i h p = subst P (get_or_default items i n 0 h) p
 
-    pub moved_last : (i : ℕ) → i ≡ length items → P (get_or items i n) → P n
-    moved_last i e p = subst P (get_or_past items i n (omega arith)) p
-
     module _ (still : (k : ℕ) → k < n → moved k ≡ false → P k → P (k + 1)) where
       from : (i : ℕ) → i ≤ length items → P (begins items i) → P (get_or items i n)
       from = subst (λ xs. (i : ℕ) → i ≤ length xs → P (begins xs i) → P (get_or xs i n)) (sym is) (over P moved n (λ k h e p. subst P (add-one k) (still k h e p)))
@@ -119,9 +116,6 @@ module _ (n : ℕ) (ms : List Move) (order : AreInOrder n ms) where
   module _ (P : ℕ → Type 0) where
     pub mover_this : (i : ℕ) → i < length ms → P (get_or (vertices ms) i n) → P (get_or ms i no_move).vertex
     mover_this i h p = at_vertex P i h (moved_this (is_mover ms) n (vertices ms) (movers_below n ms order) P i (omega (arith, many ms, h)) p)
-
-    pub mover_last : (i : ℕ) → i ≡ length ms → P (get_or (vertices ms) i n) → P n
-    mover_last i e p = moved_last (is_mover ms) n (vertices ms) (movers_below n ms order) P i (e ∙ sym (many ms)) p
 
     module _ (still : (k : ℕ) → k < n → is_mover ms k ≡ false → P k → P (k + 1)) where
       pub mover_first : P 0 → P (get_or (vertices ms) 0 n)

@@ -3,6 +3,7 @@ use Rattle.std.proofs.Common.{ℕ, ◌≡◌, Bool, true, false, cond, ◌||◌,
 use Rattle.std.specs.Prelude.{All}
 use Rattle.std.proofs.lemmas.Bool.Decides.{nat_tests}
 use Rattle.std.proofs.lemmas.List.Elements.{All-cons, All-nil}
+use Rattle.std.proofs.lemmas.Bool.{or_right}
 use Rattle.kc_graph.specs.Shape.{GraphShape, Pair, EdgesFrom, IsGraph, same_edge, has_edge, with_edges, without_edges}
 use Rattle.kc_graph.specs.Changes.{AllPresent}
 use Rattle.kc_graph.proofs.lemmas.Changes.{vertices-with_edges, vertices-without_edges, has_edge-with_edges, insertions_keep_graph, removals_keep_graph, inside_from_ascending}
@@ -18,14 +19,10 @@ use Rattle.kc_groups.proofs.LeadLaw.{entries_lead_over}
 own_edge : (e : Pair) (es : List Pair) → has_edge e (e ∷ es) ≡ true
 own_edge e es = grind (arith, nat_tests)
 
-or_later : (a b : Bool) → b ≡ true → (a || b) ≡ true
-or_later true b e = refl
-or_later false b e = e
-
 -- what is true of each edge of a list
 all_members : (P : Pair → Type 0) (es : List Pair) → ((e : Pair) → has_edge e es ≡ true → P e) → All P es
 all_members P [] h = All-nil P
-all_members P (e ∷ es) h = All-cons P e es (h e (own_edge e es)) (all_members P es (λ f m. h f (or_later (same_edge f e) (has_edge f es) m)))
+all_members P (e ∷ es) h = All-cons P e es (h e (own_edge e es)) (all_members P es (λ f m. h f (or_right (same_edge f e) (has_edge f es) m)))
 
 -- edges that came in are there
 pub present_after : (g : GraphShape) (es : List Pair) → AllPresent (with_edges g es) es

@@ -99,9 +99,6 @@ module _ (g : GraphShape) (gone : List Pair) (ms : List Move) (graph : IsGraph g
       none_else v h out = stays (length labels) labels (labels_below labels (length labels)) places p (is_mover ms) rooted_here v (omega (arith, h, p.sized)) out ∙ sym p.sized
 
       module _ (dealt : List Entry) (m : AreDealt (with_moves places ms) opened dealt) where
-        pub few_places : length dealt ≤ length places
-        few_places = omega (arith, m.sized, long, p.few, p.sized)
-
         pub no_edges : All (λ (e : Entry). e.edges ≡ []) dealt
         no_edges k d h =
             let inside : k < length opened = omega (arith, m.sized, h) in

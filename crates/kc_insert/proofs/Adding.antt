@@ -2,7 +2,7 @@
 use Rattle.std.proofs.Common.{ℕ, suc, ◌+◌, ◌≤◌, ◌<◌, ◌≡◌, ◌≢◌, inl, inr, Bool, true, false, cond, eqb, List, [], ◌∷◌, ◌++◌, length, get_or, take, drop, add-one, refl, ap, sym, ◌∙◌, arith}
 use Rattle.std.specs.Prelude.{count_by, filter}
 use Rattle.std.specs.List.{flat_map}
-use Rattle.std.proofs.lemmas.Bool.{cases_eq, cases_Bool, true≢false}
+use Rattle.std.proofs.lemmas.Bool.{cases_Bool, cases_eq, eq-eqb, true≢false}
 use Rattle.std.proofs.lemmas.Bool.Decides.{nat_tests}
 use Rattle.std.proofs.lemmas.List.Concat.{flat_map-cons}
 use Rattle.std.proofs.Math.Seq.{take-suc}
@@ -13,8 +13,9 @@ use Rattle.kc_graph.proofs.lemmas.Counts.{count_by-cons}
 use Rattle.kc_graph.proofs.lemmas.Numbers.{has_number_below}
 use Rattle.kc_graph.proofs.lemmas.Neighbours.{neighbours_rise, neighbours_both}
 use Rattle.kc_levels.specs.Following.{AreDistinct}
-use Rattle.kc_insert.specs.private.Telling.{times}
-use Rattle.kc_insert.proofs.Flips.{count_agree, count_less}
+use Rattle.kc_insert.specs.private.Telling.{in_range, times}
+use Rattle.kc_insert.specs.Ranges.{range_of}
+use Rattle.kc_insert.proofs.Tests.{count_agree, count_less}
 
 pub times-append : (v : ℕ) (xs ys : List ℕ) → times v (xs ++ ys) ≡ times v xs + times v ys
 times-append v [] ys = omega arith
@@ -46,6 +47,17 @@ times-filter v p (x ∷ xs) = elim (cases_eq x v) [
   | inl e ↦ rw e (grind (arith, nat_tests, times-filter v p xs))
   | inr ne ↦ grind (arith, nat_tests, times-filter v p xs, ne)
 ]
+
+-- a vertex is in its range's part of a list as often as in the whole
+pub in_range_times : (bits v : ℕ) (xs : List ℕ) → times v (in_range bits (range_of bits v) xs) ≡ times v xs
+in_range_times bits v xs = times-filter v (λ u. eqb (range_of bits u) (range_of bits v)) xs ∙ ap (λ b. cond b (times v xs) 0) (eq-eqb (range_of bits v) (range_of bits v) refl)
+
+-- one number more at the end
+pub times_own : (v : ℕ) (xs : List ℕ) → times v (xs ++ v ∷ []) ≡ times v xs + 1
+times_own v xs = times-append v xs (v ∷ []) ∙ grind (arith, nat_tests)
+
+pub times_another : (v u : ℕ) (xs : List ℕ) → u ≢ v → times u (xs ++ v ∷ []) ≡ times u xs
+times_another v u xs ne = times-append u xs (v ∷ []) ∙ grind (arith, nat_tests, ne)
 
 -- in a rising list a number is once or not at all
 pub times_rising : (v low : ℕ) (xs : List ℕ) → RisesFrom low xs → times v xs ≡ cond (has_number v xs) 1 0

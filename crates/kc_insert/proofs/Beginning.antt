@@ -11,12 +11,13 @@ use Rattle.std.proofs.lemmas.Grind.{flat_map-append}
 use Rattle.kc_graph.specs.Numbers.{has_number}
 use Rattle.kc_graph.specs.Shape.{Pair, neighbours_of}
 use Rattle.kc_graph.proofs.lemmas.Numbers.{has_number-push}
+use Rattle.kc_insert.specs.declared.range.Range.TheInside.{Inside}
 use Rattle.kc_insert.specs.private.Crossing.{Crossing, above_near, is_above, next_near, count_above, with_levels, meetings_on, meetings_of, HaveMeetings, HaveBegun}
-use Rattle.kc_insert.specs.Ranges.{IsHeld, Tell, Watch}
+use Rattle.kc_insert.specs.Ranges.{HasVertex, Tell, Watch}
 use Rattle.kc_insert.specs.private.Watched.{StayWatched}
 use Rattle.kc_insert.proofs.Adding.{times_there, times_some, times_part}
 use Rattle.kc_insert.proofs.Buckets.{pushed_is, has_last}
-use Rattle.kc_insert.proofs.Looking.{passes_at, length-with_levels, vertex_at, level_at}
+use Rattle.kc_insert.proofs.Rows.{passes_at, length-with_levels, vertex_at, level_at}
 use Rattle.kc_insert.proofs.Watching.{watched_same, watched_on, count_here, count_other}
 
 -- the meetings of v with `items` are filed, but for those in `rest`
@@ -71,7 +72,7 @@ meetings_above x l v k small (w ∷ ws) = elim (cases_Bool (ltb l (get_or x w 0)
     none : (a : ℕ) → ltb l a && ltb a 65535 ≡ false → ltb l k && eqb a k ≡ false
     none a e = grind (arith, nat_tests, e, small)
 
--- v begins to rise, and of those in `items`, who are above the level, the first i were looked at
+-- v begins to rise, and the first i of `items`, its neighbours above the level, were looked at
 pub record IsBeginning (step : Crossing) (v i : ℕ) (items : List ℕ) (told tell : Tell) (old new : List (List Pair)) : Type 0 where
   pub telling : tell ≡ record told { all = told.all ++ filter (λ w. eqb (get_or step.levels.stored w 0) (step.level + 1)) (take i items) }
   pub filing : AreFiled step.levels.stored step.level v items (drop i items) old new
@@ -82,7 +83,7 @@ beginning_first step v items told old = record {
   filing = record { sized = refl; filed = λ k small. refl };
 }
 
--- what is found at two places that follow each other: who is above the level, and where
+-- what is found at two places that follow each other: a vertex above the level, and its level
 pub record IsFound (step : Crossing) (v i : ℕ) (found : List ℕ) : Type 0 where
   pub at : i < length (above_near step v)
   pub vertex : get_or found (2 * i) 0 ≡ get_or (above_near step v) i 0
@@ -191,7 +192,7 @@ pub begun_none : (step : Crossing) (a : Watch) → HaveBegun step [] a a
 begun_none step a = record { watched = watched_same a; own = λ v there. absurd (true≢false (sym there)); others = λ v from none. refl }
 
 -- one more counts afresh
-pub begun_more : (step : Crossing) (xs : List ℕ) (v own : ℕ) (a b c : Watch) → ((u : ℕ) → has_number u xs ≡ true → a.first ≤ u) → IsHeld a v → HaveBegun step xs a b → own ≡ count_by (count_above step) (neighbours_of v step.graph.edges) → c.counts ≡ set b.counts (v - b.first) own → StayWatched b c → HaveBegun step (xs ++ v ∷ []) a c
+pub begun_more : (step : Crossing) (xs : List ℕ) (v own : ℕ) (a b c : Watch) → ((u : ℕ) → has_number u xs ≡ true → a.first ≤ u) → HasVertex a v → HaveBegun step xs a b → own ≡ count_by (count_above step) (neighbours_of v step.graph.edges) → c.counts ≡ set b.counts (v - b.first) own → StayWatched b c → HaveBegun step (xs ++ v ∷ []) a c
 begun_more step xs v own a b c listed was s fresh is t = record {
   watched = watched_on a b c s.watched t;
   own = λ u there. elim (cases_eq u v) [
@@ -207,15 +208,27 @@ begun_more step xs v own a b c listed was s fresh is t = record {
   ];
 }
   where
-    held : IsHeld b v
+    held : HasVertex b v
     held = record { from = omega (arith, was.from, s.watched.first); below = omega (arith, was.below, s.watched.first, s.watched.sized) }
 
     before : (u : ℕ) → has_number u (xs ++ v ∷ []) ≡ false → has_number u xs ≡ false
     before u none = grind (arith, nat_tests, sym (has_number-push u v xs) ∙ none)
 
--- who is among the first of a list is in it
+-- a vertex among the first of a list is in it
 pub listed_before : (u i : ℕ) (xs : List ℕ) → has_number u (take i xs) ≡ true → has_number u xs ≡ true
 listed_before u i xs there = times_some u xs (omega (arith, times_there u (take i xs) there, times_part u i xs))
 
-pub held_still : (a b : Watch) (v : ℕ) → IsHeld a v → StayWatched a b → IsHeld b v
+pub held_still : (a b : Watch) (v : ℕ) → HasVertex a v → StayWatched a b → HasVertex b v
 held_still a b v was s = record { from = omega (arith, was.from, s.first); below = omega (arith, was.below, s.first, s.sized) }
+
+-- the vertices of the list have begun: what they tell, the meetings to come, and what they count
+pub record AreBegun (step : Crossing) (begun : List ℕ) (a b : Tell) (old new : List (List Pair)) (v w : Watch) : Type 0 where
+  pub told : b ≡ record a { all = a.all ++ flat_map (next_near step) begun }
+  pub meetings : HaveMeetings step begun old new
+  pub counts : HaveBegun step begun v w
+
+-- all of a range is as before but its counts, its meetings, what it tells, and its room for a row
+abbrev pub KeepsRest : Inside → Inside → Type 0
+KeepsRest old new =
+    (new.queue ≡ old.queue) × (new.began.items ≡ old.began.items) × (new.risen.items ≡ old.risen.items) × (new.stay.items ≡ old.stay.items)
+    × (new.begun.items ≡ old.begun.items) × (new.steps ≡ old.steps) × (new.is_short ≡ old.is_short)

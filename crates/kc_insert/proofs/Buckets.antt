@@ -1,7 +1,7 @@
 -- What stands in the buckets after a vertex came into one, or left it.
 use Rattle.std.proofs.Common.{ℕ, ◌<◌, ◌≡◌, ◌≢◌, ◌⊎◌, inl, inr, Bool, true, ◌&&◌, List, [], ◌∷◌, ◌++◌, length, get_or, set, refl, ap, sym, ◌∙◌, arith}
 use Rattle.std.specs.Prelude.{filter}
-use Rattle.std.proofs.lemmas.Bool.{cases_eq, cases_Bool}
+use Rattle.std.proofs.lemmas.Bool.{cases_eq}
 use Rattle.std.proofs.lemmas.Bool.Decides.{nat_tests}
 use Rattle.std.proofs.lemmas.List.{get_or-set_same, get_or-set_other}
 use Rattle.kc_graph.specs.Numbers.{has_number}
@@ -39,11 +39,3 @@ module _ (queue : List (List ℕ)) (a : ℕ) (more : List ℕ) (inside : a < len
 
   pub now_there : (u : ℕ) → has_number u more ≡ true → has_number u (get_or (set queue a (get_or queue a [] ++ more)) a []) ≡ true
   now_there u new = rw (get_or-set_same queue a (get_or queue a [] ++ more) [] inside) (has_number-append u (get_or queue a []) more ∙ grind (arith, nat_tests, new))
-
-  pub all_inside : (n : ℕ) → ((u : ℕ) → has_number u more ≡ true → u < n) → ((k u : ℕ) → has_number u (get_or queue k []) ≡ true → u < n) → (k u : ℕ) → has_number u (get_or (set queue a (get_or queue a [] ++ more)) k []) ≡ true → u < n
-  all_inside n new old k u = placed queue a k (get_or queue a [] ++ more) inside (λ xs. has_number u xs ≡ true → u < n)
-      (λ e there. elim (cases_Bool (has_number u more)) [
-        | inl yes_ ↦ new u yes_
-        | inr no_ ↦ let at = sym (has_number-append u (get_or queue a []) more) ∙ there in old a u (grind (arith, nat_tests, at, no_))
-      ])
-      (λ ne there. old k u there)

@@ -16,7 +16,7 @@ use Rattle.kc_levels.specs.private.Following.{IsCopied}
 use Rattle.kc_levels.proofs.lemmas.Writes.{copied_then}
 use Rattle.kc_levels.proofs.lemmas.Moves.{still_here}
 use Rattle.kc_adj.specs.LeveledGraph.{IsCounted}
-use Rattle.kc_insert.proofs.Flips.{count_agree}
+use Rattle.kc_insert.proofs.Tests.{count_agree}
 
 -- edges elsewhere don't change the neighbours
 pub neighbours_added : (v : ℕ) (g : GraphShape) (es : List Pair) → All (λ e. (v ≢ e.0) × (v ≢ e.1)) es → neighbours_of v (with_edges g es).edges ≡ neighbours_of v g.edges

@@ -1,7 +1,7 @@
 -- How ranges keep the vertices that rise, while the sweep goes to another level or looks anew.
 use Rattle.std.proofs.Common.{ℕ, ◌≤◌, ◌<◌, ◌≡◌, inl, inr, true, List, [], length, filter, refl, ap, sym, ◌∙◌, arith}
 use Rattle.std.specs.Prelude.{All}
-use Rattle.std.proofs.lemmas.Bool.{cases_lt, cases_Bool, true≢false}
+use Rattle.std.proofs.lemmas.Bool.{and_right, cases_Bool, cases_lt, true≢false}
 use Rattle.std.proofs.lemmas.List.{get_or_past}
 use Rattle.kc_graph.specs.Numbers.{has_number}
 use Rattle.kc_graph.specs.Shape.{GraphShape, IsGraph}
@@ -18,7 +18,7 @@ use Rattle.kc_insert.proofs.Joined.{joined_of}
 use Rattle.kc_insert.proofs.Members.{filter_agree}
 use Rattle.kc_insert.proofs.SweepSame.{same_paid, same_sweeping}
 use Rattle.kc_insert.proofs.Sweeps.{sweeping_on}
-use Rattle.kc_insert.proofs.Tests.{and_left, and_off}
+use Rattle.kc_insert.proofs.Tests.{and_on}
 use Rattle.kc_insert.proofs.Together.{paid_together, sweeping_together}
 
 -- a range that keeps a vertex is there
@@ -34,8 +34,8 @@ kept_at s r kept v up =
 -- the vertices that rise are those in the list
 pub kept_listed : (s : RisingLevels) (r : Cut) → AreKept s r → (v : ℕ) → has_number v (filter (rises s) (all_began r)) ≡ rises s v
 kept_listed s r kept v = has_number-filter v (rises s) (all_began r) ∙ elim (cases_Bool (rises s v)) [
-  | inl up ↦ and_left (has_number v (all_began r)) (rises s v) (kept_at s r kept v up).1
-  | inr none ↦ and_off (has_number v (all_began r)) (rises s v) none ∙ sym none
+  | inl up ↦ and_on (has_number v (all_began r)) (rises s v) (kept_at s r kept v up).1
+  | inr none ↦ and_right (has_number v (all_began r)) (rises s v) none ∙ sym none
 ]
 
 -- the sweep goes to another level

@@ -1,7 +1,7 @@
 -- The meetings of vertices that begin, row by row.
 use Rattle.std.proofs.Common.{ℕ, suc, ◌<◌, ◌≡◌, ◌≢◌, inl, inr, Bool, true, false, cond, ltb, eqb, ◌&&◌, ◌||◌, List, [], ◌∷◌, ◌++◌, get_or, ap, sym, ◌∙◌, arith, subst}
 use Rattle.std.specs.List.{flat_map}
-use Rattle.std.proofs.lemmas.Bool.{cases_eq, cases_Bool, true≢false}
+use Rattle.std.proofs.lemmas.Bool.{cases_Bool, cases_eq, or_from, or_left, or_right, true≢false}
 use Rattle.std.proofs.lemmas.Bool.Decides.{nat_tests}
 use Rattle.kc_graph.specs.Numbers.{has_number, RisesFrom}
 use Rattle.kc_graph.specs.Shape.{GraphShape, Pair, IsGraph, has_edge, neighbours_of}
@@ -11,7 +11,7 @@ use Rattle.kc_levels.specs.Following.{AreDistinct}
 use Rattle.kc_insert.specs.private.Crossing.{meetings_on}
 use Rattle.kc_insert.specs.private.Meetings.{AreApart}
 use Rattle.kc_insert.proofs.Joined.{has_edge-append}
-use Rattle.kc_insert.proofs.Tests.{or_either, or_left, or_none, or_right}
+use Rattle.kc_insert.proofs.Tests.{or_either}
 
 -- which pairs the meetings of v on level k are
 pub has_edge-meetings_on : (x : List ℕ) (l v k : ℕ) (ws : List ℕ) (a w : ℕ) → has_edge (a, w) (meetings_on x l v k ws) ≡ (eqb a v && has_number w ws) && (ltb l k && eqb (get_or x w 0) k)
@@ -76,7 +76,7 @@ pub apart-append : (xs ys : List Pair) → AreApart xs → AreApart ys → ((e :
 apart-append [] ys p q off = q
 apart-append (e ∷ es) ys p q off =
     let first : has_edge e (e ∷ es) ≡ true = grind (arith, nat_tests) in
-    (has_edge-append e es ys ∙ or_none (has_edge e es) (has_edge e ys) p.0 (off e first), apart-append es ys p.1 q (λ f there. off f (grind (arith, nat_tests, there))))
+    (has_edge-append e es ys ∙ or_from (has_edge e es) (has_edge e ys) p.0 (off e first), apart-append es ys p.1 q (λ f there. off f (grind (arith, nat_tests, there))))
 
 -- the meetings of several vertices
 module _ (g : GraphShape) (x : List ℕ) (l k : ℕ) where

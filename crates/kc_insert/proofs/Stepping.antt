@@ -1,6 +1,6 @@
 -- The step of a sweep from its level to the next keeps what is stated of the sweep.
 use Rattle.std.proofs.Common.{ℕ, ◌+◌, ◌*◌, ◌≤◌, ◌<◌, ◌≡◌, ◌≢◌, ◌⊎◌, inl, inr, Bool, true, false, leb, eqb, not, ◌&&◌, ◌||◌, List, length, get_or, filter, refl, ap, sym, ◌∙◌, arith, subst}
-use Rattle.std.proofs.lemmas.Bool.{cases_lt, cases_eq, cases_Bool, true≢false}
+use Rattle.std.proofs.lemmas.Bool.{cases_Bool, cases_eq, cases_lt, or_right, true≢false}
 use Rattle.std.proofs.lemmas.Bool.Decides.{nat_tests}
 use Rattle.std.proofs.lemmas.List.{get_or_past}
 use Rattle.std.proofs.lemmas.Grind.{same_number_lists}
@@ -20,7 +20,7 @@ use Rattle.kc_insert.specs.private.Rising.{all_at}
 use Rattle.kc_insert.specs.private.Sweeping.{AreAwaited, AreRising, IsAwaited, IsPaid, IsPlaced, IsSweeping, Sweeping}
 use Rattle.kc_insert.proofs.Buckets.{has_number-filter}
 use Rattle.kc_insert.proofs.Efforts.{effort_up}
-use Rattle.kc_insert.proofs.Flips.{count_agree}
+use Rattle.kc_insert.proofs.Tests.{count_agree, less_differs, or_either}
 use Rattle.kc_insert.proofs.Lifting.{length-all_at, all_at_here, all_at_other}
 use Rattle.kc_insert.proofs.Members.{distinct_filter, weigh, weigh_degrees, weigh_length, weigh_parts}
 
@@ -71,10 +71,7 @@ module _ (p : Profile) (g : GraphShape) (x : List ℕ) (s : Sweeping) (i : IsSwe
       differ a b e = grind (arith, nat_tests, e)
 
   pub rises_rose : (v : ℕ) → has_number v s.rising ≡ true → has_number v s.risen ≡ true
-  rises_rose v there = let it = i.rise.came v there in i.rise.moved v ∙ differs (get_or x v 0) (get_or s.levels v 0) (omega (arith, it.1, it.2))
-    where
-      differs : (a b : ℕ) → a < b → not (eqb a b) ≡ true
-      differs a b lt = grind (arith, nat_tests, lt)
+  rises_rose v there = let it = i.rise.came v there in i.rise.moved v ∙ less_differs (get_or x v 0) (get_or s.levels v 0) (omega (arith, it.1, it.2))
 
   pub count_at_level : (v k : ℕ) → v < g.vertices → get_or s.levels v 0 ≡ k → s.count v ≡ at_least g s.levels v k
   count_at_level v k h on = i.awaited.counted v h ∙ ap (at_least g s.levels v) on
@@ -143,13 +140,10 @@ module _ (p : Profile) (g : GraphShape) (x : List ℕ) (s t : Sweeping) (most ab
 
   moved_on : (v : ℕ) → has_number v t.risen ≡ is_moved x t.levels v
   moved_on v = r.lifted.risen v ∙ elim (case_of v) [
-    | inl it ↦ ap (λ b. has_number v s.risen || b) it.4 ∙ or_true (has_number v s.risen) ∙ sym (differs (get_or x v 0) (get_or t.levels v 0) (omega (arith, under p g x s i v, it.1, it.3)))
+    | inl it ↦ ap (λ b. has_number v s.risen || b) it.4 ∙ or_true (has_number v s.risen) ∙ sym (less_differs (get_or x v 0) (get_or t.levels v 0) (omega (arith, under p g x s i v, it.1, it.3)))
     | inr it ↦ ap (λ b. has_number v s.risen || b) it.1 ∙ or_false (has_number v s.risen) ∙ i.rise.moved v ∙ ap (λ k. not (eqb (get_or x v 0) k)) (sym it.0)
   ]
     where
-      differs : (a b : ℕ) → a < b → not (eqb a b) ≡ true
-      differs a b lt = grind (arith, nat_tests, lt)
-
       or_true : (b : Bool) → b || true ≡ true
       or_true b = grind (arith, nat_tests)
 
@@ -219,24 +213,18 @@ module _ (p : Profile) (g : GraphShape) (x : List ℕ) (s t : Sweeping) (most ab
       found = found_on;
       met = λ k v w at there. elim (r.meeting.only k v w (omega (arith, at, r.level)) there) [
         | inl was ↦ let it = i.awaited.met k v w (omega (arith, at, r.level)) was in (r.lifted.risen v ∙ ap (λ b. b || has_number v t.rising) it.0, it.1)
-        | inr new ↦ (r.lifted.risen v ∙ right (has_number v s.risen) (has_number v t.rising) new.0, new.1)
+        | inr new ↦ (r.lifted.risen v ∙ or_right (has_number v s.risen) (has_number v t.rising) new.0, new.1)
       ];
       each = λ k v w at rose it. elim (cases_Bool (has_number v s.risen)) [
         | inl was ↦ r.meeting.still k v w (omega (arith, at, r.level)) (i.awaited.each k v w (omega (arith, at, r.level)) was it)
         | inr new ↦
-            let rises : has_number v t.rising ≡ true = other (has_number v s.risen) (has_number v t.rising) (sym (r.lifted.risen v) ∙ rose) new in
+            let rises : has_number v t.rising ≡ true = or_either (has_number v s.risen) (has_number v t.rising) (sym (r.lifted.risen v) ∙ rose) new in
             let from : get_or x v 0 ≡ get_or s.levels v 0 = same (get_or x v 0) (get_or s.levels v 0) (sym (i.rise.moved v) ∙ new) in
             r.meeting.each k v w (omega (arith, at, r.level)) rises (from ∙ (r.lifted.rise v rises).1) it
       ];
       apart = λ k at. r.meeting.apart k (omega (arith, at, r.level));
     }
       where
-        right : (a b : Bool) → b ≡ true → a || b ≡ true
-        right a b e = grind (arith, nat_tests, e)
-
-        other : (a b : Bool) → a || b ≡ true → a ≡ false → b ≡ true
-        other a b e f = grind (arith, nat_tests, e, f)
-
         same : (a b : ℕ) → not (eqb a b) ≡ false → a ≡ b
         same a b e = grind (arith, nat_tests, e)
 

@@ -15,7 +15,7 @@ use Rattle.kc_levels.proofs.lemmas.Raising.{raising_many}
 use Rattle.kc_insert.specs.private.Rising.{all_at}
 use Rattle.kc_insert.specs.private.Sweeping.{AreAwaited, AreRising, IsFree, IsPaid, IsSweeping, Sweeping, together}
 use Rattle.kc_insert.proofs.Efforts.{effort_more}
-use Rattle.kc_insert.proofs.Flips.{count_agree}
+use Rattle.kc_insert.proofs.Tests.{count_agree, less_differs}
 use Rattle.kc_insert.proofs.Lifting.{length-all_at, all_at_here, all_at_other}
 use Rattle.kc_insert.proofs.Stepping.{rises_rose}
 
@@ -73,14 +73,11 @@ module _ (p : Profile) (g : GraphShape) (x : List ℕ) (s : Sweeping) (i : IsSwe
     came = λ v there. let it = i.rise.came v there in (it.0, come_to v there, omega (arith, it.2, le));
     distinct = i.rise.distinct;
     moved = λ v. elim (cases_Bool (has_number v s.rising)) [
-      | inl there ↦ rises_rose p g x s i v there ∙ sym (differs (get_or x v 0) (get_or (all_at s.levels s.rising k) v 0) (omega (arith, (i.rise.came v there).2, le, come_to v there)))
+      | inl there ↦ rises_rose p g x s i v there ∙ sym (less_differs (get_or x v 0) (get_or (all_at s.levels s.rising k) v 0) (omega (arith, (i.rise.came v there).2, le, come_to v there)))
       | inr none ↦ i.rise.moved v ∙ ap (λ j. not (eqb (get_or x v 0) j)) (sym (kept v none))
     ];
     once = i.rise.once;
   }
-    where
-      differs : (a b : ℕ) → a < b → not (eqb a b) ≡ true
-      differs a b lt = grind (arith, nat_tests, lt)
 
   awaited_together : AreAwaited p g x (together s k)
   awaited_together = record {

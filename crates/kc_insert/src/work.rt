@@ -44,7 +44,7 @@ impl Model for InsertionWork {
 }
 
 impl InsertionWork {
-    /// Ready for this graph; the thresholds are for its number of vertices.
+    /// Makes a workspace that is ready for this graph. The thresholds are for its number of vertices.
     ///
     /// Costs a pass over the vertices, and for each range one over the levels up to the top. Fails only if memory runs
     /// out.
@@ -55,7 +55,7 @@ impl InsertionWork {
         InsertionWork::with_layout(alloc, th, adj, Layout::of(adj.graph().vertices()))
     }
 
-    /// As `new`, with the vertices cut as by this layout.
+    /// Does what `new` does, with the vertices cut as by this layout.
     pub fn with_layout(
         alloc: Global,
         th: &Thresholds,

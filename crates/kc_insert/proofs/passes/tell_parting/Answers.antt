@@ -19,6 +19,8 @@ loop-i-preserved c =
     let near : c.neighbours-near.result.now ≡ neighbours_of (get_or c.args.stay.now c.loop-i.i 0) c.args.step.now.graph.edges = c.neighbours-near.ensures.value ∙ ap (λ v. neighbours_of v c.step.inside.graph.now.edges) c.in_turn-v.ensures ∙ ap (λ (g : GraphShape). neighbours_of (get_or c.args.stay.now c.loop-i.i 0) g.edges) graph in
     let found : take c.in_ok-count.count c.deref.result.now ≡ rising_near c.args.step.now (get_or c.args.stay.now c.loop-i.i 0) = ap (take c.in_ok-count.count) c.deref.ensures.value ∙ c.in_ok-count.ensures.found ∙ ap (filter (rises c.args.step.now.levels)) near in (
       told_next (rising_near c.args.step.now) c.args.stay.now c.loop-i.i c.args.told.now c.loop-i.told c.tell_all.new.self (omega arith) c.loop-i.invariant.0 (c.in_ok-tell_all.ensures ∙ ap (λ ys. record c.loop-i.told { all = c.loop-i.told.all ++ ys }) found),
-      omega (arith, c.loop-i.invariant.1, ap length near, degrees_more c.args.step.now.graph c.args.stay.now c.loop-i.i (omega arith)),
-      omega (arith, c.loop-i.invariant.2, c.neighbours-near.ensures.fewer, c.neighbours-near.ensures.small),
+      record {
+        total = omega (arith, c.loop-i.invariant.1.total, ap length near, degrees_more c.args.step.now.graph c.args.stay.now c.loop-i.i (omega arith));
+        few = omega (arith, c.loop-i.invariant.1.few, c.neighbours-near.ensures.fewer, c.neighbours-near.ensures.small);
+      },
     )

@@ -1,7 +1,7 @@
 use Rattle.std.proofs.Common.{◌≡◌, ◌+◌, ◌*◌, drop}
 use Rattle.kc_graph.specs.Shape.{with_edges}
 use Rattle.kc_graph.specs.Changes.{CanAdd}
-use Rattle.kc_insert.proofs.linking.link_each.Given as goal
+use Rattle.kc_insert.proofs.linking.link_edges.Given as goal
 
 abbrev pub invariant-loop-e : goal.invariant-loop-e
 invariant-loop-e g l =

@@ -2,7 +2,7 @@ use Rattle.std.proofs.Common.{◌≡◌, ◌<◌, length, get_or, ◌∙◌, ari
 use Rattle.std.proofs.lemmas.List.{length-set}
 use Rattle.kc_groups.specs.Gathering.{vertices}
 use Rattle.kc_groups.proofs.WorkLemmas.{no_move, vertex_at, vertex_inside, many, keeps_none, keeps_at, cleaned}
-use Rattle.kc_groups.proofs.work.clear.Goals as goal
+use Rattle.kc_groups.proofs.work.reset.Goals as goal
 
 pub index_mut-requires : goal.index_mut-requires
 index_mut-requires c = omega (arith, vertex_inside (length c.args.places.now.items) c.args.moves.now c.loop-m.m-index c.requires.order.below c.loop-m-test.true, c.loop-m.invariant.0)

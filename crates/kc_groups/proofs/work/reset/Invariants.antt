@@ -1,7 +1,7 @@
 use Rattle.std.proofs.Common.{ℕ, ◌≡◌, ◌<◌, length, get_or}
 use Rattle.kc_groups.specs.Gathering.{vertices}
 use Rattle.kc_groups.specs.private.Gathering.{HaveNone}
-use Rattle.kc_groups.proofs.work.clear.Given as goal
+use Rattle.kc_groups.proofs.work.reset.Given as goal
 
 abbrev pub invariant-loop-m : goal.invariant-loop-m
 invariant-loop-m l =

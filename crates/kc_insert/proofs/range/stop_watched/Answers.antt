@@ -3,8 +3,8 @@ use Rattle.std.proofs.lemmas.Bool.{true≢false}
 use Rattle.kc_graph.specs.Numbers.{has_number}
 use Rattle.kc_graph.proofs.lemmas.Numbers.{has_number_at}
 use Rattle.kc_insert.proofs.Staying.{IsLettingStay, letting_first, letting_stays, letting_passes, letting_last}
-use Rattle.kc_insert.proofs.range.stop.Goals as goal
-use Rattle.kc_insert.proofs.range.stop.Goals.{then-rises+then-count-most+in_ok-push, else-rises, else-rises-via-then-rises+else-count-most, else-rises-via-else-rises}
+use Rattle.kc_insert.proofs.range.stop_watched.Goals as goal
+use Rattle.kc_insert.proofs.range.stop_watched.Goals.{then-rises+then-count-most+in_ok-push, else-rises, else-rises-via-then-rises+else-count-most, else-rises-via-else-rises}
 
 pub loop-v-init : goal.loop-v-init
 loop-v-init c = letting_first c.args.levels.now c.args.watched.now _ _ c.clear.ensures.items
@@ -24,7 +24,7 @@ pub loop-v-preserved : goal.loop-v-preserved
 loop-v-preserved c = elim c.if-rises.branch [
   | then-rises+then-count-most+in_ok-push w ↦
       rw (w.levels-is, w.stay-is, w.in_ok-push.ensures.items)
-      (letting_stays _ _ _ _ _ _ c.loop-v.invariant _ (has_number_at (get_or c.doubtful-doubtful.result.now c.loop-v.v-index 0) c.doubtful-doubtful.result.now c.loop-v.v-index c.loop-v-test.true refl) w.settle.ensures.level w.settle.ensures.seen w.settle.ensures.rises (sym c.rises.ensures ∙ w.if-rises.true) (omega (arith, w.count.ensures, w.if-count-most.true, c.most-most.ensures)))
+      (letting_stays _ _ _ _ _ _ c.loop-v.invariant _ (has_number_at (get_or c.doubtful-doubtful.result.now c.loop-v.v-index 0) c.doubtful-doubtful.result.now c.loop-v.v-index c.loop-v-test.true refl) w.stop.ensures.level w.stop.ensures.seen w.stop.ensures.rises (sym c.rises.ensures ∙ w.if-rises.true) (omega (arith, w.count.ensures, w.if-count-most.true, c.most-most.ensures)))
   | else-rises w ↦
       rw (w.levels-is, w.stay-is)
       (letting_passes _ _ _ _ _ _ c.loop-v.invariant (elim w.else-rises.branch [
