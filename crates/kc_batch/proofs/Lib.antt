@@ -10,3 +10,4 @@ mod LineEnds
 mod NumberLines
 mod Saying
 mod Stepping
+mod StepsAgree
