@@ -10,4 +10,3 @@ mod LineEnds
 mod NumberLines
 mod Saying
 mod Stepping
-mod StepsAgree

@@ -1,5 +1,4 @@
 -- Words of private contracts and loop invariants: no public contract needs them.
 pub mod Ahead
-pub mod Steps
 pub mod Tokens
 pub mod Turns
