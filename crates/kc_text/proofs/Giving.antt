@@ -7,7 +7,7 @@ use Rattle.std.proofs.lemmas.Bool.{cases_lt}
 use Rattle.kc_text.specs.declared.line.Line.{Line}
 use Rattle.kc_text.specs.declared.line.Body.{Body}
 use Rattle.kc_text.specs.declared.line.Body.TheVariants.{Text, TooLong, Limit, End}
-use Rattle.kc_text.specs.Lines.{lines, lines_from, line_of, last_of, at_limit, body_of, without_cr}
+use Rattle.kc_text.specs.Lines.{lines, lines_from, numbered_line, last_of, at_limit, body_of, without_cr}
 use Rattle.std.specs.Io.KnownBytes.{prepend_known, IsAtEnd}
 use Rattle.std.specs.Option.{option_map}
 use Rattle.std.specs.List.{list_any}
@@ -51,7 +51,7 @@ cut_at ready at h e =
 
 -- the lines of a rest that begins with c and an end
 closed : (limit n room room' : ℕ) (piece ready c d more : List ℕ) → ready ≡ c ++ 10 ∷ d → room ≡ length c + suc room' → HasNoEnd c
-    → lines_from limit n room piece (ready ++ more) ≡ line_of limit n (piece ++ c) ∷ lines_from limit (n + 1) room' [] (d ++ more)
+    → lines_from limit n room piece (ready ++ more) ≡ numbered_line limit n (piece ++ c) ∷ lines_from limit (n + 1) room' [] (d ++ more)
 closed limit n room room' piece ready c d more e er h = rw (e, append_assoc) (line_closed limit n room' room piece c (d ++ more) er h)
 
 pub gives_line : (limit n room : ℕ) (piece ready : List ℕ) (ended : Bool) (within at : ℕ) (body : Body) (room' : ℕ) (piece' ready' : List ℕ)
@@ -124,7 +124,7 @@ pub gives_end : (limit n room : ℕ) (piece ready : List ℕ) (ended : Bool) →
 unfolding scan_lines lines_from
 gives_end limit n room piece ready ended ep er ee = record { lines = λ bs. rw (ep, er, ee) refl; takes = omega arith; last = λ _. refl; settled = λ _. rw ee refl }
 
-last_line : (limit n : ℕ) (piece : List ℕ) → 0 < length piece → last_of limit n piece ≡ line_of limit n piece ∷ record { number = n + 1; body = End } ∷ []
+last_line : (limit n : ℕ) (piece : List ℕ) → 0 < length piece → last_of limit n piece ≡ numbered_line limit n piece ∷ record { number = n + 1; body = End } ∷ []
 last_line limit n [] h = absurd (omega arith)
 last_line limit n (x ∷ xs) h = refl
 

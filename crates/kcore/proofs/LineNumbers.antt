@@ -5,7 +5,7 @@ use Rattle.std.proofs.lemmas.List.Elements.{All-nil, All-cons, All-head, All-tai
 use Rattle.kc_graph.specs.declared.items.Item.{Item}
 use Rattle.kc_text.specs.declared.line.Line.{Line}
 use Rattle.kc_text.specs.declared.line.Body.TheVariants as body
-use Rattle.kc_text.specs.Lines.{lines, lines_from, last_of, line_of}
+use Rattle.kc_text.specs.Lines.{lines, lines_from, last_of, numbered_line}
 use Rattle.kc_text.specs.Kept.{is_skipped, kept}
 use Rattle.kc_batch.specs.declared.batch.Next.{Next}
 use Rattle.kc_batch.specs.declared.batch.Next.TheVariants.{Items, Refused, End}
@@ -28,15 +28,15 @@ from_last : (limit n last : ℕ) (piece : List ℕ) → n + 1 ≤ last → All (
 from_last limit n last [] h = All-cons (IsAtMost last) _ [] (omega (arith, h)) (All-nil (IsAtMost last))
 from_last limit n last (b ∷ bs) h =
     let end : Line = record { number = n + 1; body = body.End } in
-    All-cons (IsAtMost last) (line_of limit n (b ∷ bs)) (end ∷ []) (omega (arith, h)) (All-cons (IsAtMost last) end [] h (All-nil (IsAtMost last)))
+    All-cons (IsAtMost last) (numbered_line limit n (b ∷ bs)) (end ∷ []) (omega (arith, h)) (All-cons (IsAtMost last) end [] h (All-nil (IsAtMost last)))
 
 lines_low : (limit n room last : ℕ) (piece bs : List ℕ) → n + room + 1 ≤ last → All (IsAtMost last) (lines_from limit n room piece bs)
 unfolding lines_from
 lines_low limit n room last piece [] h = from_last limit n last piece (omega (arith, h))
 lines_low limit n zero last piece (b ∷ bs) h = All-cons (IsAtMost last) _ [] (omega (arith, h)) (All-nil (IsAtMost last))
 lines_low limit n (suc room) last piece (b ∷ bs) h =
-    elim (b == 10) as (λ t. All (IsAtMost last) (if t then line_of limit n piece ∷ lines_from limit (n + 1) room [] bs else lines_from limit n room (piece ++ b ∷ []) bs)) [
-      | true ↦ All-cons (IsAtMost last) (line_of limit n piece) (lines_from limit (n + 1) room [] bs) (omega (arith, h)) (lines_low limit (n + 1) room last [] bs (omega (arith, h)))
+    elim (b == 10) as (λ t. All (IsAtMost last) (if t then numbered_line limit n piece ∷ lines_from limit (n + 1) room [] bs else lines_from limit n room (piece ++ b ∷ []) bs)) [
+      | true ↦ All-cons (IsAtMost last) (numbered_line limit n piece) (lines_from limit (n + 1) room [] bs) (omega (arith, h)) (lines_low limit (n + 1) room last [] bs (omega (arith, h)))
       | false ↦ lines_low limit n room last (piece ++ b ∷ []) bs (omega (arith, h))
     ]
 
