@@ -13,7 +13,8 @@ use Rattle.std.specs.Option.{option_map}
 use Rattle.std.specs.List.{list_any}
 use borrow.Author.Tests.{ltb-true}
 use Rattle.kc_text.specs.Following.{onto, behind, Takes, IsLast}
-use Rattle.kc_text.specs.Scanning.{Scan, scan_lines, is_scan_decided, IsWhole, whole_line}
+use Rattle.kc_text.specs.Scanning.{Scan, scan_lines, is_scan_decided}
+use Rattle.kc_text.specs.WholeLines.{IsWhole, whole_line}
 use Rattle.kc_text.specs.private.Scanning.{scan_lines_left}
 use Rattle.kc_text.specs.private.ScannerState.{piece_of}
 use Rattle.kc_text.specs.private.ScannerSteps.{Gives, Absorbs}

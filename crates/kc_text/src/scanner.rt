@@ -133,7 +133,8 @@ fn keep(part: &mut Vec<u8>, limit: u32, taken: u32, more: &[u8]) -> Result<(), A
 
 impl Scanner {
     ghost use Rattle.kc_text.specs.Following.{onto, Takes, IsLast};
-    ghost use Rattle.kc_text.specs.Scanning.{Scan, scan_lines, scan_budget, is_scan_decided, IsWhole, whole_text, whole_line};
+    ghost use Rattle.kc_text.specs.Scanning.{Scan, scan_lines, scan_budget, is_scan_decided};
+    ghost use Rattle.kc_text.specs.WholeLines.{IsWhole, whole_text, whole_line};
     ghost use Rattle.kc_text.specs.Words.{words};
     ghost use Rattle.kc_text.specs.NumberLines.{SayNumbers, IsNoNumberLine, SayNamed, IsNoNamedLine};
     ghost use Rattle.kc_text.specs.Printing.{is_word};
