@@ -5,7 +5,8 @@
 -- place of the next token, and it may close or refuse a batch. `batches` are the batches of all tokens, in order.
 -- `batch_of` is the first batch, and the tokens that are left for the next call.
 --
--- Example: lines after a header with 3 vertices, the place of each, and the batch that it closes or refuses.
+-- Example: lines after a header with 3 vertices, the place of each, and the batch that it closes or refuses. The law
+-- `lines_passed_over` proves it.
 --
 --     line 3    batch            Between
 --     line 4    0 1              Within []
