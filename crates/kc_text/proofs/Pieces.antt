@@ -3,7 +3,7 @@ use Rattle.std.proofs.Common.{ℕ, suc, ◌+◌, ◌-◌, ◌≡◌, List, [], �
 use Rattle.std.specs.Prelude.{All}
 use Rattle.std.proofs.lemmas.List.{append-nil, length-append}
 use Rattle.std.proofs.lemmas.Bool.{ne_eqb}
-use Rattle.kc_text.specs.Lines.{lines_from, line_of}
+use Rattle.kc_text.specs.Lines.{lines_from, numbered_line}
 use Rattle.kc_text.specs.Laws.{HasNoEnd, joined, numbered, CutsAtEnds, StopsAtLimit}
 use Rattle.kc_text.proofs.Passing as pass
 
@@ -27,7 +27,7 @@ pieces_before limit n room room' (p ∷ ps) last more h hl e =
     let len : room ≡ length p + suc then = omega (arith, e, simp length-append at e) in
     let count : n + 1 + length ps ≡ n + suc (length ps) = omega arith in
     let go = rw count at (pieces_before limit (n + 1) then room' ps last more (rest_all HasNoEnd p ps h) hl refl) in
-    rw append_assoc (pass.line_closed limit n then room [] p (joined ps last ++ more) len (no_end p (first_all HasNoEnd p ps h)) ∙ ap (λ rest. line_of limit n p ∷ rest) go)
+    rw append_assoc (pass.line_closed limit n then room [] p (joined ps last ++ more) len (no_end p (first_all HasNoEnd p ps h)) ∙ ap (λ rest. numbered_line limit n p ∷ rest) go)
 
 pub cuts_at_ends : CutsAtEnds
 unfolding lines_from
