@@ -20,7 +20,7 @@ use Rattle.kc_store.specs.private.Rule.{Fits, AllBegin, AreMarkedNoted, MarksHol
 use Rattle.kc_store.specs.private.Seats.{Sat}
 use Rattle.kc_store.specs.Seats.{writer_of, marker_of, vertices_of, seen_of, made_of}
 use Rattle.kc_store.specs.States.{opened, with_joined, with_loan, marker_for, without_loan, with_returned}
-use Rattle.kc_store.specs.private.Steps.{first_role, new_pass, took_in, told, lender, lent_to, got_back}
+use Rattle.kc_store.specs.private.Steps.{first_role, new_pass, took_back, told, lender, lent_to}
 use Rattle.kc_store.proofs.Points.{before_itself}
 use Rattle.kc_store.proofs.Phases.{no_marks}
 use Rattle.kc_store.proofs.Seats.{seats_stay, own_set, reader_step}
@@ -146,14 +146,14 @@ glues n id other vertices made d seen s r at apart at' =
       own = own_set (set s.views id w) other (Reads vertices seen made) Spent at' (λ k h. h) (own_set s.views id (Writes d) w at (λ k h. h) r.own);
     }
 
-pub glues_from : (key id other : ℕ) (me you : Sat) → me ≡ (Writes (writer_of me.0), []) → you ≡ (Reads (vertices_of you.0) (seen_of you.0) (made_of you.0), []) → Joins (IsKept key) id me.0 other you.0 (took_in me.0 you.0) Spent
-glues_from key id other me you is is' = subst (λ (m : Sat × Sat). Joins (IsKept key) id m.0.0 other m.1.0 (took_in m.0.0 m.1.0) Spent) (λ i. (sym is i, sym is' i))
+pub glues_from : (key id other : ℕ) (me you : Sat) → me ≡ (Writes (writer_of me.0), []) → you ≡ (Reads (vertices_of you.0) (seen_of you.0) (made_of you.0), []) → Joins (IsKept key) id me.0 other you.0 (took_back me.0 you.0) Spent
+glues_from key id other me you is is' = subst (λ (m : Sat × Sat). Joins (IsKept key) id m.0.0 other m.1.0 (took_back m.0.0 m.1.0) Spent) (λ i. (sym is i, sym is' i))
     (glues key id other (vertices_of you.0) (made_of you.0) (writer_of me.0) (seen_of you.0))
 
-pub glued_writer : (me you new : Sat) → me ≡ (Writes (writer_of me.0), []) → you ≡ (Reads (vertices_of you.0) (seen_of you.0) (made_of you.0), []) → new ≡ (took_in me.0 you.0, me.1)
+pub glued_writer : (me you new : Sat) → me ≡ (Writes (writer_of me.0), []) → you ≡ (Reads (vertices_of you.0) (seen_of you.0) (made_of you.0), []) → new ≡ (took_back me.0 you.0, me.1)
     → (new ≡ (Writes (writer_of new.0), [])) × (writer_of new.0 ≡ with_joined (seen_of you.0) (writer_of me.0))
 glued_writer me you new is is' e =
-    let n : new ≡ (Writes (with_joined (seen_of you.0) (writer_of me.0)), []) = e ∙ ap (λ (m : Sat × Sat). (took_in m.0.0 m.1.0, m.0.1)) (λ i. (is i, is' i)) in
+    let n : new ≡ (Writes (with_joined (seen_of you.0) (writer_of me.0)), []) = e ∙ ap (λ (m : Sat × Sat). (took_back m.0.0 m.1.0, m.0.1)) (λ i. (is i, is' i)) in
     (subst (λ (z : Sat). z ≡ (Writes (writer_of z.0), [])) (sym n) refl, ap (λ (z : Sat). writer_of z.0) n)
 
 -- a loan more
@@ -312,5 +312,5 @@ gives n id other d a s r at apart at' =
       own = own_set (set s.views id w) other (Marks a) Spent at' (λ k h. let z : None ≡ Some k = h in cc) (own_set s.views id (Writes d) w at (λ k h. h) r.own);
     }
 
-pub gives_from : (key id other : ℕ) (me you : Sat) → me ≡ (Writes (writer_of me.0), []) → you ≡ (Marks (marker_of you.0), []) → Joins (IsKept key) id me.0 other you.0 (got_back me.0 you.0) Spent
-gives_from key id other me you is is' = subst (λ (m : Sat × Sat). Joins (IsKept key) id m.0.0 other m.1.0 (got_back m.0.0 m.1.0) Spent) (λ i. (sym is i, sym is' i)) (gives key id other (writer_of me.0) (marker_of you.0))
+pub gives_from : (key id other : ℕ) (me you : Sat) → me ≡ (Writes (writer_of me.0), []) → you ≡ (Marks (marker_of you.0), []) → Joins (IsKept key) id me.0 other you.0 (took_back me.0 you.0) Spent
+gives_from key id other me you is is' = subst (λ (m : Sat × Sat). Joins (IsKept key) id m.0.0 other m.1.0 (took_back m.0.0 m.1.0) Spent) (λ i. (sym is i, sym is' i)) (gives key id other (writer_of me.0) (marker_of you.0))
