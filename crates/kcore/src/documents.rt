@@ -76,7 +76,7 @@ pub fn settle_input<D: Document, R: Threads + Sync, S: Source, K: Sink, G: Gate 
 {
     D::has_documents();
     let alloc = rounds.alloc();
-    let Some((header, reader)) = open_input(alloc, src, sink)? else {
+    let Some((header, lines)) = open_input(alloc, src, sink)? else {
         return Ok(true);
     };
     let profile = header.profile;
@@ -86,7 +86,7 @@ pub fn settle_input<D: Document, R: Threads + Sync, S: Source, K: Sink, G: Gate 
         rounds.gate(),
         rounds.workers(),
         header,
-        reader,
+        lines,
         src,
         sink,
     )?;
