@@ -18,7 +18,7 @@ use Rattle.kc_store.specs.declared.roles.Role.TheVariants.{Spent, Writes, Marks,
 use Rattle.kc_store.specs.Plans.{Move, IsFormed}
 use Rattle.kc_store.specs.private.Plans.{group_of}
 use Rattle.kc_store.specs.States.{with_entry_if, with_phase}
-use Rattle.kc_store.specs.private.Rule.{Waits, AllWait, ApartFrom, Facts, LookHolds, BelowHolds, AllNoted, AllMarked, IsNoted, AllCleared, MarksHold, AllShown, IsSettled, WriterHolds, SeatHolds, IsKept, rest_of}
+use Rattle.kc_store.specs.private.Rule.{Waits, AllWait, ApartFrom, Facts, LookHolds, BelowHolds, AllNoted, AllMarked, IsNoted, AllCleared, MarksHold, AllShown, IsUnmoved, WriterHolds, SeatHolds, IsKept, rest_of}
 use Rattle.kc_store.specs.private.Steps.{publishes, begins}
 use Rattle.kc_store.proofs.Points.{before_more, waits_found, group_here, group_past, group_label, label_found, apart_found, level_moved, level_stays}
 use Rattle.kc_store.proofs.Publishing.{mark, publish, publish_look, publish_below, maybe_cases}
@@ -87,8 +87,8 @@ module _ (n : ℕ) (d : WriterState) (e : Entry) (l : ℕ) (ws : List ℕ) (grou
   old_stays : (v : ℕ) → v < n → get_or now (2 * n + 1 + v) 0 ≡ get_or ws (2 * n + 1 + v) 0
   old_stays v lt = let inside = w.label_in in let same = label_is in get_or-set_other ws place (2 * n + 1 + v) d.phase 0 (λ k. omega (arith, k, inside, same))
 
-  settled_on : (v : ℕ) → IsSettled (e ∷ es) v → IsSettled es v
-  settled_on v free g f is = free g f (group_more e es g f facts'.groups.apart.0 (w.label, w.label_is) is)
+  unmoved_on : (v : ℕ) → IsUnmoved (e ∷ es) v → IsUnmoved es v
+  unmoved_on v free g f is = free g f (group_more e es g f facts'.groups.apart.0 (w.label, w.label_is) is)
 
   noted_on : (vs : List ℕ) → AllNoted n (rest_of d) ws vs → AllNoted n es now vs
   noted_on vs h v on =
@@ -104,7 +104,7 @@ module _ (n : ℕ) (d : WriterState) (e : Entry) (l : ℕ) (ws : List ℕ) (grou
   cleared_on : (vs : List ℕ) → AllCleared n (rest_of d) ws vs → AllCleared n es now vs
   cleared_on vs h v on =
       let h' = subst (λ (z : List Entry). AllCleared n z ws vs) rest_is h in
-      let c = h' v on in (c.0, settled_on v c.1, subst (λ (z : ℕ). (unpacked z).phase ≡ 0) (sym (mark_stays v c.0)) c.2)
+      let c = h' v on in (c.0, unmoved_on v c.1, subst (λ (z : ℕ). (unpacked z).phase ≡ 0) (sym (mark_stays v c.0)) c.2)
 
   marks_on : (ns ms cs : List ℕ) → MarksHold n (rest_of d) d.phase ws ns ms cs → MarksHold n es d.phase now ns ms cs
   marks_on ns ms cs h = record { notes = noted_on ns h.notes; marks = marked_on ms h.marks; marks_noted = h.marks_noted; clears = cleared_on cs h.clears }

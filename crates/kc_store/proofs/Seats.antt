@@ -17,7 +17,7 @@ use Rattle.kc_store.specs.Plans.{Move}
 use Rattle.kc_store.specs.private.Plans.{IsMoveAt, group_of}
 use Rattle.kc_store.specs.States.{with_noted, with_mark, with_cleared, marker_noted, marker_mark, marker_cleared}
 use Rattle.kc_store.specs.private.Steps.{noted_at, notes, marks, clears, lent_notes, lent_marks, lent_clears}
-use Rattle.kc_store.specs.private.Rule.{AllBegin, IsSettled, IsNoted, IsSoundMark, IsSoundOld, WriterHolds, MarkerHolds, SeatHolds, IsKept, number_of, AreOwnLoans, rest_of}
+use Rattle.kc_store.specs.private.Rule.{AllBegin, IsUnmoved, IsNoted, IsSoundMark, IsSoundOld, WriterHolds, MarkerHolds, SeatHolds, IsKept, number_of, AreOwnLoans, rest_of}
 use Rattle.kc_store.proofs.Points.{before_more, waits_found}
 use Rattle.kc_store.proofs.Storing.{sound_mark, sound_clear, mark_facts, mark_holds, mark_adds, clear_adds, mark_look, mark_below, note_facts, note_holds, note_adds, note_look, note_below}
 use Rattle.kc_store.proofs.Places.{move_in_place, group_waits, free_done}
@@ -86,7 +86,7 @@ early_mark n d ws g i l e m st le at named noted =
 
 -- a move of a group that is published may be cleared
 late_clear : (n : ℕ) (d : WriterState) (ws : List ℕ) (g i : ℕ) (e : Entry) (m : Move) → WriterHolds n d ws → g < d.published → IsMoveAt d.plan g i e m
-    → (m.vertex < n) × IsSettled (rest_of d) m.vertex × IsSoundMark n d.history (rest_of d) d.phase m.vertex (packed m.new 0 0) (get_or ws (2 * n + 1 + m.vertex) 0)
+    → (m.vertex < n) × IsUnmoved (rest_of d) m.vertex × IsSoundMark n d.history (rest_of d) d.phase m.vertex (packed m.new 0 0) (get_or ws (2 * n + 1 + m.vertex) 0)
 late_clear n d ws g i e m st lt at =
     let gr = st.plan.formed.groups g e at.group_is in
     let good = gr.moves i m at.move_is in
@@ -123,7 +123,7 @@ module _ (n : ℕ) (d : WriterState) (writer : ℕ) (ws : List ℕ) (v k : ℕ) 
     marks = mark_adds n d.history (rest_of d) d.phase ws v k inside st.facts.sized sound m.noted m.marked m.cleared noted h.marks;
   }
 
-  marker_clears : IsSettled (rest_of d) v → (m : MarkerState) → MarkerHolds n d.loans d.lent d.phase d.plan d.published ws m → MarkerHolds n d.loans d.lent d.phase d.plan d.published (set ws (v + 1) k) (marker_cleared v m)
+  marker_clears : IsUnmoved (rest_of d) v → (m : MarkerState) → MarkerHolds n d.loans d.lent d.phase d.plan d.published ws m → MarkerHolds n d.loans d.lent d.phase d.plan d.published (set ws (v + 1) k) (marker_cleared v m)
   marker_clears free m h = record {
     listed = h.listed;
     number_in = h.number_in;
@@ -166,7 +166,7 @@ module _ (n : ℕ) (d : WriterState) (writer : ℕ) (ws : List ℕ) (v k : ℕ) 
     begin = st.begin;
   }
 
-  writer_clears : IsSettled (rest_of d) v → WriterHolds n (with_cleared v d) (set ws (v + 1) k)
+  writer_clears : IsUnmoved (rest_of d) v → WriterHolds n (with_cleared v d) (set ws (v + 1) k)
   writer_clears free = record {
     vertices_is = st.vertices_is;
     phases_are = st.phases_are;

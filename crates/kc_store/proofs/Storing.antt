@@ -11,7 +11,7 @@ use Rattle.kc_history.specs.private.Ends.{level_of, is_label, stamp_of}
 use Rattle.kc_store.specs.declared.roles.Pending.{Pending}
 use Rattle.kc_store.specs.Plans.{Move}
 use Rattle.kc_store.specs.private.Plans.{group_of}
-use Rattle.kc_store.specs.private.Rule.{AllApart, IsUnpublished, Fits, Facts, IsSoundMark, IsSoundOld, IsMarked, IsNoted, IsSettled, AllMarked, AllNoted, AllCleared, AreMarkedNoted, MarksHold, Reaches, LookHolds, BelowHolds}
+use Rattle.kc_store.specs.private.Rule.{AllApart, IsUnpublished, Fits, Facts, IsSoundMark, IsSoundOld, IsMarked, IsNoted, IsUnmoved, AllMarked, AllNoted, AllCleared, AreMarkedNoted, MarksHold, Reaches, LookHolds, BelowHolds}
 use Rattle.kc_store.proofs.Limits.{vertex_fits, phase_fits}
 use Rattle.kc_store.proofs.Points.{group_label, label_found, waits_found, apart_found, before_itself}
 use Rattle.kc_store.proofs.Publishing.{mark, unpacks}
@@ -64,7 +64,7 @@ sound_mark n log rest p ws v g o e m f group moves old =
     }
 
 -- a mark of phase 0 with the level of a vertex may be stored where no group that waits moves it
-pub sound_clear : (n : ℕ) (log rest : List Entry) (p v l o : ℕ) → v < n → level_of 0 log v ≡ l → IsSettled rest v → IsSoundMark n log rest p v (packed l 0 0) o
+pub sound_clear : (n : ℕ) (log rest : List Entry) (p v l o : ℕ) → v < n → level_of 0 log v ≡ l → IsUnmoved rest v → IsSoundMark n log rest p v (packed l 0 0) o
 sound_clear n log rest p v l o inside is free =
     let u : unpacked (packed l 0 0) ≡ mark l 0 0 = unpacks l 0 0 (omega arith) (omega arith) in record {
       fits = subst (λ (z : Mark). Fits n log rest p v z o) (sym u) record {
@@ -128,7 +128,7 @@ module _ (n : ℕ) (log rest : List Entry) (p : ℕ) (ws : List ℕ) (v k : ℕ)
   abbrev IsClear : ℕ → Type 0
   IsClear z = (unpacked z).phase ≡ 0
 
-  clear_here : IsSettled rest v → IsClear (get_or marked (v + 1) 0)
+  clear_here : IsUnmoved rest v → IsClear (get_or marked (v + 1) 0)
   clear_here free = subst IsClear (sym here) (sound.cleared free)
 
   mark_clears : (vs : List ℕ) → AllCleared n rest ws vs → AllCleared n rest marked vs
@@ -136,12 +136,12 @@ module _ (n : ℕ) (log rest : List Entry) (p : ℕ) (ws : List ℕ) (v k : ℕ)
     c.0,
     c.1,
     dite (ℕ_discrete x v)
-        (λ s. subst (λ (y : ℕ). IsClear (get_or marked (y + 1) 0)) (sym s) (clear_here (subst (IsSettled rest) s c.1)))
+        (λ s. subst (λ (y : ℕ). IsClear (get_or marked (y + 1) 0)) (sym s) (clear_here (subst (IsUnmoved rest) s c.1)))
         (λ o. subst IsClear (sym (else_where x o)) c.2),
   )
 
-  clear_more : (vs : List ℕ) → IsSettled rest v → AllCleared n rest ws vs → AllCleared n rest marked (vs ++ v ∷ [])
-  clear_more vs free all x on = ⊎_elim (λ (t : Contains vs x). mark_clears vs all x t) (λ (s : v ≡ x). subst (λ (y : ℕ). (y < n) × IsSettled rest y × IsClear (get_or marked (y + 1) 0)) s (inside, free, clear_here free)) (Contains-push_cases vs v x on)
+  clear_more : (vs : List ℕ) → IsUnmoved rest v → AllCleared n rest ws vs → AllCleared n rest marked (vs ++ v ∷ [])
+  clear_more vs free all x on = ⊎_elim (λ (t : Contains vs x). mark_clears vs all x t) (λ (s : v ≡ x). subst (λ (y : ℕ). (y < n) × IsUnmoved rest y × IsClear (get_or marked (y + 1) 0)) s (inside, free, clear_here free)) (Contains-push_cases vs v x on)
 
   pub mark_holds : (ns ms cs : List ℕ) → MarksHold n rest p ws ns ms cs → MarksHold n rest p marked ns ms cs
   mark_holds ns ms cs h = record { notes = mark_notes ns h.notes; marks = mark_marks ms h.marks; marks_noted = h.marks_noted; clears = mark_clears cs h.clears }
@@ -151,7 +151,7 @@ module _ (n : ℕ) (log rest : List Entry) (p : ℕ) (ws : List ℕ) (v k : ℕ)
   mark_adds ns ms cs noted h = record { notes = mark_notes ns h.notes; marks = mark_more ms h.marks; marks_noted = marked_still ms ns v noted h.marks_noted; clears = mark_clears cs h.clears }
 
   -- the move of v is cleared
-  pub clear_adds : (ns ms cs : List ℕ) → IsSettled rest v → MarksHold n rest p ws ns ms cs → MarksHold n rest p marked ns ms (cs ++ v ∷ [])
+  pub clear_adds : (ns ms cs : List ℕ) → IsUnmoved rest v → MarksHold n rest p ws ns ms cs → MarksHold n rest p marked ns ms (cs ++ v ∷ [])
   clear_adds ns ms cs free h = record { notes = mark_notes ns h.notes; marks = mark_marks ms h.marks; marks_noted = h.marks_noted; clears = clear_more cs free h.clears }
 
   pub mark_look : (q : Pending) → LookHolds n log rest p ws q → LookHolds n log rest p marked q

@@ -90,9 +90,9 @@ IsMarked rest p v w = (g : ℕ) (e : Entry) (m : Move) → group_of g rest ≡ S
 abbrev pub IsNoted : List Entry → ℕ → ℕ → Type 0
 IsNoted rest v o = (g : ℕ) (e : Entry) (m : Move) → group_of g rest ≡ Some e → last_move v e.moves ≡ Some m → o ≡ m.old
 
--- each group with a move of v is published
-abbrev pub IsSettled : List Entry → ℕ → Type 0
-IsSettled rest v = (g : ℕ) (e : Entry) → group_of g rest ≡ Some e → last_move v e.moves ≡ None
+-- no group that is not published yet moves v
+abbrev pub IsUnmoved : List Entry → ℕ → Type 0
+IsUnmoved rest v = (g : ℕ) (e : Entry) → group_of g rest ≡ Some e → last_move v e.moves ≡ None
 
 abbrev pub AllNoted : ℕ → List Entry → List ℕ → List ℕ → Type 0
 AllNoted n rest ws vs = (v : ℕ) → Contains vs v → (v < n) × IsNoted rest v (slice_index ws (2 * n + 1 + v))
@@ -101,7 +101,7 @@ abbrev pub AllMarked : List Entry → ℕ → List ℕ → List ℕ → Type 0
 AllMarked rest p ws vs = (v : ℕ) → Contains vs v → IsMarked rest p v (slice_index ws (v + 1))
 
 abbrev pub AllCleared : ℕ → List Entry → List ℕ → List ℕ → Type 0
-AllCleared n rest ws vs = (v : ℕ) → Contains vs v → (v < n) × IsSettled rest v × ((unpacked (slice_index ws (v + 1))).phase ≡ 0)
+AllCleared n rest ws vs = (v : ℕ) → Contains vs v → (v < n) × IsUnmoved rest v × ((unpacked (slice_index ws (v + 1))).phase ≡ 0)
 
 -- each marked move is noted
 abbrev pub AreMarkedNoted : List ℕ → List ℕ → Type 0
@@ -139,7 +139,7 @@ pub record Facts (n : ℕ) (history rest : List Entry) (p : ℕ) (ws : List ℕ)
 pub record IsSoundMark (n : ℕ) (history rest : List Entry) (p v w o : ℕ) : Type 0 where
   pub fits : Fits n history rest p v (unpacked w) o
   pub marked : IsMarked rest p v w
-  pub cleared : IsSettled rest v → (unpacked w).phase ≡ 0
+  pub cleared : IsUnmoved rest v → (unpacked w).phase ≡ 0
 
 -- an old level that any seat may store for v
 pub record IsSoundOld (history : List Entry) (v o : ℕ) : Type 0 where
