@@ -9,7 +9,7 @@ use Rattle.kc_groups.specs.declared.plans.PhasePlan.{PhasePlan}
 use Rattle.kc_store.specs.Plans.{Move, AreDistinct, IsFormed}
 use Rattle.kc_store.specs.private.Plans.{group_of, IsMoveAt}
 use Rattle.kc_store.specs.Seats.{HasRange}
-use Rattle.kc_store.specs.private.Rule.{Waits, AllWait, AreApart, ApartFrom, AllApart, IsSettled}
+use Rattle.kc_store.specs.private.Rule.{Waits, AllWait, AreApart, ApartFrom, AllApart, IsUnmoved}
 use Rattle.kc_store.proofs.Points.{group_here, label_found}
 use Rattle.kc_store.proofs.Publishing.{maybe_cases}
 
@@ -106,7 +106,7 @@ apart_drop zero es all = all
 apart_drop (suc k) [] all = tt
 apart_drop (suc k) (x ∷ xs) all = apart_drop k xs all.1
 
-pub free_done : (n p done k v : ℕ) (plan : PhasePlan) (e : Entry) (m : Move) → IsFormed n p plan → k < done → slice_get plan.groups k ≡ Some e → last_move v e.moves ≡ Some m → IsSettled (drop done plan.groups) v
+pub free_done : (n p done k v : ℕ) (plan : PhasePlan) (e : Entry) (m : Move) → IsFormed n p plan → k < done → slice_get plan.groups k ≡ Some e → last_move v e.moves ≡ Some m → IsUnmoved (drop done plan.groups) v
 free_done n p done k v plan e m formed lt is moves g f group =
     let j = group_index g (drop done plan.groups) f group in
     let there : slice_get plan.groups (done + j.0) ≡ Some f = sym (drop_get done plan.groups j.0) ∙ j.1 in

@@ -5,9 +5,10 @@ use mathlib.Core.List.{IsPrefix}
 use Rattle.kc_history.specs.declared.entries.Entry.{Entry}
 use Rattle.kc_history.specs.Ends.{last_move}
 use Rattle.kc_history.specs.private.Ends.{level_after, level_of, is_label, stamp_of}
+use Rattle.kc_store.specs.declared.roles.Pending.{Pending}
 use Rattle.kc_store.specs.Plans.{Move}
 use Rattle.kc_store.specs.private.Plans.{group_of}
-use Rattle.kc_store.specs.private.Rule.{Waits, AllWait, AreApart, ApartFrom, Reaches}
+use Rattle.kc_store.specs.private.Rule.{Waits, AllWait, AreApart, ApartFrom, Reaches, IsReading}
 
 pub level_snoc : (d : ℕ) (log : List Entry) (e : Entry) (v : ℕ) → level_of d (log ++ e ∷ []) v ≡ level_after (level_of d log v) (last_move v e.moves)
 level_snoc d [] e v = refl
@@ -52,6 +53,9 @@ before_both a b c p q = (p.0 ++ q.0, sym (append_assoc a p.0 q.0) ∙ (ap (λ (z
 
 pub reaches_more : (from log : List Entry) (e : Entry) (v l : ℕ) → Reaches from log v l → Reaches from (log ++ e ∷ []) v l
 reaches_more from log e v l r = record { point = r.point; after = r.after; within = before_more r.point log e r.within; level_is = r.level_is }
+
+pub reading_more : (n : ℕ) (log : List Entry) (e : Entry) (q : Pending) → IsReading n log q → IsReading n (log ++ e ∷ []) q
+reading_more n log e q h = record { seen_in = h.seen_in; from_in = before_more q.from log e h.from_in; made_in = h.made_in; vertices_is = h.vertices_is; inside = h.inside }
 
 -- what stands in the rest under a label has that label, and is apart from an entry that all are apart from
 pub group_label : (g : ℕ) (es : List Entry) (f : Entry) → group_of g es ≡ Some f → is_label g f.label ≡ true

@@ -18,8 +18,8 @@ use Rattle.kc_audit.proofs.lemmas.Verdicts.{explained_passes}
 use Rattle.kcore.specs.declared.command.Command.{Command}
 use Rattle.kcore.specs.declared.command.Command.TheVariants.{Run, Final, Orient, Exact, Check, Audit, Dense, Gen}
 use Rattle.kcore.specs.declared.limits.TheConstants.{LINE_LIMIT, RUN_LINE_LIMIT, INPUT_LIMIT}
-use Rattle.kcore.specs.declared.status.Status.{Status}
-use Rattle.kcore.specs.declared.status.Status.TheVariants.{Done, Refused, Usage, ReadFault, WriteFault, Memory}
+use Rattle.kc_shell.specs.declared.status.Status.{Status}
+use Rattle.kc_shell.specs.declared.status.Status.TheVariants.{Done, Refused, Usage, ReadFault, WriteFault, Memory}
 use Rattle.kcore.specs.Inputs.{input_said}
 use Rattle.kcore.specs.RunText.{IsRunText}
 use Rattle.kcore.specs.CheckText as check
@@ -30,7 +30,8 @@ use Rattle.kcore.specs.OrientText.{IsOrientText}
 use Rattle.kcore.specs.DenseText.{IsDenseText}
 use Rattle.kcore.specs.LoadText.{IsLoadText}
 use Rattle.kcore.specs.Laws.{HasTextsAlike, HasOneText}
-use Rattle.kcore.specs.Commands.{IsText, Wrote, worked_on, WroteOf, Answers, HasCause, Decide, EndsAsDecided, IsComplete}
+use Rattle.kc_shell.specs.Statuses.{HasCause}
+use Rattle.kcore.specs.Commands.{IsText, Wrote, worked_on, WroteOf, Answers, Decide, EndsAsDecided, IsComplete}
 use Rattle.kcore.proofs.Texts.{texts_are_alike}
 use Rattle.kcore.proofs.FinalTexts.{input_has_one_final_text}
 use Rattle.kcore.proofs.OrientTexts.{input_has_one_orient_text}

@@ -4,7 +4,8 @@ use Rattle.std.specs.Prelude.{Some, None, slice_get, codes}
 use Rattle.std.specs.Str.{bytes_eq}
 use Rattle.std.proofs.lemmas.Option.{same_Some}
 use Rattle.kc_text.specs.Numbers.{number_of}
-use Rattle.kcore.specs.Commands.{few_workers, gen_with, command_of}
+use Rattle.kc_shell.specs.Workers.{few_workers}
+use Rattle.kcore.specs.Commands.{gen_with, command_of}
 
 pub two_words : (ws : List (List ℕ)) (a b : List ℕ) → length ws ≡ 2 → slice_get ws 0 ≡ Some a → slice_get ws 1 ≡ Some b → ws ≡ a ∷ b ∷ []
 two_words [] a b n e f = absurd (omega arith)

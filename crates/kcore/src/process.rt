@@ -6,9 +6,9 @@ ghost use Rattle.kcore.specs.Commands.{command_of};
 ghost use Rattle.kcore.specs.Process.{ProcessAnswers};
 ghost use Rattle.kcore.specs.private.Process.{HandsOn, last_status};
 
-use crate::status::Status;
 use crate::top::run_command;
 use kc_rounds::OpenGate;
+use kc_shell::Status;
 use kc_text::{StdSink, StdSource, Told, Words};
 use std::io::{BufWriter, Read, Write};
 use std::marker::Brand;
@@ -81,11 +81,5 @@ fn handed_on<W: Write + Drop>(writer: BufWriter<W>) -> (bool, W)
 fn last_status(status: Status, done: bool) -> Status
     ensures { result ≡ last_status done status }
 {
-    if done {
-        return status;
-    }
-    match status {
-        Status::Done | Status::Refused => Status::WriteFault,
-        _ => status,
-    }
+    if done { status } else { status.unflushed() }
 }

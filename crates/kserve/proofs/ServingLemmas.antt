@@ -38,8 +38,8 @@ use Rattle.kserve.specs.declared.fault.Stop.TheVariants as stop
 use Rattle.kserve.specs.declared.reading.Said.{Said}
 use Rattle.kserve.specs.declared.reading.Said.TheVariants as said
 use Rattle.kserve.specs.declared.scripts.Scripts.{Scripts}
-use Rattle.kserve.specs.declared.status.ServeStatus.{ServeStatus}
-use Rattle.kserve.specs.declared.status.ServeStatus.TheVariants as status
+use Rattle.kc_shell.specs.declared.status.Status.{Status}
+use Rattle.kc_shell.specs.declared.status.Status.TheVariants as status
 use Rattle.kserve.specs.declared.limits.TheConstants.{CAPACITY, LINE_LIMIT, INPUT_LIMIT}
 use Rattle.kserve.specs.declared.head.Head.{Head}
 use Rattle.kserve.specs.declared.head.Head.TheVariants as head
@@ -47,7 +47,7 @@ use Rattle.kserve.specs.Batches.{start, LeadTo}
 use Rattle.kserve.specs.private.Fitting.{is_due, are_due}
 use Rattle.kserve.specs.Fitting.{Fit}
 use Rattle.kserve.specs.Inputs.{ScriptInput, WithScripts, Refused, rules_for, items_in, has_room, scripts_from, after_head, head_of, after_magic, input_from, is_magic, input_said}
-use Rattle.kserve.specs.Ending.{HasCause}
+use Rattle.kc_shell.specs.Statuses.{HasCause}
 use Rattle.kserve.specs.Lines.{head_text, batch_lines, refused_line}
 use Rattle.kserve.specs.private.Ending.{status_after}
 use Rattle.kserve.specs.private.Reading.{input_as, Says}
@@ -211,7 +211,7 @@ pub few_each : (scripts : List (List Item)) → items_in scripts ≤ MAX_ITEMS �
 few_each scripts few i d lt = let one = get_or-le-sum_by length scripts i d lt in omega (arith, one, few)
 
 -- an input that is read
-pub answered : (left : Option (List ℕ)) (before now : Option (List ℕ)) (status : ServeStatus) → ((bytes : List ℕ) → left ≡ Some bytes → Wrote (input_said bytes) before now status) → Answers left before now status
+pub answered : (left : Option (List ℕ)) (before now : Option (List ℕ)) (status : Status) → ((bytes : List ℕ) → left ≡ Some bytes → Wrote (input_said bytes) before now status) → Answers left before now status
 answered None before now status h = tt
 answered (Some bytes) before now status h = h bytes refl
 
