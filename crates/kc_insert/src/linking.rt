@@ -12,7 +12,7 @@ use std::sync::ledger::Ledger;
 use std::thread::Threads;
 
 // The least number of edges whose halves are worth a sort, so that the row of each vertex is gone through once.
-const LEAST_TOGETHER: usize = 8_192;
+const LEAST_TOGETHER: usize = 2_048;
 
 // Links the edges, one after another. Levels stay.
 fn link_each<L: Ledger>(
@@ -25,8 +25,9 @@ fn link_each<L: Ledger>(
     ensures value { OnOk result (adj.new ≡ record adj.old { graph = with_edges adj.old.graph added.now }) }
     ensures cost { OnOk result (steps.new ≡ steps.old + 3 * length added.now) }
 {
-    for e in added {
-        adj.link(alloc, *e, steps)?;
+    for k in 0..added.len() {
+        let e = adj.graph().edge_in_turn(added, k);
+        adj.link(alloc, e, steps)?;
     }
     Ok(())
 }
