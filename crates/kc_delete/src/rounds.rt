@@ -31,15 +31,16 @@ pub struct Tally {
 }
 
 // The least number of edges whose halves are worth a sort, so that the row of each vertex is passed over once.
-const LEAST_TOGETHER: usize = 8_192;
+const LEAST_TOGETHER: usize = 2_048;
 
 // Removes the edges, one after another. Levels stay.
 fn unlink_each<L: Ledger>(adj: &mut LevelAdj, removed: &[Edge], steps: &mut Steps<L>)
     requires removable { CanRemove adj.old.graph removed.now }
     ensures { adj.new ≡ record adj.old { graph = without_edges adj.old.graph removed.now } }
 {
-    for e in removed {
-        adj.unlink(*e, steps);
+    for k in 0..removed.len() {
+        let e = adj.graph().edge_in_turn(removed, k);
+        adj.unlink(e, steps);
     }
 }
 
@@ -111,7 +112,7 @@ fn add_short_ends(
 ///
 /// So a phase has no pass over the vertices. Memory is taken for the vertices that wait, for those of a round that
 /// fall, for the fallen vertices and for the moves. The vertices that wait have a list for each level up to the
-/// greatest one under which a vertex waited. While 8,192 edges or more are unlinked, each takes 8 bytes, and 8 more
+/// greatest one under which a vertex waited. While 2,048 edges or more are unlinked, each takes 8 bytes, and 8 more
 /// while the halves of the edges are sorted.
 pub fn delete_phase<R: Threads + Sync, G: Gate + Sync, L: Ledger>(
     rounds: &Rounds<R, G>,

@@ -1,6 +1,6 @@
 //! A graph as a row of neighbours for each vertex: look-ups, and edges that come in or leave, singly or many together.
 
-ghost use Rattle.std.specs.Prelude.{◌≡◌, ℕ, ◌+◌, ◌<◌, ◌≤◌, [], length, slice_index, false, true, All, IfOk, OnOk, OnErr};
+ghost use Rattle.std.specs.Prelude.{◌≡◌, ℕ, ◌+◌, ◌<◌, ◌≤◌, [], get_or, length, slice_index, false, true, All, IfOk, OnOk, OnErr};
 ghost use Rattle.kc_graph.specs.Numbers.{RisesFrom};
 ghost use Rattle.kc_graph.specs.Shape.{GraphShape, EdgesFrom, IsGraph, neighbours_of, has_edge, with_edge, without_edge, with_edges, without_edges};
 ghost use Rattle.kc_graph.specs.Changes.{AllAbsent, AllPresent};
@@ -127,6 +127,25 @@ impl Graph {
             }
         }
         v
+    }
+
+    /// Returns `edges[place]`, for loops over edges that come in or leave one by one. At every 16th place it prefetches
+    /// the rows of both ends of the next 16 edges (`is_at_hand`).
+    pub fn edge_in_turn(&self, edges: &[Edge], place: usize) -> Edge
+        requires { place < length edges.now }
+        ensures { result ≡ get_or edges.now place (0, 0) }
+    {
+        let e = edges[place];
+        if place % TOGETHER > 0 {
+            return e;
+        }
+        for k in place..edges.len().min(place + TOGETHER) {
+            let near = edges[k];
+            if !(self.is_at_hand(near.a) && self.is_at_hand(near.b)) {
+                return near;
+            }
+        }
+        e
     }
 
     /// Puts in an edge that isn't there (`with_edge`). Fewer than `MAX_EDGES` edges are there before.

@@ -12,7 +12,7 @@ use std::sync::ledger::Ledger;
 use std::thread::Threads;
 
 // The least number of edges whose halves are worth a sort, so that the row of each vertex is gone through once.
-const LEAST_TOGETHER: usize = 8_192;
+const LEAST_TOGETHER: usize = 2_048;
 
 /// Links the edges, which ascend: one after another, or many of them by the workers of `rounds`. Levels stay. Counts 3
 /// steps for each edge.
@@ -31,8 +31,9 @@ pub fn link_edges<R: Threads + Sync, G: Gate + Sync, L: Ledger>(
     ensures cost { OnOk result (steps.new ≡ steps.old + 3 * length added.now) }
 {
     if added.len() < LEAST_TOGETHER {
-        for e in added {
-            adj.link(rounds.alloc(), *e, steps)?;
+        for k in 0..added.len() {
+            let e = adj.graph().edge_in_turn(added, k);
+            adj.link(rounds.alloc(), e, steps)?;
         }
         return Ok(());
     }
