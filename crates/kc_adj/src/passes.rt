@@ -91,7 +91,7 @@ fn look_at_piece(alloc: Global, lift: &Lift<'_>, piece: &[u32]) -> Result<Passed
     let mut turns = Vec::with_capacity(alloc, piece.len())?;
     let mut touched = Vec::new(alloc);
     for i in 0..piece.len() {
-        let v = lift.graph.in_turn(piece, i);
+        let v = lift.graph.vertex_with_prefetch(piece, i);
         turns.push(look(lift, v, &mut touched)?)?;
     }
     Ok(Passed { turns, touched })
