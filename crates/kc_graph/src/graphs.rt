@@ -16,8 +16,8 @@ use std::alloc::{AllocError, Global};
 use std::marker::Model;
 use std::thread::Threads;
 
-// The number of rows that are prefetched together.
-const TOGETHER: usize = 16;
+/// The number of rows that are prefetched together.
+pub(crate) const TOGETHER: usize = 16;
 
 /// A graph on the vertices 0 to n - 1, without loops, each edge once.
 ///

@@ -7,7 +7,7 @@ ghost use Rattle.kc_graph.specs.private.Walks.{net_of, AreKeys, IsPairCut};
 
 use crate::cleaning::Cleaned;
 use crate::crew::Crew;
-use crate::graphs::Graph;
+use crate::graphs::{Graph, TOGETHER};
 use crate::keys::Key;
 use crate::limits::MAX_VERTICES;
 use std::alloc::{AllocError, Global};
@@ -15,9 +15,6 @@ use std::thread::{Threads, join_mut};
 
 // The least number of keys of a part. Fewer than twice as many aren't cut: they cost little more than threads do.
 const LEAST_WALK: usize = 4_096;
-
-// The number of keys whose rows are prefetched together.
-const TOGETHER: usize = 16;
 
 // Prefetches the rows of the lesser vertices of the first keys. Always returns true; the compiler can't know that, so
 // it keeps the loads.
