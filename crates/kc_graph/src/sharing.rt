@@ -278,5 +278,6 @@ pub fn take_by<R: Threads + Sync>(crew: &Crew<'_, R>, halves: Halves<'_>, rows: 
     ensures { AreTaken 0 rows.old.items rows.new.items (halves_of halves.entry) }
 {
     let part = Part { first: 0, halves };
+    // Taking out never fails.
     let _ = change_parts(crew, Change::Take, part, rows.as_mut_slice());
 }
