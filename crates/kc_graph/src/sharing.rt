@@ -279,5 +279,5 @@ pub fn take_by<R: Threads + Sync>(crew: &Crew<'_, R>, halves: Halves<'_>, rows: 
 {
     let part = Part { first: 0, halves };
     // Taking out never fails.
-    let _ = change_parts(crew, Change::Take, part, rows.as_mut_slice());
+    change_parts(crew, Change::Take, part, rows.as_mut_slice()).ok();
 }
