@@ -181,8 +181,8 @@ impl LevelAdj {
         ensures steps_kept { OnErr result (steps.new ≡ steps.old) }
     {
         self.graph.insert(alloc, e)?;
-        links::link(&self.levels, &mut self.counts.own, 0, e.a, e.b);
-        links::link(&self.levels, &mut self.counts.below, 1, e.a, e.b);
+        links::count_edge(&self.levels, &mut self.counts.own, 0, e.a, e.b);
+        links::count_edge(&self.levels, &mut self.counts.below, 1, e.a, e.b);
         steps.add_edges(1);
         Ok(())
     }
@@ -197,8 +197,8 @@ impl LevelAdj {
         ensures cost { steps.new ≡ steps.old + 3 }
     {
         self.graph.remove(e);
-        links::unlink(&self.levels, &mut self.counts.own, 0, e.a, e.b);
-        links::unlink(&self.levels, &mut self.counts.below, 1, e.a, e.b);
+        links::uncount_edge(&self.levels, &mut self.counts.own, 0, e.a, e.b);
+        links::uncount_edge(&self.levels, &mut self.counts.below, 1, e.a, e.b);
         steps.add_edges(1);
     }
 
@@ -223,7 +223,7 @@ impl LevelAdj {
         ensures steps_kept { OnErr result (steps.new ≡ steps.old) }
     {
         self.graph.par_insert_all(crew, edges)?;
-        links::link_all(&self.graph, &self.levels, &mut self.counts, edges);
+        links::count_edges(&self.graph, &self.levels, &mut self.counts, edges);
         steps.add_edges(edges.len());
         Ok(())
     }
@@ -247,7 +247,7 @@ impl LevelAdj {
         ensures steps_kept { OnErr result (steps.new ≡ steps.old) }
     {
         self.graph.par_remove_all(crew, edges)?;
-        links::unlink_all(&self.graph, &self.levels, &mut self.counts, edges);
+        links::uncount_edges(&self.graph, &self.levels, &mut self.counts, edges);
         steps.add_edges(edges.len());
         Ok(())
     }
