@@ -4,7 +4,7 @@
 ghost use Rattle.std.specs.Prelude.{◌≡◌, ℕ, ◌<◌, ◌≤◌, OnOk, IfOk, length, true};
 ghost use Rattle.kc_graph.specs.Numbers.{has_number};
 ghost use Rattle.kc_graph.specs.Shape.{EdgesFrom, without_edges};
-ghost use Rattle.kc_graph.specs.Changes.{AllPresent, CanRemove};
+ghost use Rattle.kc_graph.specs.Changes.{AllPresent};
 ghost use Rattle.kc_levels.specs.LevelList.{MeetsLower, IsLowered, IsWithin};
 ghost use Rattle.kc_levels.specs.Moved.{moved_count, moves_between};
 ghost use Rattle.kc_delete.specs.Working.{IsReady};
@@ -28,39 +28,6 @@ use std::thread::Threads;
 pub struct Tally {
     /// The number of vertices whose level is another one than before.
     pub moves: u32,
-}
-
-// The least number of edges whose halves are worth a sort, so that the row of each vertex is passed over once.
-const LEAST_TOGETHER: usize = 8_192;
-
-// Removes the edges, one after another. Levels stay.
-fn unlink_each<L: Ledger>(adj: &mut LevelAdj, removed: &[Edge], steps: &mut Steps<L>)
-    requires removable { CanRemove adj.old.graph removed.now }
-    ensures { adj.new ≡ record adj.old { graph = without_edges adj.old.graph removed.now } }
-{
-    for e in removed {
-        adj.unlink(*e, steps);
-    }
-}
-
-// Removes the edges, many of them by the workers of `rounds`. Levels stay. Fails only if memory runs out.
-fn unlink_edges<R: Threads + Sync, G: Gate + Sync, L: Ledger>(
-    rounds: &Rounds<R, G>,
-    adj: &mut LevelAdj,
-    removed: &[Edge],
-    steps: &mut Steps<L>,
-) -> Result<(), AllocError>
-    requires ascending { EdgesFrom adj.old.graph.vertices 0 0 removed.now }
-    requires present { AllPresent adj.old.graph removed.now }
-    ensures { OnOk result (adj.new ≡ record adj.old { graph = without_edges adj.old.graph removed.now }) }
-{
-    if removed.len() < LEAST_TOGETHER {
-        unlink_each(adj, removed, steps);
-        return Ok(());
-    }
-    let crew = Crew::new(rounds.runtime(), rounds.alloc(), rounds.workers());
-    adj.unlink_all(&crew, removed, steps)?;
-    Ok(())
 }
 
 // Lets the ends of the edges wait that have too few neighbours to stand on their levels.
@@ -133,7 +100,8 @@ pub fn delete_phase<R: Threads + Sync, G: Gate + Sync, L: Ledger>(
 {
     let _n = adj.graph().vertices();
     let _levels = adj.levels();
-    unlink_edges(rounds, adj, removed, steps)?;
+    let crew = Crew::new(rounds.runtime(), rounds.alloc(), rounds.workers());
+    adj.unlink_all(&crew, removed, steps)?;
     add_short_ends(Capped { adj, th }, removed, &mut work.waiting)?;
     settle(rounds, th, adj, work, steps)?;
     let moves = work.fallen.take_moves(rounds.alloc(), adj.levels())?;
