@@ -12,7 +12,7 @@ ghost use Rattle.kc_delete.specs.private.Capped.{profile_of, graph_of, levels_of
 ghost use Rattle.kc_delete.specs.private.Settling.{WaitsOrMeets, ends_of};
 
 use crate::capped::Capped;
-use crate::settling::{add_if_short, settle};
+use crate::settling::{add_if_short, lower_levels};
 use crate::waiting::Waiting;
 use crate::work::DeletionWork;
 use kc_adj::{LevelAdj, Steps};
@@ -103,7 +103,7 @@ pub fn delete_phase<R: Threads + Sync, G: Gate + Sync, L: Ledger>(
     let crew = Crew::new(rounds.runtime(), rounds.alloc(), rounds.workers());
     adj.unlink_all(&crew, removed, steps)?;
     add_short_ends(Capped { adj, th }, removed, &mut work.waiting)?;
-    settle(rounds, th, adj, work, steps)?;
+    lower_levels(rounds, th, adj, work, steps)?;
     let moves = work.fallen.take_moves(rounds.alloc(), adj.levels())?;
     Ok(moves)
 }

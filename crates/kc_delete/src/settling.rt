@@ -75,7 +75,7 @@ fn add_short_neighbours(
 ///
 /// No vertex has fallen before; afterwards all fallen vertices are noted. Fails only if memory runs out; then all is
 /// unspecified.
-pub fn settle<R: Threads + Sync, G: Gate + Sync, L: Ledger>(
+pub fn lower_levels<R: Threads + Sync, G: Gate + Sync, L: Ledger>(
     rounds: &Rounds<R, G>,
     th: &Thresholds,
     adj: &mut LevelAdj,
