@@ -8,8 +8,8 @@ ghost use Rattle.kc_graph.specs.Changes.{AllPresent};
 ghost use Rattle.kc_levels.specs.LevelList.{MeetsLower, IsLowered, IsWithin};
 ghost use Rattle.kc_levels.specs.Moved.{moved_count, moves_between};
 ghost use Rattle.kc_delete.specs.Working.{IsReady};
-ghost use Rattle.kc_delete.specs.private.Capped.{profile_of, graph_of, levels_of};
-ghost use Rattle.kc_delete.specs.private.Settling.{WaitsOrMeets, ends_of};
+ghost use Rattle.kc_delete.specs.private.Capped.{graph_of, WaitsOrMeetsIn};
+ghost use Rattle.kc_delete.specs.private.Settling.{ends_of};
 
 use crate::capped::Capped;
 use crate::settling::{add_if_short, lower_levels};
@@ -39,7 +39,7 @@ fn add_short_ends(
     requires sized { length waiting.old ≡ capped.adj.now.graph.vertices }
     requires ascending { EdgesFrom capped.adj.now.graph.vertices 0 0 removed.now }
     ensures sized { OnOk result (length waiting.new ≡ (graph_of capped.entry).vertices) }
-    ensures looked { OnOk result ((v : ℕ) → has_number v (ends_of removed.now) ≡ true → WaitsOrMeets (profile_of capped.entry) (graph_of capped.entry) (levels_of capped.entry) waiting.new v) }
+    ensures looked { OnOk result ((v : ℕ) → has_number v (ends_of removed.now) ≡ true → WaitsOrMeetsIn capped.entry waiting.new v) }
 {
     for e in removed {
         add_if_short(capped, e.a, waiting)?;

@@ -4,9 +4,9 @@ ghost use Rattle.std.specs.Prelude.{◌≡◌, ℕ, ◌<◌, ◌≤◌, ◌-◌,
 ghost use Rattle.std.specs.Bool.{OnTrue, OnFalse};
 ghost use Rattle.kc_graph.specs.Shape.{IsGraph};
 ghost use Rattle.kc_levels.specs.LevelList.{IsLowered, IsWithin};
-ghost use Rattle.kc_delete.specs.private.Capped.{profile_of, graph_of, levels_of};
+ghost use Rattle.kc_delete.specs.private.Capped.{graph_of, WaitsOrMeetsIn, AreLookedAtIn};
 ghost use Rattle.kc_delete.specs.private.Fallen.{AreFallen};
-ghost use Rattle.kc_delete.specs.private.Settling.{IsSettling, WaitsOrMeets, StillWait, IsUntouched, AreLookedAt};
+ghost use Rattle.kc_delete.specs.private.Settling.{IsSettling, StillWait, IsUntouched};
 
 use crate::capped::Capped;
 use crate::short::is_short;
@@ -27,7 +27,7 @@ pub fn add_if_short(capped: Capped<'_>, v: u32, waiting: &mut Waiting) -> Result
     requires sized { length waiting.old ≡ capped.adj.now.graph.vertices }
     ensures sized { OnOk result (length waiting.new ≡ (graph_of capped.entry).vertices) }
     ensures still { OnOk result (StillWait waiting.old waiting.new) }
-    ensures looked { OnOk result (WaitsOrMeets (profile_of capped.entry) (graph_of capped.entry) (levels_of capped.entry) waiting.new v) }
+    ensures looked { OnOk result (WaitsOrMeetsIn capped.entry waiting.new v) }
 {
     let Capped { adj, th } = capped;
     let _top = th.top();
@@ -58,7 +58,7 @@ fn add_short_neighbours(
     requires sized { length waiting.old ≡ capped.adj.now.graph.vertices }
     ensures sized { OnOk result (length waiting.new ≡ (graph_of capped.entry).vertices) }
     ensures still { OnOk result (StillWait waiting.old waiting.new) }
-    ensures looked { OnOk result (AreLookedAt (profile_of capped.entry) (graph_of capped.entry) v from (levels_of capped.entry) waiting.new) }
+    ensures looked { OnOk result (AreLookedAtIn capped.entry v from waiting.new) }
 {
     let adj = capped.adj;
     let to = adj.level(v);
