@@ -6,7 +6,7 @@ ghost use Rattle.kc_graph.specs.Shape.{IsGraph};
 ghost use Rattle.kc_levels.specs.LevelList.{IsLowered, IsWithin};
 ghost use Rattle.kc_delete.specs.private.Capped.{graph_of, WaitsOrMeetsIn, AreLookedAtIn};
 ghost use Rattle.kc_delete.specs.private.Fallen.{AreFallen};
-ghost use Rattle.kc_delete.specs.private.Settling.{IsSettling, StillWait, IsUntouched};
+ghost use Rattle.kc_delete.specs.private.Settling.{IsSettling, StillWait, KeepsCount};
 
 use crate::capped::Capped;
 use crate::short::is_short;
@@ -37,11 +37,11 @@ pub fn add_if_short(capped: Capped<'_>, v: u32, waiting: &mut Waiting) -> Result
     Ok(())
 }
 
-// Returns whether a neighbour on level `level` loses a vertex from its count that falls from `from` to `to`. The
-// neighbour counts from the level below its own on.
-fn is_touched(from: u16, to: u16, level: u16) -> bool
-    ensures touched { OnTrue result ((to < level - 1) × (level - 1 ≤ from)) }
-    ensures untouched { OnFalse result (IsUntouched from to level) }
+// Returns whether a neighbour that falls from `from` to `to` drops out of the count of a vertex on `level`. The vertex
+// counts from the level below its own on.
+fn loses_count(from: u16, to: u16, level: u16) -> bool
+    ensures loses { OnTrue result ((to < level - 1) × (level - 1 ≤ from)) }
+    ensures keeps { OnFalse result (KeepsCount from to level) }
 {
     let reach = level.saturating_sub(1);
     to < reach && reach <= from
@@ -63,7 +63,7 @@ fn add_short_neighbours(
     let adj = capped.adj;
     let to = adj.level(v);
     for w in adj.graph().neighbours(v) {
-        if is_touched(from, to, adj.level(*w)) {
+        if loses_count(from, to, adj.level(*w)) {
             add_if_short(capped, *w, waiting)?;
         }
     }
