@@ -110,7 +110,7 @@ lifting_few lift d rest counts is s = record {
       omega (arith, s.stays u h same, at_least-few lift.graph s.between u (get_or lift.new u 0 - d) is.graph h);
 }
 
--- the turn of v
+-- v moves
 module _ (lift : LiftShape) (d v : ℕ) (rest before counts : List ℕ) (is : IsLift lift) (inside : v < lift.graph.vertices) (s : IsLifting lift d (v ∷ rest) before) (t : HaveGained lift v d before counts) where
   abbrev after : List ℕ
   after = set s.between v (get_or lift.new v 0)

@@ -122,7 +122,7 @@ pub fn lift_counts<L: Ledger>(
 {
     let graph = lift.graph;
     for i in 0..vertices.len() {
-        let v = graph.in_turn(vertices, i);
+        let v = graph.vertex_with_prefetch(vertices, i);
         let (own, below) = pass(lift, counts, v);
         renew(lift, counts, v, own, below);
         steps.add(graph.neighbours(v).len());

@@ -20,7 +20,7 @@ use Rattle.kc_levels.proofs.lemmas.AtLeast.{at_least-set, at_least-kept}
 use Rattle.kc_levels.proofs.lemmas.Lowering.{lowering_first, lowering_more, lowering_done}
 use Rattle.kc_adj.specs.LeveledGraph.{LeveledGraph}
 use Rattle.kc_delete.specs.private.Waiting.{IsSifted, IsTaken}
-use Rattle.kc_delete.specs.private.Settling.{WaitsOrMeets, IsSettling, StillWait, IsUntouched, IsLookedAt, ends_of}
+use Rattle.kc_delete.specs.private.Settling.{WaitsOrMeets, IsSettling, StillWait, KeepsCount, IsLookedAt, ends_of}
 
 -- a mark more
 pub still_set : (waits : List Bool) (v : ℕ) → v < length waits → StillWait waits (set waits v true)
@@ -34,7 +34,7 @@ waits_or_meets_still p g y before after v still (inl waits) = inl (still v waits
 waits_or_meets_still p g y before after v still (inr meets) = inr meets
 
 pub looked_at_still : (p : Profile) (g : GraphShape) (from to : ℕ) (y : List ℕ) (before after : List Bool) (v : ℕ) → StillWait before after → IsLookedAt p g from to y before v → IsLookedAt p g from to y after v
-looked_at_still p g from to y before after v still (inl untouched) = inl untouched
+looked_at_still p g from to y before after v still (inl keeps) = inl keeps
 looked_at_still p g from to y before after v still (inr looked) = inr (waits_or_meets_still p g y before after v still looked)
 
 -- levels stay within the top when edges leave
@@ -86,15 +86,15 @@ settling_fall p g x y waits after v to graph s vertex d sized still looked = rec
       | inr held ↦ inr (held_same p g y (set y v to) u (get_or y u 0) same held)
     ]
 
-    near_kept : (u : ℕ) → u ≢ v → has_number u (neighbours_of v g.edges) ≡ true → IsUntouched (get_or y v 0) to (get_or (set y v to) u 0) → (l : ℕ) → get_or y u 0 ≡ suc l → at_least g (set y v to) u l ≡ at_least g y u l
-    near_kept u ne near untouched l e = at_least-kept g y u v to l graph inside near (side (get_or y v 0) to (get_or (set y v to) u 0) l d.under (get_or-set_other y v u to 0 ne ∙ e) untouched)
+    near_kept : (u : ℕ) → u ≢ v → has_number u (neighbours_of v g.edges) ≡ true → KeepsCount (get_or y v 0) to (get_or (set y v to) u 0) → (l : ℕ) → get_or y u 0 ≡ suc l → at_least g (set y v to) u l ≡ at_least g y u l
+    near_kept u ne near keeps l e = at_least-kept g y u v to l graph inside near (side (get_or y v 0) to (get_or (set y v to) u 0) l d.under (get_or-set_other y v u to 0 ne ∙ e) keeps)
       where
-        side : (from into level l : ℕ) → into ≤ from → level ≡ suc l → IsUntouched from into level → (l ≤ from) × (l ≤ into) ⊎ (from < l) × (into < l)
+        side : (from into level l : ℕ) → into ≤ from → level ≡ suc l → KeepsCount from into level → (l ≤ from) × (l ≤ into) ⊎ (from < l) × (into < l)
         side from into level l le is (inl low) = inl (omega arith, omega arith)
         side from into level l le is (inr high) = inr (omega arith, omega arith)
 
     near_looked : (u : ℕ) → u < g.vertices → u ≢ v → has_number u (neighbours_of v g.edges) ≡ true → IsLookedAt p g (get_or y v 0) to (set y v to) after u → (get_or after u false ≡ true) ⊎ IsHeld p g (set y v to) u (get_or y u 0)
-    near_looked u h ne near (inl untouched) = as_before u h ne (near_kept u ne near untouched)
+    near_looked u h ne near (inl keeps) = as_before u h ne (near_kept u ne near keeps)
     near_looked u h ne near (inr (inl marked)) = inl marked
     near_looked u h ne near (inr (inr held)) = inr (subst (IsHeld p g (set y v to) u) (get_or-set_other y v u to 0 ne) held)
 

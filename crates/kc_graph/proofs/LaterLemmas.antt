@@ -21,7 +21,7 @@ use Rattle.kc_graph.specs.Cleaning.{IsInside, is_loop, proper_items, pair_of, ho
 use Rattle.kc_graph.specs.private.EdgeLists.{pair_cmp}
 use Rattle.kc_graph.specs.private.Keys.{is_pairless, key_at, key_of, repeated}
 use Rattle.kc_graph.specs.Keys.{edge_of, removes, adds, decided}
-use Rattle.kc_graph.specs.private.Later.{is_noted, is_free_at, isolated, untouched_at, IsOnce, Settles, ComesTo}
+use Rattle.kc_graph.specs.private.Later.{is_noted, is_free_at, isolated, untouched_at, IsOnce, IsProperEffect, IsNetEffect}
 use Rattle.kc_graph.proofs.CountLemmas.{count_by-cons}
 use Rattle.kc_graph.proofs.EdgeLemmas.{not_before_first, has_edge_before, edge_inside, same_edges}
 use Rattle.kc_graph.proofs.EdgeListLemmas.{edge_is, has_edge-filter, edges_from_filter}
@@ -189,15 +189,15 @@ or_false true = refl
 or_false false = refl
 
 -- an edge that no later item touches is in neither list
-untouched_not_removed : (edges : List Pair) (items : List Item) (l : Later) (e : Pair) → Settles edges items l → is_touched e items ≡ false → has_edge e l.cleaned.removed ≡ false
+untouched_not_removed : (edges : List Pair) (items : List Item) (l : Later) (e : Pair) → IsProperEffect edges items l → is_touched e items ≡ false → has_edge e l.cleaned.removed ≡ false
 untouched_not_removed edges items l e s none = s.removed e ∙ ap (λ (o : Option Item). takes_out o && has_edge e edges) (deciding_none e items none)
 
-untouched_not_added : (edges : List Pair) (items : List Item) (l : Later) (e : Pair) → Settles edges items l → is_touched e items ≡ false → has_edge e l.cleaned.added ≡ false
+untouched_not_added : (edges : List Pair) (items : List Item) (l : Later) (e : Pair) → IsProperEffect edges items l → is_touched e items ≡ false → has_edge e l.cleaned.added ≡ false
 untouched_not_added edges items l e s none = s.added e ∙ ap (λ (o : Option Item). is_insertion o && not (has_edge e edges)) (deciding_none e items none)
 
 -- no items
-pub comes_to_none : (edges : List Pair) (c : Cleaned) (t : Touched) → c ≡ record { removed = []; added = []; loops = 0; repeats = 0; idle = 0 } → t.pairs.keys ≡ [] → t.isolated.keys ≡ [] → ComesTo edges [] (record { cleaned = c; touched = t })
-comes_to_none edges c t is pairs vertices = record {
+pub net_effect_none : (edges : List Pair) (c : Cleaned) (t : Touched) → c ≡ record { removed = []; added = []; loops = 0; repeats = 0; idle = 0 } → t.pairs.keys ≡ [] → t.isolated.keys ≡ [] → IsNetEffect edges [] (record { cleaned = c; touched = t })
+net_effect_none edges c t is pairs vertices = record {
   loops = ap (λ (c : Cleaned). c.loops) is;
   others = record {
     noted = λ e. rw (pairs, vertices) refl;
@@ -211,8 +211,8 @@ comes_to_none edges c t is pairs vertices = record {
 }
 
 -- a loop
-pub comes_to_loop : (edges : List Pair) (item : Item) (items : List Item) (old new : Later) → is_loop item ≡ true → ComesTo edges items old → new.cleaned ≡ record old.cleaned { loops = old.cleaned.loops + 1 } → new.touched ≡ old.touched → ComesTo edges (item ∷ items) new
-comes_to_loop edges item items old new loop s is same = record {
+pub net_effect_loop : (edges : List Pair) (item : Item) (items : List Item) (old new : Later) → is_loop item ≡ true → IsNetEffect edges items old → new.cleaned ≡ record old.cleaned { loops = old.cleaned.loops + 1 } → new.touched ≡ old.touched → IsNetEffect edges (item ∷ items) new
+net_effect_loop edges item items old new loop s is same = record {
   loops = ap (λ (c : Cleaned). c.loops) is ∙ omega (arith, count_first is_loop item items loop, s.loops);
   others = rw loop (record {
     noted = λ e. rw same (s.others.noted e);
@@ -260,8 +260,8 @@ once_pushed f true es once absent = once_append es (f ∷ []) once (once_one f) 
 once_pushed f false es once absent = once
 
 -- the key of an item that a later one follows on its pair
-settles_repeat : (edges : List Pair) (item : Item) (items : List Item) (old new : Later) → is_pairless item ≡ false → is_touched (edge_of (key_at item)) items ≡ true → Settles edges items old → new.cleaned ≡ repeated old.cleaned → ((e : Pair) → is_noted new.touched e ≡ is_touched e (item ∷ items)) → Settles edges (item ∷ items) new
-settles_repeat edges item items old new paired again s is notes = record {
+proper_effect_repeat : (edges : List Pair) (item : Item) (items : List Item) (old new : Later) → is_pairless item ≡ false → is_touched (edge_of (key_at item)) items ≡ true → IsProperEffect edges items old → new.cleaned ≡ repeated old.cleaned → ((e : Pair) → is_noted new.touched e ≡ is_touched e (item ∷ items)) → IsProperEffect edges (item ∷ items) new
+proper_effect_repeat edges item items old new paired again s is notes = record {
   noted = notes;
   removed = λ e. rw (is, as_later e) (s.removed e);
   removed_once = rw is s.removed_once;
@@ -281,8 +281,8 @@ settles_repeat edges item items old new paired again s is notes = record {
         other false here none = refl
 
 -- the key of an item that decides
-settles_decision : (edges : List Pair) (item : Item) (items : List Item) (old new : Later) → is_pairless item ≡ false → is_touched (edge_of (key_at item)) items ≡ false → Settles edges items old → new.cleaned ≡ decided edges (key_at item) old.cleaned → ((e : Pair) → is_noted new.touched e ≡ is_touched e (item ∷ items)) → Settles edges (item ∷ items) new
-settles_decision edges item items old new paired none s is notes = record {
+proper_effect_decision : (edges : List Pair) (item : Item) (items : List Item) (old new : Later) → is_pairless item ≡ false → is_touched (edge_of (key_at item)) items ≡ false → IsProperEffect edges items old → new.cleaned ≡ decided edges (key_at item) old.cleaned → ((e : Pair) → is_noted new.touched e ≡ is_touched e (item ∷ items)) → IsProperEffect edges (item ∷ items) new
+proper_effect_decision edges item items old new paired none s is notes = record {
   noted = notes;
   removed = λ e. rw is (has_edge_pushed e (edge_of (key_at item)) (removes edges (key_at item)) old.cleaned.removed ∙ out e (touches e item) refl);
   removed_once = rw is (once_pushed (edge_of (key_at item)) (removes edges (key_at item)) old.cleaned.removed s.removed_once (untouched_not_removed edges items old (edge_of (key_at item)) s none));
@@ -314,8 +314,8 @@ settles_decision edges item items old new paired none s is notes = record {
         rw (here_decides e here, insertion_item item, absent, key_touches e item paired ∙ here, key_inserts item, ← is_it e here) (or_false (inserts item && not (has_edge e edges)))
     in_ e false other = rw (key_touches e item paired ∙ other, decides_as_later e item items (λ h. other)) (s.added e)
 
-comes_to_key : (edges : List Pair) (item : Item) (items : List Item) (old new : Later) → is_pairless item ≡ false → ComesTo edges items old → new.cleaned ≡ cond (is_noted old.touched (edge_of (key_at item))) (repeated old.cleaned) (decided edges (key_at item) old.cleaned) → ((e : Pair) → is_noted new.touched e ≡ (same_edge e (edge_of (key_at item)) || is_noted old.touched e)) → ComesTo edges (item ∷ items) new
-comes_to_key edges item items old new paired s is notes = record {
+net_effect_key : (edges : List Pair) (item : Item) (items : List Item) (old new : Later) → is_pairless item ≡ false → IsNetEffect edges items old → new.cleaned ≡ cond (is_noted old.touched (edge_of (key_at item))) (repeated old.cleaned) (decided edges (key_at item) old.cleaned) → ((e : Pair) → is_noted new.touched e ≡ (same_edge e (edge_of (key_at item)) || is_noted old.touched e)) → IsNetEffect edges (item ∷ items) new
+net_effect_key edges item items old new paired s is notes = record {
   loops = loops (is_noted old.touched (edge_of (key_at item))) is ∙ s.loops ∙ sym (count_other is_loop item items (not_loop item paired));
   others = rw (not_loop item paired) (go (is_noted old.touched (edge_of (key_at item))) refl is);
 }
@@ -327,19 +327,19 @@ comes_to_key edges item items old new paired s is notes = record {
     notes' : (e : Pair) → is_noted new.touched e ≡ is_touched e (item ∷ proper_items items)
     notes' e = notes e ∙ rw (key_touches e item paired, s.others.noted e) refl
 
-    go : (b : Bool) → is_noted old.touched (edge_of (key_at item)) ≡ b → new.cleaned ≡ cond b (repeated old.cleaned) (decided edges (key_at item) old.cleaned) → Settles edges (item ∷ proper_items items) new
-    go true again is = settles_repeat edges item (proper_items items) old new paired (sym (s.others.noted (edge_of (key_at item))) ∙ again) s.others is notes'
-    go false first is = settles_decision edges item (proper_items items) old new paired (sym (s.others.noted (edge_of (key_at item))) ∙ first) s.others is notes'
+    go : (b : Bool) → is_noted old.touched (edge_of (key_at item)) ≡ b → new.cleaned ≡ cond b (repeated old.cleaned) (decided edges (key_at item) old.cleaned) → IsProperEffect edges (item ∷ proper_items items) new
+    go true again is = proper_effect_repeat edges item (proper_items items) old new paired (sym (s.others.noted (edge_of (key_at item))) ∙ again) s.others is notes'
+    go false first is = proper_effect_decision edges item (proper_items items) old new paired (sym (s.others.noted (edge_of (key_at item))) ∙ first) s.others is notes'
 
-pub comes_to_found_key : (edges : List Pair) (item : Item) (items : List Item) (key : Key) (old new : Later) → key_of item ≡ Some key → ComesTo edges items old → new.cleaned ≡ cond (is_noted old.touched (edge_of key)) (repeated old.cleaned) (decided edges key old.cleaned) → ((e : Pair) → is_noted new.touched e ≡ (same_edge e (edge_of key) || is_noted old.touched e)) → ComesTo edges (item ∷ items) new
-comes_to_found_key edges item items key old new found s is notes =
+pub net_effect_found_key : (edges : List Pair) (item : Item) (items : List Item) (key : Key) (old new : Later) → key_of item ≡ Some key → IsNetEffect edges items old → new.cleaned ≡ cond (is_noted old.touched (edge_of key)) (repeated old.cleaned) (decided edges key old.cleaned) → ((e : Pair) → is_noted new.touched e ≡ (same_edge e (edge_of key) || is_noted old.touched e)) → IsNetEffect edges (item ∷ items) new
+net_effect_found_key edges item items key old new found s is notes =
     let known = key_found item key found in
-    comes_to_key edges item items old new known.0 s (is ∙ ap (λ (k : Key). cond (is_noted old.touched (edge_of k)) (repeated old.cleaned) (decided edges k old.cleaned)) known.1) (λ e. notes e ∙ ap (λ (k : Key). same_edge e (edge_of k) || is_noted old.touched e) known.1)
+    net_effect_key edges item items old new known.0 s (is ∙ ap (λ (k : Key). cond (is_noted old.touched (edge_of k)) (repeated old.cleaned) (decided edges k old.cleaned)) known.1) (λ e. notes e ∙ ap (λ (k : Key). same_edge e (edge_of k) || is_noted old.touched e) known.1)
 
 -- an isolation
 
-settles_isolation : (n : ℕ) (edges : List Pair) (v : ℕ) (items : List Item) (old new : Later) → EdgesFrom n 0 0 edges → Settles edges items old → new.cleaned ≡ isolated edges old.touched v old.cleaned → ((e : Pair) → is_noted new.touched e ≡ (holds v e || is_noted old.touched e)) → Settles edges (Isolate v ∷ items) new
-settles_isolation n edges v items old new up s is notes = record {
+proper_effect_isolation : (n : ℕ) (edges : List Pair) (v : ℕ) (items : List Item) (old new : Later) → EdgesFrom n 0 0 edges → IsProperEffect edges items old → new.cleaned ≡ isolated edges old.touched v old.cleaned → ((e : Pair) → is_noted new.touched e ≡ (holds v e || is_noted old.touched e)) → IsProperEffect edges (Isolate v ∷ items) new
+proper_effect_isolation n edges v items old new up s is notes = record {
   noted = λ e. notes e ∙ ap (λ b. holds v e || b) (s.noted e);
   removed = λ e. rw (is, has_edge-append e old.cleaned.removed (filter (is_free_at old.touched v) edges), has_edge-filter e (is_free_at old.touched v) edges, free e) (out e (is_touched e items) refl);
   removed_once = rw is (once_append old.cleaned.removed (filter (is_free_at old.touched v) edges) s.removed_once (once_ascending n 0 0 (filter (is_free_at old.touched v) edges) (edges_from_filter n 0 0 (is_free_at old.touched v) edges up)) apart);
@@ -378,10 +378,10 @@ settles_isolation n edges v items old new up s is notes = record {
     in_ e false none true = rw (deciding_none e items none) refl
     in_ e false none false = rw (deciding_none e items none) refl
 
-pub comes_to_isolation : (n : ℕ) (edges : List Pair) (v : ℕ) (items : List Item) (old new : Later) → EdgesFrom n 0 0 edges → ComesTo edges items old → new.cleaned ≡ isolated edges old.touched v old.cleaned → ((e : Pair) → is_noted new.touched e ≡ (holds v e || is_noted old.touched e)) → ComesTo edges (Isolate v ∷ items) new
-comes_to_isolation n edges v items old new up s is notes = record {
+pub net_effect_isolation : (n : ℕ) (edges : List Pair) (v : ℕ) (items : List Item) (old new : Later) → EdgesFrom n 0 0 edges → IsNetEffect edges items old → new.cleaned ≡ isolated edges old.touched v old.cleaned → ((e : Pair) → is_noted new.touched e ≡ (holds v e || is_noted old.touched e)) → IsNetEffect edges (Isolate v ∷ items) new
+net_effect_isolation n edges v items old new up s is notes = record {
   loops = ap (λ (c : Cleaned). c.loops) is ∙ s.loops ∙ sym (count_other is_loop (Isolate v) items refl);
-  others = settles_isolation n edges v (proper_items items) old new up s.others is notes;
+  others = proper_effect_isolation n edges v (proper_items items) old new up s.others is notes;
 }
 
 -- the row of an isolated vertex
@@ -491,7 +491,7 @@ proper_le (item ∷ items) = go (is_loop item) (proper_le items)
     go true rest = omega arith
     go false rest = omega arith
 
-pub counts_few : (edges : List Pair) (items : List Item) (l : Later) → ComesTo edges items l → (l.cleaned.loops ≤ length items) × (l.cleaned.repeats ≤ length items) × (l.cleaned.idle ≤ length items)
+pub counts_few : (edges : List Pair) (items : List Item) (l : Later) → IsNetEffect edges items l → (l.cleaned.loops ≤ length items) × (l.cleaned.repeats ≤ length items) × (l.cleaned.idle ≤ length items)
 counts_few edges items l s =
     let few = proper_le items in
     (omega (arith, s.loops, count_le is_loop items), omega (arith, few, s.others.repeats, count_with_later_le is_repeat (proper_items items)), omega (arith, few, s.others.idle, count_with_later_le (is_idle edges) (proper_items items)))
@@ -515,7 +515,7 @@ in_added edges items e =
         neither true = refl
         neither false = refl
 
-pub come_to_cleaned : (g : GraphShape) (items : List Item) (l : Later) (removed added : List Pair) (c : Cleaned) → IsGraph g → All (IsInside g.vertices) items → ComesTo g.edges items l → IsPermutation l.cleaned.removed removed → IsSorted pair_cmp removed → IsPermutation l.cleaned.added added → IsSorted pair_cmp added → c ≡ record l.cleaned { removed = removed; added = added } → c ≡ cleaned g items
+pub come_to_cleaned : (g : GraphShape) (items : List Item) (l : Later) (removed added : List Pair) (c : Cleaned) → IsGraph g → All (IsInside g.vertices) items → IsNetEffect g.edges items l → IsPermutation l.cleaned.removed removed → IsSorted pair_cmp removed → IsPermutation l.cleaned.added added → IsSorted pair_cmp added → c ≡ record l.cleaned { removed = removed; added = added } → c ≡ cleaned g items
 come_to_cleaned g items l removed added c graph inside s removed_same removed_up added_same added_up is =
     same_cleaned c (cleaned g items)
     (ap (λ (c : Cleaned). c.removed) is ∙ sorted_edges g.vertices l.cleaned.removed removed (removed_edges g.edges (proper_items items)) s.others.removed_once removed_same removed_up

@@ -7,7 +7,9 @@ use Rattle.std.proofs.lemmas.List.Elements.{All-head, All-tail}
 use Rattle.std.specs.Prelude.{All, not, Result, Ok, Err, OnOk}
 use Rattle.kc_graph.specs.Numbers.{RisesFrom, has_number}
 use Rattle.kc_graph.specs.Shape.{Pair, has_edge}
-use Rattle.kc_graph.specs.private.Halves.{IsCut, AreInside, AreGiven, AreGivenSome, AreTaken}
+use Rattle.kc_graph.specs.private.Halves.{IsCut, AreInside, AreGiven, AreGivenSome, AreTaken, AreChanged}
+use Rattle.kc_graph.specs.declared.sharing.Change.{Change}
+use Rattle.kc_graph.specs.declared.sharing.Change.TheVariants.{Give, Take}
 use Rattle.kc_graph.proofs.HalfLemmas.{has_edge-append, has_place, in_parts}
 
 none_low : (v u x : ℕ) (hs : List Pair) → All (λ h. h.0 < v) hs → v ≤ u → has_edge (u, x) hs ≡ false
@@ -137,16 +139,24 @@ module _ (first v : ℕ) (halves low high : List Pair) (at : IsCut halves v low 
       or_true false = refl
 
   module _ (rows front back front' back' : List (List ℕ)) (split : rows ≡ front ++ back) (le : first ≤ v) (len_is : length front ≡ v - first) where
-    pub given_in_both : AreGiven first front front' low → AreGiven v back back' high → AreGiven first rows (front' ++ back') halves
+    given_in_both : AreGiven first front front' low → AreGiven v back back' high → AreGiven first rows (front' ++ back') halves
     given_in_both s t = rw split (same_given first (front ++ back) (front' ++ back') (low ++ high) halves whole (both_given first v low high at.below at.from front back front' back' le len_is s t))
 
-    pub given_some_in_both : AreGivenSome first front front' low → AreGivenSome v back back' high → AreGivenSome first rows (front' ++ back') halves
+    given_some_in_both : AreGivenSome first front front' low → AreGivenSome v back back' high → AreGivenSome first rows (front' ++ back') halves
     given_some_in_both s t = rw split (same_given_some first (front ++ back) (front' ++ back') (low ++ high) halves whole (both_given_some first v low high at.below at.from front back front' back' le len_is s t))
 
-    pub taken_in_both : AreTaken first front front' low → AreTaken v back back' high → AreTaken first rows (front' ++ back') halves
+    taken_in_both : AreTaken first front front' low → AreTaken v back back' high → AreTaken first rows (front' ++ back') halves
     taken_in_both s t = rw split (same_taken first (front ++ back) (front' ++ back') (low ++ high) halves whole (both_taken first v low high at.below at.from front back front' back' le len_is s t))
 
 -- what follows of two facts that hold where a call succeeds, holds there
-pub on_ok_both : {A E : Type 0} (r : Result A E) (P Q S : Type 0) → (P → Q → S) → OnOk r P → OnOk r Q → OnOk r S
+on_ok_both : {A E : Type 0} (r : Result A E) (P Q S : Type 0) → (P → Q → S) → OnOk r P → OnOk r Q → OnOk r S
 on_ok_both (Ok x) P Q S then p q = then p q
 on_ok_both (Err e) P Q S then p q = tt
+
+-- both parts of a cut are changed, and so are all rows
+pub changed_in_both : {A E : Type 0} (change : Change) (r : Result A E) (first v : ℕ) (halves low high : List Pair) → IsCut halves v low high → (rows front back front' back' : List (List ℕ)) → rows ≡ front ++ back → first ≤ v → length front ≡ v - first → AreChanged change r first front front' low → AreChanged change r v back back' high → AreChanged change r first rows (front' ++ back') halves
+changed_in_both Give r first v halves low high at rows front back front' back' split le len s t = (
+  on_ok_both r (AreGiven first front front' low) (AreGiven v back back' high) (AreGiven first rows (front' ++ back') halves) (given_in_both first v halves low high at rows front back front' back' split le len) s.0 t.0,
+  given_some_in_both first v halves low high at rows front back front' back' split le len s.1 t.1,
+)
+changed_in_both Take r first v halves low high at rows front back front' back' split le len s t = (s.0, taken_in_both first v halves low high at rows front back front' back' split le len s.1 t.1)

@@ -77,9 +77,9 @@ impl Row {
         self.items.as_slice()
     }
 
-    /// Prefetches the row: loads its first and its last number, for a pass over the row. Always true, since a row
-    /// ascends.
-    pub fn is_at_hand(&self) -> bool
+    /// Prefetches the row: loads its first and its last number, for a pass over the row. Always returns true, since a
+    /// row ascends.
+    pub fn prefetch(&self) -> bool
         ensures { result ≡ true }
     {
         let n = self.items.len();

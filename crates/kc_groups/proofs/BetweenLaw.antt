@@ -180,11 +180,13 @@ module _ (phase : ℕ) (edges : List Pair) (x y labels : List ℕ) (g : GraphSha
           | inr none ↦ union e ∙ ap (λ b. has_edge e edges || b) (sym (ap (λ b. b || has_edge e before.edges) none) ∙ sym (led.edges e) ∙ has) ∙ or_true (has_edge e edges)
         ] in
         record {
-          lower = graph;
-          upper = is.graph;
-          middle = led.graph;
-          same_lower = same ∙ sym led.vertices;
-          same_upper = sym led.vertices;
+          graphs = record {
+            lower = graph;
+            upper = is.graph;
+            middle = led.graph;
+            same_lower = same ∙ sym led.vertices;
+            same_upper = sym led.vertices;
+          };
           sized = way.sized ∙ sym led.vertices;
           above = λ w. (from_old phase true edges x y labels g is are rs below z way w low).0;
           below = λ w. (from_old phase true edges x y labels g is are rs below z way w low).1;
@@ -233,11 +235,13 @@ module _ (phase : ℕ) (edges : List Pair) (x y labels : List ℕ) (g : GraphSha
           | inr none ↦ led.edges e ∙ ap (λ b. not b && has_edge e g.edges) none ∙ and_second (not (has_edge e edges)) (has_edge e g.edges) (sym (left e) ∙ has)
         ] in
         record {
-          lower = removals_keep_graph g edges is.graph;
-          upper = is.graph;
-          middle = led.graph;
-          same_lower = vertices-without_edges g edges ∙ sym led.vertices;
-          same_upper = sym led.vertices;
+          graphs = record {
+            lower = removals_keep_graph g edges is.graph;
+            upper = is.graph;
+            middle = led.graph;
+            same_lower = vertices-without_edges g edges ∙ sym led.vertices;
+            same_upper = sym led.vertices;
+          };
           sized = way.sized ∙ sym led.vertices;
           above = λ w. (from_new phase false edges x y labels g is are rs below z way w low).0;
           below = λ w. (from_new phase false edges x y labels g is are rs below z way w low).1;

@@ -33,7 +33,7 @@ fn prefetch_rows(graph: &Graph, moves: &[Move], place: u32) -> bool
 {
     let end = moves.len().min(place as usize + TOGETHER as usize);
     for k in place as usize..end {
-        if !graph.is_at_hand(moves[k].vertex) {
+        if !graph.prefetch_row(moves[k].vertex) {
             return false;
         }
     }

@@ -32,7 +32,7 @@ pub fn link_edges<R: Threads + Sync, G: Gate + Sync, L: Ledger>(
 {
     if added.len() < LEAST_TOGETHER {
         for k in 0..added.len() {
-            let e = adj.graph().edge_in_turn(added, k);
+            let e = adj.graph().edge_with_prefetch(added, k);
             adj.link(rounds.alloc(), e, steps)?;
         }
         return Ok(());

@@ -143,7 +143,7 @@ fn tell_parting(
     let graph = step.graph;
     let mut steps = 0;
     for i in 0..stay.len() {
-        let v = graph.in_turn(stay, i);
+        let v = graph.vertex_with_prefetch(stay, i);
         let near = graph.neighbours(v);
         steps += near.len();
         let count = rising_of(step, near, row)?;
@@ -232,7 +232,7 @@ impl Range {
         let graph = step.graph;
         let mut steps = 0;
         for i in 0..self.begun.len() {
-            let v = graph.in_turn(&self.begun, i);
+            let v = graph.vertex_with_prefetch(&self.begun, i);
             let near = graph.neighbours(v);
             steps += near.len();
             let (end, above) = above_of(step, near, &mut self.row)?;

@@ -48,31 +48,31 @@ pub between_meets_both : BetweenMeetsBoth
 between_meets_both p a b h xa xb y is first last = record { sized = is.sized; upper = upper; lower = lower }
   where
     at_a : (v : ℕ) → v < h.vertices → v < a.vertices
-    at_a v lt = omega (arith, is.same_lower)
+    at_a v lt = omega (arith, is.graphs.same_lower)
 
     at_b : (v : ℕ) → v < h.vertices → v < b.vertices
-    at_b v lt = omega (arith, is.same_upper)
+    at_b v lt = omega (arith, is.graphs.same_upper)
 
     upper : (v : ℕ) → v < h.vertices → MeetsUpper p h y v
     upper v lt = elim (is.each v lt) [
       | inr changed ↦ elim changed [
-        | inl alike ↦ upper-alike p a h xa y v is.lower is.middle is.same_lower alike (first.upper v (at_a v lt))
-        | inr alike ↦ upper-alike p b h xb y v is.upper is.middle is.same_upper alike (last.upper v (at_b v lt))
+        | inl alike ↦ upper-alike p a h xa y v is.graphs.lower is.graphs.middle is.graphs.same_lower alike (first.upper v (at_a v lt))
+        | inr alike ↦ upper-alike p b h xb y v is.graphs.upper is.graphs.middle is.graphs.same_upper alike (last.upper v (at_b v lt))
       ]
       | inl same ↦
           let level : get_or y v 0 ≡ get_or xb v 0 = omega (arith, is.above v, is.below v) in
-          let fewer : at_least h y v (get_or y v 0) ≤ at_least b xb v (get_or y v 0) = at_least-more h b y xb v (get_or y v 0) is.middle is.upper (sym is.same_upper) (λ w e. is.fewer v w e) is.below in
-          let meets : at_least b xb v (get_or y v 0) ≤ high p (group_of p h.vertices (get_or y v 0)) = rw (level, ← is.same_upper) (last.upper v (at_b v lt)) in
+          let fewer : at_least h y v (get_or y v 0) ≤ at_least b xb v (get_or y v 0) = at_least-more h b y xb v (get_or y v 0) is.graphs.middle is.graphs.upper (sym is.graphs.same_upper) (λ w e. is.fewer v w e) is.below in
+          let meets : at_least b xb v (get_or y v 0) ≤ high p (group_of p h.vertices (get_or y v 0)) = rw (level, ← is.graphs.same_upper) (last.upper v (at_b v lt)) in
           omega arith
     ]
 
     lower : (v : ℕ) → v < h.vertices → MeetsLower p h y v
     lower v lt = elim (is.each v lt) [
       | inr changed ↦ elim changed [
-        | inl alike ↦ lower-alike p a h xa y v is.lower is.middle is.same_lower alike (first.lower v (at_a v lt))
-        | inr alike ↦ lower-alike p b h xb y v is.upper is.middle is.same_upper alike (last.lower v (at_b v lt))
+        | inl alike ↦ lower-alike p a h xa y v is.graphs.lower is.graphs.middle is.graphs.same_lower alike (first.lower v (at_a v lt))
+        | inr alike ↦ lower-alike p b h xb y v is.graphs.upper is.graphs.middle is.graphs.same_upper alike (last.lower v (at_b v lt))
       ]
       | inl same ↦
           let level : get_or y v 0 ≡ get_or xa v 0 = omega (arith, is.above v, is.below v) in
-          rw level (held-from p a h xa y v (get_or xa v 0) is.same_lower (λ k. at_least-more a h xa y v k is.lower is.middle is.same_lower (λ w e. is.more v w e) is.above) (first.lower v (at_a v lt)))
+          rw level (held-from p a h xa y v (get_or xa v 0) is.graphs.same_lower (λ k. at_least-more a h xa y v k is.graphs.lower is.graphs.middle is.graphs.same_lower (λ w e. is.more v w e) is.above) (first.lower v (at_a v lt)))
     ]

@@ -2,7 +2,7 @@ use Rattle.std.proofs.Common.{◌≡◌}
 use Rattle.kc_delete.specs.private.Settling.{IsSettling}
 use Rattle.kc_delete.specs.private.Fallen.{AreFallen}
 use Rattle.kc_delete.proofs.SettlingLemmas.{work_left}
-use Rattle.kc_delete.proofs.settling.settle.Given as goal
+use Rattle.kc_delete.proofs.settling.lower_levels.Given as goal
 
 abbrev pub invariant-loop-v : goal.invariant-loop-v
 invariant-loop-v g l =

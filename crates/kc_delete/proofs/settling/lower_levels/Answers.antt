@@ -1,7 +1,7 @@
 use Rattle.std.proofs.Common.{◌<◌, length, arith, ◌∙◌}
 use Rattle.kc_delete.specs.private.Waiting.{IsTaken}
 use Rattle.kc_delete.proofs.SettlingLemmas.{settling_sifted, after_fall, work_taken}
-use Rattle.kc_delete.proofs.settling.settle.Goals as goal
+use Rattle.kc_delete.proofs.settling.lower_levels.Goals as goal
 
 pub loop-v-preserved-in-Continue-branch-4 : goal.loop-v-preserved-in-Continue-branch-4
 loop-v-preserved-in-Continue-branch-4 g c =

@@ -2,7 +2,7 @@ use Rattle.std.proofs.Common.{◌≡◌, ◌≤◌, ◌-◌, get_or, arith}
 use Rattle.std.proofs.lemmas.Bool.Decides.{nat_tests}
 use Rattle.std.proofs.lemmas.List.{get_or_read}
 use Rattle.kc_graph.proofs.NumberLemmas.{rises_in_order}
-use Rattle.kc_graph.proofs.rows.Row.is_at_hand.Goals as goal
+use Rattle.kc_graph.proofs.rows.Row.prefetch.Goals as goal
 
 pub returns-else-n-eq0 : goal.returns-else-n-eq0
 returns-else-n-eq0 c =

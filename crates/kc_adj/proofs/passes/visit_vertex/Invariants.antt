@@ -1,7 +1,7 @@
 use Rattle.std.proofs.Common.{◌≡◌, ◌+◌, ◌-◌, ◌≤◌, ◌++◌, length, take, leb, get_or}
 use Rattle.std.specs.Prelude.{count_by, filter}
 use Rattle.kc_adj.specs.private.Passing.{is_touched}
-use Rattle.kc_adj.proofs.passes.look.Given as goal
+use Rattle.kc_adj.proofs.passes.visit_vertex.Given as goal
 
 abbrev pub invariant-loop-w : goal.invariant-loop-w
 invariant-loop-w l =
