@@ -49,7 +49,9 @@ fn run_batch<R: Threads + Sync, K: Sink, G: Gate + Sync>(
                 context.progress.advance(plan.moves);
                 let phases = plan.phases.as_slice();
                 reporter.write_accepted(alloc, sink, &cleaned, phases)?;
-                Ok(counts.with_accepted(phases))
+                let counts = counts.with_accepted(phases);
+                watched.engine.reuse(plan);
+                Ok(counts)
             }
             Outcome::Refused(reason) => {
                 reporter.write_refusal(alloc, sink, batch.line, reason)?;

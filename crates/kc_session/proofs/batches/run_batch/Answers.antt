@@ -38,9 +38,9 @@ returns-in_err-write_accepted-in-Accepted-clause-step g c =
 pub returns-in-Accepted-clause-step : goal.returns-in-Accepted-clause-step
 returns-in-Accepted-clause-step g c =
     let o = rw (c.as_slice.ensures, c.in-Accepted.is) at c.in_ok-cleaned-in-Items.ensures.outcome in
-    rw c.in-Items.is
+    rw (c.reuse.ensures, c.in-Items.is)
     (accepted_step c.args.reporter.now.report c.args.watched.now.engine.state c.apply.new.watched.engine.state c.in-Items.batch c.in-Accepted.cleaned c.in-Accepted.plan.phases _ _ c.args.reporter.now.counts _ (shown_to c.args.watched.now.audience) _ o.0 o.1 o.2
-    (rw c.as_slice-phases.ensures at c.in_ok-write_accepted-in-Accepted.ensures.text) (rw c.as_slice-phases.ensures at c.with_accepted.ensures) o.3)
+    (rw c.as_slice-phases.ensures at c.in_ok-write_accepted-in-Accepted.ensures.text) (rw c.as_slice-phases.ensures at c.with_accepted-counts.ensures) o.3)
 
 pub returns-in_err-write_refusal-in-Refused-2-clause-step : goal.returns-in_err-write_refusal-in-Refused-2-clause-step
 returns-in_err-write_refusal-in-Refused-2-clause-step g c =
