@@ -197,7 +197,7 @@ impl Scanner {
     }
 
     // Reads once. No byte is ready, and the source hasn't ended.
-    fn fill<S: Source>(&mut self, src: &mut S) -> Result<(), Failed>
+    fn fill<S: Source>(&mut self, alloc: Global, src: &mut S) -> Result<(), Failed>
         requires ready { self.old.ready ≡ [] }
         requires ended { self.old.ended ≡ false }
         ensures same { scan_lines_left self.new (S.left src.new) ≡ scan_lines_left self.old (S.left src.old) }
@@ -207,7 +207,7 @@ impl Scanner {
         ensures cause { OnErr result (Rose (S.faults src.old) (S.faults src.new)) }
         ensures quiet { OnOk result (S.faults src.new ≡ S.faults src.old) }
     {
-        self.window.fill(src)?;
+        self.window.fill(alloc, src)?;
         if self.window.ready().is_empty() {
             self.ended = true;
         }
@@ -243,7 +243,7 @@ impl Scanner {
                 Ok(None) => {}
                 Err(e) => return Err(LineFault::Memory(e)),
             }
-            if self.fill(src).is_err() {
+            if self.fill(alloc, src).is_err() {
                 return Err(LineFault::ReadFault);
             }
         }

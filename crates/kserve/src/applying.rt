@@ -78,8 +78,9 @@ pub fn apply<R: Threads + Sync, G: Gate + Sync>(
     let alloc = rounds.alloc();
     let cleaned = clean_by(rt, alloc, engine.workers(), engine.graph(), items)?;
     match engine.plan(rt, alloc, rounds.gate(), &cleaned) {
-        Ok(_plan) => {
+        Ok(plan) => {
             engine.leave_unshown();
+            engine.reuse(plan);
             Ok(())
         }
         Err(EngineFault::Memory(e)) => Err(e),
