@@ -121,9 +121,6 @@ has_colouring x outs up = (
   },
 )
   where
-    top : ℕ
-    top = (bounded x).0
-
     steps : ℕ
     steps = enough (length outs) (bounded x).0 (length outs)
 
