@@ -3,11 +3,10 @@ use Rattle.std.proofs.Common.{ℕ, suc, zero, ◌+◌, ◌-◌, ◌*◌, ◌/◌
 use Rattle.std.specs.Prelude.{filter}
 use Rattle.std.specs.List.{flat_map}
 use Rattle.std.proofs.Math.Seq.{take-append_seam, drop-append-add}
-use Rattle.std.proofs.lemmas.Bool.{cases_Bool, cases_eq, cases_lt, true≢false}
+use Rattle.std.proofs.lemmas.Bool.{cases_Bool, cases_eq, cases_lt, true≢false, and_parts}
 use Rattle.std.proofs.lemmas.Bool.Decides.{nat_tests}
 use Rattle.std.proofs.lemmas.Grind.{flat_map-append}
-use Rattle.std.proofs.lemmas.List.{append-nil, append_assoc, get_or-map, get_or-take, length-append, drop-drop, drop_all, length-drop, length-map, length-take, take_all, take_more}
-use Rattle.std.proofs.lemmas.List.Elements.{filter-append}
+use Rattle.std.proofs.lemmas.List.{append-nil, get_or-map, get_or-take, length-append, drop-drop, drop_all, length-drop, length-map, length-take, take_all, take_more}
 use Rattle.std.proofs.lemmas.List.Folds.{length-flat_map-take}
 use Rattle.kc_graph.specs.Numbers.{has_number, RisesFrom}
 use Rattle.kc_graph.specs.Shape.{neighbours_of}
@@ -19,31 +18,12 @@ use Rattle.kc_adj.specs.private.Moving.{is_passed}
 use Rattle.kc_adj.specs.declared.passes.Passed.{Passed}
 use Rattle.kc_adj.specs.private.Passing.{is_touched, touched_by, visit_of, ArePassed}
 
--- one number more is looked at, and kept where it passes
-pub look_next : (q : ℕ → Bool) (row : List ℕ) (i : ℕ) (old found next : List ℕ) (holds : Bool) → i < length row → found ≡ old ++ filter q (take i row) → holds ≡ q (get_or row i 0) → next ≡ cond holds (found ++ get_or row i 0 ∷ []) found → next ≡ old ++ filter q (take (i + 1) row)
-look_next q row i old found next holds at is holds_is next_is = elim (cases_Bool (q (get_or row i 0))) [
-  | inl passes ↦
-      let one : filter q (get_or row i 0 ∷ []) ≡ get_or row i 0 ∷ [] = rw passes refl in
-      let yes : holds ≡ true = holds_is ∙ passes in
-      next_is ∙ rw (yes, is) (append_assoc old (filter q (take i row)) (get_or row i 0 ∷ []) ∙ ap (λ ws. old ++ ws) (sym (more ∙ ap (λ ws. filter q (take i row) ++ ws) one)))
-  | inr fails ↦
-      let none : filter q (get_or row i 0 ∷ []) ≡ [] = rw fails refl in
-      let no : holds ≡ false = holds_is ∙ fails in
-      next_is ∙ rw (no, is) (ap (λ ws. old ++ ws) (sym (more ∙ ap (λ ws. filter q (take i row) ++ ws) none ∙ append-nil (filter q (take i row)))))
-]
-  where
-    more : filter q (take (i + 1) row) ≡ filter q (take i row) ++ filter q (get_or row i 0 ∷ [])
-    more = ap (λ ws. filter q ws) (take_more row i 0 at) ∙ filter-append q (take i row) (get_or row i 0 ∷ [])
-
 has_number-filter : (u : ℕ) (p : ℕ → Bool) (xs : List ℕ) → has_number u (filter p xs) ≡ has_number u xs && p u
 has_number-filter u p [] = refl
 has_number-filter u p (x ∷ xs) = elim (cases_eq x u) [
   | inl e ↦ rw e (grind (arith, nat_tests, has_number-filter u p xs))
   | inr ne ↦ grind (arith, nat_tests, has_number-filter u p xs, ne)
 ]
-
-both : (a b : Bool) → a && b ≡ true → (a ≡ true) × (b ≡ true)
-both a b e = (grind (arith, nat_tests, e), grind (arith, nat_tests, e))
 
 -- who isn't touched counts from no level that is passed
 untouched : (s : Bool) (k l r d : ℕ) → d ≤ 1 → s && (ltb k r && leb (r - 1) l) ≡ false → ◌≡◌ {A = ℕ} (cond (s && (ltb k (r - d) && leb (r - d) l)) 1 0) 0
@@ -67,12 +47,12 @@ module _ (lift : LiftShape) (v : ℕ) (is : IsLift lift) where
   touched_rise = rises_filter 0 test near (neighbours_rise lift.graph.vertices v lift.graph.edges is.graph)
 
   at_place : (i : ℕ) → i < length (touched_by lift v) → (has_number (get_or (touched_by lift v) i 0) near ≡ true) × (test (get_or (touched_by lift v) i 0) ≡ true)
-  at_place i at = both _ _ (sym (has_number-filter (get_or (touched_by lift v) i 0) test near) ∙ has_number_at (get_or (touched_by lift v) i 0) (touched_by lift v) i at refl)
+  at_place i at = and_parts _ _ (sym (has_number-filter (get_or (touched_by lift v) i 0) test near) ∙ has_number_at (get_or (touched_by lift v) i 0) (touched_by lift v) i at refl)
 
   pub touched_is : (touched : List ℕ) (i : ℕ) → touched ≡ touched_by lift v → i < length touched → (get_or touched i 0 < lift.graph.vertices) × (is_unmoved lift (get_or touched i 0) ≡ true)
   touched_is touched i e at =
       let here = at_place i (rw e at at) in
-      rw e (neighbour_below lift.graph.vertices v (get_or (touched_by lift v) i 0) lift.graph.edges is.graph here.0, (both _ _ here.1).0)
+      rw e (neighbour_below lift.graph.vertices v (get_or (touched_by lift v) i 0) lift.graph.edges is.graph here.0, (and_parts _ _ here.1).0)
 
   -- who isn't touched gains nothing
   pub gained_by_touched : (d : ℕ) (before counts : List ℕ) → d ≤ 1 → AreGained (gains lift (get_or lift.old v 0) (get_or lift.new v 0) d) (touched_by lift v) before counts → HaveGained lift v d before counts
