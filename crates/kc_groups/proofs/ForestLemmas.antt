@@ -3,6 +3,7 @@ use Rattle.std.proofs.Common.{ℕ, ◌≤◌, ◌<◌, ◌≡◌, ◌≢◌, ◌
 use Rattle.std.proofs.lemmas.Bool.{cases_Bool, cases_eq, cases_lt, or_left}
 use Rattle.std.proofs.lemmas.Bool.Decides.{nat_tests}
 use Rattle.std.proofs.lemmas.List.{length-set, length-map, get_or-map, get_or-set_same, get_or-set_other}
+use Rattle.std.proofs.lemmas.Grind.{common_steps}
 use Rattle.kc_groups.specs.private.Forest.{IsForest, merged, AreGathered}
 
 -- a place that isn't a root points to where its parent does
@@ -168,13 +169,7 @@ module _ (m : ℕ) (before after : ℕ → ℕ → Bool) (parents : List ℕ) (g
     read i h = get_or-map (under s r) g.roots i 0 0 (omega (arith, g.forest.sized, g.sized, h))
 
     both : (under s r (get_or g.roots a 0) ≡ r) × (under s r (get_or g.roots b 0) ≡ r)
-    both = elim (cases_lt (get_or g.roots a 0) (get_or g.roots b 0)) [
-      | inl lt ↦ (under_other s r (get_or g.roots a 0) (omega (arith, lt)) ∙ omega (arith, lt), under_same s r (get_or g.roots b 0) (omega (arith, lt)))
-      | inr ge ↦ elim (cases_eq (get_or g.roots a 0) (get_or g.roots b 0)) [
-        | inl e ↦ (under_same s r (get_or g.roots a 0) (omega (arith, e)), under_same s r (get_or g.roots b 0) (omega (arith, e)))
-        | inr ne ↦ (under_same s r (get_or g.roots a 0) (omega (arith, ge)), under_other s r (get_or g.roots b 0) (omega (arith, ge, ne)) ∙ omega (arith, ge))
-      ]
-    ]
+    both = grind (arith, nat_tests, common_steps, under_other, under_same, g.roots)
 
     ends : (label : ℕ → ℕ) → label (get_or g.roots a 0) ≡ label (get_or g.roots b 0) → label r ≡ label s
     ends label e = elim (cases_lt (get_or g.roots a 0) (get_or g.roots b 0)) [
