@@ -38,8 +38,8 @@ use kc_rounds::{Gate, Rounds};
 use kc_store::{Store, Writer};
 use kc_text::{LineBuf, LineReader, SendFault, Sink, Source};
 use std::alloc::Global;
+use std::thread;
 use std::thread::Threads;
-use std::{mem, thread};
 
 // The most looks of a reader between two repetitions of its ask. A look takes 0.3 to 1 µs on a processor without other
 // work, so the looks bridge 10 to 30 ms. A batch of 1,000 edges takes about 3 ms.
@@ -242,10 +242,7 @@ fn run_without_readers<R: Threads + Sync, S: Source, K: Sink, G: Gate + Sync>(
         engine,
         audience: Audience::Nobody,
     };
-    let ended = run_alone(context, &mut watched, &mut reader, src, sink);
-    // To free the engine is to free the row of each vertex: 2 to 9 % of the time of a run with small batches.
-    mem::forget(watched);
-    ended
+    run_alone(context, &mut watched, &mut reader, src, sink)
 }
 
 /// Runs the part of an input after its header, batches beside readers, and writes the text of the session
@@ -262,8 +259,6 @@ fn run_without_readers<R: Threads + Sync, S: Source, K: Sink, G: Gate + Sync>(
 /// last line are written. The replies fit the asks, and the history of the batches explains the replies of each reader
 /// from its start (`IsSession`). If there are no asks, no level is shown: no store is opened, and the levels of the
 /// vertices are the engine's.
-///
-/// A session is the last work of its process. So if there are no asks, the memory of the engine isn't given back.
 ///
 /// `ReadFault` comes only if a read of the source failed in this call, and `WriteFault` only if a write to the sink
 /// failed. After either, and after `Memory`, both branches have ended, and the sink took a prefix of such a text.
