@@ -67,6 +67,9 @@ fn serve_input<R: Threads + Wait + Sync, S: Source, K: Sink + Send, G: Gate + Sy
     }
 }
 
+/// How a call of [`serve`] ended.
+pub type ServeStatus = Status;
+
 /// Serves the scripts of an input: each client submits its script to an intake. One server drains the intake, and
 /// applies and prints batch after batch. A phase of the engine uses up to as many threads as the words say.
 ///
@@ -99,7 +102,7 @@ pub fn serve<R: Threads + Wait + Sync, S: Source, K: Sink + Send, G: Gate + Sync
     input: &mut S,
     output: &mut K,
     gate: &G,
-) -> Status
+) -> ServeStatus
     ensures answer { Answers (S.left input.old) (K.taken output.old) (K.taken output.new) result }
     ensures cause { HasCause (S.faults input.old) (S.faults input.new) (K.faults output.old) (K.faults output.new) result }
     ensures complete { IsComplete (workers_of words.now) (S.left input.old) (S.faults input.old) (S.faults input.new) (K.faults output.old) (K.faults output.new) result }
