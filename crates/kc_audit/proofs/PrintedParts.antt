@@ -5,6 +5,7 @@ use Rattle.std.specs.List.{list_all, join_with_byte}
 use Rattle.std.proofs.lemmas.Bool.{and_from, and_parts, le-leb, leb-true, ltb-true, eqb-true}
 use Rattle.std.proofs.lemmas.List.{append-nil}
 use Rattle.std.proofs.lemmas.List.Concat.{flat_map-append}
+use Rattle.std.proofs.lemmas.Bool.Decides.{nat_tests}
 use Rattle.kc_graph.specs.declared.limits.TheConstants.{MAX_VERTICES}
 use Rattle.kc_text.specs.Printing.{is_line, printed_line, printed}
 use Rattle.kc_history.specs.declared.replies.Reply.{Reply}
@@ -81,10 +82,7 @@ are_small n (r ∷ rs) most below levels =
 -- the label of a group is one of its vertices
 label_below : (n label : ℕ) (ms : List Reply) → is_group label ms ≡ true → are_below n ms ≡ true → label < n
 label_below n label [] g b = absurd cc
-label_below n label (m ∷ ms) g b =
-    let same = eqb-true m.vertex label (and_parts _ _ g).0 in
-    let low = ltb-true m.vertex n (and_parts (nat_lt m.vertex n) (are_below n ms) b).0 in
-    omega (arith, same, low)
+label_below n label (m ∷ ms) g b = grind (arith, nat_tests, eqb-true, and_parts, ltb-true)
 
 -- the words of a group line
 abbrev pub group_words : GroupLine → List (List ℕ)

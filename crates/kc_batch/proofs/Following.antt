@@ -1,5 +1,5 @@
 -- The batches of an input, one after another.
-use Rattle.std.proofs.Common.{ℕ, ◌≡◌, ◌<◌, Bool, true, false, List, [], ◌∷◌, ◌++◌, refl, sym, ap, ◌∙◌, nat_le, length, arith}
+use Rattle.std.proofs.Common.{ℕ, ◌≡◌, Bool, true, false, List, [], ◌∷◌, ◌++◌, refl, sym, ap, ◌∙◌, nat_le, length}
 use Rattle.std.specs.Prelude.{if◌then◌else◌, Option, None, Some}
 use Rattle.std.specs.Option.{option_map}
 use Rattle.std.proofs.lemmas.Option.{same_Some}
@@ -13,9 +13,9 @@ use Rattle.kc_batch.specs.declared.token.Kind.TheVariants as kind
 use Rattle.kc_batch.specs.declared.turn.Turn.{Turn}
 use Rattle.kc_batch.specs.declared.turn.Turn.TheVariants.{Add, Close, Pass, Stop}
 use Rattle.kc_batch.specs.declared.batch.Next.{Next}
-use Rattle.kc_batch.specs.declared.batch.Next.TheVariants.{Items, Refused, End}
+use Rattle.kc_batch.specs.declared.batch.Next.TheVariants.{Refused}
 use Rattle.kc_batch.specs.Turns.{is_inside, is_allowed, turn_of}
-use Rattle.kc_batch.specs.Batches.{Place, Between, Within, Passing, Over, after_end, batch_from, with_next, batches, batches_from, behind_batch, TakesBatch}
+use Rattle.kc_batch.specs.Batches.{Place, Between, Within, Passing, Over, after_end, batch_from, with_next, batches, batches_from, behind_batch}
 use Rattle.kc_batch.proofs.Stepping.{item_goes}
 
 -- no batch comes after the end of the input or its limit
@@ -131,20 +131,3 @@ told_follow rules place next (Some ts) None e = absurd cc
 told_follow rules place next (Some ts) (Some rest) e =
     let f : batch_from rules place ts ≡ (next, rest) = same_Some _ _ e in
     ap Some (batches_go_on rules place ts ∙ rw f refl)
-
-takes_refused : (m : ℕ) (r : Reason) (old new : ℕ) → new < old → TakesBatch (Refused m r) old new
-takes_refused m Header old new h = h
-takes_refused m LineLong old new h = h
-takes_refused m BadLine old new h = h
-takes_refused m BadVertex old new h = h
-takes_refused m TooMany old new h = h
-takes_refused m Truncated old new h = h
-takes_refused m InputLimit old new h = omega arith
-takes_refused m EdgeLimit old new h = h
-takes_refused m PhaseLimit old new h = h
-
--- a step that takes some budget takes it as a batch
-pub takes_batch : (next : Next) (old new : ℕ) → new < old → TakesBatch next old new
-takes_batch (Items b) old new h = h
-takes_batch (Refused m r) old new h = takes_refused m r old new h
-takes_batch End old new h = omega arith

@@ -10,6 +10,7 @@ use Rattle.std.specs.List.{list_any}
 use Rattle.std.specs.List.Sorted.{IsPermutation, IsSorted}
 use Rattle.std.specs.Ordering.{is_lt}
 use Rattle.std.specs.Prelude.{All, not, filter, count_by, Option, Some, None}
+use Rattle.std.proofs.Math.Bool.{and-false, or-false}
 use Rattle.kc_graph.specs.declared.items.Item.{Item}
 use Rattle.kc_graph.specs.declared.items.Item.TheVariants.{Insert, Delete, Isolate}
 use Rattle.kc_graph.specs.declared.keys.Key.{Key}
@@ -29,6 +30,7 @@ use Rattle.kc_graph.proofs.DecidingLemmas.{list_any_agree}
 use Rattle.kc_graph.proofs.BatchLemmas.{deciding_none, inserted_if_decided, edges_from_inserted, key_touches, key_repeats, key_is_idle, key_inserts, inserts}
 use Rattle.kc_graph.proofs.KeyLemmas.{key_found}
 use Rattle.kc_graph.proofs.CleaningLemmas.{same_cleaned}
+use Rattle.kc_graph.proofs.DealtLemmas.{All-both}
 
 -- counts
 
@@ -46,14 +48,7 @@ has_edge-append e (f ∷ es) fs = grind (arith, nat_tests, has_edge-append e es 
 
 count_absent : (e : Pair) (es : List Pair) → has_edge e es ≡ false → count_by (same_edge e) es ≡ 0
 count_absent e [] absent = refl
-count_absent e (f ∷ fs) absent =
-    let split = count_by-cons (same_edge e) f fs in
-    let rest : has_edge e fs ≡ false → count_by (same_edge e) fs ≡ 0 = count_absent e fs in
-    split ∙ go (same_edge e f) absent rest
-  where
-    go : (b : Bool) → (b || has_edge e fs) ≡ false → (has_edge e fs ≡ false → count_by (same_edge e) fs ≡ 0) → cond b 1 0 + count_by (same_edge e) fs ≡ 0
-    go true h rest = absurd (cc)
-    go false h rest = rw (rest h) refl
+count_absent e (f ∷ fs) absent = grind (arith, nat_tests, count_absent e fs, count_by-cons)
 
 count_append : (e : Pair) (es fs : List Pair) → count_by (same_edge e) (es ++ fs) ≡ count_by (same_edge e) es + count_by (same_edge e) fs
 count_append e [] fs = sym (zero-add (count_by (same_edge e) fs))
@@ -64,11 +59,7 @@ once_none : IsOnce []
 once_none e = omega arith
 
 once_one : (f : Pair) → IsOnce (f ∷ [])
-once_one f e = let split = count_by-cons (same_edge e) f [] in go (same_edge e f) split
-  where
-    go : (b : Bool) → count_by (same_edge e) (f ∷ []) ≡ cond b 1 0 + 0 → count_by (same_edge e) (f ∷ []) ≤ 1
-    go true split = omega arith
-    go false split = omega arith
+once_one f e = grind (arith, nat_tests, count_by-cons)
 
 once_append : (es fs : List Pair) → IsOnce es → IsOnce fs → ((e : Pair) → has_edge e fs ≡ true → has_edge e es ≡ false) → IsOnce (es ++ fs)
 once_append es fs once more apart e = go (has_edge e fs) refl
@@ -122,9 +113,6 @@ none_counted e (f ∷ fs) h = go (same_edge e f) refl (λ fails. none_counted e 
     go true is rest = let one = count_first (same_edge e) f fs is in absurd (omega arith)
     go false is rest = All-cons (λ g. same_edge e g ≡ false) f fs is (rest is)
 
-both : {X : Type 0} (P Q : X → Type 0) (xs : List X) → All P xs → All Q xs → All (λ x. P x × Q x) xs
-both P Q xs p q k d h = (p k d h, q k d h)
-
 edges_from_ascend : (n c d : ℕ) (es : List Pair) → Ascend es → IsOnce es → All (λ e. (e.0 < e.1) × (e.1 < n)) es → All (IsNotBefore c d) es → EdgesFrom n c d es
 edges_from_ascend n c d [] up once inside from = tt
 edges_from_ascend n c d (e ∷ es) up once inside from =
@@ -137,7 +125,7 @@ edges_from_ascend n c d (e ∷ es) up once inside from =
       here.0,
       here.1,
       edges_from_ascend n e.0 (suc e.1) es up.1 fewer (All-tail P e es inside)
-          (All-weaker (λ f. IsNotBefore e.0 e.1 f × (same_edge e f ≡ false)) (IsNotBefore e.0 (suc e.1)) (λ f h. grind (arith, nat_tests, h.0, h.1)) es (both (IsNotBefore e.0 e.1) (λ f. same_edge e f ≡ false) es up.0 (none_counted e es none))),
+          (All-weaker (λ f. IsNotBefore e.0 e.1 f × (same_edge e f ≡ false)) (IsNotBefore e.0 (suc e.1)) (λ f h. grind (arith, nat_tests, h.0, h.1)) es (All-both (IsNotBefore e.0 e.1) (λ f. same_edge e f ≡ false) es up.0 (none_counted e es none))),
     )
   where
     fewer : IsOnce es
@@ -174,11 +162,7 @@ sorted_edges n es fs gs once same up ascend agree =
 
 -- an item that touches no pair but those that are touched later changes no decision
 pub decides_as_later : (e : Pair) (item : Item) (items : List Item) → (is_touched e items ≡ false → touches e item ≡ false) → deciding_item e (item ∷ items) ≡ deciding_item e items
-decides_as_later e item items none = go (is_touched e items) refl
-  where
-    go : (b : Bool) → is_touched e items ≡ b → cond b (deciding_item e items) (cond (touches e item) (Some item) None) ≡ deciding_item e items
-    go true is = refl
-    go false is = rw (none is) (sym (deciding_none e items is))
+decides_as_later e item items none = grind (arith, nat_tests, deciding_none)
 
 and_false : (b : Bool) → (b && false) ≡ false
 and_false true = refl
@@ -210,23 +194,6 @@ net_effect_none edges c t is pairs vertices = record {
   };
 }
 
--- a loop
-pub net_effect_loop : (edges : List Pair) (item : Item) (items : List Item) (old new : Later) → is_loop item ≡ true → IsNetEffect edges items old → new.cleaned ≡ record old.cleaned { loops = old.cleaned.loops + 1 } → new.touched ≡ old.touched → IsNetEffect edges (item ∷ items) new
-net_effect_loop edges item items old new loop s is same = record {
-  loops = ap (λ (c : Cleaned). c.loops) is ∙ omega (arith, count_first is_loop item items loop, s.loops);
-  others = rw loop (record {
-    noted = λ e. rw same (s.others.noted e);
-    removed = λ e. rw is (s.others.removed e);
-    removed_once = rw is s.others.removed_once;
-    added = λ e. rw is (s.others.added e);
-    added_once = rw is s.others.added_once;
-    repeats = ap (λ (c : Cleaned). c.repeats) is ∙ s.others.repeats;
-    idle = ap (λ (c : Cleaned). c.idle) is ∙ s.others.idle;
-  });
-}
-
--- an insertion or deletion of a pair
-
 not_loop : (item : Item) → is_pairless item ≡ false → is_loop item ≡ false
 not_loop (Insert u v) paired = paired
 not_loop (Delete u v) paired = paired
@@ -243,20 +210,14 @@ insertion_item (Delete u v) = refl
 insertion_item (Isolate v) = refl
 
 has_edge_pushed : (e f : Pair) (b : Bool) (es : List Pair) → has_edge e (cond b (es ++ f ∷ []) es) ≡ ((same_edge e f && b) || has_edge e es)
-has_edge_pushed e f true es = has_edge-append e es (f ∷ []) ∙ turn (has_edge e es) (same_edge e f)
-  where
-    turn : (a b : Bool) → (a || (b || false)) ≡ ((b && true) || a)
-    turn true true = refl
-    turn true false = refl
-    turn false true = refl
-    turn false false = refl
-has_edge_pushed e f false es = sym (ap (λ b. b || has_edge e es) (and_false (same_edge e f)))
+has_edge_pushed e f true es = grind (arith, nat_tests, has_edge-append)
+has_edge_pushed e f false es = sym (ap (λ b. b || has_edge e es) (and-false (same_edge e f)))
 
 once_pushed : (f : Pair) (b : Bool) (es : List Pair) → IsOnce es → has_edge f es ≡ false → IsOnce (cond b (es ++ f ∷ []) es)
 once_pushed f true es once absent = once_append es (f ∷ []) once (once_one f) apart
   where
     apart : (e : Pair) → (same_edge e f || false) ≡ true → has_edge e es ≡ false
-    apart e h = let same : e ≡ f = edge_is e f (sym (or_false (same_edge e f)) ∙ h) in ap (λ g. has_edge g es) same ∙ absent
+    apart e h = let same : e ≡ f = edge_is e f (sym (or-false (same_edge e f)) ∙ h) in ap (λ g. has_edge g es) same ∙ absent
 once_pushed f false es once absent = once
 
 -- the key of an item that a later one follows on its pair
@@ -405,31 +366,16 @@ row_edges n c d t v (f ∷ fs) up = go (eqb f.0 v) refl (eqb f.1 v) refl (row_ed
 
 pub neighbours_apart : (n c d v : ℕ) (es : List Pair) → EdgesFrom n c d es → All (λ w. v ≢ w) (neighbours_of v es)
 neighbours_apart n c d v [] up = All-nil (λ w. v ≢ w)
-neighbours_apart n c d v (f ∷ fs) up = go (eqb f.0 v) refl (eqb f.1 v) refl (neighbours_apart n f.0 (suc f.1) v fs up.3)
-  where
-    go : (a : Bool) → eqb f.0 v ≡ a → (b : Bool) → eqb f.1 v ≡ b → All (λ w. v ≢ w) (neighbours_of v fs) → All (λ w. v ≢ w) (cond a (f.1 ∷ neighbours_of v fs) (cond b (f.0 ∷ neighbours_of v fs) (neighbours_of v fs)))
-    go true here b there rest = All-cons (λ w. v ≢ w) f.1 (neighbours_of v fs) (grind (arith, nat_tests, here, up.1)) rest
-    go false here true there rest = All-cons (λ w. v ≢ w) f.0 (neighbours_of v fs) (grind (arith, nat_tests, there, up.1)) rest
-    go false here false there rest = rest
+neighbours_apart n c d v (f ∷ fs) up = grind (arith, nat_tests, neighbours_apart n f.0 (suc f.1) v fs up.3, up.3, up.1)
 
 -- edges pass a test exactly where one is found
 pub filter_none : (p : Pair → Bool) (es : List Pair) → list_any p es ≡ false → filter p es ≡ []
 filter_none p [] none = refl
-filter_none p (e ∷ es) none = go (p e) none (filter_none p es)
-  where
-    go : (b : Bool) → (b || list_any p es) ≡ false → (list_any p es ≡ false → filter p es ≡ []) → cond b (e ∷ filter p es) (filter p es) ≡ []
-    go true h rest = absurd (cc)
-    go false h rest = rest h
+filter_none p (e ∷ es) none = grind (arith, nat_tests, filter_none p es)
 
 pub filter_some : (p : Pair → Bool) (es : List Pair) → list_any p es ≡ true → 0 < length (filter p es)
 filter_some p [] some = absurd (cc)
-filter_some p (e ∷ es) some = go (p e) some (filter_some p es)
-  where
-    go : (b : Bool) → (b || list_any p es) ≡ true → (list_any p es ≡ true → 0 < length (filter p es)) → 0 < length (cond b (e ∷ filter p es) (filter p es))
-    go true h rest = omega arith
-    go false h rest = rest h
-
--- what a walk over the row comes to, told by the length of the list
+filter_some p (e ∷ es) some = grind (arith, nat_tests, filter_some p es)
 
 row_length : (n : ℕ) (edges : List Pair) (t : Touched) (v : ℕ) (c : Cleaned) (more : List Pair) → EdgesFrom n 0 0 edges → more ≡ c.removed ++ untouched_at t v (neighbours_of v edges) → (more ≡ c.removed ++ filter (is_free_at t v) edges) × (length more ≡ length c.removed + length (filter (is_free_at t v) edges))
 row_length n edges t v c more up is =
@@ -437,59 +383,26 @@ row_length n edges t v c more up is =
     (all, ap length all ∙ length-append c.removed (filter (is_free_at t v) edges))
 
 pub row_idle : (n : ℕ) (edges : List Pair) (t : Touched) (v : ℕ) (c : Cleaned) (more : List Pair) → EdgesFrom n 0 0 edges → more ≡ c.removed ++ untouched_at t v (neighbours_of v edges) → length more ≡ length c.removed → record c { removed = more; idle = c.idle + 1 } ≡ isolated edges t v c
-row_idle n edges t v c more up is same = go (list_any (is_free_at t v) edges) refl
-  where
-    go : (b : Bool) → list_any (is_free_at t v) edges ≡ b → record c { removed = more; idle = c.idle + 1 } ≡ record c { removed = c.removed ++ filter (is_free_at t v) edges; idle = c.idle + cond b 0 1 }
-    go true some = let long = row_length n edges t v c more up is in absurd (omega (arith, long.1, filter_some (is_free_at t v) edges some))
-    go false none = ap (λ (es : List Pair). record c { removed = es; idle = c.idle + 1 }) (row_length n edges t v c more up is).0
+row_idle n edges t v c more up is same = grind (arith, nat_tests, row_length, filter_some)
 
 pub row_works : (n : ℕ) (edges : List Pair) (t : Touched) (v : ℕ) (c : Cleaned) (more : List Pair) → EdgesFrom n 0 0 edges → more ≡ c.removed ++ untouched_at t v (neighbours_of v edges) → length more ≢ length c.removed → record c { removed = more } ≡ isolated edges t v c
-row_works n edges t v c more up is longer = go (list_any (is_free_at t v) edges) refl
-  where
-    go : (b : Bool) → list_any (is_free_at t v) edges ≡ b → record c { removed = more } ≡ record c { removed = c.removed ++ filter (is_free_at t v) edges; idle = c.idle + cond b 0 1 }
-    go true some =
-        ap (λ (es : List Pair). record c { removed = es }) (row_length n edges t v c more up is).0
-        ∙ ap (λ (i : ℕ). record c { removed = c.removed ++ filter (is_free_at t v) edges; idle = i }) (omega arith)
-    go false none =
-        let long = row_length n edges t v c more up is in
-        let empty = ap length (filter_none (is_free_at t v) edges none) in
-        absurd (longer (omega (arith, long.1, empty)))
+row_works n edges t v c more up is longer = grind (arith, nat_tests, row_length, filter_none)
 
 -- an isolation all of whose pairs are noted
 pub all_noted : (edges : List Pair) (t : Touched) (v : ℕ) (c : Cleaned) → ((e : Pair) → holds v e ≡ true → is_noted t e ≡ true) → record c { idle = c.idle + 1 } ≡ isolated edges t v c
-all_noted edges t v c all =
-    let none = list_any_none (is_free_at t v) edges (λ i d h. taken (get_or edges i d) (holds v (get_or edges i d)) refl) in
-    rw (none, filter_none (is_free_at t v) edges none, append-nil c.removed) refl
-  where
-    taken : (e : Pair) (b : Bool) → holds v e ≡ b → is_free_at t v e ≡ false
-    taken e true is = rw (all e is) (and_false (holds v e))
-    taken e false is = rw is refl
-
--- the counts are at most the number of items
+all_noted edges t v c all = grind (arith, nat_tests, list_any_none, filter_none, append-nil, and-false)
 
 count_le : (p : Item → Bool) (items : List Item) → count_by p items ≤ length items
 count_le p [] = omega arith
-count_le p (item ∷ items) = go (p item) (count_by-cons p item items) (count_le p items)
-  where
-    go : (b : Bool) → count_by p (item ∷ items) ≡ cond b 1 0 + count_by p items → count_by p items ≤ length items → count_by p (item ∷ items) ≤ suc (length items)
-    go true split rest = omega arith
-    go false split rest = omega arith
+count_le p (item ∷ items) = grind (arith, nat_tests, count_le p items, count_by-cons)
 
 count_with_later_le : (p : Item → List Item → Bool) (items : List Item) → count_with_later p items ≤ length items
 count_with_later_le p [] = omega arith
-count_with_later_le p (item ∷ items) = go (p item items) (count_with_later_le p items)
-  where
-    go : (b : Bool) → count_with_later p items ≤ length items → cond b 1 0 + count_with_later p items ≤ suc (length items)
-    go true rest = omega arith
-    go false rest = omega arith
+count_with_later_le p (item ∷ items) = grind (arith, nat_tests, count_with_later_le p items)
 
 proper_le : (items : List Item) → length (proper_items items) ≤ length items
 proper_le [] = omega arith
-proper_le (item ∷ items) = go (is_loop item) (proper_le items)
-  where
-    go : (b : Bool) → length (proper_items items) ≤ length items → length (cond (not b) (item ∷ proper_items items) (proper_items items)) ≤ suc (length items)
-    go true rest = omega arith
-    go false rest = omega arith
+proper_le (item ∷ items) = grind (arith, nat_tests, proper_le items)
 
 pub counts_few : (edges : List Pair) (items : List Item) (l : Later) → IsNetEffect edges items l → (l.cleaned.loops ≤ length items) × (l.cleaned.repeats ≤ length items) × (l.cleaned.idle ≤ length items)
 counts_few edges items l s =
@@ -499,21 +412,7 @@ counts_few edges items l s =
 -- the walk has come to the first item
 
 pub in_added : (edges : List Pair) (items : List Item) (e : Pair) → (is_insertion (deciding_item e items) && not (has_edge e edges)) ≡ has_edge e (added_edges edges items)
-in_added edges items e =
-    both_pass (is_insertion (deciding_item e items)) (has_edge e edges) (has_edge e (inserted_pairs items)) (inserted_if_decided e items)
-    ∙ sym (has_edge-filter e (λ e. not (has_edge e edges) && is_insertion (deciding_item e items)) (inserted_pairs items))
-  where
-    both_pass : (i h t : Bool) → (i ≡ true → t ≡ true) → (i && not h) ≡ ((not h && i) && t)
-    both_pass true h t there = rw (there refl) (and_true (not h))
-      where
-        and_true : (b : Bool) → b ≡ ((b && true) && true)
-        and_true true = refl
-        and_true false = refl
-    both_pass false h t there = neither (not h)
-      where
-        neither : (b : Bool) → false ≡ ((b && false) && t)
-        neither true = refl
-        neither false = refl
+in_added edges items e = grind (arith, nat_tests, inserted_if_decided, has_edge-filter)
 
 pub come_to_cleaned : (g : GraphShape) (items : List Item) (l : Later) (removed added : List Pair) (c : Cleaned) → IsGraph g → All (IsInside g.vertices) items → IsNetEffect g.edges items l → IsPermutation l.cleaned.removed removed → IsSorted pair_cmp removed → IsPermutation l.cleaned.added added → IsSorted pair_cmp added → c ≡ record l.cleaned { removed = removed; added = added } → c ≡ cleaned g items
 come_to_cleaned g items l removed added c graph inside s removed_same removed_up added_same added_up is =

@@ -26,11 +26,7 @@ rises_take low (suc n) (x ∷ xs) up = (up.0, rises_take (suc x) n xs up.1)
 
 pub rises_filter : (low : ℕ) (p : ℕ → Bool) (xs : List ℕ) → RisesFrom low xs → RisesFrom low (filter p xs)
 rises_filter low p [] up = tt
-rises_filter low p (x ∷ xs) up = go (p x) (rises_filter (suc x) p xs up.1)
-  where
-    go : (b : Bool) → RisesFrom (suc x) (filter p xs) → RisesFrom low (cond b (x ∷ filter p xs) (filter p xs))
-    go true rest = (up.0, rest)
-    go false rest = rises_weaker (suc x) low (filter p xs) (omega (arith, up.0)) rest
+rises_filter low p (x ∷ xs) up = grind (arith, nat_tests, rises_filter (suc x) p xs up.1, rises_weaker, up.1, up.0)
 
 -- a list that rises below `low`, and then one that rises from there
 rises_join : (k low : ℕ) (xs ys : List ℕ) → RisesFrom k xs → RisesFrom low ys → k ≤ low → ((m : ℕ) → m < length xs → get_or xs m 0 < low) → RisesFrom k (xs ++ ys)
@@ -42,10 +38,6 @@ rises_join k low (x ∷ xs) ys up vp le below =
 pub has_second-push : (x : ℕ) (hs : List Pair) (h : Pair) → has_second x (hs ++ h ∷ []) ≡ has_second x hs || eqb h.1 x
 has_second-push x [] h = grind (arith, nat_tests)
 has_second-push x (g ∷ gs) h = grind (arith, nat_tests, has_second-push x gs h)
-
-pub has_second-append : (x : ℕ) (gs hs : List Pair) → has_second x (gs ++ hs) ≡ has_second x gs || has_second x hs
-has_second-append x [] hs = refl
-has_second-append x (g ∷ gs) hs = grind (arith, nat_tests, has_second-append x gs hs)
 
 -- the merged numbers stand from `at` on; they rise, and all are above the first i of the row and above second number j - 1
 pub record RisesAbove (row : List ℕ) (hs : List Pair) (items : List ℕ) (i j at : ℕ) : Type 0 where
@@ -149,33 +141,11 @@ module _ (row : List ℕ) (hs : List Pair) (items : List ℕ) (i j at : ℕ) (up
 
     -- a number of the row that is above all that are left of those that come in
     pub merging_old : (get_or hs j' (0, 0)).1 < get_or row i' 0 → IsMerging row hs (set items at' (get_or row i' 0)) i' j at'
-    merging_old above = merging_next row hs items i j at s i' j at' (get_or row i' 0) at_is (omega arith) (omega arith) (omega (arith, s.fits))
-        (λ low old new. old i' (omega arith))
-        below
-        (λ m e. let f : m ≡ j' = omega arith in rw f above)
-        (λ x. rw last_old (regroup (has_number x (take i' row)) (has_second x (take j hs)) (eqb (get_or row i' 0) x)))
-      where
-        regroup : (a b c : Bool) → ((a || b) || c) ≡ ((a || c) || b)
-        regroup true b c = refl
-        regroup false true true = refl
-        regroup false true false = refl
-        regroup false false true = refl
-        regroup false false false = refl
+    merging_old above = grind (arith, nat_tests, merging_next, below, last_old, s.fits)
 
     -- a number of the row that comes in too
     pub merging_both : (get_or hs j' (0, 0)).1 ≡ get_or row i' 0 → IsMerging row hs (set items at' (get_or row i' 0)) i' j' at'
-    merging_both both = merging_next row hs items i j at s i' j' at' (get_or row i' 0) at_is (omega arith) (omega arith) (omega (arith, s.fits))
-        (λ low old new. old i' (omega arith))
-        below
-        (λ m e. rw (← both) (rises_up_to m e))
-        (λ x. rw (last_old, last_two, both) (regroup (has_number x (take i' row)) (has_second x (take j' hs)) (eqb (get_or row i' 0) x)))
-      where
-        regroup : (a b c : Bool) → ((a || b) || c) ≡ ((a || c) || (b || c))
-        regroup true b c = refl
-        regroup false true true = refl
-        regroup false true false = refl
-        regroup false false true = refl
-        regroup false false false = refl
+    merging_both both = grind (arith, nat_tests, merging_next, below, rises_up_to, last_old, last_two, s.fits)
 
 module _ (row : List ℕ) (hs : List Pair) (items : List ℕ) (i at : ℕ) (up : RisesFrom 0 row) (s : IsMerging row hs items i 0 at) where
   left : take i items ≡ take i row
@@ -229,10 +199,7 @@ second_some x (h ∷ hs) (suc m) lt e =
 
 module _ (row : List ℕ) (hs : List Pair) (items : List ℕ) (i j kept : ℕ) (up : RisesFrom 0 row) (vp : SecondsRise hs) (s : IsKeeping row hs items i j kept) (j' : ℕ) (at : i < length row) (j_is : j' ≤ length hs) (passed : (m : ℕ) → j ≤ m → m < j' → (get_or hs m (0, 0)).1 < get_or row i 0) where
   before : (m : ℕ) → m < j' → (get_or hs m (0, 0)).1 < get_or row i 0
-  before m h = elim (cases_lt m j) [
-    | inl lt ↦ s.under m i lt (omega arith) at
-    | inr ge ↦ passed m ge h
-  ]
+  before m h = grind (arith, nat_tests, s.under)
 
   under_next : (m k : ℕ) → m < j' → i + 1 ≤ k → k < length row → (get_or hs m (0, 0)).1 < get_or row k 0
   under_next m k h le lt =
@@ -269,17 +236,7 @@ module _ (row : List ℕ) (hs : List Pair) (items : List ℕ) (i j kept : ℕ) (
 
   -- a number that is taken out
   pub taking_it : j' < length hs → (get_or hs j' (0, 0)).1 ≡ get_or row i 0 → IsKeeping row hs items (i + 1) j' kept
-  taking_it lt is =
-      let some : has_second (get_or row i 0) hs ≡ true = second_some (get_or row i 0) hs j' lt is in
-      record {
-        sized = s.sized;
-        front = omega (arith, s.front);
-        looked = omega arith;
-        passed = j_is;
-        filtered = s.filtered ∙ sym (more ∙ ap (λ b. filter (λ x. not (has_second x hs)) (take i row) ++ cond (not b) (get_or row i 0 ∷ []) []) some ∙ append-nil (filter (λ x. not (has_second x hs)) (take i row)));
-        same = λ m le lt. s.same m (omega arith) lt;
-        under = under_next;
-      }
+  taking_it lt is = grind (arith, nat_tests, second_some, more, append-nil, under_next, s.sized, s.front, s.filtered, s.same)
 
 -- several numbers that stay, one after another
 module _ (row : List ℕ) (hs : List Pair) (items : List ℕ) (i j kept : ℕ) (up : RisesFrom 0 row) (vp : SecondsRise hs) (s : IsKeeping row hs items i j kept) where
@@ -291,15 +248,7 @@ module _ (row : List ℕ) (hs : List Pair) (items : List ℕ) (i j kept : ℕ) (
       omega (arith, order, s.same a le (omega arith), s.same b (omega arith) fits)
 
   absent : (k : ℕ) → i ≤ k → k < length row → (j < length hs → get_or row k 0 < (get_or hs j (0, 0)).1) → has_second (get_or row k 0) hs ≡ false
-  absent k le lt below = second_none (get_or row k 0) hs (λ m h. elim (cases_lt m j) [
-    | inl early ↦ let b : (get_or hs m (0, 0)).1 < get_or row k 0 = s.under m k early le lt in omega arith
-    | inr late ↦
-        let a : get_or row k 0 < (get_or hs j (0, 0)).1 = below (omega arith) in
-        elim (cases_eq m j) [
-          | inl e ↦ rw e (omega arith)
-          | inr ne ↦ let b : (get_or hs j (0, 0)).1 < (get_or hs m (0, 0)).1 = seconds_rise hs vp j m (omega arith) h in omega arith
-        ]
-  ])
+  absent k le lt below = grind (arith, nat_tests, second_none, below, seconds_rise, s.under)
 
   run_stays : (n : ℕ) → i + n ≤ length row → ((k : ℕ) → i ≤ k → k < i + n → has_second (get_or row k 0) hs ≡ false) → filter (λ x. not (has_second x hs)) (take (i + n) row) ≡ filter (λ x. not (has_second x hs)) (take i row) ++ take n (drop i items)
   run_stays zero fits none =

@@ -1,10 +1,11 @@
 -- Lemmas on rows that are cut in two, and so are the half-edges that come into them or leave them.
-use Rattle.std.proofs.Common.{ℕ, ◌+◌, ◌-◌, ◌≤◌, ◌<◌, ◌≡◌, inl, inr, Bool, true, false, ◌||◌, ◌&&◌, List, [], ◌∷◌, ◌++◌, length, get_or, take, drop, refl, ap, sym, ◌∙◌, arith, subst, true≢false}
+use Rattle.std.proofs.Common.{ℕ, ◌+◌, ◌-◌, ◌≤◌, ◌<◌, ◌≡◌, inl, inr, true, false, ◌||◌, ◌&&◌, List, [], ◌∷◌, ◌++◌, length, get_or, take, drop, refl, ap, sym, ◌∙◌, arith, subst, true≢false}
 use Rattle.std.proofs.lemmas.Bool.{cases_lt}
 use Rattle.std.proofs.lemmas.Bool.Decides.{nat_tests}
 use Rattle.std.proofs.lemmas.List.{get_or_append_left, get_or-append_right, length-append}
 use Rattle.std.proofs.lemmas.List.Elements.{All-head, All-tail}
 use Rattle.std.specs.Prelude.{All, not, Result, Ok, Err, OnOk}
+use Rattle.std.proofs.Math.Bool.{or-false}
 use Rattle.kc_graph.specs.Numbers.{RisesFrom, has_number}
 use Rattle.kc_graph.specs.Shape.{Pair, has_edge}
 use Rattle.kc_graph.specs.private.Halves.{IsCut, AreInside, AreGiven, AreGivenSome, AreTaken, AreChanged}
@@ -26,13 +27,9 @@ none_high v u x (h ∷ hs) all lt =
     let later : has_edge (u, x) hs ≡ false = none_high v u x hs (All-tail (λ (g : Pair). v ≤ g.0) h hs all) lt in
     grind (arith, nat_tests)
 
-or_false : (b : Bool) → b || false ≡ b
-or_false true = refl
-or_false false = refl
-
 module _ (first v : ℕ) (low high : List Pair) (are_low : All (λ h. h.0 < v) low) (are_high : All (λ h. v ≤ h.0) high) where
   in_low : (u x : ℕ) → u < v → has_edge (u, x) (low ++ high) ≡ has_edge (u, x) low
-  in_low u x lt = has_edge-append (u, x) low high ∙ ap (λ b. has_edge (u, x) low || b) (none_high v u x high are_high lt) ∙ or_false (has_edge (u, x) low)
+  in_low u x lt = has_edge-append (u, x) low high ∙ ap (λ b. has_edge (u, x) low || b) (none_high v u x high are_high lt) ∙ or-false (has_edge (u, x) low)
 
   in_high : (u x : ℕ) → v ≤ u → has_edge (u, x) (low ++ high) ≡ has_edge (u, x) high
   in_high u x le = has_edge-append (u, x) low high ∙ ap (λ b. b || has_edge (u, x) high) (none_low v u x low are_low le)
@@ -116,27 +113,10 @@ module _ (first v : ℕ) (halves low high : List Pair) (at : IsCut halves v low 
   cut_row n inside = inside v at.other at.some
 
   pub low_inside : (n m : ℕ) → AreInside first n halves → m ≡ v - first → AreInside first m low
-  low_inside n m inside is u x there =
-      let below : u < v = elim (cases_lt u v) [
-        | inl lt ↦ lt
-        | inr ge ↦ absurd (true≢false (sym there ∙ none_low v u x low at.below ge))
-      ] in
-      let row = inside u x (at.all (u, x) ∙ ap (λ b. b || has_edge (u, x) high) there) in
-      (row.0, omega (arith, row.0, is, below))
+  low_inside n m inside is u x there = grind (arith, nat_tests, true≢false, none_low, at.below, at.all)
 
   pub high_inside : (n m : ℕ) → AreInside first n halves → m + (v - first) ≡ n → AreInside v m high
-  high_inside n m inside is u x there =
-      let from : v ≤ u = elim (cases_lt u v) [
-        | inl lt ↦ absurd (true≢false (sym there ∙ none_high v u x high at.from lt))
-        | inr ge ↦ ge
-      ] in
-      let row = inside u x (at.all (u, x) ∙ ap (λ b. has_edge (u, x) low || b) there ∙ or_true (has_edge (u, x) low)) in
-      let cut = cut_row n inside in
-      (from, omega (arith, row.1, cut.0, cut.1, is, from))
-    where
-      or_true : (b : Bool) → b || true ≡ true
-      or_true true = refl
-      or_true false = refl
+  high_inside n m inside is u x there = grind (arith, nat_tests, true≢false, none_high, cut_row, at.from, at.all)
 
   module _ (rows front back front' back' : List (List ℕ)) (split : rows ≡ front ++ back) (le : first ≤ v) (len_is : length front ≡ v - first) where
     given_in_both : AreGiven first front front' low → AreGiven v back back' high → AreGiven first rows (front' ++ back') halves

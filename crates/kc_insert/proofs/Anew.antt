@@ -1,9 +1,10 @@
 -- All ranges look anew at the vertices that rise, with another limit.
 use Rattle.std.proofs.Common.{ℕ, ◌-◌, ◌≤◌, ◌<◌, ◌≡◌, ◌⊎◌, inl, inr, Bool, true, List, [], ◌∷◌, ◌++◌, length, get_or, filter, refl, ap, sym, subst, ◌∙◌, arith}
 use Rattle.std.specs.List.{flat_map}
-use Rattle.std.proofs.lemmas.Bool.{and_from, cases_lt, le-leb}
+use Rattle.std.proofs.lemmas.Bool.{and_from, le-leb}
 use Rattle.std.proofs.lemmas.List.{get_or_default, get_or_past}
 use Rattle.std.proofs.lemmas.List.Elements.{filter-append}
+use Rattle.std.proofs.lemmas.Bool.Decides.{nat_tests}
 use Rattle.kc_graph.specs.Numbers.{has_number}
 use Rattle.kc_graph.specs.Shape.{GraphShape, has_edge}
 use Rattle.kc_levels.specs.declared.profile.Profile.{Profile}
@@ -49,19 +50,13 @@ module _ (s : RisingLevels) (most : ℕ) (a b : Part) (looks : LooksAnew s most 
   anew_back v is = record { from = omega (arith, is.from, anew_first); below = omega (arith, is.below, anew_first, ap (λ (cs : List ℕ). length cs) anew_counts) }
 
   pub anew_same : {A : Type 0} (f : Part → A) → ((w : Watch) (began stay : List ℕ) → f (record a { watch = w; began = began; stay = stay }) ≡ f a) → f b ≡ f a
-  anew_same f blind = elim looks [
-    | inl it ↦ ap f it.1
-    | inr new ↦ ap f new ∙ blind (record a.watch { most = most; doubtful = filter (is_few a.watch most) (filter (rises s) a.began) }) (filter (rises s) a.began) b.stay
-  ]
+  anew_same f blind = grind (arith, nat_tests)
 
   pub anew_rising : filter (rises s) b.began ≡ filter (rises s) a.began
   anew_rising = elim looks [ inl it ↦ ap (λ (q : Part). filter (rises s) q.began) it.1 | inr new ↦ ap (λ (q : Part). filter (rises s) q.began) new ∙ filter_again (rises s) a.began ]
 
   pub anew_began : (v : ℕ) → has_number v b.began ≡ true → has_number v a.began ≡ true
-  anew_began v there = elim looks [
-    | inl it ↦ ap (λ (q : Part). has_number v q.began) (sym it.1) ∙ there
-    | inr new ↦ and_first (has_number v a.began) (rises s v) (sym (has_number-filter v (rises s) a.began) ∙ ap (λ (q : Part). has_number v q.began) (sym new) ∙ there)
-  ]
+  anew_began v there = grind (arith, nat_tests, and_first, has_number-filter)
 
   pub anew_kept : (v : ℕ) → rises s v ≡ true → has_number v a.began ≡ true → has_number v b.began ≡ true
   anew_kept v up there = elim looks [
@@ -78,10 +73,7 @@ module _ (s : RisingLevels) (most : ℕ) (a b : Part) (looks : LooksAnew s most 
   ]
 
   pub anew_inside : (v : ℕ) → has_number v b.watch.doubtful ≡ true → (has_number v a.watch.doubtful ≡ true) ⊎ (has_number v a.began ≡ true)
-  anew_inside v there = elim looks [
-    | inl it ↦ inl (ap (λ (q : Part). has_number v q.watch.doubtful) (sym it.1) ∙ there)
-    | inr new ↦ inr (and_first (has_number v a.began) (rises s v) (sym (has_number-filter v (rises s) a.began) ∙ and_first (has_number v (filter (rises s) a.began)) (is_few a.watch most v) (sym (has_number-filter v (is_few a.watch most) (filter (rises s) a.began)) ∙ ap (λ (q : Part). has_number v q.watch.doubtful) (sym new) ∙ there)))
-  ]
+  anew_inside v there = grind (arith, nat_tests, and_first, has_number-filter)
 
 -- what is asked
 pub can_look : (p : Profile) (g : GraphShape) (s : RisingLevels) (r : Cut) → length (seen s) ≡ g.vertices → AreInOrder p g s r → CanLookAnew s r.parts
@@ -110,10 +102,7 @@ module _ (p : Profile) (g : GraphShape) (s : RisingLevels) (most : ℕ) (r t : C
   same_list f each = joined_same f f t.parts r.parts looked.sized each
 
   count_same : (v : ℕ) → count_of t v ≡ count_of r v
-  count_same v = ap (λ j. count_at (part_at t j).watch v) (range_same v) ∙ elim (cases_lt (range_of r.bits v) (length r.parts)) [
-    | inl at ↦ anew_count s most (part_at r (range_of r.bits v)) (part_at t (range_of r.bits v)) (looks_at (range_of r.bits v) at) v
-    | inr past ↦ ap (λ (q : Part). count_at q.watch v) (get_or_past t.parts (range_of r.bits v) no_part (omega (arith, past, looked.sized)) ∙ sym (get_or_past r.parts (range_of r.bits v) no_part past))
-  ]
+  count_same v = grind (arith, nat_tests, range_same, anew_count, looks_at, get_or_past)
 
   -- the sweep is the same
   pub looked_same : IsSame (sweeping_of s r) (sweeping_of s t)

@@ -3,7 +3,7 @@ use Rattle.std.proofs.Common.{ℕ, suc, ◌+◌, ◌-◌, ◌*◌, ◌/◌, ◌�
 use Rattle.std.specs.Prelude.{count_by, filter}
 use Rattle.std.specs.List.{flat_map}
 use Rattle.std.proofs.Math.Seq.{drop-cons}
-use Rattle.std.proofs.lemmas.Bool.{cases_eq, cases_Bool, true≢false}
+use Rattle.std.proofs.lemmas.Bool.{cases_eq, true≢false}
 use Rattle.std.proofs.lemmas.Bool.Decides.{nat_tests}
 use Rattle.std.proofs.lemmas.List.{length-set, get_or-set_same, get_or-set_other, append-nil, drop_all, take_all}
 use Rattle.std.proofs.lemmas.List.Elements.{filter_more}
@@ -27,16 +27,10 @@ pub record AreFiled (x : List ℕ) (l v : ℕ) (items rest : List ℕ) (old new 
 
 module _ (x : List ℕ) (l v w : ℕ) (items rest : List ℕ) (old new : List (List Pair)) (s : AreFiled x l v items (w ∷ rest) old new) where
   on_yes : (k : ℕ) → l < k → get_or x w 0 ≡ k → meetings_on x l v k (w ∷ rest) ≡ (v, w) ∷ meetings_on x l v k rest
-  on_yes k above on = ap (λ b. cond b ((v, w) ∷ meetings_on x l v k rest) (meetings_on x l v k rest)) (test (get_or x w 0) on)
-    where
-      test : (a : ℕ) → a ≡ k → ltb l k && eqb a k ≡ true
-      test a e = grind (arith, nat_tests, above, e)
+  on_yes k above on = grind (arith, nat_tests)
 
   on_no : (k : ℕ) → get_or x w 0 ≢ k → meetings_on x l v k (w ∷ rest) ≡ meetings_on x l v k rest
-  on_no k off = ap (λ b. cond b ((v, w) ∷ meetings_on x l v k rest) (meetings_on x l v k rest)) (test (get_or x w 0) off)
-    where
-      test : (a : ℕ) → a ≢ k → ltb l k && eqb a k ≡ false
-      test a ne = grind (arith, nat_tests, ne)
+  on_no k off = grind (arith, nat_tests)
 
   filed_met : l < get_or x w 0 → get_or x w 0 < length new → AreFiled x l v items rest old (set new (get_or x w 0) (get_or new (get_or x w 0) [] ++ (v, w) ∷ []))
   filed_met above inside = record {
@@ -59,18 +53,7 @@ module _ (x : List ℕ) (l v w : ℕ) (items rest : List ℕ) (old new : List (L
 -- the meetings with those above the level are all meetings
 meetings_above : (x : List ℕ) (l v k : ℕ) → k < 65535 → (ws : List ℕ) → meetings_on x l v k (filter (λ w. ltb l (get_or x w 0) && ltb (get_or x w 0) 65535) ws) ≡ meetings_on x l v k ws
 meetings_above x l v k small [] = refl
-meetings_above x l v k small (w ∷ ws) = elim (cases_Bool (ltb l (get_or x w 0) && ltb (get_or x w 0) 65535)) [
-  | inl above ↦
-      ap (λ b. meetings_on x l v k (cond b (w ∷ filter (λ w. ltb l (get_or x w 0) && ltb (get_or x w 0) 65535) ws) (filter (λ w. ltb l (get_or x w 0) && ltb (get_or x w 0) 65535) ws))) above
-      ∙ ap (λ (es : List Pair). cond (ltb l k && eqb (get_or x w 0) k) ((v, w) ∷ es) es) (meetings_above x l v k small ws)
-  | inr under ↦
-      ap (λ b. meetings_on x l v k (cond b (w ∷ filter (λ w. ltb l (get_or x w 0) && ltb (get_or x w 0) 65535) ws) (filter (λ w. ltb l (get_or x w 0) && ltb (get_or x w 0) 65535) ws))) under
-      ∙ meetings_above x l v k small ws
-      ∙ ap (λ b. cond b ((v, w) ∷ meetings_on x l v k ws) (meetings_on x l v k ws)) (sym (none (get_or x w 0) under))
-]
-  where
-    none : (a : ℕ) → ltb l a && ltb a 65535 ≡ false → ltb l k && eqb a k ≡ false
-    none a e = grind (arith, nat_tests, e, small)
+meetings_above x l v k small (w ∷ ws) = grind (arith, nat_tests, meetings_above x l v k small ws)
 
 -- v begins to rise, and the first i of `items`, its neighbours above the level, were looked at
 pub record IsBeginning (step : Crossing) (v i : ℕ) (items : List ℕ) (told tell : Tell) (old new : List (List Pair)) : Type 0 where
@@ -151,18 +134,7 @@ module _ (step : Crossing) (v i : ℕ) (items : List ℕ) (told tell : Tell) (ol
 module _ (step : Crossing) (v i : ℕ) (told tell : Tell) (old new : List (List Pair)) (end : length (above_near step v) ≤ i) (small : step.level < 65534) (s : IsBeginning step v i (above_near step v) told tell old new) where
   next_of_above : (ws : List ℕ) → filter (λ w. eqb (get_or step.levels.stored w 0) (step.level + 1)) (filter (is_above step) ws) ≡ filter (λ w. eqb (get_or step.levels.stored w 0) (step.level + 1)) ws
   next_of_above [] = refl
-  next_of_above (w ∷ ws) = elim (cases_Bool (is_above step w)) [
-    | inl above ↦
-        ap (λ b. filter (λ u. eqb (get_or step.levels.stored u 0) (step.level + 1)) (cond b (w ∷ filter (is_above step) ws) (filter (is_above step) ws))) above
-        ∙ ap (λ ys. cond (eqb (get_or step.levels.stored w 0) (step.level + 1)) (w ∷ ys) ys) (next_of_above ws)
-    | inr under ↦
-        ap (λ b. filter (λ u. eqb (get_or step.levels.stored u 0) (step.level + 1)) (cond b (w ∷ filter (is_above step) ws) (filter (is_above step) ws))) under
-        ∙ next_of_above ws
-        ∙ ap (λ b. cond b (w ∷ filter (λ u. eqb (get_or step.levels.stored u 0) (step.level + 1)) ws) (filter (λ u. eqb (get_or step.levels.stored u 0) (step.level + 1)) ws)) (sym (none (get_or step.levels.stored w 0) under))
-  ]
-    where
-      none : (a : ℕ) → ltb step.level a && ltb a 65535 ≡ false → eqb a (step.level + 1) ≡ false
-      none a e = grind (arith, nat_tests, e, small)
+  next_of_above (w ∷ ws) = grind (arith, nat_tests, next_of_above ws)
 
   pub begun_telling : tell ≡ record told { all = told.all ++ next_near step v }
   begun_telling = s.telling ∙ ap (λ ys. record told { all = told.all ++ ys }) (ap (filter (λ w. eqb (get_or step.levels.stored w 0) (step.level + 1))) (take_all i (above_near step v) end) ∙ next_of_above (neighbours_of v step.graph.edges))

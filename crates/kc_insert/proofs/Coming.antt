@@ -1,11 +1,10 @@
 -- All ranges tell of the vertices that rise, and hear of them.
-use Rattle.std.proofs.Common.{ℕ, ◌+◌, ◌≤◌, ◌<◌, ◌≡◌, inl, inr, List, [], ◌++◌, length, get_or, ap, sym, subst, ◌∙◌, arith}
+use Rattle.std.proofs.Common.{ℕ, ◌+◌, ◌≤◌, ◌<◌, ◌≡◌, List, [], ◌++◌, length, get_or, ap, sym, subst, ◌∙◌, arith}
 use Rattle.std.specs.List.{flat_map}
-use Rattle.std.proofs.lemmas.Bool.{cases_Bool, cases_lt}
 use Rattle.std.proofs.lemmas.List.Sums.{count_by-le-length}
+use Rattle.std.proofs.lemmas.Bool.Decides.{nat_tests}
 use Rattle.kc_graph.specs.Numbers.{has_number}
-use Rattle.kc_graph.specs.Shape.{neighbours_of}
-use Rattle.kc_insert.specs.private.Crossing.{Crossing, count_above, met_by, next_near}
+use Rattle.kc_insert.specs.private.Crossing.{Crossing, met_by, next_near}
 use Rattle.kc_insert.specs.private.Parts.{HasRisen, HaveMet}
 use Rattle.kc_insert.specs.Ranges.{HasVertex, no_part, Part, range_of, Tell, Watch}
 use Rattle.kc_insert.specs.private.Sharing.{AllRisen, AreFew, AreTold, CanMeet, CanRiseAll, HearMore, rise_told, told_all}
@@ -34,18 +33,7 @@ module _ (step : Crossing) (p0 p1 p2 : List Part) (t0 t1 : List Tell) (can : Can
 
   -- a count is at most that of before or the number of neighbours
   still_small : (j : ℕ) (d : Part) (v : ℕ) → j < length p0 → count_at (get_or p1 j d).watch v ≤ 16777216
-  still_small j d v h = elim (cases_lt v (get_or p0 j d).watch.first) [
-    | inr from ↦ above v from
-    | inl below ↦
-        let same : count_at (get_or p1 j d).watch v ≡ count_at (get_or p1 j d).watch (get_or p0 j d).watch.first = ap (λ k. get_or (get_or p1 j d).watch.counts k 0) (omega (arith, below, (risen j d h).risen.watched.first)) in
-        omega (arith, same, above (get_or p0 j d).watch.first (omega arith))
-  ]
-    where
-      above : (u : ℕ) → (get_or p0 j d).watch.first ≤ u → count_at (get_or p1 j d).watch u ≤ 16777216
-      above u from = elim (cases_Bool (has_number u (get_or p0 j d).begun)) [
-        | inl there ↦ omega (arith, (risen j d h).risen.own u there, count_by-le-length (count_above step) (neighbours_of u step.graph.edges), can.degree u)
-        | inr none ↦ omega (arith, (risen j d h).risen.others u from none, can.small j d u h)
-      ]
+  still_small j d v h = grind (arith, nat_tests, count_by-le-length, can.degree, can.small)
 
   pub can_meet : CanMeet step.bits (step.level + 1) (told_all t1) p2
   can_meet = record {
@@ -62,9 +50,7 @@ module _ (step : Crossing) (p0 p1 p2 : List Part) (t0 t1 : List Tell) (can : Can
   }
 
   pub are_few : AreFew p2
-  are_few j d v h =
-      let at : j < length p0 = omega (arith, h, long1, long2) in
-      omega (arith, still_small j d v at, ap (λ (w : Watch). count_at w v) (watch_is j d at))
+  are_few j d v h = grind (arith, nat_tests, still_small, watch_is)
 
   pub all_risen : (most : ℕ) (p3 : List Part) → HearMore step.bits (step.level + 1) most (told_all t1) p2 p3 → AllRisen step most p0 p3
   all_risen most p3 s = record {

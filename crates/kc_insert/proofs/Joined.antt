@@ -1,7 +1,7 @@
 -- The lists of all ranges, one after another: what is in them, how often, and where.
 use Rattle.std.proofs.Common.{ℕ, suc, zero, ◌+◌, ◌≤◌, ◌<◌, ◌≡◌, inl, inr, Bool, true, false, cond, eqb, ◌||◌, List, [], ◌∷◌, ◌++◌, length, get_or, set, take, ap, sym, ◌∙◌, arith, ◌≢◌, map, filter, refl}
 use Rattle.std.specs.List.{flat_map}
-use Rattle.std.proofs.lemmas.Bool.{cases_Bool, cases_eq, or_right, true≢false}
+use Rattle.std.proofs.lemmas.Bool.{cases_Bool, or_right, true≢false}
 use Rattle.std.proofs.lemmas.Bool.Decides.{nat_tests}
 use Rattle.std.proofs.lemmas.List.{append-nil, length-append, take_more_set, map-append}
 use Rattle.std.proofs.lemmas.Grind.{flat_map-append}
@@ -66,10 +66,7 @@ distinct_times (v ∷ vs) once = (
 
 pub times_distinct : (v : ℕ) (vs : List ℕ) → AreDistinct vs → times v vs ≤ 1
 times_distinct v [] once = omega arith
-times_distinct v (u ∷ us) once = elim (cases_eq u v) [
-  | inl e ↦ let none = times_none v us (ap (λ k. has_number k us) (sym e) ∙ once.0) in grind (arith, nat_tests, e, none)
-  | inr ne ↦ let rest = times_distinct v us once.1 in grind (arith, nat_tests, ne, rest)
-]
+times_distinct v (u ∷ us) once = grind (arith, nat_tests, times_distinct v us once.1, times_none, once.0, once.1)
 
 -- a vertex of the lists is in one of them
 pub joined_in : (f : Part → List ℕ) (ps : List Part) (v : ℕ) → has_number v (flat_map f ps) ≡ true → (j : ℕ) × (j < length ps) × (has_number v (f (get_or ps j no_part)) ≡ true)
@@ -81,11 +78,7 @@ joined_of f ps v j at there = flat_has f ps j v no_part at there
 -- the same of pairs
 pub has_edge-append : (e : Pair) (xs ys : List Pair) → has_edge e (xs ++ ys) ≡ has_edge e xs || has_edge e ys
 has_edge-append e [] ys = refl
-has_edge-append e (f ∷ fs) ys = ap (λ b. same_edge e f || b) (has_edge-append e fs ys) ∙ assoc (same_edge e f) (has_edge e fs) (has_edge e ys)
-  where
-    assoc : (a b c : Bool) → a || (b || c) ≡ (a || b) || c
-    assoc true b c = refl
-    assoc false b c = refl
+has_edge-append e (f ∷ fs) ys = grind (arith, nat_tests, has_edge-append e fs ys)
 
 pub pairs_in : (f : Part → List Pair) (ps : List Part) (e : Pair) → has_edge e (flat_map f ps) ≡ true → (j : ℕ) × (j < length ps) × (has_edge e (f (get_or ps j no_part)) ≡ true)
 pairs_in f [] e there = absurd (true≢false (sym there))
@@ -117,10 +110,7 @@ joined_rows row f (p ∷ ps) = flat_map-append row (f p) (flat_map f ps) ∙ ap 
 
 pub joined_ends : (end : Pair → ℕ) (test : Pair → Bool) (f : Part → List Pair) (ps : List Part) → map end (filter test (flat_map f ps)) ≡ flat_map (λ p. map end (filter test (f p))) ps
 joined_ends end test f [] = refl
-joined_ends end test f (p ∷ ps) =
-    ap (map end) (filter-append test (f p) (flat_map f ps))
-    ∙ map-append end (filter test (f p)) (filter test (flat_map f ps))
-    ∙ ap (λ ys. map end (filter test (f p)) ++ ys) (joined_ends end test f ps)
+joined_ends end test f (p ∷ ps) = grind (arith, nat_tests, joined_ends end test f ps, filter-append, map-append)
 
 or_swap : (a b c d : Bool) → (a || b) || (c || d) ≡ (a || c) || (b || d)
 or_swap a b c d = grind (arith, nat_tests)
@@ -149,14 +139,7 @@ pairs_joined e f h (p ∷ ps) =
 -- how often a number is in two lists of each range
 pub times_joined : (v : ℕ) (f h : Part → List ℕ) (ps : List Part) → times v (flat_map (λ p. f p ++ h p) ps) ≡ times v (flat_map f ps) + times v (flat_map h ps)
 times_joined v f h [] = refl
-times_joined v f h (p ∷ ps) = omega (
-  arith,
-  times-append v (f p ++ h p) (flat_map (λ q. f q ++ h q) ps),
-  times-append v (f p) (h p),
-  times-append v (f p) (flat_map f ps),
-  times-append v (h p) (flat_map h ps),
-  times_joined v f h ps,
-)
+times_joined v f h (p ∷ ps) = grind (arith, nat_tests, times_joined v f h ps, times-append)
 
 -- how often a pair is in a list
 abbrev pub copies : Pair → List Pair → ℕ
@@ -186,14 +169,7 @@ copies_there e (f ∷ fs) there = elim (cases_Bool (same_edge e f)) [
 
 pub apart_copies : (e : Pair) (es : List Pair) → AreApart es → copies e es ≤ 1
 apart_copies e [] apart = omega arith
-apart_copies e (f ∷ fs) apart = elim (cases_Bool (same_edge e f)) [
-  | inr other ↦ omega (arith, ap {B = ℕ} (λ b. cond b 1 0) other, apart_copies e fs apart.1)
-  | inl same ↦ omega (arith, ap {B = ℕ} (λ b. cond b 1 0) same, copies_none e fs (rest fs same ∙ apart.0))
-]
-  where
-    rest : (gs : List Pair) → same_edge e f ≡ true → has_edge e gs ≡ has_edge f gs
-    rest [] same = refl
-    rest (h ∷ hs) same = grind (arith, nat_tests, same, rest hs same)
+apart_copies e (f ∷ fs) apart = grind (arith, nat_tests, apart_copies e fs apart.1, copies_none, apart.1, apart.0)
 
 pub copies_apart : (es : List Pair) → ((e : Pair) → copies e es ≤ 1) → AreApart es
 copies_apart [] once = record {}
@@ -210,14 +186,7 @@ copies_apart (f ∷ fs) once = (
 
 pub copies_joined : (e : Pair) (f h : Part → List Pair) (ps : List Part) → copies e (flat_map (λ p. f p ++ h p) ps) ≡ copies e (flat_map f ps) + copies e (flat_map h ps)
 copies_joined e f h [] = refl
-copies_joined e f h (p ∷ ps) = omega (
-  arith,
-  copies-append e (f p ++ h p) (flat_map (λ q. f q ++ h q) ps),
-  copies-append e (f p) (h p),
-  copies-append e (f p) (flat_map f ps),
-  copies-append e (h p) (flat_map h ps),
-  copies_joined e f h ps,
-)
+copies_joined e f h (p ∷ ps) = grind (arith, nat_tests, copies_joined e f h ps, copies-append)
 
 -- pairs that are apart in all lists are apart in each
 pub copies_part : (e : Pair) (f : Part → List Pair) (ps : List Part) (j : ℕ) → j < length ps → copies e (f (get_or ps j no_part)) ≤ copies e (flat_map f ps)

@@ -1,7 +1,7 @@
 -- How the counts follow where a riser goes on and leaves a neighbour behind that it was to meet, and what the others are told.
 use Rattle.std.proofs.Common.{ℕ, suc, zero, subst, ◌+◌, ◌-◌, ◌≤◌, ◌<◌, ◌≡◌, ◌≢◌, inl, inr, Bool, true, false, cond, eqb, ◌&&◌, List, [], ◌∷◌, ◌++◌, length, get_or, set, map, take, drop, ap, sym, ◌∙◌, arith}
 use Rattle.std.specs.Prelude.{filter}
-use Rattle.std.proofs.lemmas.Bool.{cases_eq, cases_Bool}
+use Rattle.std.proofs.lemmas.Bool.{cases_eq}
 use Rattle.std.proofs.lemmas.Bool.Decides.{nat_tests}
 use Rattle.std.proofs.lemmas.List.{append-nil, map-append, take-append-drop}
 use Rattle.std.proofs.lemmas.List.Elements.{filter_more, filter-append}
@@ -75,10 +75,7 @@ module _ (step : Crossing) (met : List Pair) (i : ℕ) (d : Pair) (v w : ℕ) (a
   both p x l e f = grind (arith, nat_tests, e, f)
 
   neither : (p : Bool) (x l : ℕ) → (p ≡ true → x ≢ l) → p && eqb x l ≡ false
-  neither p x l off = elim (cases_Bool p) [
-    | inl yes_ ↦ let ne = off yes_ in grind (arith, nat_tests, yes_, ne)
-    | inr no_ ↦ grind (arith, nat_tests, no_)
-  ]
+  neither p x l off = grind (arith, nat_tests)
 
   left_next : rises step.levels v ≡ true → get_or (seen step.levels) w 0 ≡ step.level → left_at step (take (i + 1) met) ≡ left_at step (take i met) ++ v ∷ []
   left_next up stays = ends_yes (λ (e : Pair). e.0) (stays_behind step) met i d (v, w) at item (both _ _ _ up stays)

@@ -4,6 +4,7 @@ use Rattle.std.proofs.lemmas.Bool.{cases_eq}
 use Rattle.std.proofs.lemmas.List.{length-append, length-replicate, length-take-le, length-drop, get_or-take, get_or-drop}
 use Rattle.std.proofs.Math.ListN.{get_or-append}
 use Rattle.std.proofs.Math.Seq.{get_or-append_seam}
+use Rattle.std.proofs.lemmas.Bool.Decides.{nat_tests}
 use Rattle.kc_insert.specs.Ranges.{HasVertex, no_part, Part, range_of, Tell}
 use Rattle.kc_insert.specs.private.Ranges.{AreNew, new_part}
 use Rattle.kc_insert.specs.private.Watched.{count_at}
@@ -24,19 +25,7 @@ pub record IsMaking (bits : ℕ) (counts : List ℕ) (levels ranges i : ℕ) (it
 
 -- the range of the vertices from `first` to `end`
 pub made : (bits : ℕ) (counts : List ℕ) (levels ranges j first end : ℕ) (part : List ℕ) (p : Part) → p ≡ new_part levels ranges first part → part ≡ take (end - first) (drop first counts) → first ≤ end → end ≤ length counts → ((v : ℕ) → v < length counts → range_of bits v ≡ j → (first ≤ v) × (v < end)) → ((v : ℕ) → first ≤ v → v < end → range_of bits v ≡ j) → IsMade bits counts levels ranges j p
-made bits counts levels ranges j first end part p is of order within inside own = rw is (record {
-  value = refl;
-  own = λ v held. (omega (arith, held.below, long, within), own v held.from (omega (arith, held.below, long)));
-  held = λ v h here. let it = inside v h here in record { from = it.0; below = omega (arith, it.0, it.1, long) };
-  same = λ v held.
-      ap (λ (xs : List ℕ). get_or xs (v - first) 0) of
-      ∙ get_or-take (end - first) (drop first counts) (v - first) 0 (omega (arith, held.from, held.below, long))
-      ∙ get_or-drop first counts (v - first) 0
-      ∙ ap (λ k. get_or counts k 0) (omega (arith, held.from));
-})
-  where
-    long : length part ≡ end - first
-    long = ap length of ∙ length-take-le (end - first) (drop first counts) (omega (arith, length-drop first counts, order, within))
+made bits counts levels ranges j first end part p is of order within inside own = grind (arith, nat_tests, get_or-take, get_or-drop, length-take-le, length-drop)
 
 module _ (bits : ℕ) (counts : List ℕ) (levels ranges i : ℕ) (items : List Part) (told : List Tell) (s : IsMaking bits counts levels ranges i items told) where
   pub making_next : (p : Part) (t : Tell) → IsMade bits counts levels ranges i p → t ≡ record { all = []; lists = replicate ranges [] } → IsMaking bits counts levels ranges (i + 1) (items ++ p ∷ []) (told ++ t ∷ [])

@@ -1,6 +1,6 @@
 -- Lists of the same numbers, and of distinct ones.
 use Rattle.std.proofs.Common.{ℕ, ◌+◌, ◌≡◌, ◌≢◌, inl, inr, Bool, true, false, eqb, not, ◌&&◌, ◌||◌, List, [], ◌∷◌, ◌++◌, length, filter, refl, ap, sym, ◌∙◌, arith, suc, zero, ◌≤◌, ◌<◌, cond}
-use Rattle.std.proofs.lemmas.Bool.{cases_eq, cases_Bool, true≢false}
+use Rattle.std.proofs.lemmas.Bool.{cases_eq, true≢false}
 use Rattle.std.proofs.lemmas.Bool.Decides.{nat_tests}
 use Rattle.kc_graph.specs.Numbers.{has_number, RisesFrom}
 use Rattle.kc_graph.specs.Shape.{GraphShape, neighbours_of}
@@ -8,6 +8,7 @@ use Rattle.kc_graph.proofs.lemmas.Numbers.{has_number-append, has_number_below}
 use Rattle.kc_levels.specs.Following.{AreDistinct}
 use Rattle.kc_adj.specs.Degrees.{degrees}
 use Rattle.kc_insert.proofs.Buckets.{has_number-filter}
+use Rattle.kc_insert.proofs.Across.{distinct_both}
 
 pub filter_yes : (p : ℕ → Bool) (v : ℕ) (vs : List ℕ) → p v ≡ true → filter p (v ∷ vs) ≡ v ∷ filter p vs
 filter_yes p v vs e = grind (arith, nat_tests, e)
@@ -18,13 +19,7 @@ filter_no p v vs e = grind (arith, nat_tests, e)
 -- tests that agree on the numbers of a list keep the same of them
 pub filter_agree : (p q : ℕ → Bool) (vs : List ℕ) → ((v : ℕ) → has_number v vs ≡ true → p v ≡ q v) → filter p vs ≡ filter q vs
 filter_agree p q [] same = refl
-filter_agree p q (v ∷ vs) same =
-    let rest : filter p vs ≡ filter q vs = filter_agree p q vs (λ u there. same u (grind (arith, nat_tests, there))) in
-    let here : p v ≡ q v = same v (grind (arith, nat_tests)) in
-    elim (cases_Bool (q v)) [
-      | inl yes_ ↦ filter_yes p v vs (here ∙ yes_) ∙ ap (λ us. v ∷ us) rest ∙ sym (filter_yes q v vs yes_)
-      | inr no_ ↦ filter_no p v vs (here ∙ no_) ∙ rest ∙ sym (filter_no q v vs no_)
-    ]
+filter_agree p q (v ∷ vs) same = grind (arith, nat_tests, filter_agree p q vs (λ u there. same u (grind (arith, nat_tests, there))), filter_yes, filter_no)
 
 pub filter_all : (p : ℕ → Bool) (vs : List ℕ) → ((v : ℕ) → has_number v vs ≡ true → p v ≡ true) → filter p vs ≡ vs
 filter_all p [] all = refl
@@ -36,13 +31,7 @@ none_in (v ∷ vs) none = absurd (true≢false (sym (grind (arith, nat_tests)) �
 
 pub distinct_filter : (test : ℕ → Bool) (vs : List ℕ) → AreDistinct vs → AreDistinct (filter test vs)
 distinct_filter test [] d = record {}
-distinct_filter test (v ∷ vs) d = elim (cases_Bool (test v)) [
-  | inl yes_ ↦ rw (filter_yes test v vs yes_) (none, distinct_filter test vs d.1)
-  | inr no_ ↦ rw (filter_no test v vs no_) (distinct_filter test vs d.1)
-]
-  where
-    none : has_number v (filter test vs) ≡ false
-    none = has_number-filter v test vs ∙ ap (λ b. b && test v) d.0
+distinct_filter test (v ∷ vs) d = grind (arith, nat_tests, distinct_filter test vs d.1, filter_yes, filter_no, has_number-filter, d.1, d.0)
 
 pub distinct_append : (us vs : List ℕ) → AreDistinct us → AreDistinct vs → ((u : ℕ) → has_number u us ≡ true → has_number u vs ≡ false) → AreDistinct (us ++ vs)
 distinct_append [] vs d e apart = e
@@ -104,7 +93,7 @@ weigh_same f (v ∷ vs) us once too same =
 
 -- the numbers of one list are those of two others together
 pub weigh_parts : (f : ℕ → ℕ) (vs us ws : List ℕ) → AreDistinct vs → AreDistinct us → AreDistinct ws → ((v : ℕ) → has_number v us ≡ true → has_number v ws ≡ false) → ((v : ℕ) → has_number v vs ≡ has_number v us || has_number v ws) → weigh f vs ≡ weigh f us + weigh f ws
-weigh_parts f vs us ws once too three apart same = weigh_same f vs (us ++ ws) once (distinct_append us ws too three apart) (λ v. same v ∙ sym (has_number-append v us ws)) ∙ weigh-append f us ws
+weigh_parts f vs us ws once too three apart same = weigh_same f vs (us ++ ws) once (distinct_both us ws too three apart) (λ v. same v ∙ sym (has_number-append v us ws)) ∙ weigh-append f us ws
 
 pub rising_once : (k : ℕ) (vs : List ℕ) → RisesFrom k vs → AreDistinct vs
 rising_once k [] r = record {}

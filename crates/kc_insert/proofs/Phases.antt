@@ -1,7 +1,7 @@
 -- How the sweep of a phase begins, and what is left of it.
-use Rattle.std.proofs.Common.{ℕ, suc, replicate, ◌+◌, ◌≤◌, ◌<◌, ◌≡◌, inl, inr, true, false, List, [], ◌∷◌, ◌++◌, length, get_or, filter, refl, ap, sym, subst, ◌∙◌, arith}
+use Rattle.std.proofs.Common.{ℕ, suc, replicate, ◌+◌, ◌≤◌, ◌<◌, ◌≡◌, true, false, List, [], ◌∷◌, ◌++◌, length, get_or, filter, refl, ap, sym, subst, ◌∙◌, arith}
 use Rattle.std.specs.List.{flat_map}
-use Rattle.std.proofs.lemmas.Bool.{cases_lt, true≢false}
+use Rattle.std.proofs.lemmas.Bool.{true≢false}
 use Rattle.std.proofs.lemmas.Bool.Decides.{nat_tests}
 use Rattle.std.proofs.lemmas.List.{get_or_default, get_or_past, length-replicate}
 use Rattle.std.specs.Prelude.{All}
@@ -19,7 +19,6 @@ use Rattle.kc_insert.specs.Ranges.{all_began, all_risen, AreQuiet, Cut, HasVerte
 use Rattle.kc_insert.specs.private.Ranges.{count_of}
 use Rattle.kc_insert.specs.private.Rising.{all_at, rises, seen}
 use Rattle.kc_insert.specs.private.Sweeping.{AreCounted, IsPaid, IsQueued, IsSame, IsSweeping, sweeping_of}
-use Rattle.kc_insert.specs.private.Watched.{count_at}
 use Rattle.kc_insert.proofs.Joined.{joined_of, pairs_of}
 use Rattle.kc_insert.proofs.Kept.{kept_at, kept_listed}
 use Rattle.kc_insert.proofs.Staying.{nobody_rises}
@@ -29,10 +28,7 @@ use Rattle.kc_insert.proofs.Sweeps.{paid_starts, sweeping_last, sweeping_starts}
 -- no level that there is stands for a vertex that rises
 pub none_rises : (p : Profile) (n : ℕ) (s : RisingLevels) → length s.stored ≡ n → IsCapped p n s.stored → top_level p n < 65535 → (v : ℕ) → rises s v ≡ false
 unfolding rises
-none_rises p n s long capped small v = elim (cases_lt v n) [
-  | inl h ↦ grind (arith, nat_tests, capped v h, small)
-  | inr past ↦ grind (arith, nat_tests, get_or_past s.stored v 0 (omega (arith, past, long)))
-]
+none_rises p n s long capped small v = grind (arith, nat_tests, get_or_past)
 
 -- a sweep begins with the levels that stand in the list, and goes to level 0
 module _ (p : Profile) (g : GraphShape) (s t : RisingLevels) (r : Cut) (quiet : AreQuiet p g r) (long : length s.stored ≡ g.vertices) (capped : IsCapped p g.vertices s.stored) (tops : top_level p g.vertices < 65535) (on : t.level ≡ 0) (same : (v : ℕ) → rises t v ≡ rises s v) (goes : (risers : List ℕ) → ((v : ℕ) → rises s v ≡ has_number v risers) → seen t ≡ all_at (seen s) risers 0) where
@@ -110,10 +106,7 @@ module _ (p : Profile) (g : GraphShape) (s : RisingLevels) (r t : Cut) (order : 
   range_same v = ap (λ b. range_of b v) bits
 
   pub forgot_count : (v : ℕ) → count_of t v ≡ count_of r v
-  forgot_count v = ap (λ j. count_at (part_at t j).watch v) (range_same v) ∙ elim (cases_lt (range_of r.bits v) (length r.parts)) [
-    | inl at ↦ ap (λ (w : Watch). count_at w v) (watch_same (range_of r.bits v) (omega (arith, at, sized)))
-    | inr past ↦ ap (λ (q : Part). count_at q.watch v) (get_or_past t.parts (range_of r.bits v) no_part (omega (arith, past, sized)) ∙ sym (get_or_past r.parts (range_of r.bits v) no_part past))
-  ]
+  forgot_count v = grind (arith, nat_tests, range_same, watch_same, get_or_past)
 
   pub forgot_waits : (k : ℕ) → waits t k ≡ []
   forgot_waits k = empty_lists (λ (q : Part). get_or q.queue k []) t.parts (λ j at. ap (λ (q : Part). get_or q.queue k []) (forgot_at j at) ∙ empty_list (length (part_at r j).queue) k)

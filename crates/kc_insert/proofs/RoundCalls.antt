@@ -3,6 +3,7 @@ use Rattle.std.proofs.Common.{ℕ, ◌+◌, ◌^◌, ◌≤◌, ◌<◌, ◌≡�
 use Rattle.std.specs.Prelude.{All}
 use Rattle.std.specs.List.{sum_by}
 use Rattle.std.proofs.lemmas.List.{get_or_default}
+use Rattle.std.proofs.lemmas.Bool.Decides.{nat_tests}
 use Rattle.kc_graph.specs.Numbers.{has_number}
 use Rattle.kc_graph.specs.Shape.{GraphShape, IsGraph, Pair}
 use Rattle.kc_levels.specs.declared.profile.Profile.{Profile}
@@ -158,10 +159,7 @@ module _ (p : Profile) (g : GraphShape) (x : List ℕ) (s0 : RisingLevels) (r0 :
               long5_ = risen.sized
 
               tells : (length r6.told ≡ length r5.parts) × ((j : ℕ) (d : _) → j < length r5.parts → length (get_or r6.told j d).lists ≡ length r5.parts)
-              tells = (
-                ap (λ ts. length ts) same6.1 ∙ told5.long ∙ sym long5_,
-                λ j d at. ap (λ ts. length (get_or ts j d).lists) same6.1 ∙ told5.lists j d (omega (arith, at, long5_)) ∙ sym long5_,
-              )
+              tells = grind (arith, nat_tests, long5_, same6.1, told5.long, told5.lists)
 
               -- each vertex on the level that counts many goes to the next, and each vertex counts its neighbours there or above
               pub next_step : IsLevelStep g (seen s0) (seen s3) (count_of r0) (count_of r6) s0.level most

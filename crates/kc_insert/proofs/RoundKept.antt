@@ -1,9 +1,10 @@
 -- A step of a sweep: how the ranges keep their vertices afterwards.
 use Rattle.std.proofs.Common.{ℕ, suc, ◌+◌, ◌≤◌, ◌<◌, ◌≡◌, inl, inr, true, List, [], ◌∷◌, ◌++◌, length, get_or, set, filter, refl, ap, sym, subst, ◌∙◌, arith}
 use Rattle.std.specs.List.{flat_map, sum_by}
-use Rattle.std.proofs.lemmas.Bool.{cases_Bool, cases_eq, cases_lt, or_from, or_left, or_right, true≢false}
+use Rattle.std.proofs.lemmas.Bool.{cases_Bool, cases_lt, or_from, or_left, or_right, true≢false}
 use Rattle.std.proofs.lemmas.List.Sums.{sum_by-cons}
 use Rattle.std.proofs.lemmas.List.{get_or_past, get_or-set_same, get_or-set_other, length-set}
+use Rattle.std.proofs.lemmas.Bool.Decides.{nat_tests}
 use Rattle.kc_graph.specs.Numbers.{has_number}
 use Rattle.kc_graph.specs.Shape.{GraphShape, Pair, IsGraph, has_edge}
 use Rattle.kc_graph.proofs.lemmas.Numbers.{has_number-append}
@@ -31,13 +32,7 @@ use Rattle.kc_insert.proofs.Tests.{or_either}
 
 -- a list that was emptied has nothing
 cleared : (ms : List (List Pair)) (l i : ℕ) (e : Pair) → has_edge e (get_or (set ms l []) i []) ≡ true → has_edge e (get_or ms i []) ≡ true
-cleared ms l i e there = elim (cases_eq i l) [
-  | inr ne ↦ ap (has_edge e) (sym (get_or-set_other ms l i [] [] ne)) ∙ there
-  | inl is ↦ elim (cases_lt l (length ms)) [
-    | inl inside ↦ absurd (true≢false (sym there ∙ ap (λ j. has_edge e (get_or (set ms l []) j [])) is ∙ ap (has_edge e) (get_or-set_same ms l [] [] inside)))
-    | inr past ↦ absurd (true≢false (sym there ∙ ap (has_edge e) (get_or_past (set ms l []) i [] (omega (arith, past, is, length-set ms l [])))))
-  ]
-]
+cleared ms l i e there = grind (arith, nat_tests, get_or-set_other, inside, true≢false, get_or-set_same, get_or_past, length-set)
 
 steps_sum : (g : GraphShape) (qs ps rs : List Part) → length qs ≡ length rs → length ps ≡ length rs → ((j : ℕ) → j < length rs → (at_place qs j).steps ≡ degrees g (at_place ps j).stay + degrees g (at_place rs j).begun) → sum_by (λ (q : Part). q.steps) qs ≡ degrees g (flat_map (λ (q : Part). q.stay) ps) + degrees g (flat_map (λ (q : Part). q.begun) rs)
 steps_sum g [] [] [] long too each = refl

@@ -3,6 +3,7 @@ use Rattle.std.proofs.Common.{ℕ, ◌+◌, ◌≤◌, ◌<◌, ◌≡◌, inl, 
 use Rattle.std.specs.List.{flat_map}
 use Rattle.std.proofs.lemmas.Bool.{and_from, and_right, cases_Bool, cases_lt, le-ltb, lt-ltb, ltb-true, true≢false}
 use Rattle.std.proofs.lemmas.List.{get_or_past}
+use Rattle.std.proofs.lemmas.Bool.Decides.{nat_tests}
 use Rattle.kc_graph.specs.Numbers.{has_number}
 use Rattle.kc_graph.specs.Shape.{GraphShape}
 use Rattle.kc_levels.specs.declared.profile.Profile.{Profile}
@@ -42,10 +43,7 @@ pub record AreKeeping (p : Profile) (g : GraphShape) (x : List ℕ) (bits most l
 module _ (p : Profile) (g : GraphShape) (x : List ℕ) (bits most levels : ℕ) (s0 : RisingLevels) (p0 : List Part) (t0 : List Tell) (k : AreKeeping p g x bits most levels s0 p0 t0) where
   -- a list of no range is empty
   pub range_inside : (f : Part → List ℕ) (v j : ℕ) → f no_part ≡ [] → has_number v (f (at_place p0 j)) ≡ true → j < length p0
-  range_inside f v j none there = elim (cases_lt j (length p0)) [
-    | inl h ↦ h
-    | inr past ↦ absurd (true≢false (sym there ∙ ap (λ q. has_number v (f q)) (get_or_past p0 j no_part past) ∙ ap (has_number v) none))
-  ]
+  range_inside f v j none there = grind (arith, nat_tests, true≢false, get_or_past)
 
   pub began_at : (v : ℕ) → rises s0 v ≡ true → (range_of bits v < length p0) × (has_number v (began_in p0) ≡ true)
   began_at v up =

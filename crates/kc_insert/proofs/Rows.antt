@@ -26,9 +26,7 @@ pub told_first : (f : ℕ → List ℕ) (xs : List ℕ) (a : Tell) → a ≡ rec
 told_first f xs a = ap (λ ys. record a { all = ys }) (sym (append-nil a.all))
 
 pub told_next : (f : ℕ → List ℕ) (xs : List ℕ) (i : ℕ) (a b c : Tell) → i < length xs → b ≡ record a { all = a.all ++ flat_map f (take i xs) } → c ≡ record b { all = b.all ++ f (get_or xs i 0) } → c ≡ record a { all = a.all ++ flat_map f (take (i + 1) xs) }
-told_next f xs i a b c at is more =
-    more ∙ ap (λ (t : Tell). record t { all = t.all ++ f (get_or xs i 0) }) is
-    ∙ ap (λ ys. record a { all = ys }) (flat_map_more f a.all (take i xs) (get_or xs i 0) ∙ ap (λ ys. a.all ++ flat_map f ys) (sym (take_more xs i 0 at)))
+told_next f xs i a b c at is more = grind (arith, nat_tests, flat_map_more, take_more)
 
 -- what is at a place passes
 pub passes_at : (p : ℕ → Bool) (ws : List ℕ) (i : ℕ) → i < length (filter p ws) → (has_number (get_or (filter p ws) i 0) ws ≡ true) × (p (get_or (filter p ws) i 0) ≡ true)
@@ -51,13 +49,9 @@ length-with_levels x (w ∷ ws) = omega (arith, length-with_levels x ws)
 pub vertex_at : (x ws : List ℕ) (i : ℕ) → get_or (with_levels x ws) (2 * i) 0 ≡ get_or ws i 0
 vertex_at x [] i = refl
 vertex_at x (w ∷ ws) zero = refl
-vertex_at x (w ∷ ws) (suc i) =
-    let twice : 2 * suc i ≡ suc (suc (2 * i)) = omega arith in
-    ap (λ k. get_or (w ∷ get_or x w 0 ∷ with_levels x ws) k 0) twice ∙ vertex_at x ws i
+vertex_at x (w ∷ ws) (suc i) = grind (arith, nat_tests, vertex_at x ws i)
 
 pub level_at : (x ws : List ℕ) (i : ℕ) → i < length ws → get_or (with_levels x ws) (2 * i + 1) 0 ≡ get_or x (get_or ws i 0) 0
 level_at x [] i at = absurd (omega arith)
 level_at x (w ∷ ws) zero at = refl
-level_at x (w ∷ ws) (suc i) at =
-    let twice : 2 * suc i + 1 ≡ suc (suc (2 * i + 1)) = omega arith in
-    ap (λ k. get_or (w ∷ get_or x w 0 ∷ with_levels x ws) k 0) twice ∙ level_at x ws i (omega arith)
+level_at x (w ∷ ws) (suc i) at = grind (arith, nat_tests, level_at x ws i (omega arith))

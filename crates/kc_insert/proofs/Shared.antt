@@ -1,5 +1,5 @@
 -- What is told is heard the same, dealt to the ranges or one list after another.
-use Rattle.std.proofs.Common.{ℕ, suc, ◌+◌, ◌≤◌, ◌<◌, ◌≡◌, inl, inr, Bool, true, eqb, ◌&&◌, List, [], ◌∷◌, ◌++◌, length, get_or, take, drop, refl, ap, sym, subst, ◌∙◌, arith}
+use Rattle.std.proofs.Common.{ℕ, suc, ◌+◌, ◌≤◌, ◌<◌, ◌≡◌, inl, inr, true, eqb, List, [], ◌∷◌, ◌++◌, length, get_or, take, drop, refl, ap, sym, subst, ◌∙◌, arith}
 use Rattle.std.specs.Prelude.{All}
 use Rattle.std.proofs.lemmas.Bool.{cases_lt}
 use Rattle.std.proofs.lemmas.Bool.Decides.{nat_tests}
@@ -19,10 +19,7 @@ use Rattle.kc_insert.proofs.Meeting.{met_none, met_on}
 use Rattle.kc_insert.proofs.Watching.{watched_on}
 
 pub in_range_has : (bits j v : ℕ) (xs : List ℕ) → has_number v (in_range bits j xs) ≡ true → (has_number v xs ≡ true) × (range_of bits v ≡ j)
-in_range_has bits j v xs there = split (has_number v xs) (range_of bits v) (sym (has_number-filter v (λ u. eqb (range_of bits u) j) xs) ∙ there)
-  where
-    split : (b : Bool) (k : ℕ) → b && eqb k j ≡ true → (b ≡ true) × (k ≡ j)
-    split b k e = (grind (arith, nat_tests, e), grind (arith, nat_tests, e))
+in_range_has bits j v xs there = grind (arith, nat_tests, has_number-filter)
 
 in_range_append : (bits j : ℕ) (xs ys : List ℕ) → in_range bits j (xs ++ ys) ≡ in_range bits j xs ++ in_range bits j ys
 in_range_append bits j xs ys = filter-append (λ u. eqb (range_of bits u) j) xs ys
@@ -100,10 +97,7 @@ module _ (bits : ℕ) (told : List Tell) (old : List Part) (can : CanLessen bits
         )
 
     pub next_enough : (v : ℕ) (d : Part) → has_number v (get_or told i t).all ≡ true → times v (get_or told i t).all ≤ count_at (get_or new (range_of bits v) d).watch v
-    next_enough v d there =
-        let was = can.held v d (told_there told i t at v there) in
-        let now = s.each (range_of bits v) d was.0 in
-        omega (arith, now.less v was.1.from, in_range_times bits v (told_all (take i told)), told_part told i t at v, can.enough v d (told_there told i t at v there))
+    next_enough v d there = grind (arith, nat_tests, told_there, in_range_times, told_part, can.held, can.enough)
 
     pub next_heard : (last : List Part) → HearLess bits (get_or told i t).all new last → HearLess bits (told_all (take (i + 1) told)) old last
     next_heard last u = subst (λ (xs : List ℕ). HearLess bits xs old last) (sym (told_more told i t at)) (hear_both bits (told_all (take i told)) (get_or told i t).all old new last s u)
@@ -156,10 +150,7 @@ module _ (bits level : ℕ) (told : List Tell) (old : List Part) (can : CanMeet 
         )
 
     pub next_small : (v : ℕ) (d : Part) → has_number v (get_or told i t).all ≡ true → count_at (get_or new (range_of bits v) d).watch v + times v (get_or told i t).all ≤ 2147483648
-    next_small v d there =
-        let was = can.held v d (told_there told i t at v there) in
-        let now = s.each (range_of bits v) d was.0 in
-        omega (arith, now.more v was.1.from, in_range_times bits v (told_all (take i told)), told_part told i t at v, can.small v d (told_there told i t at v there))
+    next_small v d there = grind (arith, nat_tests, told_there, in_range_times, told_part, can.held, can.small)
 
     pub next_room : (j : ℕ) (d : Part) → j < length new → level < length (get_or new j d).queue
     next_room j d h = omega (arith, can.room j d (omega (arith, h, s.sized)), (s.each j d (omega (arith, h, s.sized))).levels)

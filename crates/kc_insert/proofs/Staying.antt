@@ -1,18 +1,18 @@
 -- Rising vertices of a range that count few stay on the level, one after another.
-use Rattle.std.proofs.Common.{ℕ, ◌+◌, ◌≤◌, ◌<◌, ◌≡◌, inl, inr, true, false, eqb, not, ◌&&◌, List, [], ◌∷◌, ◌++◌, length, get_or, refl, ap, sym, ◌∙◌, arith, subst}
+use Rattle.std.proofs.Common.{ℕ, ◌+◌, ◌≤◌, ◌<◌, ◌≡◌, inl, inr, true, false, eqb, not, ◌&&◌, List, [], ◌∷◌, ◌++◌, length, get_or, ap, sym, ◌∙◌, arith, subst}
 use Rattle.std.proofs.lemmas.Bool.{cases_eq, true≢false}
 use Rattle.std.proofs.lemmas.Bool.Decides.{nat_tests}
 use Rattle.std.proofs.lemmas.Grind.{same_number_lists}
 use Rattle.kc_graph.specs.Numbers.{has_number}
 use Rattle.kc_graph.proofs.lemmas.Numbers.{has_number-push, has_number_index}
 use Rattle.kc_levels.specs.Following.{AreDistinct}
+use Rattle.kc_levels.proofs.lemmas.Moves.{distinct_push}
 use Rattle.kc_insert.specs.declared.rising.RisingLevels.{RisingLevels}
 use Rattle.kc_insert.specs.private.Rising.{rises, seen}
 use Rattle.kc_insert.specs.private.Parts.{LetStay}
 use Rattle.kc_insert.specs.private.Watched.{count_at}
 use Rattle.kc_insert.specs.Ranges.{Watch}
 use Rattle.kc_insert.proofs.Buckets.{pushed_is}
-use Rattle.kc_insert.proofs.Lifting.{distinct-push}
 use Rattle.kc_insert.proofs.Seen.{length-seen, stored_at}
 
 -- of those written down, in `listed`, those before the place i were looked at
@@ -26,15 +26,7 @@ pub record IsLettingStay (old : RisingLevels) (watch : Watch) (listed : List ℕ
   pub distinct : AreDistinct stay
 
 pub letting_first : (old : RisingLevels) (watch : Watch) (listed : List ℕ) (stay : List ℕ) → stay ≡ [] → IsLettingStay old watch listed 0 old stay
-letting_first old watch listed stay none = rw none (record {
-  level = refl;
-  seen_on = refl;
-  rises_on = λ v. grind (arith, nat_tests);
-  stays = λ v there. absurd (true≢false (sym there));
-  from = λ v there. absurd (true≢false (sym there));
-  over = λ j h. absurd (omega (arith, h));
-  distinct = record {};
-})
+letting_first old watch listed stay none = grind (arith, nat_tests, true≢false)
 
 module _ (old : RisingLevels) (watch : Watch) (listed : List ℕ) (i : ℕ) (new : RisingLevels) (stay : List ℕ) (s : IsLettingStay old watch listed i new stay) where
   abbrev item : ℕ
@@ -57,7 +49,7 @@ module _ (old : RisingLevels) (watch : Watch) (listed : List ℕ) (i : ℕ) (new
       | inr ne ↦ s.over j (omega (arith, h, ne)) (grind (arith, nat_tests, up, left (get_or listed j 0)))
       | inl e ↦ absurd (true≢false (sym (ap (λ k. rises next (get_or listed k 0)) (sym e) ∙ up) ∙ gone))
     ];
-    distinct = distinct-push stay item s.distinct fresh;
+    distinct = distinct_push stay item s.distinct fresh;
   }
     where
       was : rises old item ≡ true

@@ -53,24 +53,11 @@ sum_none p a b c e f i j = rw (e, f, i, j) refl
 -- a count in three parts
 pub count_parts : (p a b c : ℕ → Bool) (xs : List ℕ) → ((u : ℕ) → has_number u xs ≡ true → bit (p u) ≡ bit (a u) + (bit (b u) + bit (c u))) → count_by p xs ≡ count_by a xs + (count_by b xs + count_by c xs)
 count_parts p a b c [] each = refl
-count_parts p a b c (x ∷ xs) each = omega (
-  arith,
-  count_by-cons p x xs,
-  count_by-cons a x xs,
-  count_by-cons b x xs,
-  count_by-cons c x xs,
-  each x (grind (arith, nat_tests)),
-  count_parts p a b c xs (λ u there. each u (grind (arith, nat_tests, there))),
-)
+count_parts p a b c (x ∷ xs) each = grind (arith, nat_tests, count_parts p a b c xs (λ u there. each u (grind (arith, nat_tests, there))), count_by-cons)
 
 pub count_none : (p : ℕ → Bool) (xs : List ℕ) → ((u : ℕ) → has_number u xs ≡ true → p u ≡ false) → count_by p xs ≡ 0
 count_none p [] none = refl
-count_none p (x ∷ xs) none = omega (
-  arith,
-  count_by-cons p x xs,
-  ap bit (none x (grind (arith, nat_tests))),
-  count_none p xs (λ u there. none u (grind (arith, nat_tests, there))),
-)
+count_none p (x ∷ xs) none = grind (arith, nat_tests, count_none p xs (λ u there. none u (grind (arith, nat_tests, there))), count_by-cons)
 
 -- no pair that passes has v first if v fails
 pub firsts_none : (p : ℕ → Bool) (q : Pair → Bool) (v : ℕ) (es : List Pair) → p v ≡ false → times v (map (λ (e : Pair). e.0) (filter (λ (e : Pair). p e.0 && q e) es)) ≡ 0
@@ -87,10 +74,7 @@ firsts_none p q v (e ∷ es) fails = elim (cases_Bool (p e.0 && q e)) [
 -- two tests that agree on the numbers of a list count the same
 pub count_agree : (p q : ℕ → Bool) (xs : List ℕ) → ((x : ℕ) → has_number x xs ≡ true → p x ≡ q x) → count_by p xs ≡ count_by q xs
 count_agree p q [] same = refl
-count_agree p q (x ∷ xs) same =
-    let here : p x ≡ q x = same x (grind (arith, nat_tests)) in
-    let later : count_by p xs ≡ count_by q xs = count_agree p q xs (λ y there. same y (grind (arith, nat_tests, there))) in
-    count_by-cons p x xs ∙ ap (λ b. cond b 1 0 + count_by p xs) here ∙ ap (λ m. cond (q x) 1 0 + m) later ∙ sym (count_by-cons q x xs)
+count_agree p q (x ∷ xs) same = grind (arith, nat_tests, count_agree p q xs (λ y there. same y (grind (arith, nat_tests, there))), count_by-cons)
 
 -- the test p passes one number more of a rising list than q does
 pub count_less : (p q : ℕ → Bool) (v low : ℕ) (xs : List ℕ) → RisesFrom low xs → has_number v xs ≡ true → p v ≡ true → q v ≡ false → ((x : ℕ) → x ≢ v → p x ≡ q x) → count_by p xs ≡ count_by q xs + 1

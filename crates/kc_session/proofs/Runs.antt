@@ -1,12 +1,12 @@
 -- Batches one after another: their states, and the text of their lines while they are read.
 use Rattle.std.proofs.Common.{ℕ, ◌≡◌, ◌<◌, ◌≤◌, ◌+◌, ◌^◌, Bool, true, false, List, [], ◌∷◌, ◌++◌, length, append_assoc, refl, sym, ap, ◌∙◌, subst, arith, length-append}
 use Rattle.std.specs.Prelude.{Option, Some, None, All, Err, Ok}
-use Rattle.std.specs.List.{sum_by}
 use Rattle.std.specs.Option.{option_map}
 use Rattle.std.proofs.lemmas.Option.{same_Some}
 use Rattle.std.proofs.lemmas.List.{append-nil}
 use Rattle.std.proofs.lemmas.List.Sums.{sum_by_push}
 use Rattle.std.proofs.lemmas.List.Elements.{All-head, All-tail}
+use Rattle.std.proofs.lemmas.Bool.Decides.{nat_tests}
 use Rattle.kc_text.specs.declared.reason.Reason.TheVariants.{Header, LineLong, BadLine, BadVertex, TooMany, Truncated, InputLimit, EdgeLimit, PhaseLimit}
 use Rattle.kc_text.specs.Reading.{Reading}
 use Rattle.kc_text.specs.Writing.{IsPrefix}
@@ -27,7 +27,7 @@ use Rattle.kc_session.specs.declared.counts.Counts.{Counts}
 use Rattle.kc_session.specs.declared.report.Report.{Report}
 use Rattle.kc_session.specs.declared.fault.SessionFault.{SessionFault}
 use Rattle.kc_session.specs.private.Audiences.{longer}
-use Rattle.kc_session.specs.Counts.{capped, one_if, groups_of, moves_of, refused_in, all_groups, all_moves}
+use Rattle.kc_session.specs.Counts.{one_if, refused_in}
 use Rattle.kc_session.specs.private.Counts.{counts_of, counted}
 use Rattle.kc_session.specs.States.{Step, AreSteps, last_state, history_of, is_refused}
 use Rattle.kc_session.specs.RunText.{step_text, batch_lines}
@@ -92,10 +92,7 @@ lines_append : (report : Report) (k : ℕ) (s : State) (bs cs : List Next) (ts u
 lines_append report k s [] cs [] us a = let e : k ≡ k + 0 = omega arith in ap (λ j. batch_lines report j s cs us) e
 lines_append report k s [] cs (t ∷ ts) us a = absurd a
 lines_append report k s (b ∷ bs) cs [] us a = absurd a
-lines_append report k s (b ∷ bs) cs (t ∷ ts) us a =
-    let e : (k + 1) + length ts ≡ k + length (t ∷ ts) = omega arith in
-    let rest = subst (λ (j : ℕ). batch_lines report (k + 1) t.state (bs ++ cs) (ts ++ us) ≡ batch_lines report (k + 1) t.state bs ts ++ batch_lines report j (last_state t.state ts) cs us) e (lines_append report (k + 1) t.state bs cs ts us a.1) in
-    rw rest (sym (append_assoc (step_text report k s b t.phases) (batch_lines report (k + 1) t.state bs ts) _))
+lines_append report k s (b ∷ bs) cs (t ∷ ts) us a = grind (arith, nat_tests, lines_append report (k + 1) t.state bs cs ts us a.1, append_assoc, a.1)
 
 history_append : (ts us : List Step) → history_of (ts ++ us) ≡ history_of ts ++ history_of us
 history_append [] us = refl
@@ -114,18 +111,7 @@ refused_append s (b ∷ bs) cs [] us a = absurd a
 refused_append s (b ∷ bs) cs (t ∷ ts) us a = let rest = refused_append t.state bs cs ts us a.1 in omega (arith, rest)
 
 counts_step : (s : State) (bs : List Next) (ts : List Step) (b : Next) (t : Step) (old new : Counts) → AreSteps s bs ts → old ≡ counts_of s bs ts → new ≡ counted (last_state s ts) b t old → new ≡ counts_of s (bs ++ b ∷ []) (ts ++ t ∷ [])
-counts_step s bs ts b t old new a e f =
-    let batches : new.batches ≡ length (ts ++ t ∷ []) = ap (λ (c : Counts). c.batches) f ∙ (ap (λ (c : Counts). c.batches + 1) e ∙ sym (length-append ts (t ∷ []))) in
-    let more = refused_append s bs (b ∷ []) ts (t ∷ []) a in
-    let refused : new.refused ≡ refused_in s (bs ++ b ∷ []) (ts ++ t ∷ []) = (let x = ap (λ (c : Counts). c.refused) f in let y = ap (λ (c : Counts). c.refused) e in omega (arith, x, y, more)) in
-    let groups : new.groups ≡ capped (all_groups (ts ++ t ∷ [])) =
-    ap (λ (c : Counts). c.groups) f ∙ (capped_more (all_groups ts) (groups_of t.phases) old.groups (ap (λ (c : Counts). c.groups) e) ∙ ap capped (sym (push_of (λ (u : Step). groups_of u.phases) ts t))) in
-    let moves : new.moves ≡ capped (all_moves (ts ++ t ∷ [])) =
-    ap (λ (c : Counts). c.moves) f ∙ (capped_more (all_moves ts) (moves_of t.phases) old.moves (ap (λ (c : Counts). c.moves) e) ∙ ap capped (sym (push_of (λ (u : Step). moves_of u.phases) ts t))) in
-    counts_same new (counts_of s (bs ++ b ∷ []) (ts ++ t ∷ [])) batches refused groups moves
-  where
-    push_of : (f : Step → ℕ) (ts : List Step) (t : Step) → sum_by f (ts ++ t ∷ []) ≡ sum_by f ts + f t
-    push_of f ts t = sum_by_push f ts t
+counts_step s bs ts b t old new a e f = grind (arith, nat_tests, length-append, refused_append, capped_more, counts_same, sum_by_push)
 
 -- the first batches were run; bs are the others, and s is the state before them
 pub record Leads (report : Report) (s0 : State) (bs0 : List Next) (s : State) (bs : List Next) (before now : Option (List ℕ)) (h i : Option (List Entry)) (counts : Counts) : Type 0 where
@@ -234,10 +220,7 @@ pub told_last : (report : Report) (s0 : State) (told0 : Option (List Next)) (s t
 told_last report s0 None s t next old new before now later h i j counts more e l d w = tt
 told_last report s0 (Some bs0) s t next None new before now later h i j counts more e l d w = absurd d
 told_last report s0 (Some bs0) s t next (Some bs) None before now later h i j counts more e l d w = absurd cc
-told_last report s0 (Some bs0) s t next (Some bs) (Some rest) before now later h i j counts more e l d w =
-    let same : bs ≡ next ∷ [] = same_Some _ _ e ∙ none_follow next rest l in
-    leads_end report s0 bs0 t before later h j more
-    (leads_step report s0 bs0 s t next [] before now later h i j counts more (subst (λ (xs : List Next). Leads report s0 bs0 s xs before now h i counts) same d) w)
+told_last report s0 (Some bs0) s t next (Some bs) (Some rest) before now later h i j counts more e l d w = grind (arith, nat_tests, same_Some, none_follow, leads_end, leads_step)
 
 -- there are no more batches
 pub told_end : (report : Report) (s0 : State) (told0 : Option (List Next)) (s : State) (next : Next) (old new : Option (List Next)) (before now : Option (List ℕ)) (h i : Option (List Entry)) (counts : Counts)

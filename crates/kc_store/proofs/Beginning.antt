@@ -1,5 +1,6 @@
 -- A phase begins: the groups of the last one are all published.
 use Rattle.std.proofs.Common.{◌≡◌, ℕ, ◌+◌, ◌*◌, ◌^◌, ◌<◌, ◌≤◌, List, [], ◌∷◌, ◌++◌, length, Some, None, if◌then◌else◌, set, get_or, sym, ap, ◌∙◌, subst, arith, length-set, get_or-set_same, get_or-set_other}
+use Rattle.std.proofs.lemmas.Bool.Decides.{nat_tests}
 use Rattle.kc_words.specs.declared.marks.Mark.{Mark}
 use Rattle.kc_words.specs.Packed.{unpacked}
 use Rattle.kc_history.specs.declared.limits.TheConstants.{MAX_PHASE}
@@ -29,17 +30,7 @@ module _ (n : ℕ) (log : List Entry) (quiet : Entry) (groups : List Entry) (p :
 
   all_on : (es : List Entry) → AllWait n (p + 1) log es → AllWait n (p + 1) (log ++ quiet ∷ []) es
   all_on [] all = tt
-  all_on (e ∷ es) all = (
-    record {
-      phase_is = all.0.phase_is;
-      label = all.0.label;
-      label_is = all.0.label_is;
-      label_in = all.0.label_in;
-      older = subst (λ (k : ℕ). k < p + 1) (sym (same_stamp all.0.label)) all.0.older;
-      moves = λ v m is. let h = all.0.moves v m is in (h.0, same_level v ∙ h.1, h.2);
-    },
-    all_on es all.1,
-  )
+  all_on (e ∷ es) all = grind (arith, nat_tests, all_on es all.1, same_stamp, same_level, all.0.phase_is, all.0.label, all.0.label_is, all.0.label_in, all.0.older, all.0.moves, all.1)
 
   old_stays : (ws : List ℕ) (v : ℕ) → get_or (set ws 0 (p + 1)) (2 * n + 1 + v) 0 ≡ get_or ws (2 * n + 1 + v) 0
   old_stays ws v = get_or-set_other ws 0 (2 * n + 1 + v) (p + 1) 0 (λ x. omega arith)

@@ -26,11 +26,7 @@ use Rattle.kc_store.proofs.Phases.{no_marks}
 use Rattle.kc_store.proofs.Seats.{seats_stay, own_set, reader_step}
 
 zero_fits : (n v k o p : ℕ) → 0 < n → k ≡ 0 → Fits n [] [] p v (unpacked k) o
-zero_fits n v k o p some_vertex is = subst (λ (z : ℕ). Fits n [] [] p v (unpacked z) o) (sym is) record {
-  label_in = some_vertex;
-  shown = λ le. refl;
-  unpublished = λ lt. absurd (omega (arith, lt));
-}
+zero_fits n v k o p some_vertex is = grind (arith, nat_tests)
 
 pub opens : (n p : ℕ) (ws : List ℕ) → 1 ≤ n → n ≤ MAX_VERTICES → p ≤ MAX_PHASE → length ws ≡ 3 * n + 1 → get_or ws 0 0 ≡ p → ((i : ℕ) → 0 < i → i < length ws → get_or ws i 0 ≡ 0) → IsKept n (opening ws [] (first_role n p))
 opens n p ws some_vertex small short sized head zeros = record {
@@ -167,11 +163,7 @@ listed_first : (l : Loan) (ls : List Loan) → Contains (l ∷ ls) l
 listed_first l ls = (0, omega arith, refl)
 
 listed_cases : (l x : Loan) (ls : List Loan) → Contains (l ∷ ls) x → (l ≡ x) ⊎ Contains ls x
-listed_cases l x ls on = go on.0 on.1 on.2
-  where
-    go : (k : ℕ) → k < length (l ∷ ls) → get_or (l ∷ ls) k x ≡ x → (l ≡ x) ⊎ Contains ls x
-    go Rattle.std.proofs.Common.zero lt is = inl is
-    go (Rattle.std.proofs.Common.suc k) lt is = inr (k, omega (arith, lt), is)
+listed_cases l x ls on = grind (arith, nat_tests, on.0, on.1, on.2)
 
 others_lent : (n g from to : ℕ) (d : WriterState) (writer : ℕ) (ws : List ℕ) (j : ℕ) (v : Role) → j ≢ writer → SeatHolds n d writer ws j v → SeatHolds n (with_loan g from to d) writer ws j v
 others_lent n g from to d writer ws j Spent o k = tt

@@ -1,5 +1,6 @@
 -- A published group keeps what the rule says of the words, and of each pass between its loads.
 use Rattle.std.proofs.Common.{◌≡◌, ◌≢◌, ◌⊎◌, ℕ, ◌+◌, ◌*◌, ◌^◌, ◌<◌, ◌≤◌, List, [], ◌∷◌, ◌++◌, length, Option, Some, None, set, get_or, sym, refl, ap, ◌∙◌, subst, inl, inr, ⊎_elim, arith, length-set, get_or-set_same, get_or-set_other, lt_of_not-le}
+use Rattle.std.proofs.lemmas.Bool.Decides.{nat_tests}
 use mathlib.Core.Logic.{dite}
 use native.Mathlib.Decide.{ℕ_discrete, dec_le}
 use Rattle.kc_words.specs.declared.marks.Mark.{Mark}
@@ -9,7 +10,6 @@ use Rattle.kc_history.specs.Ends.{last_move}
 use Rattle.kc_history.specs.private.Ends.{stamp_of}
 use Rattle.kc_store.specs.declared.roles.Pending.{Pending}
 use Rattle.kc_store.specs.Plans.{Move}
-use Rattle.kc_store.specs.private.Plans.{group_of}
 use Rattle.kc_store.specs.private.Rule.{Waits, ApartFrom, IsUnpublished, Fits, Facts, Reaches, LookHolds, BelowHolds}
 use Rattle.kc_store.proofs.Points.{stamp_same, stamp_other, level_moved, level_stays, group_here, group_past, before_more, before_itself, reading_more, reaches_more, apart_found, wait_on}
 
@@ -26,12 +26,7 @@ maybe_cases (Some a) = inr (a, refl)
 module _ (n : ℕ) (log : List Entry) (e : Entry) (es : List Entry) (p : ℕ) (w : Waits n p log e) where
   -- a vertex that the group doesn't move has no mark of the group
   no_move : (v : ℕ) (u : Mark) (o : ℕ) → last_move v e.moves ≡ None → u.label ≡ w.label → IsUnpublished log (e ∷ es) p v u o → ⊥
-  no_move v u o none same y =
-      let here : group_of u.label (e ∷ es) ≡ Some e = group_here e es u.label (w.label_is ∙ ap Some (sym same)) in
-      let one : Some e ≡ Some y.group = sym here ∙ y.group_is in
-      let is : e ≡ y.group = cc in
-      let moves : last_move v e.moves ≡ Some y.move = subst (λ (x : Entry). last_move v x.moves ≡ Some y.move) (sym is) y.move_is in
-      let both : None ≡ Some y.move = sym none ∙ moves in cc
+  no_move v u o none same y = grind (arith, nat_tests, group_here, y.group_is, y.move_is)
 
   unpublished_on : (v : ℕ) (u : Mark) (o : ℕ) → last_move v e.moves ≡ None → u.label ≢ w.label → IsUnpublished log (e ∷ es) p v u o → IsUnpublished (log ++ e ∷ []) es p v u o
   unpublished_on v u o none other y = record {
@@ -51,10 +46,7 @@ module _ (n : ℕ) (log : List Entry) (e : Entry) (es : List Entry) (p : ℕ) (w
     shown = λ le. level_stays log e v none ∙ dite (ℕ_discrete u.label w.label)
         (λ same. dite (dec_le u.phase (stamp_of 0 log u.label)) (λ old. f.shown old) (λ late. absurd (no_move v u o none same (f.unpublished (lt_of_not-le late)))))
         (λ other. f.shown (subst (λ (k : ℕ). u.phase ≤ k) (stamp_other log e u.label w.label w.label_is other) le));
-    unpublished = λ lt. dite (ℕ_discrete u.label w.label)
-        (λ same. let s = stamp_same log e u.label (w.label_is ∙ ap Some (sym same)) in let b = below u.label in let k = w.phase_is in
-        let y = f.unpublished (omega arith) in let q = y.phase_is in absurd (omega arith))
-        (λ other. unpublished_on v u o none other (f.unpublished (subst (λ (k : ℕ). k < u.phase) (stamp_other log e u.label w.label w.label_is other) lt)));
+    unpublished = λ lt. grind (arith, nat_tests, stamp_same, unpublished_on, stamp_other, f.unpublished);
   }
 
   fits_moved : (v : ℕ) (m : Move) (o : ℕ) → last_move v e.moves ≡ Some m → Fits n (log ++ e ∷ []) es p v (mark m.new w.label p) o

@@ -1,5 +1,6 @@
 -- The steps of writer and markers that store a word of a vertex keep the rule.
 use Rattle.std.proofs.Common.{◌≡◌, ◌≢◌, ℕ, pred, ◌+◌, ◌*◌, ◌^◌, ◌<◌, ◌≤◌, true, false, List, [], ◌∷◌, ◌++◌, Some, Contains, set, get_or, sym, refl, ap, ◌∙◌, subst, ⊎_elim, arith}
+use Rattle.std.proofs.lemmas.Bool.Decides.{nat_tests}
 use mathlib.Core.Option.{some}
 use lib.ListN.{get_elem?}
 use lib.Seq.{set-get_or}
@@ -32,11 +33,7 @@ seats_stay K K' vs me w mine others all j v e = ⊎_elim (λ (t : (j ≡ me) × 
     (λ (t : (j ≢ me) × (get_elem? vs j ≡ some v)). others j v t.0 (all j v t.1)) (at_set vs me j w v e)
 
 pub own_set : (vs : List Role) (id : ℕ) (v w : Role) → get_elem? vs id ≡ some v → ((k : ℕ) → number_of w ≡ Some k → number_of v ≡ Some k) → AreOwnLoans vs → AreOwnLoans (set vs id w)
-own_set vs id v w at same all i j k a b ai bj na nb = let x = was i a ai na in let y = was j b bj nb in all i j k x.0 y.0 x.1 y.1 x.2 y.2
-  where
-    was : (i : ℕ) (a : Role) → get_elem? (set vs id w) i ≡ some a → number_of a ≡ Some k → (c : Role) × (get_elem? vs i ≡ some c) × (number_of c ≡ Some k)
-    was i a ai na = ⊎_elim (λ (t : (i ≡ id) × (w ≡ a)). (v, ap (get_elem? vs) t.0 ∙ at, same k (ap number_of t.1 ∙ na)))
-        (λ (t : (i ≢ id) × (get_elem? vs i ≡ some a)). (a, t.1, na)) (at_set vs id i w a ai)
+own_set vs id v w at same all i j k a b ai bj na nb = grind (arith, nat_tests, ⊎_elim, at_set)
 
 -- a step of the writer, which goes from its state d to d'
 pub writer_step : (n : ℕ) (s : State ℕ Role) (r : IsKept n s) (id i x : ℕ) (d d' : WriterState) → get_elem? s.views id ≡ some (Writes d) → (WriterHolds n d s.words → WriterHolds n d' (set s.words i x))

@@ -60,16 +60,7 @@ pub gives_line : (limit n room : ℕ) (piece ready : List ℕ) (ended : Bool) (w
     → Gives (record { number = n; body = body }) (record { limit = limit; number = n; room = room; piece = piece; ready = ready; ended = ended })
     (record { limit = limit; number = n + 1; room = room'; piece = piece'; ready = ready'; ended = ended })
 unfolding scan_lines
-gives_line limit n room piece ready ended within at body room' piece' ready' w1 w2 f e er ep ed =
-    let lt = f.below in
-    record {
-      lines = λ bs.
-          let more = if ended then [] else bs in
-          rw (e, ep, ed, behind_line) (closed limit n room room' piece ready (take at ready) (drop (at + 1) ready) more (cut_at ready at (omega arith) f.here) (omega (arith, length-take-le at ready (omega arith))) f.before);
-      takes = rw (e, ep) (takes_line limit (piece ++ take at ready) _ _ (omega arith));
-      last = λ h. absurd (not_last limit _ (subst IsLast e h));
-      settled = λ h. absurd (not_last limit _ (subst IsLast e h));
-    }
+gives_line limit n room piece ready ended within at body room' piece' ready' w1 w2 f e er ep ed = grind (arith, nat_tests, behind_line, closed, cut_at, length-take-le, takes_line, not_last, f.below, f.here, f.before)
 
 -- the lines of a rest that is longer than the room, with no end within it
 limited : (limit n room : ℕ) (piece c d more : List ℕ) → room ≡ length c → HasNoEnd c → 0 < length d → lines_from limit n room piece ((c ++ d) ++ more) ≡ at_limit n

@@ -1,6 +1,6 @@
 -- Lines of two numbers that are read in one pass.
 use Rattle.std.proofs.Common.{ℕ, zero, suc, ◌+◌, ◌-◌, ◌<◌, ◌≤◌, ◌≡◌, Bool, true, false, List, [], ◌∷◌, ◌++◌, length, take, drop, refl, sym, ap, subst, ◌∙◌, arith, get_or, inl, inr}
-use Rattle.std.specs.Prelude.{Option, Some, None, IfNone, min, is_some, ◌==◌, if◌then◌else◌}
+use Rattle.std.specs.Prelude.{Option, Some, None, IfNone, is_some, ◌==◌, if◌then◌else◌}
 use Rattle.std.specs.List.{list_all, slice_range}
 use Rattle.std.proofs.lemmas.Bool.{cases_lt}
 use Rattle.std.proofs.lemmas.Bool.Decides.{nat_tests}
@@ -121,10 +121,7 @@ blank_stops : (b : ℕ) → is_blank b ≡ true → is_digit b ≡ false
 blank_stops b e = grind (arith, nat_tests, e)
 
 close_stops : (bytes : List ℕ) (end len : ℕ) → ClosesAt bytes end len → StopsAt bytes end
-close_stops bytes end len c = elim (cases_lt end len) [
-  | inl more ↦ rw (c.before more) refl
-  | inr none ↦ let at : end ≡ len = omega (arith, c.after) in rw (at, c.here) refl
-]
+close_stops bytes end len c = grind (arith, nat_tests, c.before, c.after, c.here)
 
 -- the first number stands where digits were found
 there : (bytes : List ℕ) (start value middle first second len : ℕ) → DigitsTo bytes start value middle → StopsAt bytes middle → (s : NumbersStand bytes start first second len) → s.middle ≡ middle
@@ -175,23 +172,14 @@ goes bytes n l e =
     rw (length-take-le (n + 1) bytes (omega arith), m, get_or-take (n + 1) bytes n 0 (omega arith), e) (take-take n (n + 1) bytes (omega arith))
 
 text_is : (bytes : List ℕ) (end len : ℕ) → 0 < end → ClosesAt bytes end len → is_plain (get_or bytes (end - 1) 0) ≡ true → without_cr (take len bytes) ≡ take end bytes
-text_is bytes end len h c p = elim (cases_lt end len) [
-  | inl more ↦ let at : len ≡ end + 1 = omega (arith, c.near) in rw at (goes bytes end (omega (arith, c.within)) (c.before more))
-  | inr none ↦ let at : len ≡ end = omega (arith, c.after) in rw at (stays bytes end h (omega (arith, c.within, at)) (plain_no_cr _ p))
-]
+text_is bytes end len h c p = grind (arith, nat_tests, goes, stays, plain_no_cr, c.near, c.within, c.before, c.after)
 
 -- a line ends where the numbers after its front do
 pub line_ends : (bytes : List ℕ) (front : List (List ℕ) → List (List ℕ)) (start first second len : ℕ) → BeginsAt bytes front start → NumbersTo bytes start first second len → EndsAt bytes len
 line_ends bytes front start first second len b n = record {
   within = n.closes.within;
   here = n.closes.here;
-  before = λ k lt. elim (cases_lt k start) [
-    | inl before ↦ b.plain k before
-    | inr back ↦ elim (cases_lt k n.end) [
-      | inl number ↦ plain_no_end _ (n.plain k back number)
-      | inr cr ↦ let at : k ≡ n.end = omega (arith, n.closes.near) in rw at (cr_no_end _ (n.closes.before (omega (arith, at, lt))))
-    ]
-  ];
+  before = λ k lt. grind (arith, nat_tests, plain_no_end, cr_no_end, b.plain, n.end, n.plain, n.closes.near, n.closes.before);
 }
 
 -- the words of the line are those of the front and the two numbers
@@ -271,26 +259,7 @@ pub record Standing (bytes : List ℕ) (end start first second len : ℕ) : Type
   pub numbers : NumbersStand bytes start first second len
 
 pub numbers_in : (bytes : List ℕ) (end len start first second : ℕ) → ClosesAt bytes end len → EndsInNumbers (take end bytes) start first second → Standing bytes end start first second len
-numbers_in bytes end len start first second c t =
-    let l = length-take-le end bytes (omega (arith, c.after, c.within)) in
-    let w = number_has (slice_range (take end bytes) start t.middle) first t.one in
-    let n : length (slice_range (take end bytes) start t.middle) ≡ min (t.middle - start) (length (take end bytes) - start) = simp (length-take, length-drop) refl in
-    let some : start < t.middle = omega (arith, w.some, n) in
-    let inside : t.middle < end = elim (cases_lt t.middle end) [
-      | inl less ↦ less
-      | inr past ↦ absurd (no_blank_past _ (get_or_past (take end bytes) t.middle 0 (omega (arith, l, past))) t.blank)
-    ] in
-    record {
-      after = omega (arith, some, inside);
-      numbers = record {
-        middle = t.middle;
-        end = end;
-        one = digits_of bytes start t.middle first (omega (arith, some)) (omega (arith, inside, c.after, c.within)) (rw (range_take end bytes start t.middle (omega (arith, some)) (omega (arith, inside))) at t.one);
-        blank = rw (get_or-take end bytes t.middle 0 inside) at t.blank;
-        two = digits_of bytes (t.middle + 1) end second (omega (arith, inside)) (omega (arith, c.after, c.within)) (rw (drop_range end bytes (t.middle + 1) (omega (arith, inside))) at t.two);
-        closes = c;
-      };
-    }
+numbers_in bytes end len start first second c t = grind (arith, nat_tests, length-take-le, number_has, length-take, length-drop, no_blank_past, get_or_past, numbers, digits_of, range_take, get_or-take, drop_range, c.after, c.within, t.middle, t.one, t.blank, t.two)
 
 -- the places of the parts of a line of two numbers
 record Stands (bytes : List ℕ) (sign : Option Sign) (first second len : ℕ) : Type 0 where

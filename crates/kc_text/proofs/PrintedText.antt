@@ -30,9 +30,6 @@ no_blank (b ∷ w) e =
     let p = and_parts (nat_lt 32 b) (list_all (λ x. nat_lt 32 x) w) e in
     All-cons (λ x. is_blank x ≡ false) b w (not_blank b p.0) (no_blank w p.1)
 
-nothing_blank : HasNoBlank []
-nothing_blank = All-nil (λ b. is_blank b ≡ false)
-
 last_word : (w : List ℕ) → is_word w ≡ true → words w ≡ w ∷ []
 last_word [] e = absurd cc
 last_word (x ∷ xs) e = are_longest_runs.last [] x xs (All-nil (λ b. is_blank b ≡ true)) (no_blank (x ∷ xs) (and_parts _ _ e).1)

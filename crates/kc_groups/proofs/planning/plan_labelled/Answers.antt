@@ -1,4 +1,4 @@
-use Rattle.std.proofs.Common.{◌≡◌, [], length, ap, sym, ◌∙◌, arith}
+use Rattle.std.proofs.Common.{[], ap, sym, ◌∙◌, arith}
 use Rattle.kc_groups.specs.Gathering.{clean, AreInOrder}
 use Rattle.kc_groups.specs.private.Gathering.{is_mover}
 use Rattle.kc_groups.specs.Links.{AreLabels}
