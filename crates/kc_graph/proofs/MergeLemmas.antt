@@ -141,11 +141,33 @@ module _ (row : List ℕ) (hs : List Pair) (items : List ℕ) (i j at : ℕ) (up
 
     -- a number of the row that is above all that are left of those that come in
     pub merging_old : (get_or hs j' (0, 0)).1 < get_or row i' 0 → IsMerging row hs (set items at' (get_or row i' 0)) i' j at'
-    merging_old above = grind (arith, nat_tests, merging_next, below, last_old, s.fits)
+    merging_old above = merging_next row hs items i j at s i' j at' (get_or row i' 0) at_is (omega arith) (omega arith) (omega (arith, s.fits))
+        (λ low old new. old i' (omega arith))
+        below
+        (λ m e. let f : m ≡ j' = omega arith in rw f above)
+        (λ x. rw last_old (regroup (has_number x (take i' row)) (has_second x (take j hs)) (eqb (get_or row i' 0) x)))
+      where
+        regroup : (a b c : Bool) → ((a || b) || c) ≡ ((a || c) || b)
+        regroup true b c = refl
+        regroup false true true = refl
+        regroup false true false = refl
+        regroup false false true = refl
+        regroup false false false = refl
 
     -- a number of the row that comes in too
     pub merging_both : (get_or hs j' (0, 0)).1 ≡ get_or row i' 0 → IsMerging row hs (set items at' (get_or row i' 0)) i' j' at'
-    merging_both both = grind (arith, nat_tests, merging_next, below, rises_up_to, last_old, last_two, s.fits)
+    merging_both both = merging_next row hs items i j at s i' j' at' (get_or row i' 0) at_is (omega arith) (omega arith) (omega (arith, s.fits))
+        (λ low old new. old i' (omega arith))
+        below
+        (λ m e. rw (← both) (rises_up_to m e))
+        (λ x. rw (last_old, last_two, both) (regroup (has_number x (take i' row)) (has_second x (take j' hs)) (eqb (get_or row i' 0) x)))
+      where
+        regroup : (a b c : Bool) → ((a || b) || c) ≡ ((a || c) || (b || c))
+        regroup true b c = refl
+        regroup false true true = refl
+        regroup false true false = refl
+        regroup false false true = refl
+        regroup false false false = refl
 
 module _ (row : List ℕ) (hs : List Pair) (items : List ℕ) (i at : ℕ) (up : RisesFrom 0 row) (s : IsMerging row hs items i 0 at) where
   left : take i items ≡ take i row
