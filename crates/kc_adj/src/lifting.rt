@@ -45,6 +45,7 @@ impl<'a> Lift<'a> {
         requires over { IsBelow graph.now.vertices old.now new.now }
         ensures { result ≡ record { graph = graph.now; old = old.now; new = new.now } }
     {
+        // Evidence for the check: the edges of the graph ascend, and its vertices are at most `MAX_VERTICES`.
         let _n = graph.vertices();
         Lift {
             graph,

@@ -217,6 +217,7 @@ fn copy_row(ranges: &mut Ranges, fresh: Counted<'_>, v: u32)
     ensures { IsRowCopied fresh.entry v ranges.old ranges.new }
 {
     let counts = fresh.counts;
+    // Evidence for the check: the vertices of the graph are at most `MAX_VERTICES`.
     let _n = fresh.graph.vertices();
     ranges.set(v, counts[v as usize]);
     for w in fresh.graph.neighbours(v) {

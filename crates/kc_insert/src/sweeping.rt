@@ -28,6 +28,7 @@ fn end_of_band(th: &Thresholds, low: u16, high: u16) -> u16
     ensures within { result ≤ high }
     ensures same { (k : ℕ) → low ≤ k → k < result → group_of th.now.profile th.now.vertices k ≡ group_of th.now.profile th.now.vertices low }
 {
+    // Evidence for the check: a graph has a vertex.
     let _top = th.top();
     let band = th.group(low);
     // The last level of the band below `high` is between these two.
@@ -58,6 +59,7 @@ fn rise_together(scaled: Scaled<'_>, sweep: &mut Sweep) -> bool
     ensures inside { sweep.new.levels.level < top_of scaled.entry }
     ensures running { HasLimit (most_at scaled.entry sweep.old) sweep.old.ranges → (now : ℕ) → StaysRunning scaled.entry now now sweep.old sweep.new }
 {
+    // Evidence for the check: the edges of the graph ascend.
     let _n = scaled.graph.vertices();
     let limit = sweep.free_level(scaled.th);
     let level = sweep.levels.level;
@@ -97,6 +99,8 @@ fn raise_level<R: Threads + Sync, G: Gate + Sync>(
 {
     let graph = scaled.graph;
     let th = scaled.th;
+    // Evidence for the check: the edges of the graph ascend, its vertices are at most `MAX_VERTICES`, and the top is
+    // below 65,535.
     let _n = graph.vertices();
     let _top = th.top();
     let level = sweep.levels.level;
@@ -155,6 +159,7 @@ pub fn raise_queued<R: Threads + Sync, G: Gate + Sync, L: Ledger>(
     requires { CanSweep scaled.th.now.profile scaled.graph.now sweep.old.levels.stored sweep.old.ranges }
     ensures { OnOk result (HasSwept scaled.entry sweep.old.levels.stored steps.old steps.new sweep.new) }
 {
+    // Evidence for the check: a graph has a vertex.
     let _n = scaled.graph.vertices();
     let top = scaled.th.top();
     sweep.levels.go_to(0);
