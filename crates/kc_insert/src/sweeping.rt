@@ -1,5 +1,5 @@
 //! One sweep over the levels, from the lowest up. At each level, every vertex with more neighbours at or above it than
-//! its group allows rises.
+//! its band allows rises.
 
 ghost use Rattle.std.specs.Prelude.{◌≡◌, ◌+◌, ◌<◌, ◌≤◌, ℕ, false, All, IfOk, OnOk, filter, length};
 ghost use Rattle.std.specs.Bool.{OnTrue};
@@ -49,7 +49,7 @@ fn end_of_band(th: &Thresholds, low: u16, high: u16) -> u16
 // list has a vertex, or if a vertex waits or is met on the way.
 //
 // Rising vertices count each other on each of the levels, and all other neighbours that they count are above. So no
-// count changes, and in a group each of them goes on where all went on before.
+// count changes, and in a band each of them goes on where all went on before.
 fn rise_together(scaled: Scaled<'_>, sweep: &mut Sweep) -> bool
     requires room { sweep.old.levels.level < top_of scaled }
     requires waiting { All (λ p. sweep.old.levels.level ≤ length p.queue) sweep.old.ranges.parts }
