@@ -181,6 +181,7 @@ pub fn par_lift_counts<R: Threads + Sync, L: Ledger>(
         return Ok(());
     }
     let alloc = crew.alloc;
+    // Evidence for the check: the edges of the graph ascend.
     let _n = lift.graph.vertices();
     let found = thread::map_chunks(
         crew.rt,

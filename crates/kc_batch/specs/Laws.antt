@@ -103,4 +103,4 @@ pub record PassesOver : Type 0 where
   pub input_ends : among_three (codes "0 1\n0 2\n") ≡ plain 3 (Refused 3 BadLine ∷ [])
   pub limit_between : input_of 65536 33 9 (codes "kcore 1\nvertices 3\nbatch\nend\nbatch\n") ≡ plain 3 (whole [] 4 ∷ Refused 5 InputLimit ∷ [])
   pub limit_within : input_of 65536 26 9 (codes "kcore 1\nvertices 3\nbatch\n0 1\nend\n") ≡ plain 3 (Refused 4 InputLimit ∷ [])
-  pub limit_behind_fault : input_of 65536 31 9 (codes "kcore 1\nvertices 3\nbatch\n0 1 2\n0 1\nend\n") ≡ plain 3 (Refused 4 BadLine ∷ Refused 5 InputLimit ∷ [])
+  pub limit_after_fault : input_of 65536 31 9 (codes "kcore 1\nvertices 3\nbatch\n0 1 2\n0 1\nend\n") ≡ plain 3 (Refused 4 BadLine ∷ Refused 5 InputLimit ∷ [])

@@ -98,6 +98,7 @@ pub fn delete_phase<R: Threads + Sync, G: Gate + Sync, L: Ledger>(
     ensures moves { IfOk result (λ moves. moves ≡ moves_between adj.new.graph.vertices adj.old.levels adj.new.levels) }
     ensures ready { OnOk result (IsReady adj.new work.new) }
 {
+    // Evidence for the check: the edges of the graph ascend, and each vertex has a level.
     let _n = adj.graph().vertices();
     let _levels = adj.levels();
     let crew = Crew::new(rounds.runtime(), rounds.alloc(), rounds.workers());
@@ -130,6 +131,7 @@ pub fn delete_rounds<R: Threads + Sync, G: Gate + Sync, L: Ledger>(
     ensures lowered { OnOk result (IsLowered th.now.profile adj.new.graph adj.old.levels adj.new.levels) }
     ensures moves { IfOk result (λ tally. tally.moves ≡ moved_count adj.new.graph.vertices adj.old.levels adj.new.levels) }
 {
+    // Evidence for the check: the vertices of the graph are at most `MAX_VERTICES`.
     let _n = adj.graph().vertices();
     let mut work = DeletionWork::new(alloc, adj)?;
     let rounds = Rounds::new(rt, alloc, gate, workers);

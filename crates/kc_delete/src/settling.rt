@@ -30,6 +30,7 @@ pub fn add_if_short(capped: Capped<'_>, v: u32, waiting: &mut Waiting) -> Result
     ensures looked { OnOk result (WaitsOrMeetsIn capped.entry waiting.new v) }
 {
     let Capped { adj, th } = capped;
+    // Evidence for the check: the top is below 65,535.
     let _top = th.top();
     if is_short(capped, v) && !waiting.has(v) {
         waiting.add(v, adj.desired(th, v))?;

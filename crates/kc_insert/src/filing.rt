@@ -21,7 +21,7 @@ use std::marker::Model;
 use std::thread;
 use std::thread::Threads;
 
-// From one edge for each so many vertices on, all vertices are looked at and not the ends of the edges.
+// If there is an edge for every fourth vertex, a pass over all vertices replaces the look at each edge's ends.
 const LEAST_SHARE: usize = 4;
 
 /// What ranges follow when a phase begins. Contracts see it as a `Following`.
@@ -43,8 +43,8 @@ impl<'a> Model for Fresh<'a> {
     ghost view = { λ f. record { profile = f.th.now.profile; vertices = f.th.now.vertices; levels = f.levels.now; counts = f.counts.now } };
 }
 
-// Gives v its fresh count. Files v on its level if the count changed and is over the limit of its band. Fails only if
-// memory runs out.
+// Copies the count of v. If it changed and is over the band's limit, files v on its level. Fails only if memory runs
+// out.
 fn follow_count(
     fresh: &Fresh<'_>,
     v: u32,
@@ -173,7 +173,7 @@ fn file_all<R: Threads + Sync>(
     Ok(())
 }
 
-/// Copies the fresh counts of the ends of the edges. An end whose count changed, and is more than its group allows, is
+/// Copies the fresh counts of the ends of the edges. An end whose count changed, and is more than its band allows, is
 /// filed once, by its level. If there is an edge for every fourth vertex or more, looks at all vertices, by threads if
 /// there are ranges. Fails only if memory runs out.
 pub fn file_ends<R: Threads + Sync, G: Gate + Sync>(
@@ -217,6 +217,7 @@ fn copy_row(ranges: &mut Ranges, fresh: Counted<'_>, v: u32)
     ensures { IsRowCopied fresh.entry v ranges.old ranges.new }
 {
     let counts = fresh.counts;
+    // Evidence for the check: the vertices of the graph are at most `MAX_VERTICES`.
     let _n = fresh.graph.vertices();
     ranges.set(v, counts[v as usize]);
     for w in fresh.graph.neighbours(v) {

@@ -34,7 +34,7 @@ pub struct Sweep {
 pub struct Over<'a> {
     /// What each vertex counts.
     pub ranges: &'a Ranges,
-    /// How many the group of the sweep's level allows.
+    /// How many neighbours the band of the sweep's level allows.
     pub most: u32,
 }
 

@@ -1,5 +1,5 @@
 //! One sweep over the levels, from the lowest up. At each level, every vertex with more neighbours at or above it than
-//! its group allows rises.
+//! its band allows rises.
 
 ghost use Rattle.std.specs.Prelude.{◌≡◌, ◌+◌, ◌<◌, ◌≤◌, ℕ, false, All, IfOk, OnOk, filter, length};
 ghost use Rattle.std.specs.Bool.{OnTrue};
@@ -28,6 +28,7 @@ fn end_of_band(th: &Thresholds, low: u16, high: u16) -> u16
     ensures within { result ≤ high }
     ensures same { (k : ℕ) → low ≤ k → k < result → group_of th.now.profile th.now.vertices k ≡ group_of th.now.profile th.now.vertices low }
 {
+    // Evidence for the check: a graph has a vertex.
     let _top = th.top();
     let band = th.group(low);
     // The last level of the band below `high` is between these two.
@@ -48,7 +49,7 @@ fn end_of_band(th: &Thresholds, low: u16, high: u16) -> u16
 // list has a vertex, or if a vertex waits or is met on the way.
 //
 // Rising vertices count each other on each of the levels, and all other neighbours that they count are above. So no
-// count changes, and in a group each of them goes on where all went on before.
+// count changes, and in a band each of them goes on where all went on before.
 fn rise_together(scaled: Scaled<'_>, sweep: &mut Sweep) -> bool
     requires room { sweep.old.levels.level < top_of scaled }
     requires waiting { All (λ p. sweep.old.levels.level ≤ length p.queue) sweep.old.ranges.parts }
@@ -58,6 +59,7 @@ fn rise_together(scaled: Scaled<'_>, sweep: &mut Sweep) -> bool
     ensures inside { sweep.new.levels.level < top_of scaled.entry }
     ensures running { HasLimit (most_at scaled.entry sweep.old) sweep.old.ranges → (now : ℕ) → StaysRunning scaled.entry now now sweep.old sweep.new }
 {
+    // Evidence for the check: the edges of the graph ascend.
     let _n = scaled.graph.vertices();
     let limit = sweep.free_level(scaled.th);
     let level = sweep.levels.level;
@@ -97,6 +99,8 @@ fn raise_level<R: Threads + Sync, G: Gate + Sync>(
 {
     let graph = scaled.graph;
     let th = scaled.th;
+    // Evidence for the check: the edges of the graph ascend, its vertices are at most `MAX_VERTICES`, and the top is
+    // below 65,535.
     let _n = graph.vertices();
     let _top = th.top();
     let level = sweep.levels.level;
@@ -155,6 +159,7 @@ pub fn raise_queued<R: Threads + Sync, G: Gate + Sync, L: Ledger>(
     requires { CanSweep scaled.th.now.profile scaled.graph.now sweep.old.levels.stored sweep.old.ranges }
     ensures { OnOk result (HasSwept scaled.entry sweep.old.levels.stored steps.old steps.new sweep.new) }
 {
+    // Evidence for the check: a graph has a vertex.
     let _n = scaled.graph.vertices();
     let top = scaled.th.top();
     sweep.levels.go_to(0);

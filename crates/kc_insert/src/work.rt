@@ -65,6 +65,7 @@ impl InsertionWork {
         requires scale { th.now.vertices ≡ adj.now.graph.vertices }
         ensures { IfOk result (λ work. IsReady th.now.profile adj.now work) }
     {
+        // Evidence for the check: the vertices of the graph are at most `MAX_VERTICES`.
         let _n = adj.graph().vertices();
         Ok(InsertionWork {
             sweep: Sweep {
@@ -89,6 +90,7 @@ impl InsertionWork {
         requires moves { All (λ m. m.vertex < adj.now.graph.vertices) moves.now }
         ensures { StaysReady adj.now removed.now moves.now self.old self.new }
     {
+        // Evidence for the check: each vertex has a level.
         let _levels = adj.levels();
         let fresh = Counted {
             graph: adj.graph(),
@@ -117,6 +119,7 @@ pub fn take_moves<R: Threads + Sync, G: Gate + Sync, L: Ledger>(
     ensures forgot { OnOk result (Forgot sweep.old.ranges sweep.new.ranges) }
     ensures cost { OnOk result (steps.new ≡ steps.old + lift_cost adj.old.graph sweep.old.ranges) }
 {
+    // Evidence for the check: each vertex has a level.
     let _levels = adj.levels();
     let alloc = rounds.alloc();
     let new = &sweep.levels.stored;

@@ -1,4 +1,4 @@
-// The rule of the table, and what its seat learns from each kind of step.
+//! The rule of the table, and what its seat learns from each kind of step.
 use crate::roles::Role;
 use atomic_table::{Join, Play, Seat, Split, TableRule};
 use std::marker::{Brand, PhantomData};

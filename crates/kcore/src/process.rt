@@ -61,13 +61,13 @@ fn told<
         &mut output,
         &OpenGate::new(),
     );
-    let (done, writer) = handed_on(output.into_writer());
+    let (done, writer) = flush_into_inner(output.into_writer());
     (last_status(status, done), writer)
 }
 
 // Flushes a writer. Returns whether it passed on all bytes that it held back, and the writer without its buffer.
 #[tactic(auto, using(crate::proofs::Processes::all_on, crate::proofs::Processes::some_on))]
-fn handed_on<W: Write + Drop>(writer: BufWriter<W>) -> (bool, W)
+fn flush_into_inner<W: Write + Drop>(writer: BufWriter<W>) -> (bool, W)
     ensures { HandsOn result.0 (writer_contents W.contents writer) (W.contents result.1) }
 {
     let mut writer = writer;

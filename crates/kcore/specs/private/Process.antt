@@ -10,7 +10,7 @@ pub record HandsOnSome (all : List ℕ) (now : Option (List ℕ)) : Type 0 where
   pub all_is : all ≡ said ++ rest
   pub holds : now ≡ Some said
 
--- the writer passed on all bytes if it was flushed, if it tells the bytes that it took
+-- if the writer tells its bytes: after a flush it passed on all of them, and otherwise a part
 abbrev pub HandsOn : Bool → Option (List ℕ) → Option (List ℕ) → Type 0
 HandsOn done None now = Unit {0}
 HandsOn true (Some all) now = now ≡ Some all
