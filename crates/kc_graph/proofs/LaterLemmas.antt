@@ -31,6 +31,7 @@ use Rattle.kc_graph.proofs.BatchLemmas.{deciding_none, inserted_if_decided, edge
 use Rattle.kc_graph.proofs.KeyLemmas.{key_found}
 use Rattle.kc_graph.proofs.CleaningLemmas.{same_cleaned}
 use Rattle.kc_graph.proofs.DealtLemmas.{All-both}
+use Rattle.kc_graph.proofs.HalfLemmas.{has_edge_any}
 
 -- counts
 
@@ -131,10 +132,6 @@ edges_from_ascend n c d (e ∷ es) up once inside from =
     fewer : IsOnce es
     fewer f = omega (arith, count_by-cons (same_edge f) e es, once f)
 
-has_edge_any : (e : Pair) (es : List Pair) → has_edge e es ≡ list_any (same_edge e) es
-has_edge_any e [] = refl
-has_edge_any e (f ∷ fs) = rw (has_edge_any e fs) refl
-
 all_there : (es : List Pair) (P : Pair → Type 0) → ((e : Pair) → has_edge e es ≡ true → P e) → All P es
 all_there [] P there = All-nil P
 all_there (e ∷ es) P there =
@@ -163,14 +160,6 @@ sorted_edges n es fs gs once same up ascend agree =
 -- an item that touches no pair but those that are touched later changes no decision
 pub decides_as_later : (e : Pair) (item : Item) (items : List Item) → (is_touched e items ≡ false → touches e item ≡ false) → deciding_item e (item ∷ items) ≡ deciding_item e items
 decides_as_later e item items none = grind (arith, nat_tests, deciding_none)
-
-and_false : (b : Bool) → (b && false) ≡ false
-and_false true = refl
-and_false false = refl
-
-or_false : (b : Bool) → (b || false) ≡ b
-or_false true = refl
-or_false false = refl
 
 -- an edge that no later item touches is in neither list
 untouched_not_removed : (edges : List Pair) (items : List Item) (l : Later) (e : Pair) → IsProperEffect edges items l → is_touched e items ≡ false → has_edge e l.cleaned.removed ≡ false
@@ -233,13 +222,7 @@ proper_effect_repeat edges item items old new paired again s is notes = record {
 }
   where
     as_later : (e : Pair) → deciding_item e (item ∷ items) ≡ deciding_item e items
-    as_later e = decides_as_later e item items (other (touches e item) refl)
-      where
-        other : (t : Bool) → touches e item ≡ t → is_touched e items ≡ false → t ≡ false
-        other true here none =
-            let same : e ≡ edge_of (key_at item) = edge_is e (edge_of (key_at item)) (key_touches e item paired ∙ here) in
-            sym again ∙ sym (ap (λ f. is_touched f items) same) ∙ none
-        other false here none = refl
+    as_later e = grind (arith, nat_tests, decides_as_later, edge_is, key_touches)
 
 -- the key of an item that decides
 proper_effect_decision : (edges : List Pair) (item : Item) (items : List Item) (old new : Later) → is_pairless item ≡ false → is_touched (edge_of (key_at item)) items ≡ false → IsProperEffect edges items old → new.cleaned ≡ decided edges (key_at item) old.cleaned → ((e : Pair) → is_noted new.touched e ≡ is_touched e (item ∷ items)) → IsProperEffect edges (item ∷ items) new
@@ -266,13 +249,13 @@ proper_effect_decision edges item items old new paired none s is notes = record 
     out : (e : Pair) (t : Bool) → touches e item ≡ t → ((same_edge e (edge_of (key_at item)) && removes edges (key_at item)) || has_edge e old.cleaned.removed) ≡ (takes_out (deciding_item e (item ∷ items)) && has_edge e edges)
     out e true here =
         let absent = untouched_not_removed edges items old e s (ap (λ f. is_touched f items) (is_it e here) ∙ none) in
-        rw (here_decides e here, takes_out_item item, absent, key_touches e item paired ∙ here, key_inserts item, ← is_it e here) (or_false (not (inserts item) && has_edge e edges))
+        rw (here_decides e here, takes_out_item item, absent, key_touches e item paired ∙ here, key_inserts item, ← is_it e here) (or-false (not (inserts item) && has_edge e edges))
     out e false other = rw (key_touches e item paired ∙ other, decides_as_later e item items (λ h. other)) (s.removed e)
 
     in_ : (e : Pair) (t : Bool) → touches e item ≡ t → ((same_edge e (edge_of (key_at item)) && adds edges (key_at item)) || has_edge e old.cleaned.added) ≡ (is_insertion (deciding_item e (item ∷ items)) && not (has_edge e edges))
     in_ e true here =
         let absent = untouched_not_added edges items old e s (ap (λ f. is_touched f items) (is_it e here) ∙ none) in
-        rw (here_decides e here, insertion_item item, absent, key_touches e item paired ∙ here, key_inserts item, ← is_it e here) (or_false (inserts item && not (has_edge e edges)))
+        rw (here_decides e here, insertion_item item, absent, key_touches e item paired ∙ here, key_inserts item, ← is_it e here) (or-false (inserts item && not (has_edge e edges)))
     in_ e false other = rw (key_touches e item paired ∙ other, decides_as_later e item items (λ h. other)) (s.added e)
 
 net_effect_key : (edges : List Pair) (item : Item) (items : List Item) (old new : Later) → is_pairless item ≡ false → IsNetEffect edges items old → new.cleaned ≡ cond (is_noted old.touched (edge_of (key_at item))) (repeated old.cleaned) (decided edges (key_at item) old.cleaned) → ((e : Pair) → is_noted new.touched e ≡ (same_edge e (edge_of (key_at item)) || is_noted old.touched e)) → IsNetEffect edges (item ∷ items) new
@@ -327,7 +310,7 @@ proper_effect_isolation n edges v items old new up s is notes = record {
         untouched_not_removed edges items old e s (not-true (is_touched e items) untouched.1)
 
     out : (e : Pair) (b : Bool) → is_touched e items ≡ b → (has_edge e old.cleaned.removed || ((holds v e && not b) && has_edge e edges)) ≡ (takes_out (cond b (deciding_item e items) (cond (holds v e) (Some (Isolate v)) None)) && has_edge e edges)
-    out e true again = rw (and_false (holds v e)) (or_false (has_edge e old.cleaned.removed) ∙ s.removed e)
+    out e true again = rw (and-false (holds v e)) (or-false (has_edge e old.cleaned.removed) ∙ s.removed e)
     out e false none = rw (untouched_not_removed edges items old e s none) (at (holds v e))
       where
         at : (h : Bool) → ((h && true) && has_edge e edges) ≡ (takes_out (cond h (Some (Isolate v)) None) && has_edge e edges)
@@ -405,11 +388,7 @@ proper_le [] = omega arith
 proper_le (item ∷ items) = grind (arith, nat_tests, proper_le items)
 
 pub counts_few : (edges : List Pair) (items : List Item) (l : Later) → IsNetEffect edges items l → (l.cleaned.loops ≤ length items) × (l.cleaned.repeats ≤ length items) × (l.cleaned.idle ≤ length items)
-counts_few edges items l s =
-    let few = proper_le items in
-    (omega (arith, s.loops, count_le is_loop items), omega (arith, few, s.others.repeats, count_with_later_le is_repeat (proper_items items)), omega (arith, few, s.others.idle, count_with_later_le (is_idle edges) (proper_items items)))
-
--- the walk has come to the first item
+counts_few edges items l s = grind (arith, nat_tests, proper_le, count_le, count_with_later_le, s.loops, s.others.repeats, s.others.idle)
 
 pub in_added : (edges : List Pair) (items : List Item) (e : Pair) → (is_insertion (deciding_item e items) && not (has_edge e edges)) ≡ has_edge e (added_edges edges items)
 in_added edges items e = grind (arith, nat_tests, inserted_if_decided, has_edge-filter)

@@ -1,6 +1,7 @@
 -- Two laws of stores to the words of a vertex, whoever makes them: one of packed words, one of old levels.
 use Rattle.std.proofs.Common.{◌≡◌, ◌≢◌, ℕ, ◌+◌, ◌*◌, ◌^◌, ◌<◌, Bool, true, false, List, [], ◌∷◌, ◌++◌, length, Some, None, if◌then◌else◌, set, get_or, Contains, sym, refl, ap, ◌∙◌, subst, ⊎_elim, arith, length-set, get_or-set_same, get_or-set_other}
 use Rattle.std.proofs.lemmas.List.Elements.{Contains-push_cases, Contains-append_left}
+use Rattle.std.proofs.lemmas.Bool.Decides.{nat_tests}
 use mathlib.Core.Logic.{dite}
 use native.Mathlib.Decide.{ℕ_discrete}
 use Rattle.kc_words.specs.declared.marks.Mark.{Mark}
@@ -65,16 +66,7 @@ sound_mark n log rest p ws v g o e m f group moves old =
 
 -- a mark of phase 0 with the level of a vertex may be stored where no group that waits moves it
 pub sound_clear : (n : ℕ) (log rest : List Entry) (p v l o : ℕ) → v < n → level_of 0 log v ≡ l → IsUnmoved rest v → IsSoundMark n log rest p v (packed l 0 0) o
-sound_clear n log rest p v l o inside is free =
-    let u : unpacked (packed l 0 0) ≡ mark l 0 0 = unpacks l 0 0 (omega arith) (omega arith) in record {
-      fits = subst (λ (z : Mark). Fits n log rest p v z o) (sym u) record {
-        label_in = omega (arith, inside);
-        shown = λ le. is;
-        unpublished = λ lt. absurd (omega (arith, lt));
-      };
-      marked = λ j y b group there. let n : None ≡ Some b = sym (free j y group) ∙ there in cc;
-      cleared = λ f. ap (λ (z : Mark). z.phase) u;
-    }
+sound_clear n log rest p v l o inside is free = grind (arith, nat_tests, mark, unpacks)
 
 -- one noted vertex more
 noted_still : (marked noted : List ℕ) (v : ℕ) → AreMarkedNoted marked noted → AreMarkedNoted marked (noted ++ v ∷ [])
@@ -204,11 +196,7 @@ module _ (n : ℕ) (log rest : List Entry) (p : ℕ) (ws : List ℕ) (v o : ℕ)
     phase_in = f.phase_in;
     stamps = record { words = λ j lt. get_or-set_other ws (2 * n + 1 + v) (n + 1 + j) o 0 (λ x. omega (arith, x, lt)) ∙ f.stamps.words j lt; below = f.stamps.below };
     groups = f.groups;
-    vertices = λ x lt. let h = f.vertices x lt in subst (λ (z : ℕ). Fits n log rest p x (unpacked z) (get_or noted (2 * n + 1 + x) 0)) (sym (mark_stays x lt)) record {
-      label_in = h.label_in;
-      shown = h.shown;
-      unpublished = λ late. unpublished_at x (unpacked (get_or ws (x + 1) 0)) (h.unpublished late);
-    };
+    vertices = λ x lt. grind (arith, nat_tests, mark_stays, unpublished_at);
     olds = λ x lt. dite (ℕ_discrete x v)
         (λ s. subst (λ (y : ℕ). get_or noted (2 * n + 1 + y) 0 < 2 ^ 16) (sym s) (subst (λ (z : ℕ). z < 2 ^ 16) (sym old_here) sound.short))
         (λ other. subst (λ (z : ℕ). z < 2 ^ 16) (sym (old_else x other)) (f.olds x lt));
