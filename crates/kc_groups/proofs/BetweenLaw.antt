@@ -226,11 +226,13 @@ module _ (phase : ℕ) (edges : List Pair) (x y labels : List ℕ) (g : GraphSha
 -- the first point of a phase is the one before it
 insertion_first : (edges : List Pair) (x y : List ℕ) (g before : GraphShape) → IsPhase edges x y g → IsGraph before → before.vertices ≡ g.vertices → g ≡ with_edges before edges → IsBelow g.vertices x y → IsBetween before g before x y x
 insertion_first edges x y g before is graph same new low = record {
-  lower = graph;
-  upper = is.graph;
-  middle = graph;
-  same_lower = refl;
-  same_upper = sym same;
+  graphs = record {
+    lower = graph;
+    upper = is.graph;
+    middle = graph;
+    same_lower = refl;
+    same_upper = sym same;
+  };
   sized = is.before ∙ sym same;
   above = λ w. omega arith;
   below = λ w. all_below g.vertices x y is.before low w;
@@ -241,11 +243,13 @@ insertion_first edges x y g before is graph same new low = record {
 
 deletion_first : (edges : List Pair) (x y : List ℕ) (g : GraphShape) → IsPhase edges x y g → IsBelow g.vertices y x → IsBetween (without_edges g edges) g g y x x
 deletion_first edges x y g is low = record {
-  lower = removals_keep_graph g edges is.graph;
-  upper = is.graph;
-  middle = is.graph;
-  same_lower = vertices-without_edges g edges;
-  same_upper = refl;
+  graphs = record {
+    lower = removals_keep_graph g edges is.graph;
+    upper = is.graph;
+    middle = is.graph;
+    same_lower = vertices-without_edges g edges;
+    same_upper = refl;
+  };
   sized = is.before;
   above = λ w. all_below g.vertices y x is.after low w;
   below = λ w. omega arith;
